@@ -1,0 +1,11 @@
+pub mod Reading
+pub mod Message
+pub mod Unread
+pub mod History
+pub mod Verdict
+pub mod Page
+pub mod Answer
+pub mod House
+pub mod Stream
+pub mod Preset
+pub mod WorkedRows

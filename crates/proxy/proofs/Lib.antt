@@ -1,0 +1,7 @@
+pub mod Leads
+pub mod Placed
+pub mod Scanned
+pub mod Judged
+pub mod Ranks
+pub mod Prices
+pub mod Rises

@@ -1,0 +1,5 @@
+use Rattle.proxy.proofs.Prices.{price_rises}
+use Rattle.proxy.proofs.laws.price_never_falls.Goals as goal
+
+pub returns : goal.returns
+returns c = λ bands start bids member maximum. price_rises bands start bids _

@@ -1,0 +1,6 @@
+use Rattle.std.proofs.Common.{sym}
+use Rattle.proxy.proofs.Placed.{standing-none}
+use Rattle.proxy.proofs.standing.Standing.open.Goals as goal
+
+pub returns : goal.returns
+returns c = λ bands. sym (standing-none bands c.args.start)

@@ -1,0 +1,61 @@
+//! What the definitions mean, in the subject's own words. No code runs here.
+ghost use Rattle.std.specs.Prelude.{◌≡◌, ◌≤◌, ◌<◌, ◌↔◌, ◌++◌, ◌∷◌, ℕ, List, Some, None, IfSome};
+ghost use Rattle.steps.specs.Table.{IsBandTable, over};
+ghost use Rattle.proxy.specs.declared.bid.Bid.{Bid};
+ghost use Rattle.proxy.specs.Bids.{greatest, leader, one_more, price, refusal, second, top};
+ghost use Rattle.proxy.specs.Rank.{RanksFirst};
+ghost use Rattle.proxy.specs.Accepted.{AreAccepted};
+ghost use Rattle.proxy.specs.WorkedRows.{EqualMaximumKeepsTheEarlierLeader, FirstBidTakesTheStart, GreatRaisePaysOneStepOver, HigherBidPaysOneStepOver, LowBidIsRefused, SameMaximumIsRefused, SmallRaisePaysItsMaximum, StepBeginsAtItsBand};
+
+/// The leader is the one bidder whom every other ranks below: by a smaller maximum, or by the
+/// same one later.
+pub fn leader_ranks_first()
+    ensures { (bids : List Bid) (l : ℕ) → (leader bids ≡ Some l) ↔ RanksFirst bids l }
+{}
+
+/// The price is at least the start, and at most the leader's maximum.
+pub fn price_is_between()
+    ensures start { (bands : List (ℕ × ℕ)) (start : ℕ) (bids : List Bid) → start ≤ price bands start bids }
+    ensures maximum { (bands : List (ℕ × ℕ)) (start : ℕ) (bids : List Bid) (l : ℕ)
+        → AreAccepted bands start bids → leader bids ≡ Some l → price bands start bids ≤ greatest bids l }
+{}
+
+/// The price never falls under an accepted bid.
+pub fn price_never_falls()
+    ensures { (bands : List (ℕ × ℕ)) (start : ℕ) (bids : List Bid) (member maximum : ℕ) → IsBandTable bands
+        → refusal bands start bids member maximum ≡ None
+        → price bands start bids ≤ price bands start (one_more bids member maximum) }
+{}
+
+/// A raise keeps leader and second, and keeps the price unless the old top capped it.
+pub fn raise_keeps()
+    ensures leader { (bands : List (ℕ × ℕ)) (start : ℕ) (bids : List Bid) (member maximum : ℕ)
+        → refusal bands start bids member maximum ≡ None → leader bids ≡ Some member
+        → leader (one_more bids member maximum) ≡ Some member }
+    ensures second { (bands : List (ℕ × ℕ)) (start : ℕ) (bids : List Bid) (member maximum : ℕ)
+        → refusal bands start bids member maximum ≡ None → leader bids ≡ Some member
+        → second (one_more bids member maximum) ≡ second bids }
+    ensures price { (bands : List (ℕ × ℕ)) (start : ℕ) (bids : List Bid) (member maximum : ℕ)
+        → refusal bands start bids member maximum ≡ None → leader bids ≡ Some member
+        → IfSome (second bids) (λ s. over bands s ≤ top bids)
+        → price bands start (one_more bids member maximum) ≡ price bands start bids }
+{}
+
+/// A bidder's accepted maxima strictly rise.
+pub fn accepted_bids_rise()
+    ensures { (bands : List (ℕ × ℕ)) (start : ℕ) (before middle later : List Bid) (first second : Bid) → IsBandTable bands
+        → AreAccepted bands start (before ++ first ∷ middle ++ second ∷ later)
+        → first.member ≡ second.member → first.maximum < second.maximum }
+{}
+
+/// The definitions give the values that were worked out by hand; `specs/WorkedRows.antt` has them.
+pub fn worked_rows()
+    ensures first { FirstBidTakesTheStart }
+    ensures low { LowBidIsRefused }
+    ensures higher { HigherBidPaysOneStepOver }
+    ensures equal { EqualMaximumKeepsTheEarlierLeader }
+    ensures small_raise { SmallRaisePaysItsMaximum }
+    ensures great_raise { GreatRaisePaysOneStepOver }
+    ensures same { SameMaximumIsRefused }
+    ensures step { StepBeginsAtItsBand }
+{}

@@ -1,0 +1,211 @@
+//! The standing of one item, kept from bid to bid.
+ghost use Rattle.std.specs.Prelude.{◌≡◌, ◌≤◌, ◌<◌, ℕ, List, [], length, IfSome, OnOk, OnErr, MatchResult};
+ghost use Rattle.proxy.specs.declared.bid.Bid.{Bid as TheBid};
+ghost use Rattle.proxy.specs.Bids.{refusal, standing_of, floor, one_more, price_from};
+ghost use Rattle.proxy.specs.Led.{kept_led};
+
+use crate::bid::{Bid, BidRefusal};
+use crate::scans::{greatest_with, leading, other_greatest};
+use cents::Cents;
+use std::marker::Model;
+use steps::Bands;
+
+/// The most bids that an item takes.
+pub const MOST_BIDS: u32 = 10_000;
+
+/// The standing of one item: what its accepted bids amount to. Clauses see its fields as a
+/// `Kept`.
+#[derive(Clone, Copy, Debug, PartialEq, Eq)]
+pub struct Standing {
+    start: Cents,
+    price: Cents,
+    leader: Option<u32>,
+    top: Option<Cents>,
+    second: Option<Cents>,
+    count: u32,
+}
+
+impl Model for Standing {
+    ghost use Rattle.proxy.specs.Kept.{Kept};
+
+    ghost Value = { Kept };
+
+    ghost view = { λ s. record { start = s.start; price = s.price; leader = s.leader; top = s.top; second = s.second; count = s.count } };
+
+    ghost inverse = { λ k. record { start = k.start; price = k.price; leader = k.leader; top = k.top; second = k.second; count = k.count } };
+}
+
+// The price against the second: one step over it, but at most the top.
+fn price_against(bands: &Bands, start: Cents, top: Cents, second: Cents) -> Cents
+    ensures { result ≡ price_from bands.now start top (Some second) }
+{
+    match Cents::new(bands.over(second)) {
+        Some(over) => start.max(top.min(over)),
+        None => start.max(top),
+    }
+}
+
+impl Standing {
+    /// The standing of an item on which nobody has bid.
+    pub fn open(start: Cents) -> Standing
+        ensures { (bands : List (ℕ × ℕ)) → result ≡ standing_of bands start [] }
+    {
+        Standing {
+            start,
+            price: start,
+            leader: None,
+            top: None,
+            second: None,
+            count: 0,
+        }
+    }
+
+    /// The standing of a list of bids in order, by two scans.
+    pub fn of_bids(start: Cents, bands: &Bands, bids: &[Bid]) -> Standing
+        requires { length bids.now ≤ MOST_BIDS }
+        ensures { result ≡ standing_of bands.now start bids.now }
+    {
+        match leading(bids) {
+            Some(best) => {
+                let second = other_greatest(bids, best.member);
+                let count = bids.len() as u32;
+                Standing::led(bands, start, best.member, best.maximum, second, count)
+            }
+            None => Standing::open(start),
+        }
+    }
+
+    /// The public price.
+    pub fn price(&self) -> Cents
+        ensures { result ≡ self.now.price }
+    {
+        self.price
+    }
+
+    /// Who leads.
+    pub fn leader(&self) -> Option<u32>
+        ensures { result ≡ self.now.leader }
+    {
+        self.leader
+    }
+
+    /// The leader's greatest maximum, which is sealed.
+    pub fn top(&self) -> Option<Cents>
+        ensures { result ≡ self.now.top }
+    {
+        self.top
+    }
+
+    /// The greatest maximum of all others, which is sealed.
+    pub fn second(&self) -> Option<Cents>
+        ensures { result ≡ self.now.second }
+    {
+        self.second
+    }
+
+    /// How many bids were accepted, raises among them.
+    pub fn count(&self) -> u32
+        ensures { result ≡ self.now.count }
+    {
+        self.count
+    }
+
+    /// The least maximum that is taken of a bidder who doesn't lead, in cents.
+    pub fn floor(&self, bands: &Bands) -> u64
+        ensures { (bids : List TheBid) → self.now ≡ standing_of bands.now self.now.start bids
+            → result ≡ floor bands.now self.now.start bids }
+    {
+        if self.count == 0 {
+            self.start.value()
+        } else {
+            bands.over(self.price)
+        }
+    }
+
+    /// Places a bid. A refused one changes nothing.
+    ///
+    /// The clauses speak of whatever accepted bids this is the standing of.
+    pub fn place(&mut self, bands: &Bands, member: u32, maximum: Cents) -> Result<(), BidRefusal>
+        // Low, NotHigher and Full come exactly by the rules, in their order.
+        ensures verdict { (bids : List TheBid) → self.old ≡ standing_of bands.now self.old.start bids
+            → MatchResult result (λ _. refusal bands.now self.old.start bids member maximum ≡ None)
+            (λ e. refusal bands.now self.old.start bids member maximum ≡ Some e) }
+        ensures placed { (bids : List TheBid) → self.old ≡ standing_of bands.now self.old.start bids
+            → OnOk result (self.new ≡ standing_of bands.now self.old.start (one_more bids member maximum)) }
+        ensures err { OnErr result (self.new ≡ self.old) }
+    {
+        self.judge(bands, member, maximum)?;
+        *self = self.with(bands, member, maximum);
+        Ok(())
+    }
+
+    // Whether a bid is accepted.
+    fn judge(&self, bands: &Bands, member: u32, maximum: Cents) -> Result<(), BidRefusal>
+        ensures verdict { (bids : List TheBid) → self.now ≡ standing_of bands.now self.now.start bids
+            → MatchResult result (λ _. refusal bands.now self.now.start bids member maximum ≡ None)
+            (λ e. refusal bands.now self.now.start bids member maximum ≡ Some e) }
+        ensures raised { OnOk result (self.now.leader ≡ Some member → IfSome self.now.top (λ top. top < maximum)) }
+        ensures room { OnOk result (self.now.count < MOST_BIDS) }
+    {
+        if self.leader == Some(member) {
+            if self.top.is_some_and(|top| maximum <= top) {
+                return Err(BidRefusal::NotHigher);
+            }
+        } else {
+            let floor = self.floor(bands);
+            if maximum.value() < floor {
+                return Err(BidRefusal::Low { floor });
+            }
+        }
+        if self.count >= MOST_BIDS {
+            return Err(BidRefusal::Full);
+        }
+        Ok(())
+    }
+
+    // The standing after a bid that is accepted.
+    fn with(&self, bands: &Bands, member: u32, maximum: Cents) -> Standing
+        requires raised { self.now.leader ≡ Some member → IfSome self.now.top (λ top. top < maximum) }
+        requires room { self.now.count < MOST_BIDS }
+        ensures { (bids : List TheBid) → self.now ≡ standing_of bands.now self.now.start bids
+            → result ≡ standing_of bands.now self.now.start (one_more bids member maximum) }
+    {
+        let (start, count) = (self.start, self.count + 1);
+        match (self.leader, self.top) {
+            (Some(leader), Some(top)) if leader != member => {
+                if top < maximum {
+                    Standing::led(bands, start, member, maximum, Some(top), count)
+                } else {
+                    let second = greatest_with(self.second, maximum);
+                    Standing::led(bands, start, leader, top, Some(second), count)
+                }
+            }
+            _ => Standing::led(bands, start, member, maximum, self.second, count),
+        }
+    }
+
+    // The standing where somebody leads.
+    fn led(
+        bands: &Bands,
+        start: Cents,
+        leader: u32,
+        top: Cents,
+        second: Option<Cents>,
+        count: u32,
+    ) -> Standing
+        ensures { result ≡ kept_led bands.now start leader top second count }
+    {
+        let price = match second {
+            Some(second) => price_against(bands, start, top, second),
+            None => start,
+        };
+        Standing {
+            start,
+            price,
+            leader: Some(leader),
+            top: Some(top),
+            second,
+            count,
+        }
+    }
+}

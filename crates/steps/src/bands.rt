@@ -1,0 +1,94 @@
+//! A band table that is always valid.
+ghost use Rattle.std.specs.Prelude.{◌≡◌, ◌≤◌, ◌<◌, ◌+◌, IfOk};
+ghost use Rattle.steps.specs.Table.{IsBandTable, over, step_at};
+ghost use Rattle.steps.specs.Example.{example_table};
+
+use crate::fault::BandsFault;
+use cents::Cents;
+use std::alloc::Global;
+use std::marker::Model;
+
+/// The example table, as (at, step) in cents.
+const EXAMPLE: [(u64, u64); 10] = [
+    (0, 5),
+    (100, 25),
+    (500, 50),
+    (2_500, 100),
+    (10_000, 250),
+    (25_000, 500),
+    (50_000, 1_000),
+    (100_000, 2_500),
+    (250_000, 5_000),
+    (500_000, 10_000),
+];
+
+/// A valid band table. Clauses see its bands in order, each as (at, step) in cents.
+#[derive(Debug, Drop)]
+pub struct Bands {
+    rows: Vec<(u64, u64)>,
+}
+
+impl Model for Bands {
+    ghost use Rattle.std.specs.Prelude.{ℕ, List};
+    ghost use Rattle.steps.specs.Table.{IsBandTable};
+
+    ghost Value = { List (ℕ × ℕ) };
+
+    ghost view = { λ b. b.rows.items };
+
+    ghost invariant = { λ b. IsBandTable b.rows.items };
+}
+
+// The step of the last band that begins at or below the amount.
+#[tactic(auto, unfolding(crate::specs::Table::step_at))]
+fn step_in(rows: &[(u64, u64)], amount: u64) -> u64
+    ensures { result ≡ step_at rows.now amount }
+{
+    let mut found = 0;
+    for band in rows {
+        if band.0 <= amount {
+            found = band.1;
+        }
+    }
+    found
+}
+
+impl Bands {
+    /// The table of the house's own examples, in ten bands.
+    ///
+    /// The only error is `BandsFault::Memory`.
+    pub fn example(alloc: Global) -> Result<Bands, BandsFault>
+        ensures { IfOk result (λ bands. bands ≡ example_table) }
+    {
+        match Vec::from_slice(alloc, &EXAMPLE) {
+            Ok(rows) => Ok(Bands { rows }),
+            Err(_) => Err(BandsFault::Memory),
+        }
+    }
+
+    /// The bands in order, each as (at, step) in cents.
+    pub fn rows(&self) -> &[(u64, u64)]
+        ensures rows { result.now ≡ self.now }
+        ensures valid { IsBandTable result.now }
+    {
+        self.rows.as_slice()
+    }
+
+    /// The step at an amount, in cents: that of the last band that begins at or below it.
+    #[tactic(auto, using(crate::proofs::Rising::step_positive, crate::proofs::Rising::step_small))]
+    pub fn step(&self, amount: Cents) -> u64
+        ensures step { result ≡ step_at self.now amount }
+        ensures positive { 1 ≤ result }
+        ensures small { result ≤ 1000000000 }
+    {
+        step_in(&self.rows, amount.value())
+    }
+
+    /// The least amount above this one that may be bid, in cents: one step more.
+    pub fn over(&self, amount: Cents) -> u64
+        ensures over { result ≡ over self.now amount }
+        ensures above { amount < result }
+    {
+        amount.value() + self.step(amount)
+    }
+}
