@@ -1,0 +1,33 @@
+# The auction house. `make` lists what can be made.
+
+# Conformance cases that lie beside the checkout, and the suites of today.
+CASES ?= ../shared/conformance
+SUITES = first-path
+
+.PHONY: help demo test auction cases memory
+
+help:
+	@echo "make demo      answers examples/first-bid.http, without waiting for the proofs"
+	@echo "make test      proves everything from nothing, runs all tests and wrong bodies (rt ci)"
+	@echo "make auction   proves and builds the program, as bin/auction"
+	@echo "make cases     runs the conformance cases on the program that make test has left"
+	@echo "make memory    refuses each allocation of that program in turn (needs cc)"
+
+demo:
+	@cd crates/auction && rt try -- replay --preset < ../../examples/first-bid.http
+
+test:
+	rt ci
+
+auction:
+	cd crates/auction && rt run -- replay --preset < /dev/null
+	mkdir -p bin
+	cp crates/auction/out/auction bin/auction
+
+cases:
+	for suite in $(SUITES); do \
+		python3 $(CASES)/compare.py --program crates/auction/out/auction $(CASES)/$$suite || exit 1; \
+	done
+
+memory:
+	python3 tests/refused_memory.py crates/auction/out/auction

@@ -1,0 +1,52 @@
+/* Refuses the allocation whose number stands in REFUSE, counted from 1, of the program that this is
+   loaded before. With REFUSE=0 it refuses none, and tells how many there were. */
+#define _GNU_SOURCE
+#include <dlfcn.h>
+#include <stdio.h>
+#include <stdlib.h>
+#include <string.h>
+
+static long count, refused = -1;
+
+static int refuse(void)
+{
+    if (refused < 0) {
+        const char *number = getenv("REFUSE");
+        refused = number ? atol(number) : 0;
+    }
+    return ++count == refused;
+}
+
+void *malloc(size_t size)
+{
+    static void *(*real)(size_t);
+    if (!real)
+        real = (void *(*)(size_t))dlsym(RTLD_NEXT, "malloc");
+    return refuse() ? NULL : real(size);
+}
+
+void *realloc(void *block, size_t size)
+{
+    static void *(*real)(void *, size_t);
+    if (!real)
+        real = (void *(*)(void *, size_t))dlsym(RTLD_NEXT, "realloc");
+    return refuse() ? NULL : real(block, size);
+}
+
+void *aligned_alloc(size_t align, size_t size)
+{
+    static void *(*real)(size_t, size_t);
+    if (!real)
+        real = (void *(*)(size_t, size_t))dlsym(RTLD_NEXT, "aligned_alloc");
+    return refuse() ? NULL : real(align, size);
+}
+
+__attribute__((destructor)) static void tell(void)
+{
+    const char *file = getenv("REFUSE_COUNT");
+    FILE *out = refused == 0 && file ? fopen(file, "w") : NULL;
+    if (out) {
+        fprintf(out, "%ld\n", count);
+        fclose(out);
+    }
+}

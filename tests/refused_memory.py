@@ -1,0 +1,70 @@
+#!/usr/bin/env python3
+"""Refuses each allocation of a run of three messages in turn: `refused_memory.py PROGRAM`.
+
+The run is two bids and a read. Each message has to be answered 503, and has then not acted, or as in
+the run of the messages that were not answered 503; or the run ends with `auction: memory` and has
+written nothing. It needs a C compiler, `cc`. The last line is 'N runs, M wrong'.
+"""
+import itertools
+import os
+import pathlib
+import re
+import subprocess
+import sys
+import tempfile
+
+HERE = pathlib.Path(__file__).resolve().parent
+REFUSED = (b"HTTP/1.1 503 Service Unavailable\r\ncontent-type: application/json\r\n"
+           b'content-length: 18\r\n\r\n{"error":"memory"}')
+
+
+def bid(member, moment, maximum):
+    body = b'{"maximum":%d}' % maximum
+    return (b"POST /items/1/bids HTTP/1.1\r\nhost: h\r\nx-member: %d\r\nx-moment: %d\r\n"
+            b"content-length: %d\r\n\r\n%s" % (member, moment, len(body), body))
+
+
+MESSAGES = [bid(2, 1001, 500), bid(3, 1002, 1000),
+            b"GET /items/1 HTTP/1.1\r\nhost: h\r\nx-member: 2\r\n\r\n"]
+
+
+def run(program, messages, **environment):
+    return subprocess.run([program, "replay", "--preset"], input=b"".join(messages),
+                          capture_output=True, env={**os.environ, **environment}, timeout=60)
+
+
+def allowed_outputs(program):
+    """For each set of messages that find memory: their answers, and 503 for the others."""
+    outputs = set()
+    for kept in itertools.product([True, False], repeat=len(MESSAGES)):
+        written = run(program, itertools.compress(MESSAGES, kept)).stdout
+        answers = iter(re.findall(rb"HTTP/1\.1 .*?(?=HTTP/1\.1 |\Z)", written, re.S))
+        outputs.add(b"".join(next(answers) if keep else REFUSED for keep in kept))
+    return outputs
+
+
+def main():
+    program = str(pathlib.Path(sys.argv[1]).resolve())
+    allowed = allowed_outputs(program)
+    with tempfile.TemporaryDirectory() as folder:
+        library, count = f"{folder}/refuse.so", f"{folder}/count"
+        subprocess.run(["cc", "-shared", "-fPIC", "-O1", "-o", library,
+                        str(HERE / "refuse_allocation.c"), "-ldl"], check=True)
+        run(program, MESSAGES, LD_PRELOAD=library, REFUSE="0", REFUSE_COUNT=count)
+        runs = int(pathlib.Path(count).read_text())
+        wrong = told = ended = 0
+        for number in range(1, runs + 1):
+            result = run(program, MESSAGES, LD_PRELOAD=library, REFUSE=str(number))
+            told += REFUSED in result.stdout
+            stopped = (result.returncode, result.stdout, result.stderr) == (1, b"", b"auction: memory\n")
+            ended += stopped
+            if not stopped and (result.returncode != 0 or result.stdout not in allowed):
+                wrong += 1
+                print(f"allocation {number}: {result}")
+    print(f"{told} told 503, {ended} ended with auction: memory")
+    print(f"{runs} runs, {wrong} wrong")
+    return 1 if wrong or not told else 0
+
+
+if __name__ == "__main__":
+    sys.exit(main())
