@@ -2,7 +2,7 @@
 
 # Conformance cases that lie beside the checkout, and the suites of today.
 CASES ?= ../shared/conformance
-SUITES = first-path
+SUITES = first-path money
 
 .PHONY: help demo test auction cases memory
 

@@ -8,12 +8,17 @@ fn replay<'a>(alloc: Global) -> Result<Command<'a>, AllocError> {
         .long("preset")
         .action(ArgAction::SetTrue)
         .required(true);
+    let bands = Arg::new(alloc, "bands")
+        .long("bands")
+        .value_name("CSV")
+        .action(ArgAction::Set);
     Command::new(alloc, "replay")
         .about("Answers the messages on standard input")
-        .arg(preset)
+        .arg(preset)?
+        .arg(bands)
 }
 
-/// The command line: one subcommand, `replay --preset`.
+/// The command line: one subcommand, `replay --preset`, which takes `--bands CSV`.
 pub fn command<'a>(alloc: Global) -> Result<Command<'a>, AllocError> {
     Command::new(alloc, "auction")
         .subcommand_required(true)

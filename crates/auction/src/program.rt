@@ -4,8 +4,10 @@ use crate::first_run::{FirstFault, first_run};
 use clap::Error;
 use clap::error::ErrorKind;
 use std::alloc::Global;
+use std::fs::File;
 use std::io;
-use steps::Bands;
+use std::rt::Files;
+use steps::{Bands, BandsFault};
 
 /// The exit statuses: done, a fault, and a command line that is refused.
 const DONE: u8 = 0;
@@ -16,16 +18,19 @@ const REFUSED: u8 = 2;
 
 /// Runs the program on its words, and gives its exit status. A fault is told in a line on standard
 /// error.
-pub fn run<R: Input + Print + Eprint>(rt: &R, alloc: Global, words: &[String]) -> u8 {
+pub fn run<R: Input + Print + Eprint + Files>(rt: &R, alloc: Global, words: &[String]) -> u8 {
     let command = match command(alloc) {
         Ok(command) => command,
         Err(_) => return no_memory(rt),
     };
-    let _matches = match command.try_get_matches_from(words) {
+    let matches = match command.try_get_matches_from(words) {
         Ok(matches) => matches,
         Err(error) => return refuse(rt, &error),
     };
-    replay(rt, alloc)
+    match matches.subcommand() {
+        Some((_, replay_words)) => replay(rt, alloc, replay_words.get_str("bands")),
+        None => DONE,
+    }
 }
 
 // The end of a run whose words are refused, or ask for help.
@@ -46,17 +51,62 @@ pub fn no_memory(rt: &impl Eprint) -> u8 {
     fault(rt, "auction: memory")
 }
 
-// Answers standard input over the preset house and the example table.
-fn replay<R: Input + Print + Eprint>(rt: &R, alloc: Global) -> u8 {
-    let Ok(bands) = Bands::example(alloc) else {
-        return no_memory(rt);
+// Answers standard input over the preset house. Nothing is read of it before the table stands.
+fn replay<R: Input + Print + Eprint + Files>(rt: &R, alloc: Global, path: Option<&str>) -> u8 {
+    match table(rt, alloc, path) {
+        Ok(bands) => answer_input(rt, alloc, &bands),
+        Err(fault) => bands_fault(rt, fault),
+    }
+}
+
+// The band table of a file, or the example table.
+fn table<R: Files>(rt: &R, alloc: Global, path: Option<&str>) -> Result<Bands, BandsFault> {
+    let Some(path) = path else {
+        return Bands::example(alloc);
     };
+    match File::open(rt, path) {
+        Ok(file) => Bands::read(alloc, file),
+        Err(error) if error.kind() == io::ErrorKind::OutOfMemory => Err(BandsFault::Memory),
+        Err(_) => Err(BandsFault::Device),
+    }
+}
+
+// Answers standard input by a table.
+fn answer_input<R: Input + Print + Eprint>(rt: &R, alloc: Global, bands: &Bands) -> u8 {
     let mut reader = rt.reader();
     let mut writer = io::writer(rt);
-    match first_run(alloc, &mut reader, &mut writer, &bands, u64::MAX) {
+    match first_run(alloc, &mut reader, &mut writer, bands, u64::MAX) {
         Ok(_) => DONE,
         Err(FirstFault::Read) => fault(rt, "auction: input: Read"),
         Err(FirstFault::Write) => fault(rt, "auction: output: Write"),
+    }
+}
+
+// Tells why there is no table.
+fn bands_fault(rt: &impl Eprint, fault: BandsFault) -> u8 {
+    if fault == BandsFault::Memory {
+        return no_memory(rt);
+    }
+    let name = fault_name(fault);
+    let _ = match fault.row() {
+        Some(row) => eprintln!(rt; "auction: bands: {name} {row}"),
+        None => eprintln!(rt; "auction: bands: {name}"),
+    };
+    FAULT
+}
+
+// The name of a fault of a band table.
+fn fault_name(fault: BandsFault) -> &'static str {
+    match fault {
+        BandsFault::Csv => "Csv",
+        BandsFault::Head => "Head",
+        BandsFault::Row { .. } => "Row",
+        BandsFault::First => "First",
+        BandsFault::Order { .. } => "Order",
+        BandsFault::Falls { .. } => "Falls",
+        BandsFault::TooMany => "TooMany",
+        BandsFault::Device => "Device",
+        BandsFault::Memory => "Memory",
     }
 }
 

@@ -1,6 +1,9 @@
 //! An amount, which is never over the limit.
-ghost use Rattle.std.specs.Prelude.{◌≡◌, ◌≤◌, ◌↔◌, IsSome, IfSome};
+ghost use Rattle.std.specs.Prelude.{◌≡◌, ◌≢◌, ◌≤◌, ◌<◌, ◌↔◌, ℕ, [], Ok, IsSome, IfSome, IsErrOf};
+ghost use Rattle.cents.specs.Spelling.{IsSpelling};
 
+use crate::fault::CentsFault;
+use crate::spelling;
 use std::marker::Model;
 
 /// The greatest amount, in cents: ten million of the whole coin.
@@ -44,5 +47,25 @@ impl Cents {
         ensures within { result ≤ LIMIT }
     {
         self.value
+    }
+
+    /// The amount that a text spells: one digit or more for the whole coins, and then nothing or a
+    /// point and exactly two digits for the cents. Zeros may lead. Takes no memory.
+    pub fn parse(text: &str) -> Result<Cents, CentsFault>
+        ensures ok { (n : ℕ) → (result ≡ Ok n) ↔ (IsSpelling text.now n × n ≤ LIMIT) }
+        ensures empty { IsErrOf result CentsFault.Empty ↔ (text.now ≡ []) }
+        ensures form { IsErrOf result CentsFault.Form ↔
+            ((text.now ≢ []) × ((n : ℕ) → ¬ (IsSpelling text.now n))) }
+        ensures too_large { IsErrOf result CentsFault.TooLarge ↔
+            ((n : ℕ) × IsSpelling text.now n × LIMIT < n) }
+    {
+        let text = text.as_bytes();
+        if text.is_empty() {
+            return Err(CentsFault::Empty);
+        }
+        match spelling::pointed(text) {
+            Some((whole, cents)) => spelling::amount(whole, cents),
+            None => spelling::amount(text, b"00"),
+        }
     }
 }

@@ -1,2 +1,6 @@
 pub mod Table
 pub mod Example
+pub mod Fault
+pub mod Records
+pub mod Reading
+pub mod Fields

@@ -1,11 +1,15 @@
 //! A band table that is always valid.
-ghost use Rattle.std.specs.Prelude.{◌≡◌, ◌≤◌, ◌<◌, ◌+◌, IfOk};
+ghost use Rattle.std.specs.Prelude.{◌≡◌, ◌≤◌, ◌<◌, ◌+◌, ◌≢◌, Err, IfOk, IfSome};
 ghost use Rattle.steps.specs.Table.{IsBandTable, over, step_at};
+ghost use Rattle.steps.specs.Records.{IsJudged};
+ghost use Rattle.steps.specs.Reading.{records_of};
 ghost use Rattle.steps.specs.Example.{example_table};
 
 use crate::fault::BandsFault;
+use crate::reading;
 use cents::Cents;
 use std::alloc::Global;
+use std::io::Read;
 use std::marker::Model;
 
 /// The example table, as (at, step) in cents.
@@ -64,6 +68,19 @@ impl Bands {
             Ok(rows) => Ok(Bands { rows }),
             Err(_) => Err(BandsFault::Memory),
         }
+    }
+
+    /// The table that a text of CSV spells, memory and the device aside: the first record is
+    /// `at,step`, and then comes a band a record, both in cents, as 1 to 10 digits each.
+    ///
+    /// The fault is the first that the records have. Lines end in LF, CR LF or CR, and empty lines
+    /// are no records.
+    pub fn read<R: Read + Drop>(alloc: Global, source: R) -> Result<Bands, BandsFault>
+        ensures { result ≢ Err BandsFault.Memory → result ≢ Err BandsFault.Device →
+            IfSome (R.remaining source) (λ text. IsJudged (records_of text) result) }
+    {
+        let rows = reading::table(alloc, source)?;
+        Ok(Bands { rows })
     }
 
     /// The bands in order, each as (at, step) in cents.

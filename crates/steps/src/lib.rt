@@ -1,12 +1,15 @@
 //! Band tables: from an amount on, the step by which a price rises.
 //!
-//! Promised: a `Bands` is always a valid table, and its step and least next amount are those that
-//! the table defines. Read `specs/Table.antt` first, which says both, and then `bands`.
+//! Promised: a `Bands` is always a valid table, its step and least next amount are those that the
+//! table defines, and a text is read exactly if it spells a valid table, and else told its first
+//! fault. Read `specs/Table.antt` and `specs/Records.antt` first, which say this, and then `bands`.
 #![tactic(auto)]
 
 mod bands;
 mod fault;
+mod judged;
 mod laws;
+mod reading;
 #[cfg(test)]
 mod tests;
 

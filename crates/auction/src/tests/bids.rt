@@ -1,7 +1,8 @@
 //! Bids, and the page of the item after them.
 use crate::tests::said::Say::{Bid, Read};
-use crate::tests::said::check;
+use crate::tests::said::{answer, check, message, run_by};
 use std::test::Fail;
+use steps::Bands;
 
 #[test]
 fn nobody_has_bid(rt: HostRuntime) -> Result<(), Fail> {
@@ -115,4 +116,20 @@ fn the_greatest_amounts_are_taken(rt: HostRuntime) -> Result<(), Fail> {
             ),
         ],
     )
+}
+
+#[test]
+fn a_table_of_one_band_sets_every_step(rt: HostRuntime) -> Result<(), Fail> {
+    let alloc = rt.alloc();
+    let bands = Bands::read(alloc, b"at,step\n0,100\n".as_slice())?;
+    let mut stream = message(alloc, Bid(2, 1001, 500))?;
+    stream.push_str(message(alloc, Bid(3, 1002, 1000))?.as_str())?;
+    let (written, _) = run_by(alloc, &bands, stream.as_bytes(), u64::MAX)?;
+    let told = answer(
+        alloc,
+        "201 Created",
+        "{\"count\":2,\"floor\":700,\"leader\":3,\"price\":600}",
+    )?;
+    assert!(rt; written.as_slice().ends_with(told.as_bytes()));
+    Ok(())
 }

@@ -44,12 +44,21 @@ pub(crate) fn answer(alloc: Global, status: &str, body: &str) -> Result<String, 
 pub(crate) const HEAD: &str =
     "HTTP/1.1 400 Bad Request\r\ncontent-type: application/json\r\ncontent-length: 16\r\nconnection: close\r\n\r\n{\"error\":\"head\"}";
 
-/// What a run over a whole stream in memory writes.
+/// What a run over a whole stream in memory writes, by the example table.
 pub(crate) fn run(alloc: Global, stream: &[u8], most: u64) -> Result<(Vec<u8>, u64), Fail> {
-    let bands = Bands::example(alloc)?;
+    run_by(alloc, &Bands::example(alloc)?, stream, most)
+}
+
+/// The same by another table.
+pub(crate) fn run_by(
+    alloc: Global,
+    bands: &Bands,
+    stream: &[u8],
+    most: u64,
+) -> Result<(Vec<u8>, u64), Fail> {
     let mut reader = stream;
     let mut written = Vec::new(alloc);
-    let count = first_run(alloc, &mut reader, &mut written, &bands, most)?;
+    let count = first_run(alloc, &mut reader, &mut written, bands, most)?;
     Ok((written, count))
 }
 

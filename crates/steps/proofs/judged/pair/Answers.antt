@@ -1,0 +1,15 @@
+use Rattle.std.proofs.Common.{arith, sym, ◌∙◌}
+use Rattle.csv.specs.Records.{fields_of}
+use Rattle.csv.proofs.RecordFacts.{field-there}
+use Rattle.steps.proofs.FieldLemmas.{pair_at}
+use Rattle.steps.proofs.judged.pair.Goals as goal
+
+pub returns-in_err-get : goal.returns-in_err-get
+returns-in_err-get c = absurd (field-there (fields_of c.args.row.now) 0 (omega arith) (sym c.in_err-get.ensures.value))
+
+pub returns-in_err-get-2 : goal.returns-in_err-get-2
+returns-in_err-get-2 c = absurd (field-there (fields_of c.args.row.now) 1 (omega arith) (sym c.in_err-get-2.ensures.value))
+
+pub returns : goal.returns
+returns c =
+    pair_at (fields_of c.args.row.now) c.in_ok-get.field-0.now c.in_ok-get-2.field-0.now (sym c.len.ensures ∙ c.if-len-ne2.false) c.in_ok-get.ensures.value c.in_ok-get-2.ensures.value
