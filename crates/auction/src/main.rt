@@ -21,23 +21,21 @@ mod refusal;
 #[cfg(test)]
 mod tests;
 
-use std::alloc::{AllocError, Global};
+use std::alloc::Global;
+use std::io;
 use std::process::ExitCode;
 use std::rt::Env;
 
-// The words of the command line.
-fn words(rt: &(impl Env + AllocGlobal), alloc: Global) -> Result<Vec<String>, AllocError> {
-    match std::env::args(rt) {
-        Ok(words) => words.collect(alloc),
-        Err(_) => Err(AllocError),
-    }
+// The words of the command line. A word that is not UTF-8 is an error.
+fn words(rt: &(impl Env + AllocGlobal), alloc: Global) -> io::Result<Vec<String>> {
+    Ok(std::env::args(rt)?.collect(alloc)?)
 }
 
 fn main(rt: HostRuntime) -> ExitCode {
     let alloc = rt.alloc();
     let status = match words(&rt, alloc) {
         Ok(words) => program::run(&rt, alloc, words.as_slice()),
-        Err(_) => program::no_memory(&rt),
+        Err(error) => program::no_words(&rt, &error),
     };
     ExitCode::from(status)
 }

@@ -9,11 +9,13 @@ use std::io;
 use std::rt::Files;
 use steps::{Bands, BandsFault};
 
-/// The exit statuses: done, a fault, and a command line that is refused.
+/// The exit status of a run that did what its words ask.
 const DONE: u8 = 0;
 
+/// The exit status of a run that a fault ended.
 const FAULT: u8 = 1;
 
+/// The exit status of words that are no command line.
 const REFUSED: u8 = 2;
 
 /// Runs the program on its words, and gives its exit status. A fault is told in a line on standard
@@ -46,8 +48,17 @@ fn refuse<R: Print + Eprint>(rt: &R, error: &Error) -> u8 {
     }
 }
 
-/// The end of a run that found no memory.
-pub fn no_memory(rt: &impl Eprint) -> u8 {
+/// The end of a run whose words can't be had, for one of them is not UTF-8, or for want of memory.
+pub fn no_words(rt: &impl Eprint, error: &io::Error) -> u8 {
+    if error.kind() == io::ErrorKind::OutOfMemory {
+        return no_memory(rt);
+    }
+    tell(rt, "auction: command line");
+    REFUSED
+}
+
+// The end of a run that found no memory.
+fn no_memory(rt: &impl Eprint) -> u8 {
     fault(rt, "auction: memory")
 }
 
@@ -110,8 +121,13 @@ fn fault_name(fault: BandsFault) -> &'static str {
     }
 }
 
-// Tells a fault. Where standard error fails too there is nobody left to tell.
+// The end of a run at a fault.
 fn fault(rt: &impl Eprint, line: &str) -> u8 {
-    let _ = rt.eprintln(line);
+    tell(rt, line);
     FAULT
+}
+
+// Tells a line. Where standard error fails too there is nobody left to tell.
+fn tell(rt: &impl Eprint, line: &str) {
+    let _ = rt.eprintln(line);
 }
