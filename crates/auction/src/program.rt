@@ -31,7 +31,8 @@ pub fn run<R: Input + Print + Eprint + Files>(rt: &R, alloc: Global, words: &[St
     };
     match matches.subcommand() {
         Some((_, replay_words)) => replay(rt, alloc, replay_words.get_str("bands")),
-        None => DONE,
+        // Words without a subcommand are refused above, since the command asks for one.
+        None => REFUSED,
     }
 }
 
