@@ -8,10 +8,8 @@ ghost use Rattle.steps.specs.Records.{band_of, both, follows, head, is_number, n
 ghost use Rattle.steps.specs.Fields.{pair_of};
 
 use crate::fault::BandsFault;
+use cents::LIMIT;
 use csv::ByteRecord;
-
-// The greatest `at` and the greatest step, in cents.
-const LIMIT: u64 = 1_000_000_000;
 
 // The most bands that a table has.
 const MOST: usize = 50;
@@ -61,7 +59,7 @@ fn value(digits: &[u8]) -> u64
     value
 }
 
-// The number of a field, from `least` to `LIMIT`.
+// The number of a field, from `least` to the greatest amount.
 fn number(least: u64, field: &[u8]) -> Option<u64>
     ensures { result ≡ number_from least field.now }
 {
