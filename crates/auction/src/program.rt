@@ -99,27 +99,12 @@ fn bands_fault(rt: &impl Eprint, fault: BandsFault) -> u8 {
     if fault == BandsFault::Memory {
         return no_memory(rt);
     }
-    let name = fault_name(fault);
+    let name = fault.name();
     let _ = match fault.row() {
         Some(row) => eprintln!(rt; "auction: bands: {name} {row}"),
         None => eprintln!(rt; "auction: bands: {name}"),
     };
     FAULT
-}
-
-// The name of a fault of a band table.
-fn fault_name(fault: BandsFault) -> &'static str {
-    match fault {
-        BandsFault::Csv => "Csv",
-        BandsFault::Head => "Head",
-        BandsFault::Row { .. } => "Row",
-        BandsFault::First => "First",
-        BandsFault::Order { .. } => "Order",
-        BandsFault::Falls { .. } => "Falls",
-        BandsFault::TooMany => "TooMany",
-        BandsFault::Device => "Device",
-        BandsFault::Memory => "Memory",
-    }
 }
 
 // The end of a run at a fault.

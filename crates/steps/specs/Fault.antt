@@ -1,5 +1,5 @@
--- The numbers of the faults of a band table, and the rows that they name.
-use Rattle.std.specs.Prelude.{ℕ, Option, Some, None}
+-- The numbers and names of the faults of a band table, and the rows that they tell.
+use Rattle.std.specs.Prelude.{ℕ, List, Option, Some, None, codes}
 use Rattle.steps.specs.declared.fault.BandsFault.{BandsFault}
 use Rattle.steps.specs.declared.fault.BandsFault.TheVariants.{Csv, Head, Row, First, Order, Falls, TooMany, Device, Memory}
 
@@ -15,7 +15,19 @@ number_of TooMany = 7
 number_of Device = 8
 number_of Memory = 9
 
--- the row that a fault names
+-- the name of a fault
+abbrev pub name_of : BandsFault → List ℕ
+name_of Csv = codes "Csv"
+name_of Head = codes "Head"
+name_of (Row n) = codes "Row"
+name_of First = codes "First"
+name_of (Order n) = codes "Order"
+name_of (Falls n) = codes "Falls"
+name_of TooMany = codes "TooMany"
+name_of Device = codes "Device"
+name_of Memory = codes "Memory"
+
+-- the row that a fault tells
 abbrev pub row_of : BandsFault → Option ℕ
 row_of Csv = None
 row_of Head = None

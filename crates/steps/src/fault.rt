@@ -1,6 +1,6 @@
 //! Why there is no band table.
 ghost use Rattle.std.specs.Prelude.{◌≡◌};
-ghost use Rattle.steps.specs.Fault.{number_of, row_of};
+ghost use Rattle.steps.specs.Fault.{name_of, number_of, row_of};
 
 use thiserror::Error;
 
@@ -53,6 +53,23 @@ impl BandsFault {
             BandsFault::TooMany => 7,
             BandsFault::Device => 8,
             BandsFault::Memory => 9,
+        }
+    }
+
+    /// The name of the fault, that of its variant.
+    pub fn name(&self) -> &'static str
+        ensures { result.now ≡ name_of self.now }
+    {
+        match self {
+            BandsFault::Csv => "Csv",
+            BandsFault::Head => "Head",
+            BandsFault::Row { .. } => "Row",
+            BandsFault::First => "First",
+            BandsFault::Order { .. } => "Order",
+            BandsFault::Falls { .. } => "Falls",
+            BandsFault::TooMany => "TooMany",
+            BandsFault::Device => "Device",
+            BandsFault::Memory => "Memory",
         }
     }
 

@@ -201,38 +201,55 @@ fn want_of_memory_is_told_as_such(rt: HostRuntime) {
 }
 
 #[test]
-fn a_fault_has_its_number_its_row_and_its_words(rt: HostRuntime) -> Result<(), Fail> {
-    for (fault, number, row, words) in [
+fn a_fault_has_its_name_its_number_its_row_and_its_words(rt: HostRuntime) -> Result<(), Fail> {
+    for (fault, name, number, row, words) in [
         (
             BandsFault::Csv,
+            "Csv",
             1,
             None,
             "a record has another number of fields than the first",
         ),
-        (BandsFault::Head, 2, None, "the first record is not at,step"),
+        (
+            BandsFault::Head,
+            "Head",
+            2,
+            None,
+            "the first record is not at,step",
+        ),
         (
             BandsFault::Row { row: 3 },
+            "Row",
             3,
             Some(3),
             "row 3 is not two numbers within their ranges",
         ),
-        (BandsFault::First, 4, None, "no band begins at 0"),
+        (BandsFault::First, "First", 4, None, "no band begins at 0"),
         (
             BandsFault::Order { row: 7 },
+            "Order",
             5,
             Some(7),
             "row 7 begins no higher than the one before",
         ),
         (
             BandsFault::Falls { row: 2 },
+            "Falls",
             6,
             Some(2),
             "the step of row 2 is smaller than the one before",
         ),
-        (BandsFault::TooMany, 7, None, "more than 50 bands"),
-        (BandsFault::Device, 8, None, "the reader failed"),
-        (BandsFault::Memory, 9, None, "out of memory"),
+        (
+            BandsFault::TooMany,
+            "TooMany",
+            7,
+            None,
+            "more than 50 bands",
+        ),
+        (BandsFault::Device, "Device", 8, None, "the reader failed"),
+        (BandsFault::Memory, "Memory", 9, None, "out of memory"),
     ] {
+        assert_eq!(rt; fault.name(), name, "of {fault:?}");
         assert_eq!(rt; fault.number(), number, "of {fault:?}");
         assert_eq!(rt; fault.row(), row, "of {fault:?}");
         let shown = format!(in rt.alloc(); "{fault}")?;
