@@ -11,21 +11,24 @@ fn an_empty_stream_is_answered_nothing(rt: HostRuntime) -> Result<(), Fail> {
     Ok(())
 }
 
+// Texts that are no message, whatever follows them, and where a whole message does.
+const NO_MESSAGES: [&str; 10] = [
+    "GET /items/2 HTTP/1.1\r\nhost: h\r\nx-member: 2\r\n\r\n",
+    "GET /items/1 HTTP/1.1\nhost: h\nx-member: 2\n\n",
+    "GET /items/1 HTTP/1.1\r\nhost: h\r\nx-member: 02\r\n\r\n",
+    "GET /items/1 HTTP/1.1\r\nhost: h\r\nx-member: 12345678901\r\n\r\n",
+    "GET /items/1 HTTP/1.1\r\nhost: h\r\nx-member: \r\n\r\n",
+    "DELETE /items/1 HTTP/1.1\r\nhost: h\r\nx-member: 2\r\n\r\n",
+    "POST /items/1/bids HTTP/1.1\r\nhost: h\r\nx-member: 2\r\nx-moment: 1001\r\ncontent-length: 16\r\n\r\n{\"maximum\":500}",
+    "POST /items/1/bids HTTP/1.1\r\nhost: h\r\nx-member: 2\r\nx-moment: 1001\r\ncontent-length: 16\r\n\r\n{\"maximum\":0500}",
+    "POST /items/1/bids HTTP/1.1\r\nhost: h\r\nx-member: 2\r\nx-moment: 1001\r\ncontent-length: 14\r\n\r\n{\"maximum\":500",
+    "\r\n",
+];
+
 #[test]
 fn a_message_in_neither_spelling_ends_the_run(rt: HostRuntime) -> Result<(), Fail> {
     let alloc = rt.alloc();
-    for text in [
-        "GET /items/2 HTTP/1.1\r\nhost: h\r\nx-member: 2\r\n\r\n",
-        "GET /items/1 HTTP/1.1\nhost: h\nx-member: 2\n\n",
-        "GET /items/1 HTTP/1.1\r\nhost: h\r\nx-member: 02\r\n\r\n",
-        "GET /items/1 HTTP/1.1\r\nhost: h\r\nx-member: 12345678901\r\n\r\n",
-        "GET /items/1 HTTP/1.1\r\nhost: h\r\nx-member: \r\n\r\n",
-        "DELETE /items/1 HTTP/1.1\r\nhost: h\r\nx-member: 2\r\n\r\n",
-        "POST /items/1/bids HTTP/1.1\r\nhost: h\r\nx-member: 2\r\nx-moment: 1001\r\ncontent-length: 16\r\n\r\n{\"maximum\":500}",
-        "POST /items/1/bids HTTP/1.1\r\nhost: h\r\nx-member: 2\r\nx-moment: 1001\r\ncontent-length: 16\r\n\r\n{\"maximum\":0500}",
-        "POST /items/1/bids HTTP/1.1\r\nhost: h\r\nx-member: 2\r\nx-moment: 1001\r\ncontent-length: 14\r\n\r\n{\"maximum\":500",
-        "\r\n",
-    ] {
+    for text in NO_MESSAGES {
         let mut stream = String::from_str(alloc, text)?;
         stream.push_str(message(alloc, Read(2))?.as_str())?;
         let (written, count) = run(alloc, stream.as_bytes(), u64::MAX)?;
