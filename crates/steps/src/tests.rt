@@ -191,7 +191,8 @@ fn a_reader_that_fails_is_told_as_such(rt: HostRuntime) -> Result<(), Fail> {
     Ok(())
 }
 
-// Run with each allocation refused in turn, by `rt try --test --fail-alloc 1..`.
+// Holds of every outcome, so that it passes too where `rt try --test --fail-alloc N` refuses one
+// allocation, the Nth.
 #[test]
 fn want_of_memory_is_told_as_such(rt: HostRuntime) {
     match Bands::read(rt.alloc(), b"at,step\n0,5\n100,25\n".as_slice()) {
