@@ -4,12 +4,13 @@
 CASES ?= ../shared/conformance
 SUITES = first-path money
 
-.PHONY: help demo test auction cases memory
+.PHONY: help demo test auction program cases memory
 
 help:
 	@echo "make demo      answers examples/first-bid.http, without waiting for the proofs"
 	@echo "make test      proves everything from nothing, runs all tests and wrong bodies (rt ci)"
 	@echo "make auction   proves and builds the program, as bin/auction"
+	@echo "make program   checks the exit statuses and lines of the program that make test has left"
 	@echo "make cases     runs the conformance cases on the program that make test has left"
 	@echo "make memory    refuses each allocation of that program in turn (needs cc)"
 
@@ -23,6 +24,9 @@ auction:
 	cd crates/auction && rt run -- replay --preset < /dev/null
 	mkdir -p bin
 	cp crates/auction/out/auction bin/auction
+
+program:
+	python3 tests/program.py crates/auction/out/auction
 
 cases:
 	for suite in $(SUITES); do \

@@ -1,0 +1,116 @@
+#!/usr/bin/env python3
+"""Runs the program on words and devices that are right and wrong: `program.py PROGRAM`.
+
+Each case has its exit status, what goes to standard output and the line on standard error. Where
+`clap` refuses the words, its text is only looked at for where it goes and how it begins. The last
+line is 'N cases, M wrong'.
+"""
+import os
+import pathlib
+import subprocess
+import sys
+import tempfile
+
+READ = b"GET /items/1 HTTP/1.1\r\nhost: h\r\nx-member: 2\r\n\r\n"
+REPLAY = ["replay", "--preset"]
+
+# Words that are no command line.
+REFUSED_WORDS = [
+    [],
+    ["replay"],
+    ["replay", "--bands", "table.csv"],
+    [*REPLAY, "more"],
+    [*REPLAY, "--bands"],
+    [*REPLAY, "--rate", "1000"],
+    [*REPLAY, "--preset"],
+    ["sell"],
+    ["--preset"],
+]
+
+# The text of a band table, and how its fault is told.
+FIFTY_BANDS = "at,step\n" + "".join(f"{at},5\n" for at in range(50))
+FAULTY_TABLES = [
+    ("at,step\n0,5,9\n", "Csv"),
+    ("", "Head"),
+    ("at,step\n0,0\n", "Row 1"),
+    ("at,step\n00000000000,5\n", "Row 1"),
+    ("at,step\n0,5\n1000000001,5\n", "Row 2"),
+    ("at,step\n", "First"),
+    ("at,step\n1,5\n", "First"),
+    ("at,step\n0,5\n0,6\n", "Order 2"),
+    ("at,step\n0,5\n0,4\n", "Order 2"),
+    ("at,step\n0,5\n100,4\n", "Falls 2"),
+    (FIFTY_BANDS + "50,5\n", "TooMany"),
+    (FIFTY_BANDS + "x,5\n", "TooMany"),
+]
+
+
+def ended(status, output, error):
+    """Whether a run ended with a status and wrote just this."""
+    return lambda result: (result.returncode, result.stdout, result.stderr) == (status, output, error)
+
+
+def fault(line):
+    """Whether a run ended at a fault that is told in a line, and wrote nothing else."""
+    return ended(1, b"", f"auction: {line}\n".encode())
+
+
+def refused(result):
+    """Whether `clap` refused the words: its error, or the usage, stands on standard error alone."""
+    begins = result.stderr.startswith((b"error: ", b"Usage: "))
+    return result.returncode == 2 and result.stdout == b"" and begins
+
+
+def helped(result):
+    """Whether the run gave the help that it was asked for."""
+    return result.returncode == 0 and b"Usage: " in result.stdout and result.stderr == b""
+
+
+def cases(folder, full):
+    """Each case: its name, the words, what standard input is, where output goes, and the judge."""
+    def over_memory(words, judge, given=b""):
+        return (f"words {words!r}", words, {"input": given, "stdout": subprocess.PIPE}, judge)
+
+    def with_table(path, judge):
+        return over_memory([*REPLAY, "--bands", str(path)], judge, READ)
+
+    table = folder / "good.csv"
+    table.write_text("at,step\n0,5\n100,25\n")
+    yield over_memory(REPLAY, ended(0, b"", b""))
+    yield over_memory([*REPLAY, "--bands", str(table)], ended(0, b"", b""))
+    yield over_memory(["--help"], helped)
+    yield over_memory(["replay", "--help"], helped)
+    for words in REFUSED_WORDS:
+        yield over_memory(words, refused, READ)
+    for words in ([b"\xff"], [*REPLAY, b"\xff"], [*REPLAY, "--bands", b"table\xc3.csv"]):
+        yield over_memory(words, ended(2, b"", b"auction: command line\n"), READ)
+    for number, (text, name) in enumerate(FAULTY_TABLES):
+        path = folder / f"faulty-{number}.csv"
+        path.write_text(text)
+        yield with_table(path, fault(f"bands: {name}"))
+    yield with_table(folder / "missing.csv", fault("bands: Device"))
+    yield with_table(folder, fault("bands: Device"))
+    directory = os.open(folder, os.O_RDONLY)
+    yield ("a directory as input", REPLAY, {"stdin": directory, "stdout": subprocess.PIPE},
+           fault("input: Read"))
+    os.close(directory)
+    yield ("a full device as output", REPLAY, {"input": READ, "stdout": full},
+           lambda result: (result.returncode, result.stderr) == (1, b"auction: output: Write\n"))
+
+
+def main():
+    program = str(pathlib.Path(sys.argv[1]).resolve())
+    count = wrong = 0
+    with tempfile.TemporaryDirectory() as name, open("/dev/full", "wb") as full:
+        for case, words, devices, judge in cases(pathlib.Path(name), full):
+            result = subprocess.run([program, *words], stderr=subprocess.PIPE, timeout=60, **devices)
+            count += 1
+            if not judge(result):
+                wrong += 1
+                print(f"{case}: {result}")
+    print(f"{count} cases, {wrong} wrong")
+    return 1 if wrong else 0
+
+
+if __name__ == "__main__":
+    sys.exit(main())
