@@ -1,0 +1,33 @@
+-- What a clause reads of a writer as a gathering sink.
+use Rattle.std.specs.Prelude.{◌≡◌, ℕ, ◌+◌, List, ◌++◌, length, Bool, Option, Result, Ok}
+use Rattle.std.specs.Io.KnownBytes.{append_known}
+use Rattle.device.specs.declared.failure.Failure.{Failure}
+use Rattle.device.specs.declared.writing.Writing.{Writing}
+use Rattle.device.specs.Room.{items, room}
+
+-- the writer behind it
+abbrev pub writer_of : {W : Type 0} → Writing W → W
+writer_of s = s.writer
+
+-- the bytes held, not written yet
+abbrev pub held_of : {W : Type 0} → Writing W → List ℕ
+held_of s = items s.held
+
+-- how many more bytes can be held
+abbrev pub room_of : {W : Type 0} → Writing W → ℕ
+room_of s = room s.held
+
+-- whether it failed
+abbrev pub writing_has_failed : {W : Type 0} → Writing W → Bool
+writing_has_failed s = s.failed
+
+-- the writer's bytes, where they are known, and then those held
+abbrev pub taken_of : {W : Type 0} → (W → Option (List ℕ)) → Writing W → Option (List ℕ)
+taken_of contents s = append_known (contents s.writer) (items s.held)
+
+-- the bytes are held, and the writer is as it was
+pub record Gathers {W : Type 0} (old new : Writing W) (result : Result ℕ Failure) (bytes : List ℕ) : Type 0 where
+  pub all : result ≡ Ok (length bytes)
+  pub writer : new.writer ≡ old.writer
+  pub held : items new.held ≡ items old.held ++ bytes
+  pub room_left : room new.held + length bytes ≡ room old.held
