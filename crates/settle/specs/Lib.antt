@@ -1,0 +1,10 @@
+pub mod Balance
+pub mod Calendar
+pub mod Columns
+pub mod Fault
+pub mod Fee
+pub mod Lines
+pub mod Statement
+pub mod Text
+pub mod Written
+pub mod Zoned

@@ -1,0 +1,99 @@
+#!/usr/bin/env python3
+"""Writes crates/settle/src/tests/day_table.rt: civil days as the C library gives them.
+
+For each of six zone rules 200 moments: the seconds round the first midnights and the last ones,
+round the changes of daylight saving time of three years and the midnights of those days, and
+moments drawn at random (the seed is fixed). The day of a moment comes from localtime(3) under the
+environment variable TZ; `time.localtime` of Python calls it.
+
+Usage: python3 tests/days.py > crates/settle/src/tests/day_table.rt
+"""
+import datetime
+import os
+import random
+import time
+
+LAST = 4_102_444_800
+COUNT = 200
+RULES = [
+    ("UTC", "UTC0"),
+    ("EAST", "CET-1CEST,M3.5.0,M10.5.0/3"),
+    ("WEST", "EST5EDT,M3.2.0,M11.1.0"),
+    ("HALF_HOUR", "IST-5:30"),
+    ("SOUTH", "NZST-12NZDT,M9.5.0,M4.1.0/3"),
+    ("FAR_WEST", "<-1130>11:30"),
+]
+
+
+def day_of(moment):
+    shown = time.localtime(moment)
+    date = datetime.date(shown.tm_year, shown.tm_mon, shown.tm_mday)
+    return date.toordinal() - datetime.date(1970, 1, 1).toordinal()
+
+
+def changes(year):
+    """The moments of a year at which the offset changes."""
+    start = int(datetime.datetime(year, 1, 1, tzinfo=datetime.timezone.utc).timestamp())
+    found = []
+    for hour in range(0, 366 * 24):
+        before, after = start + hour * 3600, start + (hour + 1) * 3600
+        if time.localtime(before).tm_gmtoff != time.localtime(after).tm_gmtoff:
+            while after - before > 1:
+                middle = (before + after) // 2
+                if time.localtime(middle).tm_gmtoff == time.localtime(before).tm_gmtoff:
+                    before = middle
+                else:
+                    after = middle
+            found.append(after)
+    return found
+
+
+def midnights(moment):
+    """The first seconds of the day of a moment and of the next one."""
+    first = moment - 90_000
+    found = []
+    for second in range(first, first + 180_000, 900):
+        if day_of(second) != day_of(second + 900):
+            low, high = second, second + 900
+            while high - low > 1:
+                middle = (low + high) // 2
+                if day_of(middle) == day_of(low):
+                    low = middle
+                else:
+                    high = middle
+            found.append(high)
+    return found
+
+
+def moments(draw):
+    special = [0, 1, LAST, LAST - 1]
+    for around in (86_400, 951_782_400, LAST - 86_400):
+        special += midnights(around)
+    for year in (1971, 2000, 2099):
+        for change in changes(year):
+            special += [change, change + 3600, change - 3600] + midnights(change)
+    near = [m + d for m in special for d in (-1, 0)]
+    chosen = sorted({m for m in near if 0 <= m <= LAST})
+    drawn = set(chosen)
+    while len(drawn) < COUNT:
+        drawn.add(draw.randrange(LAST + 1))
+    return sorted(drawn)[:COUNT] if len(chosen) <= COUNT else sorted(draw.sample(chosen, COUNT))
+
+
+def main():
+    draw = random.Random(1970)
+    print("//! Civil days as the C library gives them: a moment and the number of its day. Made by")
+    print("//! tests/days.py, which says how.")
+    for name, rule in RULES:
+        os.environ["TZ"] = rule
+        time.tzset()
+        print()
+        print(f"/// In the zone `{rule}`.")
+        print(f"pub static {name}: [(u64, i32); {COUNT}] = [")
+        for moment in moments(draw):
+            print(f"    ({moment}, {day_of(moment)}),")
+        print("];")
+
+
+if __name__ == "__main__":
+    main()
