@@ -1,0 +1,7 @@
+pub mod HeadLemmas
+pub mod FieldLemmas
+pub mod LengthLemmas
+pub mod OneFrame
+pub mod Fronts
+pub mod Rooms
+pub mod OneCut

@@ -1,0 +1,13 @@
+-- Each text computes.
+use Rattle.std.proofs.Common.{refl}
+use Rattle.std.specs.Fmt.{digits}
+use Rattle.wire.specs.Answer.{allow_field, answer_bytes, closing_field, head_end, head_start, phrase_of, status_line}
+use Rattle.wire.proofs.fixed.damaged_row.Goals as goal
+
+pub returns-then-closes : goal.returns-then-closes
+unfolding answer_bytes head_start status_line phrase_of head_end allow_field closing_field digits
+returns-then-closes c = rw c.if-closes.true refl
+
+pub returns-else-closes : goal.returns-else-closes
+unfolding answer_bytes head_start status_line phrase_of head_end allow_field closing_field digits
+returns-else-closes c = rw c.if-closes.false refl

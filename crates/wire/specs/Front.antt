@@ -1,0 +1,42 @@
+-- What the bytes of a stream tell so far.
+use Rattle.std.specs.Prelude.{ℕ, ◌<◌, ◌≤◌, List, ◌++◌, length, drop, Result, Ok, Err}
+use Rattle.httparse.specs.Grammar.{RequestHead, MayBecomeRequest}
+use Rattle.httparse.specs.Spans.{IsRequestAt, IsRequestWithin}
+use Rattle.httparse.specs.declared.spans.HeaderSpan.{HeaderSpan}
+use Rattle.wire.specs.Frame.{IsFront, IsMessageAt}
+use Rattle.wire.specs.Head.{BeginsHead, NeverHead, NoHead, most_bytes}
+use Rattle.wire.specs.Message.{Message}
+use Rattle.wire.specs.declared.fault.WireFault.{WireFault}
+use Rattle.wire.specs.declared.fault.WireFault.TheVariants as fault
+use Rattle.wire.specs.declared.front.Missing.{Missing}
+use Rattle.wire.specs.declared.front.Missing.TheVariants as missing
+use Rattle.wire.specs.declared.head.Head.{Head}
+use Rattle.wire.specs.declared.head.Head.TheVariants.{Found, More, Never}
+
+-- the bytes have no head within the limits yet, and more bytes may make one of them
+pub record EndsInHead (bytes : List ℕ) : Type 0 where
+  pub none : NoHead bytes
+  pub few : length bytes < most_bytes
+  pub unfinished : MayBecomeRequest bytes
+
+-- the bytes end inside the body of a head that breaks no rule
+abbrev pub EndsInBody : List ℕ → Type 0
+EndsInBody bytes = IsFront bytes (Err fault.End) × (length bytes < 24576)
+
+-- whatever follows, the front has that fault
+abbrev pub IsKnownFault : List ℕ → WireFault → Type 0
+IsKnownFault bytes f = (more : List ℕ) → IsFront (bytes ++ more) (Err f)
+
+-- what the search for a head tells
+abbrev pub IsFound : List ℕ → List HeaderSpan → Head → Type 0
+IsFound bytes spans (Found r) =
+    IsRequestWithin bytes spans r × (h : RequestHead) × IsRequestAt bytes spans r h × BeginsHead bytes h (drop r.len bytes)
+IsFound bytes spans More = EndsInHead bytes
+IsFound bytes spans Never = NeverHead bytes
+
+-- a message at the front, or what is missing for one
+abbrev pub IsFrontSoFar : List ℕ → Result Message Missing → Type 0
+IsFrontSoFar bytes (Ok m) = IsMessageAt bytes m (drop m.length bytes) × (m.length ≤ length bytes)
+IsFrontSoFar bytes (Err missing.Head) = EndsInHead bytes
+IsFrontSoFar bytes (Err missing.Body) = EndsInBody bytes
+IsFrontSoFar bytes (Err (missing.Fault f)) = IsKnownFault bytes f

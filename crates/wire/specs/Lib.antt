@@ -1,0 +1,12 @@
+pub mod Head
+pub mod Fields
+pub mod Message
+pub mod Frame
+pub mod Fault
+pub mod Front
+pub mod Known
+pub mod Look
+pub mod Cut
+pub mod Held
+pub mod Answer
+pub mod Lent

@@ -1,0 +1,79 @@
+//! The bytes of an answer.
+ghost use Rattle.std.specs.Prelude.{◌≡◌, ◌++◌, IfOk, OnErr, OnOk, take, vec_len};
+ghost use Rattle.wire.specs.Answer.{answer_bytes, head_end};
+
+use crate::status::{Methods, Status};
+use std::alloc::{AllocError, Global};
+
+// No head of an answer is longer.
+const MOST_HEAD: usize = 192;
+
+/// An answer of JSON.
+#[derive(Clone, Copy, Debug, PartialEq, Eq)]
+pub struct Answer<'a> {
+    pub status: Status,
+    /// The methods of the path, which the status 405 asks for (RFC 9110, 15.5.6).
+    pub allow: Option<Methods>,
+    /// Whether the connection ends behind the answer.
+    pub closes: bool,
+    pub body: &'a [u8],
+}
+
+// What stands between the number of the content-length and the body, in one piece.
+#[tactic(auto, unfolding(crate::specs::Answer::head_end, crate::specs::Answer::allow_field, crate::specs::Answer::closing_field))]
+fn head_end(allow: Option<Methods>, closes: bool) -> &'static [u8]
+    ensures { result.now ≡ head_end allow closes }
+{
+    match (allow, closes) {
+        (None, false) => b"\r\n\r\n",
+        (None, true) => b"\r\nconnection: close\r\n\r\n",
+        (Some(Methods::Get), false) => b"\r\nallow: GET\r\n\r\n",
+        (Some(Methods::Get), true) => b"\r\nallow: GET\r\nconnection: close\r\n\r\n",
+        (Some(Methods::Post), false) => b"\r\nallow: POST\r\n\r\n",
+        (Some(Methods::Post), true) => b"\r\nallow: POST\r\nconnection: close\r\n\r\n",
+        (Some(Methods::GetAndPost), false) => b"\r\nallow: GET, POST\r\n\r\n",
+        (Some(Methods::GetAndPost), true) => b"\r\nallow: GET, POST\r\nconnection: close\r\n\r\n",
+    }
+}
+
+impl Answer<'_> {
+    /// Appends the bytes of the answer, for which room is made first. After an `Err` the buffer has
+    /// what it had.
+    pub fn write_into(&self, out: &mut Vec<u8>) -> Result<(), AllocError>
+        ensures ok { OnOk result (out.new.items
+            ≡ out.old.items ++ answer_bytes self.now.status self.now.allow self.now.closes self.now.body.now) }
+        ensures err { OnErr result (out.new.items ≡ out.old.items) }
+    {
+        let before = out.len();
+        let written = self.append_to(out);
+        if written.is_err() {
+            out.truncate(before);
+        }
+        written
+    }
+
+    // Appends the bytes of the answer, or some of them.
+    fn append_to(&self, out: &mut Vec<u8>) -> Result<(), AllocError>
+        ensures ok { OnOk result (out.new.items
+            ≡ out.old.items ++ answer_bytes self.now.status self.now.allow self.now.closes self.now.body.now) }
+        ensures err { OnErr result (take (vec_len out.old) out.new.items ≡ out.old.items) }
+    {
+        let mut digits = itoa::Buffer::new();
+        out.reserve(self.body.len().saturating_add(MOST_HEAD))?;
+        out.extend_from_slice(self.status.head_start())?;
+        out.extend_from_slice(digits.format(self.body.len()).as_bytes())?;
+        out.extend_from_slice(head_end(self.allow, self.closes))?;
+        out.extend_from_slice(self.body)?;
+        Ok(())
+    }
+
+    /// The bytes of the answer, in a buffer of their own.
+    pub fn to_bytes(&self, alloc: Global) -> Result<Vec<u8>, AllocError>
+        ensures { IfOk result (λ bytes. bytes.items
+            ≡ answer_bytes self.now.status self.now.allow self.now.closes self.now.body.now) }
+    {
+        let mut bytes = Vec::new(alloc);
+        self.write_into(&mut bytes)?;
+        Ok(bytes)
+    }
+}

@@ -1,0 +1,102 @@
+//! The values that stand under a name.
+ghost use Rattle.std.specs.Prelude.{◌≡◌, ◌≤◌, ◌<◌, ◌++◌, ◌∷◌, [], List, ℕ, IfSome, length, map, All, option_map, slice_range, if◌then◌else◌};
+ghost use Rattle.std.specs.Str.{str_eq_ignore_ascii_case};
+ghost use Rattle.httparse.specs.Grammar.{is_ows, trim_ows};
+ghost use Rattle.httparse.specs.Spans.{IsHeaderWithin, header_bytes};
+ghost use Rattle.wire.specs.Fields.{is_close, names_close, only, values_of};
+ghost use Rattle.wire.specs.Known.{IsCount};
+
+use httparse::spans::HeaderSpan;
+
+/// The values of the fields of one name, as far as anyone asks.
+#[derive(Clone, Copy)]
+pub(crate) enum Values<'b> {
+    Absent,
+    One(&'b [u8]),
+    Many,
+}
+
+impl<'b> Values<'b> {
+    /// These values, and one more if the field has the name.
+    pub(crate) fn and(self, is_named: bool, value: &'b [u8]) -> Values<'b>
+        ensures { (values : List (List ℕ)) → IsCount values self.entry
+            → IsCount (if is_named then values ++ value.now ∷ [] else values) result }
+    {
+        if !is_named {
+            return self;
+        }
+        match self {
+            Values::Absent => Values::One(value),
+            Values::One(_) => Values::Many,
+            Values::Many => Values::Many,
+        }
+    }
+}
+
+/// Whether two names are the same but for ASCII case.
+pub(crate) fn is_same(name: &[u8], wanted: &[u8]) -> bool
+    ensures { result ≡ str_eq_ignore_ascii_case name.now wanted.now }
+{
+    name.eq_ignore_ascii_case(wanted)
+}
+
+/// The value of the field of that name, if there is exactly one.
+pub(crate) fn one_of<'b>(bytes: &'b [u8], spans: &[HeaderSpan], name: &[u8]) -> Option<&'b [u8]>
+    requires { All (IsHeaderWithin (length bytes.now)) spans.now }
+    ensures { option_map (λ value. value.now) result ≡ only (values_of name.now (map (header_bytes bytes.now) spans.now)) }
+{
+    let mut values = Values::Absent;
+    for span in spans {
+        values = values.and(is_same(span.name.of(bytes), name), span.value.of(bytes));
+    }
+    match values {
+        Values::One(value) => Some(value),
+        _ => None,
+    }
+}
+
+// Whether a byte is a space or a tab.
+fn is_blank(byte: u8) -> bool
+    ensures { result ≡ is_ows byte }
+{
+    byte == b' ' || byte == b'\t'
+}
+
+// The bytes without the spaces and tabs at both ends.
+fn trim(bytes: &[u8]) -> &[u8]
+    ensures { result.now ≡ trim_ows bytes.now }
+{
+    let mut start = 0;
+    let mut end = bytes.len();
+    while start < end && is_blank(bytes[start]) {
+        start += 1;
+    }
+    while start < end && is_blank(bytes[end - 1]) {
+        end -= 1;
+    }
+    &bytes[start..end]
+}
+
+// Whether a piece of a list is the token `close`.
+#[tactic(auto, unfolding(crate::specs::Fields::is_close))]
+fn is_close_token(piece: &[u8]) -> bool
+    ensures { result ≡ is_close piece.now }
+{
+    trim(piece).eq_ignore_ascii_case(b"close")
+}
+
+/// Whether a list, parted by commas, has the token `close`.
+pub(crate) fn has_close(list: &[u8]) -> bool
+    ensures { result ≡ names_close list.now }
+{
+    let mut start = 0;
+    for (place, byte) in list.iter().enumerate() {
+        if *byte == b',' {
+            if is_close_token(&list[start..place]) {
+                return true;
+            }
+            start = place + 1;
+        }
+    }
+    is_close_token(&list[start..])
+}

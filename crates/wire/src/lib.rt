@@ -1,0 +1,34 @@
+//! HTTP/1.x messages out of a stream of bytes that comes in any pieces, and the bytes of an answer.
+//!
+//! Promised: which messages a stream holds follows from its bytes alone, however they are cut; a
+//! fault is told only where it holds whatever may follow; and an answer has one text. No call but
+//! `Inbox::new` and those that write an `Answer` takes memory. Read `specs/Frame.antt` first, which
+//! says what stands at the front of a stream, and then `look` and `inbox`.
+#![tactic(auto)]
+
+mod answer;
+mod fault;
+mod fields;
+mod fixed;
+mod frame;
+mod front;
+mod head;
+mod inbox;
+mod known;
+mod laws;
+mod length;
+mod look;
+mod request;
+mod status;
+#[cfg(test)]
+mod tests;
+
+pub use answer::Answer;
+pub use fault::WireFault;
+pub use fixed::{broken_frame, damaged_row, failed_store, no_memory};
+pub use frame::whole;
+pub use inbox::{Inbox, ROOM};
+pub use laws::{a_message_stays, streams_have_one_cut, texts_have_one_frame};
+pub use look::Look;
+pub use request::Request;
+pub use status::{Methods, Status};
