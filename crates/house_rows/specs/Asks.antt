@@ -1,0 +1,133 @@
+-- What a keep may ask of a change: that it fits the tables, each row of which fits. That its new key is free the keep finds out.
+use Rattle.std.specs.Prelude.{◌≡◌, ◌≢◌, ◌<◌, ◌+◌, ◌==◌, ◌&&◌, ℕ, List, length, true, false, IfSome, is_some, Option, Some, None}
+use Rattle.std.specs.List.{list_any}
+use Rattle.proxy.specs.declared.bid.Bid as bid
+use Rattle.proxy.specs.Bids.{one_more, refusal, standing_of}
+use Rattle.proxy.specs.Kept.{Kept}
+use Rattle.house_rows.specs.declared.change.Change.{Change}
+use Rattle.house_rows.specs.declared.change.Change.TheVariants.{Register, AddCategory, List as Listed, Bid, Buy, Close, Settle, Watch, Unwatch, Ask, Answer, Feedback}
+use Rattle.house_rows.specs.declared.state.State.TheVariants.{Open, Sold}
+use Rattle.house_rows.specs.declared.talk.Question.{Question}
+use Rattle.house_rows.specs.Fits.{IsMoment, IsWithin}
+use Rattle.house_rows.specs.Found.{ask_count, category_at, category_named, is_given, item_with_lot, member_named, question_at, row_at}
+use Rattle.house_rows.specs.Limits.{most_cents, most_categories, most_items, most_members, most_questions}
+use Rattle.house_rows.specs.Ratings.{other_party}
+use Rattle.house_rows.specs.Tables.{ItemRow, Tables}
+use Rattle.house_rows.specs.Verdict.{was_sold}
+use Rattle.house_rows.specs.Text.{is_lot, is_text}
+
+-- the number is that of a member that is there
+abbrev pub HasMember : Tables → ℕ → Type 0
+HasMember t n = IsWithin 1 (length t.members) n
+
+-- there is such an item
+abbrev pub HasItem : Tables → ℕ → Type 0
+HasItem t i = (row : ItemRow) × (row_at t i ≡ Some row)
+
+pub record NameFits (moment : ℕ) (name : List ℕ) (count most : ℕ) : Type 0 where
+  pub moment_fits : IsMoment moment
+  pub name_fits : is_text 1 40 name ≡ true
+  pub room : count < most
+
+pub record ListingFits (t : Tables) (moment seller category : ℕ) (lot title text : List ℕ) (start : ℕ) (buy_now : Option ℕ) (end : ℕ) : Type 0 where
+  pub moment_fits : IsMoment moment
+  pub seller_there : HasMember t seller
+  pub category_there : is_some (category_at t category) ≡ true
+  pub lot_fits : is_lot lot ≡ true
+  pub title_fits : is_text 1 80 title ≡ true
+  pub text_fits : is_text 0 2000 text ≡ true
+  pub start_fits : IsWithin 1 most_cents start
+  pub buy_now_fits : IfSome buy_now (λ amount. IsWithin start most_cents amount)
+  pub end_fits : IsMoment end
+  pub room : length t.items < most_items
+
+-- a bid on another member's open item, one that is accepted over the item's standing, with the standing after it
+pub record BidFits (t : Tables) (moment item : ℕ) (placed : bid.Bid) (standing : Kept) : Type 0 where
+  pub moment_fits : IsMoment moment
+  pub row : ItemRow
+  pub row_there : row_at t item ≡ Some row
+  pub is_open : row.item.terms.state ≡ Open
+  pub bidder_there : HasMember t placed.member
+  pub apart : placed.member ≢ row.item.terms.seller
+  pub bids : List bid.Bid
+  pub stands : row.standing ≡ standing_of t.settings.bands row.standing.start bids
+  pub accepted : refusal t.settings.bands row.standing.start bids placed.member placed.maximum ≡ None
+  pub numbered : placed.no ≡ length bids + 1
+  pub stands_after : standing ≡ standing_of t.settings.bands row.standing.start (one_more bids placed.member placed.maximum)
+
+-- a purchase of another member's open item that has a buy-now price and no bid, at that price
+pub record PurchaseFits (t : Tables) (moment item buyer price : ℕ) : Type 0 where
+  pub moment_fits : IsMoment moment
+  pub row : ItemRow
+  pub row_there : row_at t item ≡ Some row
+  pub is_open : row.item.terms.state ≡ Open
+  pub buyer_there : HasMember t buyer
+  pub apart : buyer ≢ row.item.terms.seller
+  pub no_bid : row.item.terms.count ≡ 0
+  pub at_price : row.item.terms.buy_now ≡ Some price
+
+pub record SettlementFits (t : Tables) (moment item : ℕ) : Type 0 where
+  pub moment_fits : IsMoment moment
+  pub row : ItemRow
+  pub row_there : row_at t item ≡ Some row
+  pub is_sold : row.item.terms.state ≡ Sold
+
+pub record WatchFits (t : Tables) (member item : ℕ) : Type 0 where
+  pub member_there : HasMember t member
+  pub item_there : HasItem t item
+
+pub record QuestionAsked (t : Tables) (item asker number : ℕ) (text : List ℕ) : Type 0 where
+  pub item_there : HasItem t item
+  pub asker_there : HasMember t asker
+  pub numbered : number ≡ ask_count t asker item + 1
+  pub room : ask_count t asker item < most_questions
+  pub text_fits : is_text 1 500 text ≡ true
+
+-- the question is there, and waits
+pub record AnswerFits (t : Tables) (moment item asker number : ℕ) (text : List ℕ) : Type 0 where
+  pub moment_fits : IsMoment moment
+  pub question : Question
+  pub question_there : question_at t item asker number ≡ Some question
+  pub waits : question.answer ≡ None
+  pub text_fits : is_text 1 500 text ≡ true
+
+-- between the parties of a sale
+pub record RatingFits (t : Tables) (moment item from to : ℕ) (text : List ℕ) : Type 0 where
+  pub moment_fits : IsMoment moment
+  pub row : ItemRow
+  pub row_there : row_at t item ≡ Some row
+  pub was_sold : was_sold row.item.terms.state ≡ true
+  pub giver_there : HasMember t from
+  pub receiver : to ≡ other_party row.item.terms.seller row.item.terms.leader from
+  pub text_fits : is_text 0 200 text ≡ true
+
+-- the change fits the tables
+abbrev pub ChangeFits : Tables → Change → Type 0
+ChangeFits t (Register moment name) = NameFits moment name.now (length t.members) most_members
+ChangeFits t (AddCategory moment name) = NameFits moment name.now (length t.categories) most_categories
+ChangeFits t (Listed moment seller category lot title text start buy_now end) =
+    ListingFits t moment seller category lot.now title.now text.now start buy_now end
+ChangeFits t (Bid moment item placed standing) = BidFits t moment item placed standing
+ChangeFits t (Buy moment item buyer price) = PurchaseFits t moment item buyer price
+ChangeFits t (Close moment) = IsMoment moment
+ChangeFits t (Settle moment item) = SettlementFits t moment item
+ChangeFits t (Watch member item) = WatchFits t member item
+ChangeFits t (Unwatch member item) = WatchFits t member item
+ChangeFits t (Ask item asker number text) = QuestionAsked t item asker number text.now
+ChangeFits t (Answer moment item asker number text) = AnswerFits t moment item asker number text.now
+ChangeFits t (Feedback moment item from to rating text) = RatingFits t moment item from to text.now
+
+-- the new key of the change is free. A watch puts a row that may be there
+abbrev pub IsFree : Tables → Change → Type 0
+IsFree t (Register moment name) = member_named t name.now ≡ None
+IsFree t (AddCategory moment name) = category_named t name.now ≡ None
+IsFree t (Listed moment seller category lot title text start buy_now end) = item_with_lot t seller lot.now ≡ None
+IsFree t (Bid moment item placed standing) = list_any (λ b. (b.item == item) && (b.bid.no == placed.no)) t.bids ≡ false
+IsFree t (Buy moment item buyer price) = Unit {0}
+IsFree t (Close moment) = Unit {0}
+IsFree t (Settle moment item) = Unit {0}
+IsFree t (Watch member item) = Unit {0}
+IsFree t (Unwatch member item) = Unit {0}
+IsFree t (Ask item asker number text) = question_at t item asker number ≡ None
+IsFree t (Answer moment item asker number text) = Unit {0}
+IsFree t (Feedback moment item from to rating text) = is_given t item from ≡ false

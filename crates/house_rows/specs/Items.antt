@@ -1,0 +1,140 @@
+-- What became of items, and items as everybody sees them.
+use Rattle.std.specs.Prelude.{if◌then◌else◌, ℕ, List, [], ◌∷◌, ◌++◌, Bool, true, false, not, ◌==◌, ◌&&◌, nat_le, map, find, Option, Some, None, is_some, unwrap_or, length}
+use Rattle.std.specs.List.{list_any}
+use Rattle.steps.specs.Table.{over}
+use Rattle.proxy.specs.Bids.{leader, price}
+use Rattle.house_rows.specs.declared.command.Command.{Command}
+use Rattle.house_rows.specs.declared.command.Command.TheVariants.{Buy, Close, Settle}
+use Rattle.house_rows.specs.declared.item.Item.{Item}
+use Rattle.house_rows.specs.declared.item.Terms.{Terms}
+use Rattle.house_rows.specs.declared.state.State.{State}
+use Rattle.house_rows.specs.declared.state.State.TheVariants.{Open, Sold, Unsold, Settled}
+use Rattle.house_rows.specs.History.{History}
+use Rattle.house_rows.specs.Listings.{Listing, listings}
+use Rattle.house_rows.specs.Bids.{bids_on}
+
+-- who bought an item at once, and when
+pub record Purchase : Type 0 where
+  pub item : ℕ
+  pub buyer : ℕ
+  pub moment : ℕ
+
+abbrev pub purchase_in : ℕ → ℕ → Command → List Purchase
+purchase_in moment caller (Buy i) = record { item = i; buyer = caller; moment = moment } ∷ []
+purchase_in moment caller _ = []
+
+abbrev pub purchases : History → List Purchase
+purchases [] = []
+purchases (e ∷ h) = purchases h ++ purchase_in e.moment e.caller e.command
+
+abbrev pub purchase_of : History → ℕ → Option Purchase
+purchase_of h i = find (λ p. p.item == i) (purchases h)
+
+-- the moment of a close, and how many items were listed before it
+pub record Closing : Type 0 where
+  pub moment : ℕ
+  pub listed : ℕ
+
+abbrev pub closing_in : ℕ → ℕ → Command → List Closing
+closing_in moment listed Close = record { moment = moment; listed = listed } ∷ []
+closing_in moment listed _ = []
+
+abbrev pub closings : History → List Closing
+closings [] = []
+closings (e ∷ h) = closings h ++ closing_in e.moment (length (listings h)) e.command
+
+abbrev pub settlement_in : Command → List ℕ
+settlement_in (Settle i) = i ∷ []
+settlement_in _ = []
+
+-- the items whose sales were settled
+abbrev pub settlements : History → List ℕ
+settlements [] = []
+settlements (e ∷ h) = settlements h ++ settlement_in e.command
+
+abbrev pub is_bought : History → ℕ → Bool
+is_bought h i = is_some (purchase_of h i)
+
+-- a close takes what was listed before it, has its end at or before the close's moment, and was not bought
+abbrev pub is_taken : History → Listing → Bool
+is_taken h l = not (is_bought h l.item) && list_any (λ c. nat_le l.item c.listed && nat_le l.end c.moment) (closings h)
+
+abbrev pub is_settled : History → ℕ → Bool
+is_settled h i = list_any (λ s. s == i) (settlements h)
+
+-- the leader: the buyer of what was bought, else whoever leads by its bids
+abbrev pub leader_from : Option Purchase → Option ℕ → Option ℕ
+leader_from None by_bids = by_bids
+leader_from (Some p) by_bids = Some p.buyer
+
+abbrev pub leader_of : History → Listing → Option ℕ
+leader_of h l = leader_from (purchase_of h l.item) (leader (bids_on h l.item))
+
+-- the price: the buy-now price of what was bought, else that of its bids
+abbrev pub price_of : List (ℕ × ℕ) → History → Listing → ℕ
+price_of bands h l = if is_bought h l.item then unwrap_or l.buy_now 0 else price bands l.start (bids_on h l.item)
+
+abbrev pub state_from : Bool → Bool → Bool → Bool → State
+state_from bought taken led settled =
+    if settled then Settled else (if bought then Sold else (if taken then (if led then Sold else Unsold) else Open))
+
+abbrev pub state_of : History → Listing → State
+state_of h l = state_from (is_bought h l.item) (is_taken h l) (is_some (leader_of h l)) (is_settled h l.item)
+
+-- the closing moment: that of the purchase, or the end of what was taken
+abbrev pub closed_from : Option Purchase → Bool → ℕ → Option ℕ
+closed_from None taken end = if taken then Some end else None
+closed_from (Some p) taken end = Some p.moment
+
+abbrev pub closed_at : History → Listing → Option ℕ
+closed_at h l = closed_from (purchase_of h l.item) (is_taken h l) l.end
+
+abbrev pub terms_now : List (ℕ × ℕ) → History → Listing → Terms
+terms_now bands h l = record {
+  item = l.item;
+  seller = l.seller;
+  category = l.category;
+  start = l.start;
+  buy_now = l.buy_now;
+  end = l.end;
+  state = state_of h l;
+  closed = closed_at h l;
+  price = price_of bands h l;
+  leader = leader_of h l;
+  count = length (bids_on h l.item);
+}
+
+abbrev pub item_now : List (ℕ × ℕ) → History → Listing → Item
+item_now bands h l = record { terms = terms_now bands h l; lot = l.lot; title = l.title; text = l.text }
+
+-- every item, by number
+unfoldable pub items : List (ℕ × ℕ) → History → List Item
+items bands h = map (item_now bands h) (listings h)
+
+abbrev pub is_open : State → Bool
+is_open Open = true
+is_open _ = false
+
+-- whether a close at the moment takes it
+abbrev pub is_due : ℕ → Terms → Bool
+is_due moment terms = is_open terms.state && nat_le terms.end moment
+
+-- the floor, which is shown while the item is open: the start with no bid, else one step over the price
+abbrev pub floor_of : List (ℕ × ℕ) → Terms → Option ℕ
+floor_of bands terms =
+    if is_open terms.state then Some (if terms.count == 0 then terms.start else over bands terms.price) else None
+
+-- an item as pages show it
+pub record ItemShown : Type 0 where
+  pub item : Item
+  pub floor : Option ℕ
+
+abbrev pub shown : List (ℕ × ℕ) → Item → ItemShown
+shown bands it = record { item = it; floor = floor_of bands it.terms }
+
+-- every item as pages show it, by number
+unfoldable pub items_shown : List (ℕ × ℕ) → History → List ItemShown
+items_shown bands h = map (shown bands) (items bands h)
+
+abbrev pub shown_at : List ItemShown → ℕ → Option ItemShown
+shown_at its i = find (λ it. it.item.terms.item == i) its

@@ -1,0 +1,53 @@
+-- What every call of a keep promises beside its answer. A keep that rests on a disk promises of its rows only while the disk
+-- has returned what was written: while it is honest.
+use Rattle.std.specs.Prelude.{◌≡◌, ◌≤◌, length, ◌↔◌, ℕ, List, Bool, true, false, Result, OnOk, IsErrOf}
+use Rattle.std.specs.List.{AllByRecursion}
+use Rattle.proxy.specs.Bids.{standing_of}
+use Rattle.proxy.specs.declared.bid.Bid.{Bid}
+use Rattle.house_rows.specs.declared.change.Change.{Change}
+use Rattle.house_rows.specs.declared.fault.KeepFault.{KeepFault}
+use Rattle.house_rows.specs.declared.fault.KeepFault.TheVariants.{Store, Damaged}
+use Rattle.house_rows.specs.Asks.{IsFree}
+use Rattle.house_rows.specs.Fits.{BidRowFits, CategoryFits, FeedbackFits, IsMoment, ItemFits, MemberFits, QuestionFits, WatchRowFits}
+use Rattle.house_rows.specs.Limits.{most_categories, most_cents, most_items, most_members}
+use Rattle.house_rows.specs.Tables.{ItemRow, Tables}
+
+-- the rows of an item fit: the item itself, and its standing, which is that of some bids in range
+pub record ItemRowFits (bands : List (ℕ × ℕ)) (row : ItemRow) : Type 0 where
+  pub item : ItemFits row.item
+  pub bids : List Bid
+  pub maxima : AllByRecursion (λ b. b.maximum ≤ most_cents) bids
+  pub stands : row.standing ≡ standing_of bands row.item.terms.start bids
+
+-- every row fits, and there are no more than there may be
+pub record AreSound (t : Tables) : Type 0 where
+  pub clock : IsMoment t.clock
+  pub members : AllByRecursion MemberFits t.members
+  pub few_members : length t.members ≤ most_members
+  pub categories : AllByRecursion CategoryFits t.categories
+  pub few_categories : length t.categories ≤ most_categories
+  pub items : AllByRecursion (ItemRowFits t.settings.bands) t.items
+  pub few_items : length t.items ≤ most_items
+  pub bids : AllByRecursion BidRowFits t.bids
+  pub watches : AllByRecursion WatchRowFits t.watches
+  pub questions : AllByRecursion QuestionFits t.questions
+  pub feedback : AllByRecursion FeedbackFits t.feedback
+
+-- Store comes exactly where the keep is failed as the call ends, and Damaged only where a row doesn't fit
+pub record Faults {A : Type 0} (result : Result A KeepFault) (is_honest : Type 0) (is_failed : Bool) (content : Tables) : Type 0 where
+  pub store : IsErrOf result Store ↔ (is_failed ≡ true)
+  pub damaged : is_honest → AreSound content → ¬ (IsErrOf result Damaged)
+
+-- and of a change only there, or where its new key is taken
+pub record ChangeFaults (result : Result (Unit {0}) KeepFault) (is_honest : Type 0) (is_failed : Bool) (content : Tables) (change : Change) : Type 0 where
+  pub store : IsErrOf result Store ↔ (is_failed ≡ true)
+  pub damaged : is_honest → AreSound content → IsFree content change → ¬ (IsErrOf result Damaged)
+  pub taken : is_honest → OnOk result (IsFree content change)
+
+-- a call that only reads leaves the tables, and a crash leaves what it could have left before. Failed stays, and what is
+-- honest after a call was so before
+pub record IsRead {K : Type 0} (content : K → Tables) (is_failed : K → Bool) (is_honest : K → Type 0) (may_leave : K → Tables → Type 0) (old new : K) : Type 0 where
+  pub same : is_honest new → is_failed new ≡ false → content new ≡ content old
+  pub honest : is_honest new → is_honest old
+  pub stays : is_failed old ≡ true → is_failed new ≡ true
+  pub crash : is_honest new → (t : Tables) → may_leave new t → may_leave old t

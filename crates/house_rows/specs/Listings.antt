@@ -1,0 +1,45 @@
+-- Items as they were listed.
+use Rattle.std.specs.Prelude.{ℕ, ◌+◌, List, [], ◌∷◌, ◌++◌, ◌==◌, Bool, false, length, find, Option, Some, None}
+use Rattle.house_rows.specs.declared.command.Command.{Command}
+use Rattle.house_rows.specs.declared.command.Command.TheVariants.{List as Listed}
+use Rattle.house_rows.specs.History.{History}
+
+-- what its seller said of an item
+pub record Listing : Type 0 where
+  pub item : ℕ
+  pub seller : ℕ
+  pub category : ℕ
+  pub lot : List ℕ
+  pub title : List ℕ
+  pub text : List ℕ
+  pub start : ℕ
+  pub buy_now : Option ℕ
+  pub end : ℕ
+
+abbrev pub listing_in : ℕ → ℕ → Command → List Listing
+listing_in number caller (Listed category lot title text start buy_now end) = record {
+  item = number;
+  seller = caller;
+  category = category;
+  lot = lot;
+  title = title;
+  text = text;
+  start = start;
+  buy_now = buy_now;
+  end = end;
+} ∷ []
+listing_in number caller _ = []
+
+-- the listings, each with the next number
+abbrev pub listings : History → List Listing
+listings [] = []
+listings (e ∷ h) = listings h ++ listing_in (length (listings h) + 1) e.caller e.command
+
+-- the listing of an item
+abbrev pub listing_at : List Listing → ℕ → Option Listing
+listing_at ls i = find (λ l. l.item == i) ls
+
+-- whether a member sells what was listed
+abbrev pub is_seller : Option Listing → ℕ → Bool
+is_seller None c = false
+is_seller (Some l) c = l.seller == c

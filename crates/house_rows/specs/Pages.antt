@@ -1,0 +1,132 @@
+-- What every read shows.
+use Rattle.std.specs.Prelude.{if◌then◌else◌, ℕ, List, [], ◌∷◌, ◌++◌, Bool, ◌==◌, ◌&&◌, nat_le, nat_lt, filter, find, length, map, take, Option, Some, None, is_some, unwrap_or}
+use Rattle.std.specs.List.{list_any}
+use Rattle.proxy.specs.Bids.{bids_by, greatest, is_leader}
+use Rattle.settle.specs.Statement.{is_party}
+use Rattle.settle.specs.declared.sale.Sold.{Sold}
+use Rattle.house_rows.specs.declared.item.OwnBid.{OwnBid}
+use Rattle.house_rows.specs.declared.item.Terms.{Terms}
+use Rattle.house_rows.specs.declared.people.Category.{Category}
+use Rattle.house_rows.specs.declared.people.Counts.{Counts}
+use Rattle.house_rows.specs.declared.people.Member.{Member}
+use Rattle.house_rows.specs.declared.people.Ratings.{Ratings}
+use Rattle.house_rows.specs.declared.query.Query.{Query}
+use Rattle.house_rows.specs.declared.query.Query.TheVariants as query
+use Rattle.house_rows.specs.declared.refusal.Refusal.{Refusal}
+use Rattle.house_rows.specs.declared.refusal.Refusal.TheVariants.{NoCaller, Unknown}
+use Rattle.house_rows.specs.declared.settings.Settings.{Settings}
+use Rattle.house_rows.specs.declared.talk.Feedback.{Feedback}
+use Rattle.house_rows.specs.declared.talk.Question.{Question}
+use Rattle.house_rows.specs.Limits.{most_shown}
+use Rattle.house_rows.specs.History.{History, clock, counted}
+use Rattle.house_rows.specs.People.{categories, members}
+use Rattle.house_rows.specs.Bids.{bids_on}
+use Rattle.house_rows.specs.Items.{ItemShown, items_shown, shown_at}
+use Rattle.house_rows.specs.Questions.{published, questions, waiting}
+use Rattle.house_rows.specs.Ratings.{feedback, is_minus, is_plus, is_zero}
+use Rattle.house_rows.specs.Verdict.{was_sold}
+use Rattle.house_rows.specs.Views.{own_watches}
+
+pub data Page : Type 0 where
+  Refused : Refusal → Page
+  -- the counts, the clock and the settings
+  House : Counts → ℕ → Settings → Page
+  Bands : List (ℕ × ℕ) → Page
+  Categories : List Category → Page
+  Items : List ItemShown → Page
+  OneItem : ItemShown → Page
+  Questions : List Question → Page
+  OneMember : Member → Ratings → Page
+  Feedbacks : List Feedback → Page
+  Bids : List OwnBid → Page
+  -- the member, the first and the last day, and the sales that the statement is made from
+  Statement : ℕ → ℕ → ℕ → List Sold → Page
+
+-- how often a member was rated with each rating
+abbrev pub ratings_of : List Feedback → ℕ → Ratings
+ratings_of feedback c = record {
+  plus = counted (λ f. (f.to == c) && is_plus f.rating) feedback;
+  zero = counted (λ f. (f.to == c) && is_zero f.rating) feedback;
+  minus = counted (λ f. (f.to == c) && is_minus f.rating) feedback;
+}
+
+-- what a member has bid on an item
+abbrev pub own_bid : History → ℕ → Terms → OwnBid
+own_bid h c terms = record {
+  item = terms.item;
+  leading = is_leader terms.leader c;
+  maximum = greatest (bids_on h terms.item) c;
+  mine = length (bids_by c (bids_on h terms.item));
+  price = terms.price;
+  state = terms.state;
+}
+
+-- the items on which a member has bid, by number
+unfoldable pub own_bids : History → ℕ → List ItemShown → List OwnBid
+own_bids h c its = filter (λ b. nat_lt 0 b.mine) (map (λ it. own_bid h c it.item.terms) its)
+
+-- the sale of an item, if it was sold
+abbrev pub sale_of : Terms → List Sold
+sale_of terms =
+    if was_sold terms.state
+    then record { item = terms.item; seller = terms.seller; buyer = unwrap_or terms.leader 0; closed = unwrap_or terms.closed 0; price = terms.price } ∷ []
+    else []
+
+-- all sales, by item
+abbrev pub all_sales : List ItemShown → List Sold
+all_sales [] = []
+all_sales (it ∷ its) = sale_of it.item.terms ++ all_sales its
+
+-- the sales to which a member is a party
+abbrev pub sales_of : List ItemShown → ℕ → List Sold
+sales_of its c = filter (is_party c) (all_sales its)
+
+-- a page of somebody registered, the house among them
+abbrev pub for_all : List Member → ℕ → Page → Page
+for_all members c page = if nat_le c (length members) then page else Refused NoCaller
+
+-- a page of a member alone
+abbrev pub for_member : List Member → ℕ → Page → Page
+for_member members c page = if nat_le 1 c && nat_le c (length members) then page else Refused NoCaller
+
+abbrev pub if_known : Bool → Page → Page
+if_known known page = if known then page else Refused Unknown
+
+abbrev pub item_page : Option ItemShown → Page
+item_page None = Refused Unknown
+item_page (Some it) = OneItem it
+
+abbrev pub member_page : Option Member → Ratings → Page
+member_page None ratings = Refused Unknown
+member_page (Some m) ratings = OneMember m ratings
+
+abbrev pub member_at : List Member → ℕ → Option Member
+member_at members c = find (λ m. m.member == c) members
+
+-- the page of a read
+unfoldable pub page_of : Settings → History → ℕ → Query → Page
+page_of settings h c query.House = for_all (members h) c (House
+    (record { members = length (members h); categories = length (categories h); items = length (items_shown settings.bands h) })
+    (clock h) settings)
+page_of settings h c query.Bands = for_all (members h) c (Bands settings.bands)
+page_of settings h c query.Categories = for_all (members h) c (Categories (categories h))
+page_of settings h c (query.ItemsIn category from) = for_all (members h) c (
+    if_known (list_any (λ k. k.category == category) (categories h))
+    (Items (take most_shown (filter (λ it. (it.item.terms.category == category) && nat_le from it.item.terms.item) (items_shown settings.bands h)))))
+page_of settings h c (query.Item i) = for_all (members h) c (item_page (shown_at (items_shown settings.bands h) i))
+page_of settings h c (query.Questions i from) = for_all (members h) c (
+    if_known (is_some (shown_at (items_shown settings.bands h) i))
+    (Questions (take most_shown (filter (λ q. (q.item == i) && nat_le from q.asker) (published h)))))
+page_of settings h c (query.Member m) = for_all (members h) c (member_page (member_at (members h) m) (ratings_of (feedback h) m))
+page_of settings h c (query.FeedbackTo m from) = for_all (members h) c (
+    if_known (is_some (member_at (members h) m))
+    (Feedbacks (take most_shown (filter (λ f. (f.to == m) && nat_le from f.item) (feedback h)))))
+page_of settings h c (query.MyBids from) = for_member (members h) c (
+    Bids (take most_shown (filter (λ b. nat_le from b.item) (own_bids h c (items_shown settings.bands h)))))
+page_of settings h c query.MyWatches = for_member (members h) c (
+    Items (filter (λ it. list_any (λ w. w.item == it.item.terms.item) (own_watches h c)) (items_shown settings.bands h)))
+page_of settings h c (query.MyQuestions from) = for_member (members h) c (
+    Questions (take most_shown (filter (λ q. (q.asker == c) && nat_le from q.item) (questions h))))
+page_of settings h c query.MyWaiting = for_member (members h) c (Questions (take most_shown (waiting h c)))
+page_of settings h c (query.MyStatement from to) = for_member (members h) c (
+    Statement c from to (sales_of (items_shown settings.bands h) c))

@@ -1,0 +1,89 @@
+//! What an accepted command changes.
+use crate::rating::Rating;
+use cents::Cents;
+use proxy::{Bid, Standing};
+
+/// What an accepted command changes, whole. Texts are those of the command. Moments are in whole
+/// seconds since 1970-01-01T00:00:00Z.
+#[derive(Clone, Copy, Debug)]
+pub enum Change<'c> {
+    /// A member comes, with the next number.
+    Register {
+        moment: u64,
+        name: &'c str,
+    },
+    /// A category comes, with the next number.
+    AddCategory {
+        moment: u64,
+        name: &'c str,
+    },
+    /// An item comes, with the next number.
+    List {
+        moment: u64,
+        seller: u32,
+        category: u32,
+        lot: &'c str,
+        title: &'c str,
+        text: &'c str,
+        start: Cents,
+        buy_now: Option<Cents>,
+        end: u64,
+    },
+    /// A bid was placed, and the item stands as told.
+    Bid {
+        moment: u64,
+        item: u32,
+        placed: Bid,
+        standing: Standing,
+    },
+    /// An item was bought.
+    Buy {
+        moment: u64,
+        item: u32,
+        buyer: u32,
+        price: Cents,
+    },
+    /// Every open item whose end is at or before the moment closes.
+    Close {
+        moment: u64,
+    },
+    /// A sale was settled.
+    Settle {
+        moment: u64,
+        item: u32,
+    },
+    /// A member watches an item, if it doesn't yet.
+    Watch {
+        member: u32,
+        item: u32,
+    },
+    /// A member watches an item no longer.
+    Unwatch {
+        member: u32,
+        item: u32,
+    },
+    /// A question was asked.
+    Ask {
+        item: u32,
+        asker: u32,
+        number: u32,
+        text: &'c str,
+    },
+    /// A question was answered.
+    Answer {
+        moment: u64,
+        item: u32,
+        asker: u32,
+        number: u32,
+        text: &'c str,
+    },
+    /// A party of a sale rated the other.
+    Feedback {
+        moment: u64,
+        item: u32,
+        from: u32,
+        to: u32,
+        rating: Rating,
+        text: &'c str,
+    },
+}

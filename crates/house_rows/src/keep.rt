@@ -1,0 +1,276 @@
+//! Whatever keeps the tables of the house.
+ghost use Rattle.std.specs.Prelude.{◌≡◌, ◌≢◌, ◌≤◌, ◌⊎◌, All, AllPairs, true, false, Bool, IfOk, IfSome, OnOk, OnErr, length};
+ghost use Rattle.settle.specs.Statement.{IsSale};
+ghost use Rattle.std.specs.List.{AllByRecursion};
+ghost use Rattle.house_rows.specs.Asks.{ChangeFits};
+ghost use Rattle.house_rows.specs.Changed.{changed};
+ghost use Rattle.house_rows.specs.Fits.{CategoryFits, FeedbackFits, IsItem, IsMoment, ItemFits, MemberFits, QuestionFits, TermsFit};
+ghost use Rattle.house_rows.specs.Found.{all_items, all_published, ask_count, best_of, category_at, category_named, counts_of, due_at, feedback_to, is_given, is_watched, item_at, item_with_lot, items_in, items_watched, member_named, own_bids, published_on, question_at, questions_of, sales_to, standing_at, terms_at, waiting_for, watch_count};
+ghost use Rattle.house_rows.specs.Keeping.{AreSound, ChangeFaults, Faults, IsRead};
+ghost use Rattle.house_rows.specs.Limits.{most_items};
+ghost use Rattle.house_rows.specs.Pages.{member_at, ratings_of};
+ghost use Rattle.house_rows.specs.Tables.{Tables};
+
+use crate::change::Change;
+use crate::fault::KeepFault;
+use crate::item::{Due, Item, OwnBest, OwnBid, Terms};
+use crate::people::{Category, Counts, Member, Ratings};
+use crate::settings::Settings;
+use crate::talk::{Feedback, Question};
+use proxy::Standing;
+use settle::Sold;
+
+/// A keep of the tables. Look-ups and lists are exact, and leave the tables; `apply` makes a whole
+/// change or none.
+///
+/// The number of a row that isn't there finds nothing. Lists of at most fifty are those that begin
+/// at a number.
+pub trait Keep {
+    /// The tables.
+    ghost content: { Self → Tables };
+
+    /// Whether a call has answered `Store`. From then on every call does.
+    ghost is_failed: { Self → Bool };
+
+    /// So far the disk has returned what was written.
+    ghost is_honest: { Self → Type 0 };
+
+    /// Which tables a crash may leave.
+    ghost may_leave: { Self → Tables → Type 0 };
+
+    /// What the house was set up with.
+    fn settings(&self) -> Result<&Settings, KeepFault>
+        ensures value { is_honest self.now → IfOk result (λ v. v.now ≡ (content self.now).settings) }
+        ensures faults { Faults result (is_honest self.now) (is_failed self.now) (content self.now) };
+
+    /// The moment of the last command that moves the clock.
+    fn clock(&mut self) -> Result<u64, KeepFault>
+        ensures value { is_honest self.new → IfOk result (λ v. v ≡ (content self.old).clock) }
+        ensures fits { IfOk result IsMoment }
+        ensures faults { Faults result (is_honest self.new) (is_failed self.new) (content self.old) }
+        ensures read { IsRead content is_failed is_honest may_leave self.old self.new };
+
+    /// How many members, categories and items there are.
+    fn counts(&mut self) -> Result<Counts, KeepFault>
+        ensures value { is_honest self.new → IfOk result (λ v. v ≡ counts_of (content self.old)) }
+        ensures faults { Faults result (is_honest self.new) (is_failed self.new) (content self.old) }
+        ensures read { IsRead content is_failed is_honest may_leave self.old self.new };
+
+    /// The member of a number.
+    fn member(&mut self, member: u64) -> Result<Option<Member>, KeepFault>
+        ensures value { is_honest self.new → IfOk result (λ v. v ≡ member_at (content self.old).members member) }
+        ensures fits { IfOk result (λ v. IfSome v MemberFits) }
+        ensures faults { Faults result (is_honest self.new) (is_failed self.new) (content self.old) }
+        ensures read { IsRead content is_failed is_honest may_leave self.old self.new };
+
+    /// The member of a name.
+    fn member_named(&mut self, name: &str) -> Result<Option<Member>, KeepFault>
+        ensures value { is_honest self.new → IfOk result (λ v. v ≡ member_named (content self.old) name.now) }
+        ensures fits { IfOk result (λ v. IfSome v MemberFits) }
+        ensures faults { Faults result (is_honest self.new) (is_failed self.new) (content self.old) }
+        ensures read { IsRead content is_failed is_honest may_leave self.old self.new };
+
+    /// The category of a number.
+    fn category(&mut self, category: u64) -> Result<Option<Category>, KeepFault>
+        ensures value { is_honest self.new → IfOk result (λ v. v ≡ category_at (content self.old) category) }
+        ensures fits { IfOk result (λ v. IfSome v CategoryFits) }
+        ensures faults { Faults result (is_honest self.new) (is_failed self.new) (content self.old) }
+        ensures read { IsRead content is_failed is_honest may_leave self.old self.new };
+
+    /// The category of a name.
+    fn category_named(&mut self, name: &str) -> Result<Option<Category>, KeepFault>
+        ensures value { is_honest self.new → IfOk result (λ v. v ≡ category_named (content self.old) name.now) }
+        ensures fits { IfOk result (λ v. IfSome v CategoryFits) }
+        ensures faults { Faults result (is_honest self.new) (is_failed self.new) (content self.old) }
+        ensures read { IsRead content is_failed is_honest may_leave self.old self.new };
+
+    /// An item.
+    fn item(&mut self, item: u64) -> Result<Option<Item>, KeepFault>
+        ensures value { is_honest self.new → IfOk result (λ v. v ≡ item_at (content self.old) item) }
+        ensures fits { IfOk result (λ v. IfSome v ItemFits) }
+        ensures faults { Faults result (is_honest self.new) (is_failed self.new) (content self.old) }
+        ensures read { IsRead content is_failed is_honest may_leave self.old self.new };
+
+    /// An item without its texts.
+    fn terms(&mut self, item: u64) -> Result<Option<Terms>, KeepFault>
+        ensures value { is_honest self.new → IfOk result (λ v. v ≡ terms_at (content self.old) item) }
+        ensures fits { IfOk result (λ v. IfSome v TermsFit) }
+        ensures faults { Faults result (is_honest self.new) (is_failed self.new) (content self.old) }
+        ensures read { IsRead content is_failed is_honest may_leave self.old self.new };
+
+    /// The number of a seller's item with a lot.
+    fn item_of(&mut self, seller: u64, lot: &str) -> Result<Option<u32>, KeepFault>
+        ensures value { is_honest self.new → IfOk result (λ v. v ≡ item_with_lot (content self.old) seller lot.now) }
+        ensures fits { IfOk result (λ v. IfSome v IsItem) }
+        ensures faults { Faults result (is_honest self.new) (is_failed self.new) (content self.old) }
+        ensures read { IsRead content is_failed is_honest may_leave self.old self.new };
+
+    /// The standing of an item's bids; of a bought item that of none.
+    fn standing(&mut self, item: u64) -> Result<Option<Standing>, KeepFault>
+        ensures value { is_honest self.new → IfOk result (λ v. v ≡ standing_at (content self.old) item) }
+        ensures faults { Faults result (is_honest self.new) (is_failed self.new) (content self.old) }
+        ensures read { IsRead content is_failed is_honest may_leave self.old self.new };
+
+    /// A member's greatest maximum on an item, or 0, and the number of its bids there.
+    fn own_best(&mut self, item: u64, member: u64) -> Result<OwnBest, KeepFault>
+        ensures value { is_honest self.new → IfOk result (λ v. v ≡ best_of (content self.old) member item) }
+        ensures faults { Faults result (is_honest self.new) (is_failed self.new) (content self.old) }
+        ensures read { IsRead content is_failed is_honest may_leave self.old self.new };
+
+    /// Whether a member watches an item.
+    fn watched(&mut self, member: u64, item: u64) -> Result<bool, KeepFault>
+        ensures value { is_honest self.new → IfOk result (λ v. v ≡ is_watched (content self.old) member item) }
+        ensures faults { Faults result (is_honest self.new) (is_failed self.new) (content self.old) }
+        ensures read { IsRead content is_failed is_honest may_leave self.old self.new };
+
+    /// How many items a member watches.
+    fn watch_count(&mut self, member: u64) -> Result<u64, KeepFault>
+        ensures value { is_honest self.new → IfOk result (λ v. v ≡ watch_count (content self.old) member) }
+        ensures faults { Faults result (is_honest self.new) (is_failed self.new) (content self.old) }
+        ensures read { IsRead content is_failed is_honest may_leave self.old self.new };
+
+    /// How many questions a member has asked on an item.
+    fn ask_count(&mut self, item: u64, asker: u64) -> Result<u64, KeepFault>
+        ensures value { is_honest self.new → IfOk result (λ v. v ≡ ask_count (content self.old) asker item) }
+        ensures faults { Faults result (is_honest self.new) (is_failed self.new) (content self.old) }
+        ensures read { IsRead content is_failed is_honest may_leave self.old self.new };
+
+    /// A question, by its item, asker and number.
+    fn question(
+        &mut self,
+        item: u64,
+        asker: u64,
+        number: u64,
+    ) -> Result<Option<Question>, KeepFault>
+        ensures value { is_honest self.new → IfOk result (λ v. v ≡ question_at (content self.old) item asker number) }
+        ensures fits { IfOk result (λ v. IfSome v QuestionFits) }
+        ensures faults { Faults result (is_honest self.new) (is_failed self.new) (content self.old) }
+        ensures read { IsRead content is_failed is_honest may_leave self.old self.new };
+
+    /// Whether a member has given feedback on an item.
+    fn given(&mut self, item: u64, giver: u64) -> Result<bool, KeepFault>
+        ensures value { is_honest self.new → IfOk result (λ v. v ≡ is_given (content self.old) item giver) }
+        ensures faults { Faults result (is_honest self.new) (is_failed self.new) (content self.old) }
+        ensures read { IsRead content is_failed is_honest may_leave self.old self.new };
+
+    /// How often a member was rated with each rating.
+    fn ratings(&mut self, member: u64) -> Result<Ratings, KeepFault>
+        ensures value { is_honest self.new → IfOk result (λ v. v ≡ ratings_of (content self.old).feedback member) }
+        ensures faults { Faults result (is_honest self.new) (is_failed self.new) (content self.old) }
+        ensures read { IsRead content is_failed is_honest may_leave self.old self.new };
+
+    /// How many items a close at the moment would leave sold, and how many unsold.
+    fn due(&mut self, moment: u64) -> Result<Due, KeepFault>
+        ensures value { is_honest self.new → IfOk result (λ v. v ≡ due_at (content self.old) moment) }
+        ensures faults { Faults result (is_honest self.new) (is_failed self.new) (content self.old) }
+        ensures read { IsRead content is_failed is_honest may_leave self.old self.new };
+
+    /// The items of a category, from a number on; at most fifty.
+    fn items_in(&mut self, category: u64, from: u64) -> Result<Vec<Item>, KeepFault>
+        ensures value { is_honest self.new → IfOk result (λ v. v.items ≡ items_in (content self.old) category from) }
+        ensures fits { IfOk result (λ v. AllByRecursion ItemFits v.items) }
+        ensures faults { Faults result (is_honest self.new) (is_failed self.new) (content self.old) }
+        ensures read { IsRead content is_failed is_honest may_leave self.old self.new };
+
+    /// The items on which a member has bid, from a number on; at most fifty.
+    fn bids_of(&mut self, member: u64, from: u64) -> Result<Vec<OwnBid>, KeepFault>
+        ensures value { is_honest self.new → IfOk result (λ v. v.items ≡ own_bids (content self.old) member from) }
+        ensures faults { Faults result (is_honest self.new) (is_failed self.new) (content self.old) }
+        ensures read { IsRead content is_failed is_honest may_leave self.old self.new };
+
+    /// The published questions on an item, from an asker on, by asker and number; at most fifty.
+    fn published(&mut self, item: u64, from: u64) -> Result<Vec<Question>, KeepFault>
+        ensures value { is_honest self.new → IfOk result (λ v. v.items ≡ published_on (content self.old) item from) }
+        ensures fits { IfOk result (λ v. AllByRecursion QuestionFits v.items) }
+        ensures faults { Faults result (is_honest self.new) (is_failed self.new) (content self.old) }
+        ensures read { IsRead content is_failed is_honest may_leave self.old self.new };
+
+    /// A member's own questions, from an item on, by item and number; at most fifty.
+    fn questions_of(&mut self, member: u64, from: u64) -> Result<Vec<Question>, KeepFault>
+        ensures value { is_honest self.new → IfOk result (λ v. v.items ≡ questions_of (content self.old) member from) }
+        ensures fits { IfOk result (λ v. AllByRecursion QuestionFits v.items) }
+        ensures faults { Faults result (is_honest self.new) (is_failed self.new) (content self.old) }
+        ensures read { IsRead content is_failed is_honest may_leave self.old self.new };
+
+    /// The feedback to a member, from an item on; at most fifty.
+    fn feedback_for(&mut self, member: u64, from: u64) -> Result<Vec<Feedback>, KeepFault>
+        ensures value { is_honest self.new → IfOk result (λ v. v.items ≡ feedback_to (content self.old) member from) }
+        ensures fits { IfOk result (λ v. AllByRecursion FeedbackFits v.items) }
+        ensures faults { Faults result (is_honest self.new) (is_failed self.new) (content self.old) }
+        ensures read { IsRead content is_failed is_honest may_leave self.old self.new };
+
+    /// All categories, by number.
+    fn categories(&mut self) -> Result<Vec<Category>, KeepFault>
+        ensures value { is_honest self.new → IfOk result (λ v. v.items ≡ (content self.old).categories) }
+        ensures fits { IfOk result (λ v. AllByRecursion CategoryFits v.items) }
+        ensures faults { Faults result (is_honest self.new) (is_failed self.new) (content self.old) }
+        ensures read { IsRead content is_failed is_honest may_leave self.old self.new };
+
+    /// All members, by number.
+    fn members(&mut self) -> Result<Vec<Member>, KeepFault>
+        ensures value { is_honest self.new → IfOk result (λ v. v.items ≡ (content self.old).members) }
+        ensures fits { IfOk result (λ v. AllByRecursion MemberFits v.items) }
+        ensures faults { Faults result (is_honest self.new) (is_failed self.new) (content self.old) }
+        ensures read { IsRead content is_failed is_honest may_leave self.old self.new };
+
+    /// All items, by number.
+    fn items(&mut self) -> Result<Vec<Item>, KeepFault>
+        ensures value { is_honest self.new → IfOk result (λ v. v.items ≡ all_items (content self.old)) }
+        ensures fits { IfOk result (λ v. AllByRecursion ItemFits v.items) }
+        ensures faults { Faults result (is_honest self.new) (is_failed self.new) (content self.old) }
+        ensures read { IsRead content is_failed is_honest may_leave self.old self.new };
+
+    /// All published questions, by item, asker and number.
+    fn all_published(&mut self) -> Result<Vec<Question>, KeepFault>
+        ensures value { is_honest self.new → IfOk result (λ v. v.items ≡ all_published (content self.old)) }
+        ensures fits { IfOk result (λ v. AllByRecursion QuestionFits v.items) }
+        ensures faults { Faults result (is_honest self.new) (is_failed self.new) (content self.old) }
+        ensures read { IsRead content is_failed is_honest may_leave self.old self.new };
+
+    /// All feedback, by item and giver.
+    fn all_feedback(&mut self) -> Result<Vec<Feedback>, KeepFault>
+        ensures value { is_honest self.new → IfOk result (λ v. v.items ≡ (content self.old).feedback) }
+        ensures fits { IfOk result (λ v. AllByRecursion FeedbackFits v.items) }
+        ensures faults { Faults result (is_honest self.new) (is_failed self.new) (content self.old) }
+        ensures read { IsRead content is_failed is_honest may_leave self.old self.new };
+
+    /// The items that a member watches, by number.
+    fn watches_of(&mut self, member: u64) -> Result<Vec<Item>, KeepFault>
+        ensures value { is_honest self.new → IfOk result (λ v. v.items ≡ items_watched (content self.old) member) }
+        ensures fits { IfOk result (λ v. AllByRecursion ItemFits v.items) }
+        ensures faults { Faults result (is_honest self.new) (is_failed self.new) (content self.old) }
+        ensures read { IsRead content is_failed is_honest may_leave self.old self.new };
+
+    /// The questions that wait for a member's answer, by item, asker and number.
+    fn waiting_for(&mut self, member: u64) -> Result<Vec<Question>, KeepFault>
+        ensures value { is_honest self.new → IfOk result (λ v. v.items ≡ waiting_for (content self.old) member) }
+        ensures fits { IfOk result (λ v. AllByRecursion QuestionFits v.items) }
+        ensures faults { Faults result (is_honest self.new) (is_failed self.new) (content self.old) }
+        ensures read { IsRead content is_failed is_honest may_leave self.old self.new };
+
+    /// The sales to which a member is a party, by item.
+    fn sold_of(&mut self, member: u64) -> Result<Vec<Sold>, KeepFault>
+        ensures value { is_honest self.new → IfOk result (λ v. v.items ≡ sales_to (content self.old) member) }
+        ensures fits { IfOk result (λ v. All IsSale v.items) }
+        ensures apart { IfOk result (λ v. AllPairs (λ a b. a.item ≢ b.item) v.items) }
+        ensures few { IfOk result (λ v. length v.items ≤ most_items) }
+        ensures faults { Faults result (is_honest self.new) (is_failed self.new) (content self.old) }
+        ensures read { IsRead content is_failed is_honest may_leave self.old self.new };
+
+    /// Makes a change, whole or not at all.
+    ///
+    /// Damaged is answered where a row that the call takes doesn't fit, or where the new key of a
+    /// change other than a watch is taken. After Memory or Damaged the tables are as before; after
+    /// Store a crash may leave them as before or changed.
+    fn apply(&mut self, change: &Change<'_>) -> Result<(), KeepFault>
+        requires fits { is_honest self.old → AreSound (content self.old) → ChangeFits (content self.old) change.now }
+        ensures ok { is_honest self.new → OnOk result (content self.new ≡ changed (content self.old) change.now) }
+        ensures err { is_honest self.new → is_failed self.new ≡ false → OnErr result (content self.new ≡ content self.old) }
+        ensures faults { ChangeFaults result (is_honest self.new) (is_failed self.new) (content self.old) change.now }
+        ensures honest { is_honest self.new → is_honest self.old }
+        ensures stays { is_failed self.old ≡ true → is_failed self.new ≡ true }
+        // What a crash may leave: after Ok the new tables alone, after the first Store the new ones too.
+        ensures kept { is_honest self.new → OnOk result ((t : Tables) → may_leave self.new t → t ≡ content self.new) }
+        ensures crash { is_honest self.new → OnErr result ((t : Tables) → may_leave self.new t → may_leave self.old t
+            ⊎ ((is_failed self.old ≡ false) × (is_failed self.new ≡ true) × (t ≡ changed (content self.old) change.now))) };
+}

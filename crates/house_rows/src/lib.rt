@@ -1,0 +1,37 @@
+//! The house: its commands and reads, the rows that it keeps, why a command is refused, and what
+//! every keep of the tables promises.
+//!
+//! Promised here is little, and said much: `specs/` holds the definitions that everything above
+//! meets. Read `specs/History.antt` first, then `Items`, `Verdict`, `Views`, `Tables`, `Told` and
+//! `Pages`; of the code read `keep`, whose clauses say what a look-up answers and what a change does.
+#![tactic(auto)]
+
+mod change;
+mod command;
+mod fault;
+mod item;
+mod keep;
+mod people;
+mod query;
+mod rating;
+mod refusal;
+mod settings;
+mod state;
+mod talk;
+#[cfg(test)]
+mod tests;
+mod text;
+
+pub use change::Change;
+pub use command::Command;
+pub use fault::KeepFault;
+pub use item::{Due, Item, OwnBest, OwnBid, Terms};
+pub use keep::Keep;
+pub use people::{Category, Counts, Member, Ratings};
+pub use query::Query;
+pub use rating::Rating;
+pub use refusal::Refusal;
+pub use settings::{Rate, Settings};
+pub use state::State;
+pub use talk::{Feedback, Question};
+pub use text::Text;
