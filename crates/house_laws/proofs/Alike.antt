@@ -1,0 +1,119 @@
+-- Two runs that look alike to a member give it the same replies.
+use Rattle.std.proofs.Common.{◌≡◌, ℕ, List, [], ◌∷◌, true, false, refl, ◌∙◌, ap, sym, arith, inl, inr, ◌⊎◌, Option, Some, None}
+use Rattle.std.specs.Prelude.{◌==◌, if◌then◌else◌}
+use Rattle.std.proofs.lemmas.Bool.Decides.{nat_tests}
+use Rattle.house_rows.specs.declared.command.Command.{Command}
+use Rattle.house_rows.specs.declared.query.Query.{Query}
+use Rattle.house_rows.specs.declared.refusal.Refusal.{Refusal}
+use Rattle.house_rows.specs.declared.settings.Settings.{Settings}
+use Rattle.house_rows.specs.History.{Entry, History}
+use Rattle.house_rows.specs.Runs.{Agrees, Broken, Message, Order, Read, Shows, Twin, TwinFrom, entered, entry, is_of, next, replies_from, replies_to, reply, reply_if}
+use Rattle.house_rows.specs.Told.{Told, told}
+use Rattle.house_rows.specs.Verdict.{verdict}
+use Rattle.house_rows.specs.Views.{own_view, public_view}
+use Rattle.house_laws.specs.Alike.{AreAlike}
+use Rattle.house_laws.proofs.Put.{by_test}
+use Rattle.house_laws.proofs.Own.{own_local, own_step}
+use Rattle.house_laws.proofs.Output.{told_same, verdict_same}
+use Rattle.house_laws.proofs.Shown.{page_same}
+
+-- what a command is told once it is entered
+pub told_after : (settings : Settings) (c : ℕ) (h k : History) (t : ℕ) (command : Command) → AreAlike settings c h k
+    → public_view settings (entry t c command ∷ h) ≡ public_view settings (entry t c command ∷ k)
+    → told settings (entry t c command ∷ h) t c command h ≡ told settings (entry t c command ∷ k) t c command k
+told_after settings c h k t command alike after =
+    told_same settings c h k (entry t c command ∷ h) (entry t c command ∷ k) t command alike.public after (own_step c h k t command alike.own)
+
+-- and where it is accepted
+told_if : {F : Type 0} (settings : Settings) (c : ℕ) (h k : History) (t : ℕ) (command : Command) (v : Option Refusal) → AreAlike settings c h k
+    → public_view settings (entered v (entry t c command) h) ≡ public_view settings (entered v (entry t c command) k)
+    → reply_if {F = F} v (told settings (entry t c command ∷ h) t c command h) ≡ reply_if {F = F} v (told settings (entry t c command ∷ k) t c command k)
+told_if settings c h k t command None alike after =
+    ap (λ (t : Told). reply_if None t) (told_after settings c h k t command alike after)
+told_if settings c h k t command (Some refusal) alike after = refl
+
+order_same : {F : Type 0} (settings : Settings) (c : ℕ) (h k : History) (t : ℕ) (command : Command) → AreAlike settings c h k
+    → public_view settings (next {F = F} settings h (Order t c command)) ≡ public_view settings (next {F = F} settings k (Order t c command))
+    → reply {F = F} settings h (Order t c command) ≡ reply {F = F} settings k (Order t c command)
+unfolding reply next
+order_same {F = F} settings c h k t command alike after =
+    let v : verdict settings h t c command ≡ verdict settings k t c command = verdict_same settings c h k t command alike in
+    let p : public_view settings (entered (verdict settings k t c command) (entry t c command) h) ≡ public_view settings (entered (verdict settings k t c command) (entry t c command) k) = rw v at after in
+    rw v (told_if {F = F} settings c h k t command (verdict settings k t c command) alike p)
+
+read_same : {F : Type 0} (settings : Settings) (c : ℕ) (h k : History) (q : Query) → AreAlike settings c h k → reply {F = F} settings h (Read c q) ≡ reply {F = F} settings k (Read c q)
+unfolding reply
+read_same settings c h k q alike = ap (λ p. Shows p) (page_same settings c h k q alike)
+
+broken_same : {F : Type 0} (settings : Settings) (h k : History) (caller : Option ℕ) (fault : F) → reply settings h (Broken caller fault) ≡ reply settings k (Broken caller fault)
+unfolding reply
+broken_same settings h k caller fault = refl
+
+-- Output: the reply to a member's message depends on the three views before it, and where the message is accepted on the public view after it
+pub reply_same : {F : Type 0} (settings : Settings) (c : ℕ) (h k : History) (m : Message F) → is_of c m ≡ true → AreAlike settings c h k
+    → public_view settings (next settings h m) ≡ public_view settings (next settings k m) → reply settings h m ≡ reply settings k m
+reply_same {F = F} settings c h k (Order t caller command) is alike after =
+    let me : caller ≡ c = grind (arith, nat_tests) in
+    let after' : public_view settings (next {F = F} settings h (Order t c command)) ≡ public_view settings (next {F = F} settings k (Order t c command)) = rw me at after in
+    rw me (order_same {F = F} settings c h k t command alike after')
+reply_same {F = F} settings c h k (Read caller q) is alike after =
+    let me : caller ≡ c = grind (arith, nat_tests) in
+    rw me (read_same {F = F} settings c h k q alike)
+reply_same settings c h k (Broken caller fault) is alike after = broken_same settings h k caller fault
+
+-- another's message leaves a member's own view
+entered_other : (v : Option Refusal) (c : ℕ) (h : History) (e : Entry) → (e.caller == c) ≡ false → own_view (entered v e h) c ≡ own_view h c
+entered_other None c h e other = own_local c h e other
+entered_other (Some refusal) c h e other = refl
+
+entered_own : (v : Option Refusal) (c : ℕ) (h k : History) (t : ℕ) (command : Command) → own_view h c ≡ own_view k c → own_view (entered v (entry t c command) h) c ≡ own_view (entered v (entry t c command) k) c
+entered_own None c h k t command e = own_step c h k t command e
+entered_own (Some refusal) c h k t command e = e
+
+own_other : {F : Type 0} (settings : Settings) (c : ℕ) (h : History) (m : Message F) → is_of c m ≡ false → own_view (next settings h m) c ≡ own_view h c
+unfolding next
+own_other settings c h (Order t caller command) other = entered_other (verdict settings h t caller command) c h (entry t caller command) other
+own_other settings c h (Read caller q) other = refl
+own_other settings c h (Broken caller fault) other = refl
+
+own_mine : {F : Type 0} (settings : Settings) (c : ℕ) (h k : History) (m : Message F) → is_of c m ≡ true → AreAlike settings c h k → own_view (next settings h m) c ≡ own_view (next settings k m) c
+unfolding next
+own_mine settings c h k (Order t caller command) is alike =
+    let me : caller ≡ c = grind (arith, nat_tests) in
+    let v : verdict settings h t c command ≡ verdict settings k t c command = verdict_same settings c h k t command alike in
+    rw (me, v) (entered_own (verdict settings k t c command) c h k t command alike.own)
+own_mine settings c h k (Read caller q) is alike = alike.own
+own_mine settings c h k (Broken caller fault) is alike = alike.own
+
+-- the member's own view stays equal
+own_kept : {F : Type 0} (settings : Settings) (c : ℕ) (h k : History) (m : Message F) → AreAlike settings c h k → own_view (next settings h m) c ≡ own_view (next settings k m) c
+own_kept settings c h k m alike =
+    elim (by_test (is_of c m)) [ inl is ↦ own_mine settings c h k m is alike | inr other ↦ own_other settings c h m other ∙ alike.own ∙ sym (own_other settings c k m other) ]
+
+own_next : {F : Type 0} (settings : Settings) (c : ℕ) (h k : History) (m n : Message F) → (m ≡ n) ⊎ ((is_of c m ≡ false) × (is_of c n ≡ false)) → AreAlike settings c h k
+    → own_view (next settings h m) c ≡ own_view (next settings k n) c
+own_next settings c h k m n same alike =
+    elim same [ inl e ↦ rw (← e) (own_kept settings c h k m alike) | inr others ↦ own_other settings c h m others.0 ∙ alike.own ∙ sym (own_other settings c k n others.1) ]
+
+-- what a place adds to the replies
+told_here : {F : Type 0} (settings : Settings) (c : ℕ) (h k : History) (m n : Message F) → (m ≡ n) ⊎ ((is_of c m ≡ false) × (is_of c n ≡ false)) → AreAlike settings c h k
+    → Agrees settings c (next settings h m) (next settings k n) → (if is_of c m then reply settings h m ∷ [] else []) ≡ (if is_of c n then reply settings k n ∷ [] else [])
+told_here settings c h k m n same alike after =
+    elim same [
+      | inl e ↦ rw (← e) (let after' : Agrees settings c (next settings h m) (next settings k m) = rw (← e) at after in
+          elim (by_test (is_of c m)) [ inl is ↦ rw (is, reply_same settings c h k m is alike after'.public) refl | inr other ↦ rw other refl ])
+      | inr others ↦ rw (others.0, others.1) refl
+    ]
+
+-- all replies to a member are the same
+pub replies_same : {F : Type 0} (settings : Settings) (c : ℕ) (h k : History) (left right : List (Message F)) → AreAlike settings c h k → TwinFrom settings c h k left right
+    → replies_from settings c h left ≡ replies_from settings c k right
+replies_same settings c h k [] [] alike twin = refl
+replies_same settings c h k [] (n ∷ ns) alike twin = absurd twin
+replies_same settings c h k (m ∷ ms) [] alike twin = absurd twin
+replies_same settings c h k (m ∷ ms) (n ∷ ns) alike twin =
+    let alike' : AreAlike settings c (next settings h m) (next settings k n) = record { public = twin.1.public; own = own_next settings c h k m n twin.0 alike; waiting = twin.1.waiting } in
+    rw (told_here settings c h k m n twin.0 alike twin.1, replies_same settings c (next settings h m) (next settings k n) ms ns alike' twin.2) refl
+
+pub isolation : {F : Type 0} (settings : Settings) (c : ℕ) (left right : List (Message F)) → Twin settings c left right → replies_to settings c left ≡ replies_to settings c right
+isolation settings c left right twin = replies_same settings c [] [] left right (record { public = refl; own = refl; waiting = refl }) twin

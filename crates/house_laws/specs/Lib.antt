@@ -1,0 +1,5 @@
+pub mod Alike
+pub mod Examples
+pub mod WorkedRows
+pub mod WrongReadings
+pub mod Course

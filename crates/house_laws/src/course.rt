@@ -1,0 +1,65 @@
+//! The course of items along a history, in the subject's own words.
+ghost use Rattle.std.specs.Prelude.{◌≡◌, ◌≤◌, ◌+◌, ◌∷◌, ℕ, length, true, Some, None};
+ghost use Rattle.settle.specs.Balance.{IsBalanced};
+ghost use Rattle.settle.specs.declared.zone.Zone.{Zone};
+ghost use Rattle.steps.specs.Table.{IsBandTable};
+ghost use Rattle.house_rows.specs.declared.command.Command.{Command};
+ghost use Rattle.house_rows.specs.declared.command.Command.TheVariants.{Bid};
+ghost use Rattle.house_rows.specs.declared.refusal.Refusal.{Refusal};
+ghost use Rattle.house_rows.specs.declared.settings.Settings.{Settings};
+ghost use Rattle.house_rows.specs.History.{History};
+ghost use Rattle.house_rows.specs.Bids.{bids_on};
+ghost use Rattle.house_rows.specs.Items.{is_open, items_shown, price_of, state_of};
+ghost use Rattle.house_rows.specs.Listings.{Listing, listing_at, listings};
+ghost use Rattle.house_rows.specs.Pages.{all_sales};
+ghost use Rattle.house_rows.specs.Runs.{Message, Order, entry, next};
+ghost use Rattle.house_rows.specs.Verdict.{IsHistory, verdict};
+ghost use Rattle.house_rows.specs.Keeping.{AreSound};
+ghost use Rattle.house_rows.specs.Tables.{tables_of};
+ghost use Rattle.house_laws.specs.Course.{may_move};
+
+/// With an accepted command the state of a listed item stays, or moves from open to sold or unsold, or
+/// from sold to settled.
+#[tactic(auto, using(crate::proofs::States::state_moves))]
+pub fn states_only_move_forward()
+    ensures { (settings : Settings) (h : History) (moment caller : ℕ) (command : Command) (l : Listing)
+        → listing_at (listings h) l.item ≡ Some l → verdict settings h moment caller command ≡ None
+        → may_move (state_of h l) (state_of (entry moment caller command ∷ h) l) ≡ true }
+{}
+
+/// The price of a listed item doesn't fall with an accepted command that leaves it open.
+#[tactic(auto, using(crate::proofs::Rising::price_kept))]
+pub fn open_prices_never_fall()
+    ensures { (settings : Settings) (h : History) (moment caller : ℕ) (command : Command) (l : Listing)
+        → IsBandTable settings.bands → listing_at (listings h) l.item ≡ Some l
+        → verdict settings h moment caller command ≡ None → is_open (state_of (entry moment caller command ∷ h) l) ≡ true
+        → price_of settings.bands h l ≤ price_of settings.bands (entry moment caller command ∷ h) l }
+{}
+
+/// Every accepted bid, a raise among them, adds one to its item's count.
+#[tactic(auto, using(crate::proofs::Rising::count_rises))]
+pub fn accepted_bids_count()
+    ensures { (h : History) (moment caller item maximum : ℕ)
+        → length (bids_on (entry moment caller (Bid item maximum) ∷ h) item) ≡ length (bids_on h item) + 1 }
+{}
+
+/// A refused command leaves the history.
+pub fn refused_commands_change_nothing<F>()
+    ensures { (settings : Settings) (h : History) (moment caller : ℕ) (command : Command) (refusal : Refusal)
+        → verdict settings h moment caller command ≡ Some refusal → next {F = F} settings h (Order moment caller command) ≡ h }
+{}
+
+/// The tables of a history fit: every number is in its range, every text is one that its field takes,
+/// no leader is the seller, and every standing is that of some bids.
+#[tactic(auto, using(crate::proofs::Sound::rows_are_sound))]
+pub fn rows_of_a_history_fit()
+    ensures { (settings : Settings) (h : History) → IsHistory settings h → AreSound (tables_of settings h) }
+{}
+
+/// The sales of a history balance: over the members that they name, what is bought in a period is what
+/// is paid out and what is kept as fees. `rate` is in ten-thousandths.
+#[tactic(auto, using(crate::proofs::Balanced::sales_balance))]
+pub fn sales_balance()
+    ensures { (settings : Settings) (h : History) (from to : ℕ) (zone : Zone) → IsHistory settings h → settings.rate ≤ 2000
+        → IsBalanced (all_sales (items_shown settings.bands h)) from to zone settings.rate }
+{}

@@ -1,0 +1,18 @@
+//! The laws of the house, over its definitions alone. No code runs here: each public function says a
+//! theorem.
+//!
+//! Promised: two runs in which a member's messages are the same, and the public record and the
+//! questions that wait for it agree after every step, give that member the same replies, whatever
+//! the others sealed. Read `isolation` first.
+#![tactic(auto)]
+
+mod course;
+mod secrecy;
+mod worked;
+
+pub use course::{
+    accepted_bids_count, open_prices_never_fall, refused_commands_change_nothing,
+    rows_of_a_history_fit, sales_balance, states_only_move_forward,
+};
+pub use secrecy::{commands_step_equally, isolation, replies_depend_on_views, views_are_local};
+pub use worked::{worked_rows, wrong_readings_differ};
