@@ -68,7 +68,7 @@ unwatched_other : (c caller i : ℕ) (ws : List WatchRow) → (caller == c) ≡ 
 unwatched_other c caller i [] other = refl
 unwatched_other c caller i (w ∷ ws) other = grind (arith, nat_tests, unwatched_other c caller i ws other)
 
-watches_other : (c caller : ℕ) (ws : List WatchRow) (command : Command) → (caller == c) ≡ false → filter (λ w. w.member == c) (with_watch ws caller command) ≡ filter (λ w. w.member == c) ws
+pub watches_other : (c caller : ℕ) (ws : List WatchRow) (command : Command) → (caller == c) ≡ false → filter (λ w. w.member == c) (with_watch ws caller command) ≡ filter (λ w. w.member == c) ws
 watches_other c caller ws (Watch i) other =
     filter_put_other watch_key (λ w. w.member == c) (record { member = caller; item = i }) (unwatched caller i ws) other ∙ unwatched_other c caller i ws other
 watches_other c caller ws (Unwatch i) other = unwatched_other c caller i ws other

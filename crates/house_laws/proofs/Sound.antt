@@ -7,7 +7,7 @@ use Rattle.house_rows.specs.Tables.{tables_of}
 use Rattle.house_rows.specs.Verdict.{IsHistory}
 use Rattle.house_laws.proofs.Ranged.{categories_fit, listings_fit, members_fit}
 use Rattle.house_laws.proofs.RangedRows.{rows_fit}
-use Rattle.house_laws.proofs.RangedTables.{bid_rows_fit, clock_fits, watches_fit}
+use Rattle.house_laws.proofs.RangedTables.{bid_rows_fit, clock_fits, few_rows, watches_fit}
 use Rattle.house_laws.proofs.RangedTalk.{feedback_fits, questions_fit}
 
 pub rows_are_sound : (settings : Settings) (h : History) → IsHistory settings h → AreSound (tables_of settings h)
@@ -22,6 +22,7 @@ rows_are_sound settings h is = record {
   few_items = simp length-map (listings_fit settings h is).room;
   bids = bid_rows_fit settings h is;
   watches = watches_fit settings h is;
+  few_watches = λ m. few_rows settings h m is;
   questions = questions_fit settings h is;
   feedback = feedback_fits settings h is;
 }

@@ -1,6 +1,6 @@
 -- What every call of a keep promises beside its answer. A keep that rests on a disk promises of its rows only while the disk
 -- has returned what was written: while it is honest.
-use Rattle.std.specs.Prelude.{◌≡◌, ◌≤◌, length, ◌↔◌, ℕ, List, Bool, true, false, Result, OnOk, IsErrOf}
+use Rattle.std.specs.Prelude.{◌≡◌, ◌≤◌, length, ◌↔◌, ℕ, List, Bool, true, false, Result, OnOk, IsErrOf, ◌==◌}
 use Rattle.std.specs.List.{AllByRecursion}
 use Rattle.proxy.specs.Bids.{standing_of}
 use Rattle.proxy.specs.declared.bid.Bid.{Bid}
@@ -9,7 +9,8 @@ use Rattle.house_rows.specs.declared.fault.KeepFault.{KeepFault}
 use Rattle.house_rows.specs.declared.fault.KeepFault.TheVariants.{Store, Damaged}
 use Rattle.house_rows.specs.Asks.{IsFree}
 use Rattle.house_rows.specs.Fits.{BidRowFits, CategoryFits, FeedbackFits, IsMoment, ItemFits, MemberFits, QuestionFits, WatchRowFits}
-use Rattle.house_rows.specs.Limits.{most_categories, most_cents, most_items, most_members}
+use Rattle.house_rows.specs.History.{counted}
+use Rattle.house_rows.specs.Limits.{most_categories, most_cents, most_items, most_members, most_watches}
 use Rattle.house_rows.specs.Tables.{ItemRow, Tables}
 
 -- the rows of an item fit: the item itself, and its standing, which is that of some bids in range
@@ -30,6 +31,7 @@ pub record AreSound (t : Tables) : Type 0 where
   pub few_items : length t.items ≤ most_items
   pub bids : AllByRecursion BidRowFits t.bids
   pub watches : AllByRecursion WatchRowFits t.watches
+  pub few_watches : (m : ℕ) → counted (λ w. w.member == m) t.watches ≤ most_watches
   pub questions : AllByRecursion QuestionFits t.questions
   pub feedback : AllByRecursion FeedbackFits t.feedback
 
