@@ -42,7 +42,7 @@ first_among_own amount [] m e = cc
 first_among_own amount (a ∷ bids) m e = grind (arith, nat_tests, first_among_own amount bids m)
 
 -- no other is above all
-others_below : (bids : List Bid) (m : ℕ) → greatest_of (maxima (bids_not_by m bids)) ≤ greatest_of (maxima bids)
+pub others_below : (bids : List Bid) (m : ℕ) → greatest_of (maxima (bids_not_by m bids)) ≤ greatest_of (maxima bids)
 others_below [] m = grind arith
 others_below (a ∷ bids) m = grind (arith, nat_tests, others_below bids m)
 

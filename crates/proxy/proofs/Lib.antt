@@ -1,5 +1,6 @@
 pub mod Leads
 pub mod Placed
+pub mod Shapes
 pub mod Scanned
 pub mod Judged
 pub mod Ranks

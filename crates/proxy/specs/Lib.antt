@@ -4,4 +4,5 @@ pub mod Bids
 pub mod Led
 pub mod Rank
 pub mod Accepted
+pub mod Rows
 pub mod WorkedRows

@@ -1,10 +1,11 @@
 //! What the definitions mean, in the subject's own words. No code runs here.
-ghost use Rattle.std.specs.Prelude.{◌≡◌, ◌≤◌, ◌<◌, ◌↔◌, ◌++◌, ◌∷◌, ℕ, List, Some, None, IfSome};
+ghost use Rattle.std.specs.Prelude.{◌≡◌, ◌≤◌, ◌<◌, ◌↔◌, ◌++◌, ◌∷◌, ℕ, List, Some, None, IfSome, length, true};
 ghost use Rattle.steps.specs.Table.{IsBandTable, over};
 ghost use Rattle.proxy.specs.declared.bid.Bid.{Bid};
-ghost use Rattle.proxy.specs.Bids.{greatest, leader, one_more, price, refusal, second, top};
+ghost use Rattle.proxy.specs.Bids.{greatest, leader, one_more, price, refusal, second, standing_of, top};
 ghost use Rattle.proxy.specs.Rank.{RanksFirst};
 ghost use Rattle.proxy.specs.Accepted.{AreAccepted};
+ghost use Rattle.proxy.specs.Rows.{is_standing};
 ghost use Rattle.proxy.specs.WorkedRows.{EqualMaximumKeepsTheEarlierLeader, FirstBidTakesTheStart, GreatRaisePaysOneStepOver, HigherBidPaysOneStepOver, LowBidIsRefused, SameMaximumIsRefused, SmallRaisePaysItsMaximum, StepBeginsAtItsBand};
 
 /// The leader is the one bidder whom every other ranks below: by a smaller maximum, or by the
@@ -46,6 +47,13 @@ pub fn accepted_bids_rise()
     ensures { (bands : List (ℕ × ℕ)) (start : ℕ) (before middle later : List Bid) (first second : Bid) → IsBandTable bands
         → AreAccepted bands start (before ++ first ∷ middle ++ second ∷ later)
         → first.member ≡ second.member → first.maximum < second.maximum }
+{}
+
+/// Accepted bids leave a standing that `Standing::of_row` takes.
+#[tactic(auto, using(crate::proofs::Shapes::accepted_shape))]
+pub fn accepted_bids_leave_standings()
+    ensures { (bands : List (ℕ × ℕ)) (start : ℕ) (bids : List Bid) → AreAccepted bands start bids
+        → length bids ≤ 10000 → is_standing bands (standing_of bands start bids) ≡ true }
 {}
 
 /// The definitions give the values that were worked out by hand; `specs/WorkedRows.antt` has them.

@@ -1,8 +1,9 @@
 //! The standing of one item, kept from bid to bid.
-ghost use Rattle.std.specs.Prelude.{◌≡◌, ◌≤◌, ◌<◌, ℕ, List, [], length, IfSome, OnOk, OnErr, MatchResult};
+ghost use Rattle.std.specs.Prelude.{◌≡◌, ◌≤◌, ◌<◌, ℕ, List, [], length, IfSome, is_some, OnOk, OnErr, MatchResult};
 ghost use Rattle.proxy.specs.declared.bid.Bid.{Bid as TheBid};
 ghost use Rattle.proxy.specs.Bids.{refusal, standing_of, floor, one_more, price_from};
 ghost use Rattle.proxy.specs.Led.{kept_led};
+ghost use Rattle.proxy.specs.Rows.{is_shape};
 
 use crate::bid::{Bid, BidRefusal};
 use crate::scans::{greatest_with, leading, other_greatest};
@@ -73,6 +74,49 @@ impl Standing {
             }
             None => Standing::open(start),
         }
+    }
+
+    /// The standing of a row that tells it, if accepted bids can leave such a row.
+    ///
+    /// Either nobody has bid, and the price is the start. Or one member has, and the price is the
+    /// start. Or several have, the second lies between start and top, and the price is one step
+    /// over it, but at most the top. The bids are not looked at.
+    pub fn of_row(
+        start: Cents,
+        bands: &Bands,
+        price: Cents,
+        leader: Option<u32>,
+        top: Option<Cents>,
+        second: Option<Cents>,
+        count: u32,
+    ) -> Option<Standing>
+        ensures fits { is_some result ≡ is_shape bands.now start price count leader top second }
+        ensures value { IfSome result (λ s. s ≡ record { start = start; price = price; leader = leader; top = top; second = second; count = count }) }
+    {
+        let fits = match (leader, top, second) {
+            (None, None, None) => count == 0 && price == start,
+            (Some(_), Some(top), None) => {
+                (1..=MOST_BIDS).contains(&count) && start <= top && price == start
+            }
+            (Some(_), Some(top), Some(second)) => {
+                (2..=MOST_BIDS).contains(&count)
+                    && start <= second
+                    && second <= top
+                    && price == price_against(bands, start, top, second)
+            }
+            _ => false,
+        };
+        if !fits {
+            return None;
+        }
+        Some(Standing {
+            start,
+            price,
+            leader,
+            top,
+            second,
+            count,
+        })
     }
 
     /// The public price.

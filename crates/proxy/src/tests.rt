@@ -177,3 +177,51 @@ fn a_refusal_has_a_number_and_says_why(rt: HostRuntime) -> Result<(), Fail> {
     }
     Ok(())
 }
+
+// A row of an item with the start 500 by the example bands, and whether accepted bids can leave it: price, leader,
+// top, second, count.
+type Kept = (u64, Option<u32>, Option<u64>, Option<u64>, u32, bool);
+
+const ROWS: [Kept; 18] = [
+    (500, None, None, None, 0, true),
+    (501, None, None, None, 0, false),
+    (500, None, None, None, 1, false),
+    (500, None, Some(500), None, 0, false),
+    (500, None, None, Some(500), 0, false),
+    (500, Some(2), Some(500), None, 1, true),
+    (500, Some(2), Some(900), None, 10_000, true),
+    (500, Some(2), Some(900), None, 10_001, false),
+    (500, Some(2), Some(900), None, 0, false),
+    (500, Some(2), Some(499), None, 1, false),
+    (550, Some(2), Some(900), None, 1, false),
+    (500, Some(2), None, None, 1, false),
+    (550, Some(3), Some(1_000), Some(500), 2, true),
+    (550, Some(3), Some(1_000), Some(500), 1, false),
+    (500, Some(3), Some(1_000), Some(500), 2, false),
+    (524, Some(3), Some(1_000), Some(499), 2, false),
+    (1_000, Some(3), Some(1_000), Some(1_000), 3, true),
+    (1_000, Some(3), Some(1_000), Some(1_001), 3, false),
+];
+
+#[test]
+fn a_row_is_taken_where_accepted_bids_can_leave_it(rt: HostRuntime) -> Result<(), Fail> {
+    let bands = Bands::example(rt.alloc())?;
+    for (price, leader, top, second, count, fits) in ROWS {
+        let (start, price) = (cents(500)?, cents(price)?);
+        let (top, second) = (top.and_then(Cents::new), second.and_then(Cents::new));
+        let found = Standing::of_row(start, &bands, price, leader, top, second, count);
+        assert_eq!(rt;
+            found.is_some(),
+            fits,
+            "{price} {leader:?} {top:?} {second:?} {count}"
+        );
+        if let Some(standing) = found {
+            assert_eq!(rt; standing.price(), price);
+            assert_eq!(rt; standing.leader(), leader);
+            assert_eq!(rt; standing.top(), top);
+            assert_eq!(rt; standing.second(), second);
+            assert_eq!(rt; standing.count(), count);
+        }
+    }
+    Ok(())
+}

@@ -10,11 +10,11 @@ use Rattle.steps.specs.declared.fault.BandsFault.{BandsFault}
 use Rattle.steps.specs.declared.fault.BandsFault.TheVariants.{Csv, First, Order, Falls, TooMany}
 
 -- an answer after a test
-passed : {A : Type 0} (test : Bool) (fault : BandsFault) (r : Result A BandsFault) (x : A) → (if test then Err fault else r) ≡ Ok x → (test ≡ false) × (r ≡ Ok x)
+pub passed : {A : Type 0} (test : Bool) (fault : BandsFault) (r : Result A BandsFault) (x : A) → (if test then Err fault else r) ≡ Ok x → (test ≡ false) × (r ≡ Ok x)
 passed true fault r x e = cc
 passed false fault r x e = (refl, e)
 
-passes : {A : Type 0} (test : Bool) (fault : BandsFault) (r : Result A BandsFault) (x : A) → test ≡ false → r ≡ Ok x → (if test then Err fault else r) ≡ Ok x
+pub passes : {A : Type 0} (test : Bool) (fault : BandsFault) (r : Result A BandsFault) (x : A) → test ≡ false → r ≡ Ok x → (if test then Err fault else r) ≡ Ok x
 passes true fault r x e ok = cc
 passes false fault r x e ok = ok
 
@@ -83,7 +83,7 @@ spelled_in n None last x e = cc
 spelled_in n (Some band) last x e = (band, refl, e)
 
 -- a band that was taken makes a valid table
-taken : (n : ℕ) (bands : List (ℕ × ℕ)) (band x : ℕ × ℕ) → AreBands bands → IsBand band → length bands < 50 → follows n band (last_of bands) ≡ Ok x
+pub taken : (n : ℕ) (bands : List (ℕ × ℕ)) (band x : ℕ × ℕ) → AreBands bands → IsBand band → length bands < 50 → follows n band (last_of bands) ≡ Ok x
     → (x ≡ band) × IsBandTable (bands ++ band ∷ [])
 taken n [] band x valid is few e =
     let first = first_in (band.0 == 0) band x e in
@@ -114,7 +114,7 @@ next_taken bands fields x valid e =
     let next = taken (length bands + 1) bands band x valid is few follow in
     (rw next.0 next.1, rw next.0 spells, few)
 
-follows_table : (n : ℕ) (bands more : List (ℕ × ℕ)) (band : ℕ × ℕ) → RisesFromZero (bands ++ band ∷ more) → follows n band (last_of bands) ≡ Ok band
+pub follows_table : (n : ℕ) (bands more : List (ℕ × ℕ)) (band : ℕ × ℕ) → RisesFromZero (bands ++ band ∷ more) → follows n band (last_of bands) ≡ Ok band
 follows_table n [] more band rising = let zero = rising.0 in grind (arith, nat_tests, zero)
 follows_table n (b ∷ bands) more band rising =
     let next = rises_at b bands more band rising.1 in

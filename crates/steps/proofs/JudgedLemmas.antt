@@ -8,16 +8,16 @@ use Rattle.steps.specs.declared.fault.BandsFault.TheVariants.{Head, First}
 use Rattle.steps.proofs.BandLemmas.{next_of_table}
 
 -- what is answered of records
-abbrev Answer : Type 0
+abbrev pub Answer : Type 0
 Answer = Result (List (ℕ × ℕ)) BandsFault
 
 -- the answer after one more row
-abbrev judge_on : (ℕ × ℕ → Answer) → Result (ℕ × ℕ) BandsFault → Answer
+abbrev pub judge_on : (ℕ × ℕ → Answer) → Result (ℕ × ℕ) BandsFault → Answer
 judge_on more (Ok band) = more band
 judge_on more (Err fault) = Err fault
 
 -- the answer at the end of the rows
-abbrev judge_end : List (ℕ × ℕ) → Answer
+abbrev pub judge_end : List (ℕ × ℕ) → Answer
 judge_end [] = Err First
 judge_end (band ∷ bands) = Ok (band ∷ bands)
 
@@ -44,7 +44,7 @@ one_answer records a b (inr x) (inr y) =
     tails : (v w : List (List (List ℕ))) → head ∷ v ≡ head ∷ w → v ≡ w
     tails v w e = cc
 
-some_bands : (done bands : List (ℕ × ℕ)) (band : ℕ × ℕ) → AreBands (done ++ band ∷ bands) → IsBandTable (done ++ band ∷ bands)
+pub some_bands : (done bands : List (ℕ × ℕ)) (band : ℕ × ℕ) → AreBands (done ++ band ∷ bands) → IsBandTable (done ++ band ∷ bands)
 some_bands done bands band (inr valid) = valid
 some_bands [] bands band (inl none) = cc
 some_bands (d ∷ done) bands band (inl none) = cc

@@ -2,5 +2,6 @@ pub mod Table
 pub mod Example
 pub mod Fault
 pub mod Records
+pub mod Rows
 pub mod Reading
 pub mod Fields

@@ -3,10 +3,11 @@ ghost use Rattle.std.specs.Prelude.{◌≡◌, ◌≤◌, ◌<◌, ◌+◌, ◌�
 ghost use Rattle.steps.specs.Table.{IsBandTable, over, step_at};
 ghost use Rattle.steps.specs.Records.{IsJudged};
 ghost use Rattle.steps.specs.Reading.{records_of};
+ghost use Rattle.steps.specs.Rows.{AreJudged};
 ghost use Rattle.steps.specs.Example.{example_table};
 
 use crate::fault::BandsFault;
-use crate::reading;
+use crate::{judged, reading};
 use cents::Cents;
 use std::alloc::Global;
 use std::io::Read;
@@ -81,6 +82,20 @@ impl Bands {
     {
         let rows = reading::table(alloc, source)?;
         Ok(Bands { rows })
+    }
+
+    /// The table of rows, each as (at, step) in cents, memory aside.
+    ///
+    /// The fault is the first that the rows have: `TooMany` for a row after fifty, `Row`, `First`,
+    /// `Order`, `Falls`; `First` also where there is no row.
+    pub fn of_rows(alloc: Global, rows: &[(u64, u64)]) -> Result<Bands, BandsFault>
+        ensures { result ≢ Err BandsFault.Memory → AreJudged rows.now result }
+    {
+        judged::table(rows)?;
+        match Vec::from_slice(alloc, rows) {
+            Ok(rows) => Ok(Bands { rows }),
+            Err(_) => Err(BandsFault::Memory),
+        }
     }
 
     /// The bands in order, each as (at, step) in cents.

@@ -1,11 +1,13 @@
 //! One record judged: the band that it spells after those before it, or its first fault.
-ghost use Rattle.std.specs.Prelude.{◌≡◌, ◌≤◌, ◌↔◌, ℕ, List, length, IsTrue, Option, option_copied, option_map};
+ghost use Rattle.std.specs.Prelude.{◌≡◌, ◌≤◌, ◌↔◌, ℕ, List, length, IsTrue, IfErr, OnOk, Option, option_copied, option_map};
 ghost use Rattle.std.specs.Char.{is_ascii_digit};
 ghost use Rattle.std.specs.List.{list_all};
 ghost use Rattle.std.specs.Str.Parse.{digits_value};
 ghost use Rattle.csv.specs.Records.{fields_of};
 ghost use Rattle.steps.specs.Records.{band_of, both, follows, head, is_number, next_band, number_from};
 ghost use Rattle.steps.specs.Fields.{pair_of};
+ghost use Rattle.steps.specs.Rows.{HaveFault, is_band, next_row};
+ghost use Rattle.steps.specs.Table.{IsBandTable};
 
 use crate::fault::BandsFault;
 use cents::LIMIT;
@@ -109,4 +111,39 @@ pub fn next_band(bands: &[(u64, u64)], row: &ByteRecord) -> Result<(u64, u64), B
         Some(band) => follows(number, band, bands.last()),
         None => Err(BandsFault::Row { row: number }),
     }
+}
+
+// Whether a row is a band within its ranges.
+fn is_band(row: (u64, u64)) -> bool
+    ensures { result ≡ is_band row }
+{
+    row.0 <= LIMIT && row.1 >= 1 && row.1 <= LIMIT
+}
+
+// The row after these bands.
+fn next_row(bands: &[(u64, u64)], row: (u64, u64)) -> Result<(u64, u64), BandsFault>
+    ensures { result ≡ next_row bands.now row }
+{
+    if bands.len() >= MOST {
+        return Err(BandsFault::TooMany);
+    }
+    let place = bands.len() as u32 + 1;
+    if !is_band(row) {
+        return Err(BandsFault::Row { row: place });
+    }
+    follows(place, row, bands.last())
+}
+
+// Whether the rows are a table, or else their first fault.
+pub fn table(rows: &[(u64, u64)]) -> Result<(), BandsFault>
+    ensures ok { OnOk result (IsBandTable rows.now) }
+    ensures fault { IfErr result (HaveFault rows.now) }
+{
+    if rows.is_empty() {
+        return Err(BandsFault::First);
+    }
+    for at in 0..rows.len() {
+        next_row(&rows[..at], rows[at])?;
+    }
+    Ok(())
 }

@@ -258,3 +258,44 @@ fn a_fault_has_its_name_its_number_its_row_and_its_words(rt: HostRuntime) -> Res
     }
     Ok(())
 }
+
+// Rows of numbers that are no table, and the first fault that they have.
+const FAULTY: [(&[(u64, u64)], BandsFault); 9] = [
+    (&[], BandsFault::First),
+    (&[(1, 5)], BandsFault::First),
+    (&[(0, 0)], BandsFault::Row { row: 1 }),
+    (&[(0, 1_000_000_001)], BandsFault::Row { row: 1 }),
+    (&[(0, 5), (1_000_000_001, 5)], BandsFault::Row { row: 2 }),
+    (&[(0, 5), (0, 6)], BandsFault::Order { row: 2 }),
+    (&[(0, 5), (0, 4)], BandsFault::Order { row: 2 }),
+    (&[(0, 5), (100, 4)], BandsFault::Falls { row: 2 }),
+    (&[(0, 5), (100, 4), (50, 0)], BandsFault::Falls { row: 2 }),
+];
+
+#[test]
+fn rows_that_are_no_table_have_a_first_fault(rt: HostRuntime) -> Result<(), Fail> {
+    for (rows, fault) in FAULTY {
+        assert_eq!(rt;
+            Bands::of_rows(rt.alloc(), rows).err(),
+            Some(fault),
+            "{rows:?}"
+        );
+    }
+    Ok(())
+}
+
+#[test]
+fn fifty_rows_are_a_table_and_no_more(rt: HostRuntime) -> Result<(), Fail> {
+    let mut rows = Vec::new(rt.alloc());
+    for at in 0..50 {
+        rows.push((at, 5))?;
+    }
+    let bands = Bands::of_rows(rt.alloc(), &rows)?;
+    assert_eq!(rt; bands.rows(), rows.as_slice());
+    rows.push((1_000_000_001, 5))?;
+    assert_eq!(rt;
+        Bands::of_rows(rt.alloc(), &rows).err(),
+        Some(BandsFault::TooMany)
+    );
+    Ok(())
+}

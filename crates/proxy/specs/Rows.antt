@@ -1,0 +1,19 @@
+-- Which rows are a standing: those that accepted bids leave.
+use Rattle.std.specs.Prelude.{ℕ, List, Bool, false, ◌==◌, ◌&&◌, nat_le, Option, Some, None}
+use Rattle.proxy.specs.Bids.{price_from}
+use Rattle.proxy.specs.Kept.{Kept}
+
+-- nobody has bid; or one member has; or several have, with a second between start and top
+abbrev pub is_shape : List (ℕ × ℕ) → ℕ → ℕ → ℕ → Option ℕ → Option ℕ → Option ℕ → Bool
+is_shape bands start price count None None None = (count == 0) && (price == start)
+is_shape bands start price count (Some leader) (Some top) None =
+    nat_le 1 count && (nat_le count 10000 && (nat_le start top && (price == start)))
+is_shape bands start price count (Some leader) (Some top) (Some second) =
+    nat_le 2 count && (nat_le count 10000 && (nat_le start second && (nat_le second top && (price == price_from bands start top (Some second)))))
+is_shape bands start price count None None (Some second) = false
+is_shape bands start price count None (Some top) second = false
+is_shape bands start price count (Some leader) None second = false
+
+-- whether what is kept is a standing
+abbrev pub is_standing : List (ℕ × ℕ) → Kept → Bool
+is_standing bands k = is_shape bands k.start k.price k.count k.leader k.top k.second
