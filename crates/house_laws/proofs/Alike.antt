@@ -12,8 +12,8 @@ use Rattle.house_rows.specs.Told.{Told, told}
 use Rattle.house_rows.specs.Verdict.{verdict}
 use Rattle.house_rows.specs.Views.{own_view, public_view}
 use Rattle.house_laws.specs.Alike.{AreAlike}
-use Rattle.house_laws.proofs.Put.{by_test}
-use Rattle.house_laws.proofs.Own.{own_local, own_step}
+use Rattle.house_rows.proofs.Put.{by_test}
+use Rattle.house_rows.proofs.Own.{own_local, own_step}
 use Rattle.house_laws.proofs.Output.{told_same, verdict_same}
 use Rattle.house_laws.proofs.Shown.{page_same}
 

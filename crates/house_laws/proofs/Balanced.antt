@@ -16,12 +16,12 @@ use Rattle.house_rows.specs.Items.{item_now, items, items_shown, shown, state_of
 use Rattle.house_rows.specs.Listings.{Listing, listing_at, listings}
 use Rattle.house_rows.specs.Pages.{all_sales, sale_of}
 use Rattle.house_rows.specs.Verdict.{IsHistory, was_sold}
-use Rattle.house_laws.proofs.Every.{every_both}
-use Rattle.house_laws.proofs.Numbered.{numbered}
-use Rattle.house_laws.proofs.Put.{by_test}
-use Rattle.house_laws.proofs.Ranged.{ListingRanges, listings_fit}
-use Rattle.house_laws.proofs.RangedRows.{terms_fit}
-use Rattle.house_laws.proofs.RangedTalk.{sold_is_led}
+use Rattle.house_rows.proofs.Every.{every_both}
+use Rattle.house_rows.proofs.Numbered.{numbered}
+use Rattle.house_rows.proofs.Put.{by_test}
+use Rattle.house_rows.proofs.Ranged.{ListingRanges, listings_fit}
+use Rattle.house_rows.proofs.RangedRows.{terms_fit}
+use Rattle.house_rows.proofs.RangedTalk.{sold_is_led}
 
 buyer_fits : (o : Option ℕ) (seller : ℕ) → IfSome o IsMember → o ≢ Some seller → is_some o ≡ true → IsMember (unwrap_or o 0) × (seller ≢ unwrap_or o 0)
 buyer_fits None seller member apart led = cc

@@ -16,7 +16,7 @@ use Rattle.house_rows.specs.Questions.{Asked, answer_to, answered, answers, aske
 use Rattle.house_rows.specs.Pages.{own_bid, own_bids, page_of}
 use Rattle.house_rows.specs.Views.{own_questions, own_view}
 use Rattle.house_laws.specs.Alike.{AreAlike}
-use Rattle.house_laws.proofs.Put.{by_test}
+use Rattle.house_rows.proofs.Put.{by_test}
 use Rattle.house_laws.proofs.Output.{categories_same, clocks, feedback_same, greatest_same, items_same, members_same, mine_same, published_same, questions_same, watches_same}
 
 -- the same item, asker and number

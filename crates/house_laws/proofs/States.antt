@@ -1,29 +1,26 @@
 -- An item's state only moves forward, and its price doesn't fall while it is open.
-use Rattle.std.proofs.Common.{◌≡◌, ℕ, List, [], ◌∷◌, ◌++◌, Bool, true, false, not, refl, ◌∙◌, sym, arith, inl, inr, Option, Some, None}
-use Rattle.std.specs.Prelude.{◌==◌, ◌&&◌, ◌||◌, if◌then◌else◌, find, is_some, nat_le}
+use Rattle.std.proofs.Common.{◌≡◌, ℕ, List, [], ◌∷◌, ◌++◌, Bool, true, false, not, refl, arith, inl, inr, Some, None}
+use Rattle.std.specs.Prelude.{◌==◌, ◌&&◌, ◌||◌, find, is_some, nat_le}
 use Rattle.std.specs.List.{list_any}
 use Rattle.std.proofs.lemmas.Bool.Decides.{nat_tests}
 use Rattle.std.proofs.lemmas.List.{append-nil}
 use Rattle.std.proofs.lemmas.List.Folds.{list_any-append}
-use Rattle.proxy.specs.Bids.{greatest}
 use Rattle.proxy.specs.Rules.{first_failing}
 use Rattle.house_rows.specs.declared.command.Command.{Command}
 use Rattle.house_rows.specs.declared.command.Command.TheVariants.{Register, AddCategory, List as Listed, Bid, Buy, Close, Settle, Watch, Unwatch, Ask, Answer, Feedback}
-use Rattle.house_rows.specs.declared.item.Terms.{Terms}
-use Rattle.house_rows.specs.declared.refusal.Refusal.{Refusal}
-use Rattle.house_rows.specs.declared.refusal.Refusal.TheVariants.{OwnItem, NotOpen, NotSold}
+use Rattle.house_rows.specs.declared.refusal.Refusal.TheVariants.{NotSold}
 use Rattle.house_rows.specs.declared.settings.Settings.{Settings}
 use Rattle.house_rows.specs.declared.state.State.{State}
 use Rattle.house_rows.specs.declared.state.State.TheVariants.{Open, Sold, Unsold, Settled}
 use Rattle.house_rows.specs.History.{History}
-use Rattle.house_rows.specs.Bids.{bids_on}
-use Rattle.house_rows.specs.Items.{Purchase, closings, is_bought, is_open, is_settled, is_taken, item_now, leader_of, purchases, settlements, state_from, state_of}
+use Rattle.house_rows.specs.Items.{Purchase, closings, is_bought, is_open, is_settled, is_taken, leader_of, purchases, settlements, state_from, state_of}
 use Rattle.house_rows.specs.Listings.{Listing, listing_at, listings}
 use Rattle.house_rows.specs.Runs.{entry}
-use Rattle.house_rows.specs.Verdict.{Rule, bid_rules, is_sold, purchase_rules, rules, settlement_rules, verdict}
+use Rattle.house_rows.specs.Verdict.{is_sold, rules, settlement_rules, verdict}
 use Rattle.house_laws.specs.Course.{may_move}
-use Rattle.house_laws.proofs.Passed.{Passes, item_pass, own_pass, passes}
-use Rattle.house_laws.proofs.Put.{by_test}
+use Rattle.house_rows.proofs.OpenItems.{bid_led, bought_open, open_parts, rules_of}
+use Rattle.house_rows.proofs.Passed.{item_pass, own_pass, passes}
+use Rattle.house_rows.proofs.Put.{by_test}
 
 stays : (s : State) → may_move s s ≡ true
 stays Open = refl
@@ -36,19 +33,6 @@ settles Open is = cc
 settles Sold is = refl
 settles Unsold is = cc
 settles Settled is = cc
-
--- what an open item isn't
-pub record IsOpen (bought taken settled : Bool) : Type 0 where
-  pub bought_not : bought ≡ false
-  pub taken_not : taken ≡ false
-  pub settled_not : settled ≡ false
-
-pub open_parts : (bought taken led settled : Bool) → is_open (state_from bought taken led settled) ≡ true → IsOpen bought taken settled
-open_parts bought taken led true is = cc
-open_parts true taken led false is = cc
-open_parts false true true false is = cc
-open_parts false true false false is = cc
-open_parts false false led false is = record { bought_not = refl; taken_not = refl; settled_not = refl }
 
 move_led : (bought taken led later settled : Bool) → is_open (state_from bought taken led settled) ≡ true → may_move (state_from bought taken led settled) (state_from bought taken later settled) ≡ true
 move_led bought taken led later settled is =
@@ -79,37 +63,6 @@ find_here i (q ∷ ps) p here = elim (by_test (q.item == i)) [ inl is ↦ rw is 
 or_false : (b : Bool) → (b || (false || false)) ≡ b
 or_false true = refl
 or_false false = refl
-
--- the listing of an item is one
-same_listing : (a b : Listing) (o : Option Listing) → o ≡ Some a → o ≡ Some b → a ≡ b
-same_listing a b o x y = let e : Some a ≡ Some b = sym x ∙ y in cc
-
--- an accepted bid, purchase or settlement, of the listing that is known
-pub rules_of : (settings : Settings) (h : History) (l : Listing) (more : Terms → List Rule) → listing_at (listings h) l.item ≡ Some l → Passes settings.bands h l.item more
-    → first_failing (more (item_now settings.bands h l).terms) ≡ None
-rules_of settings h l more listed pass =
-    let e : pass.listing ≡ l = same_listing pass.listing l (listing_at (listings h) l.item) pass.listed listed in rw e at pass.pass
-
-pub open_pass : (fails : Bool) (state : State) (rest : Option Refusal) → (if fails then Some OwnItem else (if not (is_open state) then Some NotOpen else rest)) ≡ None → is_open state ≡ true
-open_pass true state rest none = cc
-open_pass false Open rest none = refl
-open_pass false Sold rest none = cc
-open_pass false Unsold rest none = cc
-open_pass false Settled rest none = cc
-
-pub bid_led : (settings : Settings) (h : History) (t c j m : ℕ) (l : Listing) → listing_at (listings h) l.item ≡ Some l → verdict settings h t c (Bid j m) ≡ None → (j == l.item) ≡ true → is_open (state_of h l) ≡ true
-bid_led settings h t c j m l listed none here =
-    let at : j ≡ l.item = grind (arith, nat_tests) in
-    let own : first_failing (rules settings h t c (Bid l.item m)) ≡ None = rw at at (own_pass settings h t c (Bid j m) none) in
-    let pass = rules_of settings h l (bid_rules settings.bands t c m (greatest (bids_on h l.item) c)) listed (item_pass settings.bands h l.item (bid_rules settings.bands t c m (greatest (bids_on h l.item) c)) own) in
-    open_pass (l.seller == c) (state_of h l) _ pass
-
-bought_open : (settings : Settings) (h : History) (t c j : ℕ) (l : Listing) → listing_at (listings h) l.item ≡ Some l → verdict settings h t c (Buy j) ≡ None → (j == l.item) ≡ true → is_open (state_of h l) ≡ true
-bought_open settings h t c j l listed none here =
-    let at : j ≡ l.item = grind (arith, nat_tests) in
-    let own : first_failing (rules settings h t c (Buy l.item)) ≡ None = rw at at (own_pass settings h t c (Buy j) none) in
-    let pass = rules_of settings h l (purchase_rules t c) listed (item_pass settings.bands h l.item (purchase_rules t c) own) in
-    open_pass (l.seller == c) (state_of h l) _ pass
 
 settled_sold : (settings : Settings) (h : History) (t c j : ℕ) (l : Listing) → listing_at (listings h) l.item ≡ Some l → verdict settings h t c (Settle j) ≡ None → (j == l.item) ≡ true → is_sold (state_of h l) ≡ true
 settled_sold settings h t c j l listed none here =

@@ -16,8 +16,8 @@ use Rattle.house_rows.specs.Listings.{Listing, is_seller, listing_at, listings}
 use Rattle.house_rows.specs.Questions.{Asked, answer_to, answered, answers, asked, asked_key, names, questions, waiting}
 use Rattle.house_rows.specs.Runs.{entry}
 use Rattle.house_rows.specs.Verdict.{Rule, common_rules, of_item, rules, verdict}
-use Rattle.house_laws.proofs.Passed.{find_item, item_from, later_pass}
-use Rattle.house_laws.proofs.Put.{by_test, filter_alike, filter_put_other}
+use Rattle.house_rows.proofs.Passed.{find_item, item_from, later_pass}
+use Rattle.house_rows.proofs.Put.{by_test, filter_alike, filter_put_other}
 
 -- whether a question waits for a member, by the listings and the answers
 abbrev waits : List Listing → List Asked → ℕ → Asked → Bool

@@ -3,6 +3,7 @@ ghost use Rattle.std.specs.Prelude.{◌≡◌, ◌≤◌, ◌+◌, ◌∷◌, �
 ghost use Rattle.settle.specs.Balance.{IsBalanced};
 ghost use Rattle.settle.specs.declared.zone.Zone.{Zone};
 ghost use Rattle.steps.specs.Table.{IsBandTable};
+ghost use Rattle.house_rows.specs.declared.change.Change.{Change};
 ghost use Rattle.house_rows.specs.declared.command.Command.{Command};
 ghost use Rattle.house_rows.specs.declared.command.Command.TheVariants.{Bid};
 ghost use Rattle.house_rows.specs.declared.refusal.Refusal.{Refusal};
@@ -14,8 +15,10 @@ ghost use Rattle.house_rows.specs.Listings.{Listing, listing_at, listings};
 ghost use Rattle.house_rows.specs.Pages.{all_sales};
 ghost use Rattle.house_rows.specs.Runs.{Message, Order, entry, next};
 ghost use Rattle.house_rows.specs.Verdict.{IsHistory, verdict};
+ghost use Rattle.house_rows.specs.Asks.{ChangeFits};
+ghost use Rattle.house_rows.specs.Changed.{changed};
 ghost use Rattle.house_rows.specs.Keeping.{AreSound};
-ghost use Rattle.house_rows.specs.Tables.{tables_of};
+ghost use Rattle.house_rows.specs.Tables.{Tables, tables_of};
 ghost use Rattle.house_laws.specs.Course.{may_move};
 
 /// With an accepted command the state of a listed item stays, or moves from open to sold or unsold, or
@@ -49,11 +52,20 @@ pub fn refused_commands_change_nothing<F>()
         → verdict settings h moment caller command ≡ Some refusal → next {F = F} settings h (Order moment caller command) ≡ h }
 {}
 
-/// The tables of a history fit: every number is in its range, every text is one that its field takes,
-/// no leader is the seller, and every standing is that of some bids.
-#[tactic(auto, using(crate::proofs::Sound::rows_are_sound))]
+/// The tables of a history are sound: members, categories and items have the numbers from 1 on, every
+/// number is in its range, every text is one that its field takes, and no leader is the seller. The
+/// standing of an item is that of accepted bids, and its price and leader are the standing's, unless it
+/// was bought at once; then nobody has bid, and its price is the buy-now price.
+#[tactic(auto, using(house_rows::proofs::Sound::rows_are_sound))]
 pub fn rows_of_a_history_fit()
     ensures { (settings : Settings) (h : History) → IsHistory settings h → AreSound (tables_of settings h) }
+{}
+
+/// Sound tables stay sound with every change that fits them. So a keep which makes only such changes
+/// has sound tables for good.
+#[tactic(auto, using(house_rows::proofs::SoundAfter::sound_after))]
+pub fn changes_keep_tables_sound()
+    ensures { (t : Tables) (change : Change) → AreSound t → ChangeFits t change → AreSound (changed t change) }
 {}
 
 /// The sales of a history balance: over the members that they name, what is bought in a period is what

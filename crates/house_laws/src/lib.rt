@@ -11,8 +11,9 @@ mod secrecy;
 mod worked;
 
 pub use course::{
-    accepted_bids_count, open_prices_never_fall, refused_commands_change_nothing,
-    rows_of_a_history_fit, sales_balance, states_only_move_forward,
+    accepted_bids_count, changes_keep_tables_sound, open_prices_never_fall,
+    refused_commands_change_nothing, rows_of_a_history_fit, sales_balance,
+    states_only_move_forward,
 };
 pub use secrecy::{commands_step_equally, isolation, replies_depend_on_views, views_are_local};
 pub use worked::{worked_rows, wrong_readings_differ};

@@ -24,7 +24,7 @@ pub fn isolation<F>()
 
 /// Local: no accepted entry of another changes what a member has of its own, and of others' entries
 /// only a question on the member's item changes what waits for it.
-#[tactic(auto, using(crate::proofs::Own::own_local, crate::proofs::Waiting::waiting_local))]
+#[tactic(auto, using(house_rows::proofs::Own::own_local, crate::proofs::Waiting::waiting_local))]
 pub fn views_are_local()
     ensures own { (c : ℕ) (h : History) (e : Entry) → (e.caller == c) ≡ false → own_view (e ∷ h) c ≡ own_view h c }
     ensures waiting { (settings : Settings) (c : ℕ) (h : History) (moment caller : ℕ) (command : Command)
@@ -35,7 +35,7 @@ pub fn views_are_local()
 
 /// Step: an entry of a member changes what it has of its own equally in two histories in which that is
 /// the same.
-#[tactic(auto, using(crate::proofs::Own::own_step))]
+#[tactic(auto, using(house_rows::proofs::Own::own_step))]
 pub fn commands_step_equally()
     ensures { (c : ℕ) (h k : History) (moment : ℕ) (command : Command) → own_view h c ≡ own_view k c
         → own_view (entry moment c command ∷ h) c ≡ own_view (entry moment c command ∷ k) c }

@@ -1,8 +1,9 @@
 -- What a keep may ask of a change: that it fits the tables, each row of which fits. That its new key is free the keep finds out.
-use Rattle.std.specs.Prelude.{◌≡◌, ◌≢◌, ◌<◌, ◌+◌, ◌==◌, ◌&&◌, ℕ, List, length, true, false, IfSome, is_some, Option, Some, None}
+use Rattle.std.specs.Prelude.{◌≡◌, ◌≢◌, ◌<◌, ◌≤◌, ◌+◌, ◌⊎◌, ◌==◌, ◌&&◌, not, ℕ, List, length, true, false, IfSome, is_some, Option, Some, None}
 use Rattle.std.specs.List.{list_any}
 use Rattle.proxy.specs.declared.bid.Bid as bid
-use Rattle.proxy.specs.Bids.{one_more, refusal, standing_of}
+use Rattle.proxy.specs.Accepted.{AreAccepted}
+use Rattle.proxy.specs.Bids.{one_more, standing_of}
 use Rattle.proxy.specs.Kept.{Kept}
 use Rattle.house_rows.specs.declared.change.Change.{Change}
 use Rattle.house_rows.specs.declared.change.Change.TheVariants.{Register, AddCategory, List as Listed, Bid, Buy, Close, Settle, Watch, Unwatch, Ask, Answer, Feedback}
@@ -10,7 +11,8 @@ use Rattle.house_rows.specs.declared.state.State.TheVariants.{Open, Sold}
 use Rattle.house_rows.specs.declared.talk.Question.{Question}
 use Rattle.house_rows.specs.Fits.{IsMoment, IsWithin}
 use Rattle.house_rows.specs.Found.{ask_count, category_at, category_named, is_given, item_with_lot, member_named, question_at, row_at}
-use Rattle.house_rows.specs.Limits.{most_cents, most_categories, most_items, most_members, most_questions}
+use Rattle.house_rows.specs.History.{counted}
+use Rattle.house_rows.specs.Limits.{most_cents, most_categories, most_items, most_members, most_questions, most_watches}
 use Rattle.house_rows.specs.Ratings.{other_party}
 use Rattle.house_rows.specs.Tables.{ItemRow, Tables}
 use Rattle.house_rows.specs.Verdict.{was_sold}
@@ -49,11 +51,12 @@ pub record BidFits (t : Tables) (moment item : ℕ) (placed : bid.Bid) (standing
   pub is_open : row.item.terms.state ≡ Open
   pub bidder_there : HasMember t placed.member
   pub apart : placed.member ≢ row.item.terms.seller
+  pub maximum_fits : placed.maximum ≤ most_cents
   pub bids : List bid.Bid
-  pub stands : row.standing ≡ standing_of t.settings.bands row.standing.start bids
-  pub accepted : refusal t.settings.bands row.standing.start bids placed.member placed.maximum ≡ None
+  pub stands : row.standing ≡ standing_of t.settings.bands row.item.terms.start bids
+  pub accepted : AreAccepted t.settings.bands row.item.terms.start (one_more bids placed.member placed.maximum)
   pub numbered : placed.no ≡ length bids + 1
-  pub stands_after : standing ≡ standing_of t.settings.bands row.standing.start (one_more bids placed.member placed.maximum)
+  pub stands_after : standing ≡ standing_of t.settings.bands row.item.terms.start (one_more bids placed.member placed.maximum)
 
 -- a purchase of another member's open item that has a buy-now price and no bid, at that price
 pub record PurchaseFits (t : Tables) (moment item buyer price : ℕ) : Type 0 where
@@ -72,7 +75,13 @@ pub record SettlementFits (t : Tables) (moment item : ℕ) : Type 0 where
   pub row_there : row_at t item ≡ Some row
   pub is_sold : row.item.terms.state ≡ Sold
 
+-- of the items that the member watches beside this one there are fewer than it may watch
 pub record WatchFits (t : Tables) (member item : ℕ) : Type 0 where
+  pub member_there : HasMember t member
+  pub item_there : HasItem t item
+  pub room : counted (λ w. (w.member == member) && not (w.item == item)) t.watches < most_watches
+
+pub record UnwatchFits (t : Tables) (member item : ℕ) : Type 0 where
   pub member_there : HasMember t member
   pub item_there : HasItem t item
 
@@ -98,6 +107,7 @@ pub record RatingFits (t : Tables) (moment item from to : ℕ) (text : List ℕ)
   pub row_there : row_at t item ≡ Some row
   pub was_sold : was_sold row.item.terms.state ≡ true
   pub giver_there : HasMember t from
+  pub is_party : (row.item.terms.seller ≡ from) ⊎ (row.item.terms.leader ≡ Some from)
   pub receiver : to ≡ other_party row.item.terms.seller row.item.terms.leader from
   pub text_fits : is_text 0 200 text ≡ true
 
@@ -112,7 +122,7 @@ ChangeFits t (Buy moment item buyer price) = PurchaseFits t moment item buyer pr
 ChangeFits t (Close moment) = IsMoment moment
 ChangeFits t (Settle moment item) = SettlementFits t moment item
 ChangeFits t (Watch member item) = WatchFits t member item
-ChangeFits t (Unwatch member item) = WatchFits t member item
+ChangeFits t (Unwatch member item) = UnwatchFits t member item
 ChangeFits t (Ask item asker number text) = QuestionAsked t item asker number text.now
 ChangeFits t (Answer moment item asker number text) = AnswerFits t moment item asker number text.now
 ChangeFits t (Feedback moment item from to rating text) = RatingFits t moment item from to text.now

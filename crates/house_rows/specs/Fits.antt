@@ -1,6 +1,8 @@
 -- Which rows fit: every number in its range, every text as its field takes it.
 use Rattle.std.specs.Prelude.{◌≡◌, ◌≢◌, ◌≤◌, ℕ, true, IfSome, is_some, Some}
+use Rattle.proxy.specs.Kept.{Kept}
 use Rattle.house_rows.specs.declared.item.Item.{Item}
+use Rattle.house_rows.specs.declared.item.OwnBid.{OwnBid}
 use Rattle.house_rows.specs.declared.item.Terms.{Terms}
 use Rattle.house_rows.specs.declared.people.Category.{Category}
 use Rattle.house_rows.specs.declared.people.Member.{Member}
@@ -56,6 +58,16 @@ pub record ItemFits (it : Item) : Type 0 where
   pub lot : is_lot it.lot ≡ true
   pub title : is_text 1 80 it.title ≡ true
   pub text : is_text 0 2000 it.text ≡ true
+
+-- the standing of an item's bids
+pub record StandingFits (k : Kept) : Type 0 where
+  pub leader : IfSome k.leader IsMember
+  pub count : k.count ≤ most_bids
+
+-- what a member has bid on an item
+pub record OwnBidFits (b : OwnBid) : Type 0 where
+  pub item : IsItem b.item
+  pub mine : 1 ≤ b.mine
 
 pub record QuestionFits (q : Question) : Type 0 where
   pub item : IsItem q.item

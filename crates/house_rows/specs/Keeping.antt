@@ -1,7 +1,8 @@
 -- What every call of a keep promises beside its answer. A keep that rests on a disk promises of its rows only while the disk
 -- has returned what was written: while it is honest.
-use Rattle.std.specs.Prelude.{◌≡◌, ◌≤◌, length, ◌↔◌, ℕ, List, Bool, true, false, Result, OnOk, IsErrOf, ◌==◌}
+use Rattle.std.specs.Prelude.{◌≡◌, ◌≤◌, ◌+◌, ◌⊎◌, length, ◌↔◌, ℕ, List, [], ◌∷◌, Bool, true, false, Some, IfSome, Result, OnOk, IsErrOf, ◌==◌}
 use Rattle.std.specs.List.{AllByRecursion}
+use Rattle.proxy.specs.Accepted.{AreAccepted}
 use Rattle.proxy.specs.Bids.{standing_of}
 use Rattle.proxy.specs.declared.bid.Bid.{Bid}
 use Rattle.house_rows.specs.declared.change.Change.{Change}
@@ -10,24 +11,49 @@ use Rattle.house_rows.specs.declared.fault.KeepFault.TheVariants.{Store, Damaged
 use Rattle.house_rows.specs.Asks.{IsFree}
 use Rattle.house_rows.specs.Fits.{BidRowFits, CategoryFits, FeedbackFits, IsMoment, ItemFits, MemberFits, QuestionFits, WatchRowFits}
 use Rattle.house_rows.specs.History.{counted}
-use Rattle.house_rows.specs.Limits.{most_categories, most_cents, most_items, most_members, most_watches}
+use Rattle.house_rows.specs.Limits.{most_bids, most_categories, most_cents, most_items, most_members, most_watches}
 use Rattle.house_rows.specs.Tables.{ItemRow, Tables}
+use Rattle.house_rows.specs.Verdict.{was_sold}
 
--- the rows of an item fit: the item itself, and its standing, which is that of some bids in range
+-- price and leader are those of the bids
+pub record IsByBids (row : ItemRow) : Type 0 where
+  pub price : row.item.terms.price ≡ row.standing.price
+  pub leader : row.item.terms.leader ≡ row.standing.leader
+
+-- or the item was bought at once: then nobody has bid, and the price is the buy-now price
+pub record IsBought (row : ItemRow) : Type 0 where
+  pub sold : was_sold row.item.terms.state ≡ true
+  pub no_bid : row.standing.count ≡ 0
+  pub price : row.item.terms.buy_now ≡ Some row.item.terms.price
+
+-- the rows of an item fit: the item itself, and its standing, which is that of some accepted bids in range
 pub record ItemRowFits (bands : List (ℕ × ℕ)) (row : ItemRow) : Type 0 where
   pub item : ItemFits row.item
   pub bids : List Bid
-  pub maxima : AllByRecursion (λ b. b.maximum ≤ most_cents) bids
+  pub accepted : AreAccepted bands row.item.terms.start bids
+  pub few : length bids ≤ most_bids
   pub stands : row.standing ≡ standing_of bands row.item.terms.start bids
+  pub top : IfSome row.standing.top (λ amount. amount ≤ most_cents)
+  pub count : row.item.terms.count ≡ length bids
+  pub told : IsByBids row ⊎ IsBought row
 
--- every row fits, and there are no more than there may be
+-- each has the next number
+abbrev pub AreInTurn : {A : Type 0} → (A → ℕ) → ℕ → List A → Type 0
+AreInTurn number next [] = Unit {0}
+AreInTurn number next (x ∷ xs) = (number x ≡ next) × AreInTurn number (next + 1) xs
+
+-- every row fits, numbers run from 1 on, and there are no more rows than there may be. That a row names rows which are there
+-- isn't asked: look-ups are defined without it
 pub record AreSound (t : Tables) : Type 0 where
   pub clock : IsMoment t.clock
   pub members : AllByRecursion MemberFits t.members
+  pub members_in_turn : AreInTurn (λ m. m.member) 1 t.members
   pub few_members : length t.members ≤ most_members
   pub categories : AllByRecursion CategoryFits t.categories
+  pub categories_in_turn : AreInTurn (λ k. k.category) 1 t.categories
   pub few_categories : length t.categories ≤ most_categories
   pub items : AllByRecursion (ItemRowFits t.settings.bands) t.items
+  pub items_in_turn : AreInTurn (λ row. row.item.terms.item) 1 t.items
   pub few_items : length t.items ≤ most_items
   pub bids : AllByRecursion BidRowFits t.bids
   pub watches : AllByRecursion WatchRowFits t.watches

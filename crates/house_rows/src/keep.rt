@@ -4,7 +4,7 @@ ghost use Rattle.settle.specs.Statement.{IsSale};
 ghost use Rattle.std.specs.List.{AllByRecursion};
 ghost use Rattle.house_rows.specs.Asks.{ChangeFits};
 ghost use Rattle.house_rows.specs.Changed.{changed};
-ghost use Rattle.house_rows.specs.Fits.{CategoryFits, FeedbackFits, IsItem, IsMoment, ItemFits, MemberFits, QuestionFits, TermsFit};
+ghost use Rattle.house_rows.specs.Fits.{CategoryFits, FeedbackFits, IsItem, IsMoment, ItemFits, MemberFits, OwnBidFits, QuestionFits, StandingFits, TermsFit};
 ghost use Rattle.house_rows.specs.Found.{all_items, all_published, ask_count, best_of, category_at, category_named, counts_of, due_at, feedback_to, is_given, is_watched, item_at, item_with_lot, items_in, items_watched, member_named, own_bids, published_on, question_at, questions_of, sales_to, standing_at, terms_at, waiting_for, watch_count};
 ghost use Rattle.house_rows.specs.Keeping.{AreSound, ChangeFaults, Faults, IsRead};
 ghost use Rattle.house_rows.specs.Limits.{most_items};
@@ -108,6 +108,7 @@ pub trait Keep {
     /// The standing of an item's bids; of a bought item that of none.
     fn standing(&mut self, item: u64) -> Result<Option<Standing>, KeepFault>
         ensures value { is_honest self.new → IfOk result (λ v. v ≡ standing_at (content self.old) item) }
+        ensures fits { IfOk result (λ v. IfSome v StandingFits) }
         ensures faults { Faults result (is_honest self.new) (is_failed self.new) (content self.old) }
         ensures read { IsRead content is_failed is_honest may_leave self.old self.new };
 
@@ -175,6 +176,7 @@ pub trait Keep {
     /// The items on which a member has bid, from a number on; at most fifty.
     fn bids_of(&mut self, member: u64, from: u64) -> Result<Vec<OwnBid>, KeepFault>
         ensures value { is_honest self.new → IfOk result (λ v. v.items ≡ own_bids (content self.old) member from) }
+        ensures fits { IfOk result (λ v. AllByRecursion OwnBidFits v.items) }
         ensures faults { Faults result (is_honest self.new) (is_failed self.new) (content self.old) }
         ensures read { IsRead content is_failed is_honest may_leave self.old self.new };
 

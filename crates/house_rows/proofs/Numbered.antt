@@ -8,8 +8,8 @@ use Rattle.house_rows.specs.declared.command.Command.{Command}
 use Rattle.house_rows.specs.declared.command.Command.TheVariants.{Register, AddCategory, List as Listed, Bid, Buy, Close, Settle, Watch, Unwatch, Ask, Answer, Feedback}
 use Rattle.house_rows.specs.History.{History}
 use Rattle.house_rows.specs.Listings.{Listing, listing_at, listing_in, listings}
-use Rattle.house_laws.proofs.Every.{every_as, every_more, found_more}
-use Rattle.house_laws.proofs.Put.{by_test}
+use Rattle.house_rows.proofs.Every.{every_as, every_more, found_more}
+use Rattle.house_rows.proofs.Put.{by_test}
 
 pub record AreNumbered (ls : List Listing) : Type 0 where
   pub small : AllByRecursion (λ l. l.item ≤ length ls) ls

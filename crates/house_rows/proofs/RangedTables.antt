@@ -1,5 +1,5 @@
 -- The clock, the bids and the watches of a history are in their ranges.
-use Rattle.std.proofs.Common.{◌≡◌, ◌≢◌, ℕ, ◌+◌, ◌≤◌, ◌<◌, List, [], ◌∷◌, ◌++◌, filter, length, Bool, true, false, not, refl, ◌∙◌, ap, sym, arith, inl, inr, ◌⊎◌, Option, Some, None}
+use Rattle.std.proofs.Common.{◌≡◌, ℕ, ◌+◌, ◌≤◌, ◌<◌, List, [], ◌∷◌, ◌++◌, filter, length, Bool, true, false, not, refl, arith, inl, inr, None}
 use Rattle.std.specs.Prelude.{◌==◌, if◌then◌else◌, nat_le}
 use Rattle.std.specs.List.{AllByRecursion}
 use Rattle.std.proofs.lemmas.Bool.Decides.{nat_tests}
@@ -8,24 +8,23 @@ use Rattle.proxy.specs.declared.bid.Bid as bid
 use Rattle.house_rows.specs.declared.command.Command.{Command}
 use Rattle.house_rows.specs.declared.command.Command.TheVariants.{Register, AddCategory, List as Listed, Bid, Buy, Close, Settle, Watch, Unwatch, Ask, Answer, Feedback}
 use Rattle.proxy.specs.Rules.{first_failing}
-use Rattle.house_rows.specs.declared.refusal.Refusal.{Refusal}
 use Rattle.house_rows.specs.declared.refusal.Refusal.TheVariants.{Limit}
 use Rattle.house_rows.specs.declared.settings.Settings.{Settings}
-use Rattle.house_rows.specs.Fits.{BidRowFits, IsItem, IsMember, IsMoment, WatchRowFits}
-use Rattle.house_rows.specs.History.{Entry, History, Key, clock, counted, is_less, moves_clock, put_by}
-use Rattle.house_rows.specs.Bids.{BidRow, bid_key, bid_rows, bids_on, with_bid}
-use Rattle.house_rows.specs.Limits.{most_bids, most_cents, most_watches}
+use Rattle.house_rows.specs.Fits.{BidRowFits, IsMoment, WatchRowFits}
+use Rattle.house_rows.specs.History.{History, Key, clock, counted, is_less, moves_clock, put_by}
+use Rattle.house_rows.specs.Bids.{bid_key, bid_rows, bids_on}
+use Rattle.house_rows.specs.Limits.{most_bids, most_watches}
 use Rattle.house_rows.specs.Runs.{entry}
 use Rattle.house_rows.specs.Verdict.{IsHistory, rules, verdict, watch_rules}
 use Rattle.house_rows.specs.Views.{own_watches}
-use Rattle.house_rows.specs.Watches.{WatchRow, unwatched, watch_key, watches, with_watch}
-use Rattle.house_laws.proofs.Every.{every_put}
-use Rattle.house_laws.proofs.Passed.{common_pass, item_pass, own_pass}
-use Rattle.house_laws.proofs.Put.{by_test, filter_in_order, filter_put}
-use Rattle.house_laws.proofs.Ranged.{caller_is}
-use Rattle.house_laws.proofs.RangedBids.{BidIn, BidsFit, bids_fit}
-use Rattle.house_laws.proofs.RangedTalk.{item_there, listing_is}
-use Rattle.house_laws.proofs.Own.{watches_in_order, watches_other}
+use Rattle.house_rows.specs.Watches.{WatchRow, unwatched, watch_key, watches}
+use Rattle.house_rows.proofs.Every.{every_put}
+use Rattle.house_rows.proofs.Passed.{common_pass, item_pass, own_pass}
+use Rattle.house_rows.proofs.Put.{by_test, filter_in_order, filter_put}
+use Rattle.house_rows.proofs.Ranged.{caller_is}
+use Rattle.house_rows.proofs.RangedBids.{BidIn, BidsFit, bids_fit}
+use Rattle.house_rows.proofs.RangedTalk.{item_there, listing_is}
+use Rattle.house_rows.proofs.Own.{watches_in_order, watches_other}
 
 clock_by : (moves : Bool) (now before : ℕ) → IsMoment now → IsMoment before → IsMoment (if moves then now else before)
 clock_by true now before n b = n
@@ -40,7 +39,7 @@ every_last : {A : Type 0} (P : A → Type 0) (xs : List A) (x : A) → AllByRecu
 every_last P [] x all = all.0
 every_last P (y ∷ xs) x all = every_last P xs x all.1
 
-every_filter : {A : Type 0} (P : A → Type 0) (p : A → Bool) (xs : List A) → AllByRecursion P xs → AllByRecursion P (filter p xs)
+pub every_filter : {A : Type 0} (P : A → Type 0) (p : A → Bool) (xs : List A) → AllByRecursion P xs → AllByRecursion P (filter p xs)
 every_filter P p [] all = tt
 every_filter P p (x ∷ xs) all = elim (by_test (p x)) [ inl is ↦ rw is (all.0, every_filter P p xs all.1) | inr not ↦ rw not (every_filter P p xs all.1) ]
 

@@ -12,8 +12,8 @@ use Rattle.house_rows.specs.Items.{Purchase, closed_from, leader_from, leader_of
 use Rattle.house_rows.specs.Limits.{most_cents}
 use Rattle.house_rows.specs.Listings.{Listing, listing_at, listings}
 use Rattle.house_rows.specs.Verdict.{IsHistory}
-use Rattle.house_laws.proofs.Every.{every_as, found_has, found_is}
-use Rattle.house_laws.proofs.RangedBids.{BidIn, PurchaseIn, bids_fit, leader_has, purchases_fit}
+use Rattle.house_rows.proofs.Every.{every_as, found_has, found_is}
+use Rattle.house_rows.proofs.RangedBids.{BidIn, PurchaseIn, bids_fit, leader_has, purchases_fit}
 
 -- whoever may lead an item
 abbrev pub MayLead : Listing → ℕ → Type 0

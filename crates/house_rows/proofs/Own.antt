@@ -9,7 +9,7 @@ use Rattle.house_rows.specs.History.{Entry, History, put_by}
 use Rattle.house_rows.specs.Questions.{Asked, ask_count, asked, asked_key, with_question}
 use Rattle.house_rows.specs.Views.{Own, own_maxima, own_maximum, own_questions, own_view, own_watches}
 use Rattle.house_rows.specs.Watches.{WatchRow, is_watch, unwatched, watch_key, watches, with_watch}
-use Rattle.house_laws.proofs.Put.{IsInOrder, filter_in_order, filter_put, filter_put_other, filter_swap, put_in_order}
+use Rattle.house_rows.proofs.Put.{IsInOrder, filter_in_order, filter_put, filter_put_other, filter_swap, put_in_order}
 
 -- the tables that own views are taken from stand in the order of their keys
 questions_step : (qs : List Asked) (caller : ℕ) (command : Command) → IsInOrder asked_key qs → IsInOrder asked_key (with_question qs caller command)

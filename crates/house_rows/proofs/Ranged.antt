@@ -19,8 +19,8 @@ use Rattle.house_rows.specs.Listings.{Listing, listings}
 use Rattle.house_rows.specs.People.{categories, members}
 use Rattle.house_rows.specs.Text.{is_lot, is_text}
 use Rattle.house_rows.specs.Verdict.{IsHistory, are_terms, is_buy_now, verdict}
-use Rattle.house_laws.proofs.Every.{every_more, some_has}
-use Rattle.house_laws.proofs.Passed.{Common, common_pass, own_pass}
+use Rattle.house_rows.proofs.Every.{every_more, some_has}
+use Rattle.house_rows.proofs.Passed.{Common, common_pass, own_pass}
 
 true_not : (b : Bool) → not b ≡ false → b ≡ true
 true_not true e = refl

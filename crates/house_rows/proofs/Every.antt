@@ -3,7 +3,7 @@ use Rattle.std.proofs.Common.{◌≡◌, List, [], ◌∷◌, ◌++◌, map, Boo
 use Rattle.std.specs.Prelude.{find}
 use Rattle.std.specs.List.{AllByRecursion, list_any}
 use Rattle.house_rows.specs.History.{Key, is_less, put_by}
-use Rattle.house_laws.proofs.Put.{by_test}
+use Rattle.house_rows.proofs.Put.{by_test}
 
 pub every_more : {A : Type 0} (P : A → Type 0) (xs : List A) (x : A) → AllByRecursion P xs → P x → AllByRecursion P (xs ++ x ∷ [])
 every_more P [] x all one = (one, tt)

@@ -4,7 +4,7 @@ use Rattle.std.specs.Prelude.{◌==◌, ◌&&◌, if◌then◌else◌, nat_le, n
 use Rattle.std.specs.List.{AllByRecursion}
 use Rattle.std.proofs.lemmas.Bool.Decides.{nat_tests}
 use Rattle.std.proofs.lemmas.List.{append-nil, length-append}
-use Rattle.proxy.specs.Bids.{first_at, greatest, greatest_of, is_leader, leader, maxima, price, price_from, second, top}
+use Rattle.proxy.specs.Bids.{first_at, greatest, greatest_if_any, greatest_of, is_leader, leader, maxima, price, price_from, second, top}
 use Rattle.proxy.specs.Rules.{first_failing}
 use Rattle.proxy.specs.declared.bid.Bid as bid
 use Rattle.house_rows.specs.declared.command.Command.{Command}
@@ -21,10 +21,10 @@ use Rattle.house_rows.specs.Limits.{most_bids, most_cents}
 use Rattle.house_rows.specs.Listings.{Listing, listing_at, listing_in, listings}
 use Rattle.house_rows.specs.Runs.{entry}
 use Rattle.house_rows.specs.Verdict.{IsHistory, bid_rules, purchase_rules, rules, verdict}
-use Rattle.house_laws.proofs.Every.{every_as, every_more, found_is, found_more}
-use Rattle.house_laws.proofs.Passed.{common_pass, item_pass, own_pass}
-use Rattle.house_laws.proofs.Put.{by_test}
-use Rattle.house_laws.proofs.Ranged.{caller_is}
+use Rattle.house_rows.proofs.Every.{every_as, every_more, found_is, found_more}
+use Rattle.house_rows.proofs.Passed.{common_pass, item_pass, own_pass}
+use Rattle.house_rows.proofs.Put.{by_test}
+use Rattle.house_rows.proofs.Ranged.{caller_is}
 
 apart_from : (a b : ℕ) → (a == b) ≡ false → b ≢ a
 apart_from a b not e = let f : (a == b) ≡ true = grind (arith, nat_tests) in let g : true ≡ false = sym f ∙ not in cc
@@ -172,6 +172,14 @@ from_within : (bands : List (ℕ × ℕ)) (start top most : ℕ) (o : Option ℕ
 from_within bands start top most None s t = s
 from_within bands start top most (Some second) s t = omega arith
 
-pub price_within : (bands : List (ℕ × ℕ)) (start most : ℕ) (bids : List bid.Bid) → start ≤ most → AllByRecursion (λ b. b.maximum ≤ most) bids → price bands start bids ≤ most
+pub price_under : (bands : List (ℕ × ℕ)) (start most : ℕ) (bids : List bid.Bid) → start ≤ most → greatest_of (maxima bids) ≤ most → price bands start bids ≤ most
 unfolding price top
-price_within bands start most bids s all = from_within bands start (greatest_of (maxima bids)) most (second bids) s (greatest_within most bids all)
+price_under bands start most bids s t = from_within bands start (greatest_of (maxima bids)) most (second bids) s t
+
+pub price_within : (bands : List (ℕ × ℕ)) (start most : ℕ) (bids : List bid.Bid) → start ≤ most → AllByRecursion (λ b. b.maximum ≤ most) bids → price bands start bids ≤ most
+price_within bands start most bids s all = price_under bands start most bids s (greatest_within most bids all)
+
+-- and so is the top
+pub top_within : (most : ℕ) (bids : List bid.Bid) → AllByRecursion (λ b. b.maximum ≤ most) bids → IfSome (greatest_if_any (maxima bids)) (λ amount. amount ≤ most)
+top_within most [] all = tt
+top_within most (b ∷ bids) all = greatest_within most (b ∷ bids) all

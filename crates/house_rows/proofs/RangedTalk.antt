@@ -27,13 +27,13 @@ use Rattle.house_rows.specs.Runs.{entry}
 use Rattle.house_rows.specs.Text.{is_text}
 use Rattle.house_rows.specs.Verdict.{IsHistory, answer_rules, feedback_rules, is_sold, question_rules, rules, settlement_rules, verdict, was_sold}
 use Rattle.house_rows.specs.Views.{own_questions}
-use Rattle.house_laws.proofs.Every.{every_as, every_map, every_more, every_put, found_has, found_is, found_more, some_has}
-use Rattle.house_laws.proofs.Own.{count_own}
-use Rattle.house_laws.proofs.Passed.{common_pass, item_pass, own_pass}
-use Rattle.house_laws.proofs.Put.{by_test}
-use Rattle.house_laws.proofs.Ranged.{ListingRanges, caller_is, listings_fit}
-use Rattle.house_laws.proofs.RangedBids.{listed_more}
-use Rattle.house_laws.proofs.RangedItems.{leader_may, one_listing}
+use Rattle.house_rows.proofs.Every.{every_as, every_map, every_more, every_put, found_has, found_is, found_more, some_has}
+use Rattle.house_rows.proofs.Own.{count_own}
+use Rattle.house_rows.proofs.Passed.{common_pass, item_pass, own_pass}
+use Rattle.house_rows.proofs.Put.{by_test}
+use Rattle.house_rows.proofs.Ranged.{ListingRanges, caller_is, listings_fit}
+use Rattle.house_rows.proofs.RangedBids.{listed_more}
+use Rattle.house_rows.proofs.RangedItems.{leader_may, one_listing}
 
 -- of the listing that is found
 pub listing_is : (h : History) (i : ℕ) (l : Listing) → listing_at (listings h) i ≡ Some l → l.item ≡ i
@@ -287,7 +287,7 @@ rating_pass true true false true fits none = cc
 rating_pass true true false false false none = cc
 rating_pass true true false false true none = (refl, refl)
 
-other_fits : (seller c : ℕ) (o : Option ℕ) → IsMember seller → IfSome o IsMember → is_some o ≡ true → IsMember (other_party seller o c)
+pub other_fits : (seller c : ℕ) (o : Option ℕ) → IsMember seller → IfSome o IsMember → is_some o ≡ true → IsMember (other_party seller o c)
 other_fits seller c None s may led = cc
 other_fits seller c (Some m) s may led = elim (by_test (seller == c)) [ inl is ↦ rw is may | inr not ↦ rw not s ]
 

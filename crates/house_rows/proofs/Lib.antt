@@ -1,0 +1,17 @@
+pub mod Put
+pub mod Every
+pub mod Passed
+pub mod Own
+pub mod Numbered
+pub mod Ranged
+pub mod RangedBids
+pub mod RangedItems
+pub mod RangedTalk
+pub mod RangedTables
+pub mod OpenItems
+pub mod AcceptedBids
+pub mod InTurn
+pub mod RangedRows
+pub mod Sound
+pub mod ChangedRows
+pub mod SoundAfter
