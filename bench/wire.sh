@@ -1,8 +1,25 @@
 #!/bin/sh
 # Compares the wire with a plain Rust program over the crate httparse on the same bytes, in
-# interleaved runs: medians of user time, and their ratio. Needs cargo, and Debian's packages
-# librust-httparse-dev and librust-itoa-dev. From the top of the repository: sh bench/wire.sh
+# interleaved runs: medians of user time, and their ratio; and instructions, where valgrind is there.
+# Needs cargo, and Debian's packages librust-httparse-dev and librust-itoa-dev. From any folder:
+# sh bench/wire.sh
 set -e
-(cd crates/wire_bench && rt run -- frames 1 > /dev/null)
-(cd bench/plain && cargo build --release --offline 2> /dev/null)
+cd "$(dirname "$0")/.."
+
+# Runs a command, and shows what it wrote only where it fails.
+quietly() {
+    log=$(mktemp)
+    "$@" > "$log" 2>&1 || { cat "$log" >&2; rm "$log"; exit 1; }
+    rm "$log"
+}
+
+for package in httparse-1.8.0 itoa-1.0.1; do
+    if [ ! -d "/usr/share/cargo/registry/$package" ]; then
+        echo "wire.sh: there is no /usr/share/cargo/registry/$package:" \
+            "apt-get install librust-httparse-dev librust-itoa-dev" >&2
+        exit 1
+    fi
+done
+(cd crates/wire_bench && quietly rt run -- frames 1)
+(cd bench/plain && quietly cargo build --release --offline)
 python3 bench/compare.py crates/wire_bench/out/wire_bench bench/plain/target/release/plain

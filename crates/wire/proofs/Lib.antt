@@ -1,5 +1,6 @@
 pub mod HeadLemmas
 pub mod FieldLemmas
+pub mod LineLemmas
 pub mod LengthLemmas
 pub mod OneFrame
 pub mod Fronts

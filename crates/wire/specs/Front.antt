@@ -3,8 +3,9 @@ use Rattle.std.specs.Prelude.{ℕ, ◌<◌, ◌≤◌, List, ◌++◌, length, d
 use Rattle.httparse.specs.Grammar.{RequestHead, MayBecomeRequest}
 use Rattle.httparse.specs.Spans.{IsRequestAt, IsRequestWithin}
 use Rattle.httparse.specs.declared.spans.HeaderSpan.{HeaderSpan}
-use Rattle.wire.specs.Frame.{IsFront, IsMessageAt}
+use Rattle.wire.specs.Frame.{IsFront, IsMessageAt, fields_of}
 use Rattle.wire.specs.Head.{BeginsHead, NeverHead, NoHead, most_bytes}
+use Rattle.wire.specs.Known.{IsKnown}
 use Rattle.wire.specs.Message.{Message}
 use Rattle.wire.specs.declared.fault.WireFault.{WireFault}
 use Rattle.wire.specs.declared.fault.WireFault.TheVariants as fault
@@ -28,11 +29,12 @@ abbrev pub IsKnownFault : List ℕ → WireFault → Type 0
 IsKnownFault bytes f = (more : List ℕ) → IsFront (bytes ++ more) (Err f)
 
 -- what the search for a head tells
-abbrev pub IsFound : List ℕ → List HeaderSpan → Head → Type 0
-IsFound bytes spans (Found r) =
-    IsRequestWithin bytes spans r × (h : RequestHead) × IsRequestAt bytes spans r h × BeginsHead bytes h (drop r.len bytes)
-IsFound bytes spans More = EndsInHead bytes
-IsFound bytes spans Never = NeverHead bytes
+abbrev pub IsFound : List ℕ → Head → Type 0
+IsFound bytes (Found r known) =
+    (spans : List HeaderSpan) × IsRequestWithin bytes spans r × (h : RequestHead) × IsRequestAt bytes spans r h
+    × BeginsHead bytes h (drop r.len bytes) × IsKnown (fields_of h) known
+IsFound bytes More = EndsInHead bytes
+IsFound bytes Never = NeverHead bytes
 
 -- a message at the front, or what is missing for one
 abbrev pub IsFrontSoFar : List ℕ → Result Message Missing → Type 0

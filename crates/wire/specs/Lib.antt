@@ -1,5 +1,6 @@
 pub mod Head
 pub mod Fields
+pub mod Lines
 pub mod Message
 pub mod Frame
 pub mod Fault

@@ -1,12 +1,9 @@
 //! The values that stand under a name.
-ghost use Rattle.std.specs.Prelude.{◌≡◌, ◌≤◌, ◌<◌, ◌++◌, ◌∷◌, [], List, ℕ, IfSome, length, map, All, option_map, slice_range, if◌then◌else◌};
+ghost use Rattle.std.specs.Prelude.{◌≡◌, ◌++◌, ◌∷◌, [], List, ℕ, if◌then◌else◌};
 ghost use Rattle.std.specs.Str.{str_eq_ignore_ascii_case};
 ghost use Rattle.httparse.specs.Grammar.{is_ows, trim_ows};
-ghost use Rattle.httparse.specs.Spans.{IsHeaderWithin, header_bytes};
-ghost use Rattle.wire.specs.Fields.{is_close, names_close, only, values_of};
+ghost use Rattle.wire.specs.Fields.{is_close, names_close};
 ghost use Rattle.wire.specs.Known.{IsCount};
-
-use httparse::spans::HeaderSpan;
 
 /// The values of the fields of one name, as far as anyone asks.
 #[derive(Clone, Copy)]
@@ -37,22 +34,8 @@ impl<'b> Values<'b> {
 pub(crate) fn is_same(name: &[u8], wanted: &[u8]) -> bool
     ensures { result ≡ str_eq_ignore_ascii_case name.now wanted.now }
 {
-    name.eq_ignore_ascii_case(wanted)
-}
-
-/// The value of the field of that name, if there is exactly one.
-pub(crate) fn one_of<'b>(bytes: &'b [u8], spans: &[HeaderSpan], name: &[u8]) -> Option<&'b [u8]>
-    requires { All (IsHeaderWithin (length bytes.now)) spans.now }
-    ensures { option_map (λ value. value.now) result ≡ only (values_of name.now (map (header_bytes bytes.now) spans.now)) }
-{
-    let mut values = Values::Absent;
-    for span in spans {
-        values = values.and(is_same(span.name.of(bytes), name), span.value.of(bytes));
-    }
-    match values {
-        Values::One(value) => Some(value),
-        _ => None,
-    }
+    // Most names come in the case in which they are asked for.
+    name == wanted || name.eq_ignore_ascii_case(wanted)
 }
 
 // Whether a byte is a space or a tab.
@@ -62,8 +45,8 @@ fn is_blank(byte: u8) -> bool
     byte == b' ' || byte == b'\t'
 }
 
-// The bytes without the spaces and tabs at both ends.
-fn trim(bytes: &[u8]) -> &[u8]
+/// The bytes without the spaces and tabs at both ends.
+pub(crate) fn trim(bytes: &[u8]) -> &[u8]
     ensures { result.now ≡ trim_ows bytes.now }
 {
     let mut start = 0;

@@ -2,10 +2,9 @@
 ghost use Rattle.wire.specs.Front.{IsFrontSoFar};
 
 use crate::fault::WireFault;
-use crate::head::{Head, MOST_FIELDS, head_at};
-use crate::known::known_of;
+use crate::head::{Head, head_at};
+use crate::lines::field_lines;
 use crate::request::Request;
-use httparse::spans::EMPTY_HEADER_SPAN;
 
 /// Why the bytes are no message yet.
 #[derive(Clone, Copy)]
@@ -22,13 +21,11 @@ pub(crate) enum Missing {
 pub(crate) fn front<'b>(bytes: &'b [u8]) -> Result<Request<'b>, Missing>
     ensures { IsFrontSoFar bytes.now result }
 {
-    let mut spans = [EMPTY_HEADER_SPAN; MOST_FIELDS];
-    let head = match head_at(bytes, &mut spans) {
-        Head::Found(head) => head,
+    let (head, known) = match head_at(bytes) {
+        Head::Found(head, known) => (head, known),
         Head::More => return Err(Missing::Head),
         Head::Never => return Err(Missing::Fault(WireFault::Head)),
     };
-    let known = known_of(bytes, &spans[..head.headers]);
     let size = match known.body_length(head.version) {
         Ok(size) => size,
         Err(fault) => return Err(Missing::Fault(fault)),
@@ -38,14 +35,12 @@ pub(crate) fn front<'b>(bytes: &'b [u8]) -> Result<Request<'b>, Missing>
         return Err(Missing::Body);
     }
     Ok(Request {
-        bytes,
         method: head.method.of(bytes),
         target: head.path.of(bytes),
         minor: head.version,
+        lines: field_lines(&bytes[..head.len]),
         body: &after[..size],
         closes: known.ends_connection(head.version),
         size: head.len + size,
-        spans,
-        count: head.headers,
     })
 }

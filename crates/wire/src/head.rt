@@ -1,45 +1,80 @@
 //! A head at the front of some bytes.
+ghost use Rattle.std.specs.Prelude.{◌≤◌, length, IfSome, IsNone};
+ghost use Rattle.httparse.specs.Spans.{RequestOverflows};
 ghost use Rattle.wire.specs.Front.{IsFound};
 
-use httparse::Status;
-use httparse::spans::{HeaderSpan, RequestSpans, parse_request};
+use crate::known::{Known, known_of};
+use httparse::spans::{EMPTY_HEADER_SPAN, HeaderSpan, RequestSpans, parse_request};
+use httparse::{Error, Status};
 
-/// The most fields of a head.
-pub(crate) const MOST_FIELDS: usize = 64;
+// The most fields of a head.
+const MOST_FIELDS: usize = 64;
+
+// Most heads have no more fields: a search with this room first has less to clear.
+const FEW_FIELDS: usize = 16;
 
 // The most bytes of a head.
 const MOST_BYTES: usize = 8192;
 
 /// What the search for a head tells.
 #[derive(Drop)]
-pub(crate) enum Head {
-    /// Where the parts of the head are.
-    Found(RequestSpans),
+pub(crate) enum Head<'b> {
+    /// Where the parts of the head are, and what the frame asks of its fields.
+    Found(RequestSpans, Known<'b>),
     /// The bytes end before a head does.
     More,
     /// No bytes can follow that make a head.
     Never,
 }
 
-/// Finds the head at the front, within the limits, and writes where its fields are.
-pub(crate) fn head_at(bytes: &[u8], fields: &mut [HeaderSpan; MOST_FIELDS]) -> Head
-    ensures { IsFound bytes.now fields.new result }
+// Finds the head at the front, unless it has more fields than the room.
+#[inline(always)]
+fn head_in<'b>(bytes: &'b [u8], room: &mut [HeaderSpan]) -> Option<Head<'b>>
+    requires { length room.old ≤ 64 }
+    ensures found { IfSome result (IsFound bytes.now) }
+    ensures crowded { IsNone result → RequestOverflows (length room.old) bytes.now }
 {
-    match parse_request(bytes, fields.as_mut_slice()) {
+    match parse_request(bytes, room) {
         Ok(Status::Complete(spans)) => {
             if spans.len <= MOST_BYTES {
-                Head::Found(spans)
+                let known = known_of(bytes, &room[..spans.headers]);
+                Some(Head::Found(spans, known))
             } else {
-                Head::Never
+                Some(Head::Never)
             }
         }
         Ok(Status::Partial) => {
             if bytes.len() < MOST_BYTES {
-                Head::More
+                Some(Head::More)
             } else {
-                Head::Never
+                Some(Head::Never)
             }
         }
-        Err(_) => Head::Never,
+        Err(Error::TooManyHeaders) => None,
+        Err(_) => Some(Head::Never),
+    }
+}
+
+// Finds a head of many fields at the front. It stands apart, so that others clear no room for it.
+#[inline(never)]
+fn crowded_head_at<'b>(bytes: &'b [u8]) -> Head<'b>
+    ensures { IsFound bytes.now result }
+{
+    let mut room = [EMPTY_HEADER_SPAN; MOST_FIELDS];
+    match head_in(bytes, room.as_mut_slice()) {
+        Some(head) => head,
+        None => Head::Never,
+    }
+}
+
+/// Finds the head at the front, within the limits.
+#[inline(always)]
+pub(crate) fn head_at<'b>(bytes: &'b [u8]) -> Head<'b>
+    ensures { IsFound bytes.now result }
+{
+    let mut room = [EMPTY_HEADER_SPAN; FEW_FIELDS];
+    match head_in(bytes, room.as_mut_slice()) {
+        Some(head) => head,
+        None => crowded_head_at(bytes),
     }
 }

@@ -1,7 +1,8 @@
 //! What a frame asks of the fields of a head, picked on one walk over them.
-ghost use Rattle.std.specs.Prelude.{◌≡◌, ◌≤◌, ◌<◌, ◌++◌, ◌∷◌, [], List, length, map, All, IfOk};
+ghost use Rattle.std.specs.Prelude.{◌≡◌, ◌≤◌, ◌<◌, ◌++◌, ◌∷◌, [], List, length, map, All, IfOk, ◌&&◌, codes};
+ghost use Rattle.std.specs.Str.{str_eq_ignore_ascii_case};
 ghost use Rattle.httparse.specs.Spans.{IsHeaderWithin, header_bytes};
-ghost use Rattle.wire.specs.Fields.{Pair, ends_connection};
+ghost use Rattle.wire.specs.Fields.{Pair, ends_connection, names_close};
 ghost use Rattle.wire.specs.Frame.{announced};
 ghost use Rattle.wire.specs.Known.{IsKnown};
 
@@ -31,22 +32,28 @@ pub(crate) fn known_of<'b>(bytes: &'b [u8], spans: &[HeaderSpan]) -> Known<'b>
         closes: false,
     };
     for span in spans {
-        known = known.and(span.name.of(bytes), span.value.of(bytes));
+        known.add(span.name.of(bytes), span.value.of(bytes));
     }
     known
 }
 
+// Whether a field is a `connection` that names `close`.
+fn is_closing(name: &[u8], value: &[u8]) -> bool
+    ensures { result ≡ (str_eq_ignore_ascii_case name.now (codes "connection") && names_close value.now) }
+{
+    is_same(name, b"connection") && has_close(value)
+}
+
 impl<'b> Known<'b> {
-    // What is known with one more field.
-    fn and(self, name: &[u8], value: &'b [u8]) -> Known<'b>
-        ensures { (fields : List Pair) → IsKnown fields self.entry → IsKnown (fields ++ (name.now, value.now) ∷ []) result }
+    // Takes one more field in.
+    #[inline(always)]
+    fn add(&mut self, name: &[u8], value: &'b [u8])
+        ensures { (fields : List Pair) → IsKnown fields self.old → IsKnown (fields ++ (name.now, value.now) ∷ []) self.new }
     {
-        Known {
-            hosts: self.hosts.and(is_same(name, b"host"), value),
-            transfer: self.transfer || is_same(name, b"transfer-encoding"),
-            length: self.length.and(is_same(name, b"content-length"), value),
-            closes: self.closes || (is_same(name, b"connection") && has_close(value)),
-        }
+        self.hosts = self.hosts.and(is_same(name, b"host"), value);
+        self.transfer |= is_same(name, b"transfer-encoding");
+        self.length = self.length.and(is_same(name, b"content-length"), value);
+        self.closes |= is_closing(name, value);
     }
 
     /// The length of the body, or the first rule that the fields break.

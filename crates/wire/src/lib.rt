@@ -17,6 +17,7 @@ mod inbox;
 mod known;
 mod laws;
 mod length;
+mod lines;
 mod look;
 mod request;
 mod status;

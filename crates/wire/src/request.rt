@@ -2,30 +2,27 @@
 ghost use Rattle.std.specs.Prelude.{◌≡◌, option_map};
 ghost use Rattle.wire.specs.Fields.{ends_connection, only, values_of};
 
-use crate::fields::one_of;
-use crate::head::MOST_FIELDS;
-use httparse::spans::HeaderSpan;
+use crate::lines::one_of;
 use std::marker::Model;
 
 /// One whole message: it borrows the bytes that it was read from. Clauses see what it says.
 #[derive(Drop)]
 pub struct Request<'b> {
-    pub(crate) bytes: &'b [u8],
     pub(crate) method: &'b [u8],
     pub(crate) target: &'b [u8],
     pub(crate) minor: u8,
+    // The lines of the fields, which are read again where a field is asked for: to keep where 64
+    // fields stand costs more than to read a few lines twice.
+    pub(crate) lines: &'b [u8],
     pub(crate) body: &'b [u8],
     pub(crate) closes: bool,
     pub(crate) size: usize,
-    // Where the fields are; the first `count` of these.
-    pub(crate) spans: [HeaderSpan; MOST_FIELDS],
-    pub(crate) count: usize,
 }
 
 impl<'b> Model for Request<'b> {
-    ghost use Rattle.std.specs.Prelude.{◌≡◌, ◌≤◌, length as len, map, take, All};
-    ghost use Rattle.httparse.specs.Spans.{IsHeaderWithin, header_bytes};
+    ghost use Rattle.std.specs.Prelude.{◌≡◌};
     ghost use Rattle.wire.specs.Fields.{ends_connection};
+    ghost use Rattle.wire.specs.Lines.{fields_in};
     ghost use Rattle.wire.specs.Message.{Message};
 
     ghost Value = { Message };
@@ -34,13 +31,12 @@ impl<'b> Model for Request<'b> {
       method = r.method.now;
       target = r.target.now;
       minor = r.minor;
-      fields = map (header_bytes r.bytes.now) (take r.count r.spans);
+      fields = fields_in r.lines.now;
       body = r.body.now;
       length = r.size;
     } };
 
-    ghost invariant = { λ r. (r.count ≤ 64) × All (IsHeaderWithin (len r.bytes.now)) (take r.count r.spans)
-        × (r.closes ≡ ends_connection r.minor (map (header_bytes r.bytes.now) (take r.count r.spans))) };
+    ghost invariant = { λ r. r.closes ≡ ends_connection r.minor (fields_in r.lines.now) };
 }
 
 impl<'b> Request<'b> {
@@ -70,7 +66,7 @@ impl<'b> Request<'b> {
     pub fn one(&self, name: &[u8]) -> Option<&'b [u8]>
         ensures { option_map (λ value. value.now) result ≡ only (values_of name.now self.now.fields) }
     {
-        one_of(self.bytes, &self.spans[..self.count], name)
+        one_of(self.lines, name)
     }
 
     /// Whether the connection ends behind the message: it is of HTTP/1.0, or a `connection` names

@@ -1,6 +1,7 @@
 //! How fast the wire is: `wire_bench frames N` takes N times 16 bids through an inbox, `asks` also
 //! asks each for two fields, and `answers N` writes N times 16 answers into one buffer. Each prints
-//! a sum over what it saw, which the plain program in `bench/plain` prints too.
+//! a sum over what it saw, which the plain program in `bench/plain` prints too. Where memory is wanting
+//! it prints `wire_bench: memory` on standard error.
 #![tactic(auto)]
 
 ghost use Rattle.std.specs.Prelude.{◌≤◌, length};
@@ -122,6 +123,9 @@ fn main(rt: HostRuntime) -> ExitCode {
             let _ = println!(rt; "{sum}");
             ExitCode::SUCCESS
         }
-        Err(_) => ExitCode::FAILURE,
+        Err(_) => {
+            let _ = rt.eprintln("wire_bench: memory");
+            ExitCode::FAILURE
+        }
     }
 }

@@ -22,4 +22,4 @@ loop-span-preserved c =
     let before = map (header_bytes bytes) (take c.loop-span.span-index c.args.spans.now) in
     let next = fields_next bytes c.args.spans.now c.loop-span.span-index d c.of.result.now c.of-in-loop-span.result.now
     c.loop-span-test.true c.of.ensures c.of-in-loop-span.ensures in
-    subst (λ fields. IsKnown fields c.and-known.result) next (c.and-known.ensures before c.loop-span.invariant)
+    subst (λ fields. IsKnown fields c.add.new.self) next (c.add.ensures before c.loop-span.invariant)

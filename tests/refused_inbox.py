@@ -1,0 +1,39 @@
+#!/usr/bin/env python3
+"""Refuses the buffer of an inbox, and each allocation of a run over one: `refused_inbox.py PROGRAM`.
+
+The run is that of `wire_bench frames 1`, which takes 16 messages through one inbox. Where the inbox is
+refused its 24576 bytes, the run has to end with `wire_bench: memory` and status 1, and has written
+nothing else. Where another allocation is refused it ends so too, or as if none were. It needs a C
+compiler, `cc`. The last line is 'N runs, M wrong'.
+"""
+import pathlib
+import sys
+
+from refusal import built_library, refused_runs, run
+
+DONE = (0, b"512\n", b"")
+STOPPED = (1, b"", b"wire_bench: memory\n")
+
+
+def ended(result):
+    return result.returncode, result.stdout, result.stderr
+
+
+def main():
+    command = [str(pathlib.Path(sys.argv[1]).resolve()), "frames", "1"]
+    with built_library() as library:
+        whole = run(command, LD_PRELOAD=library, REFUSE="0")
+        without_buffer = run(command, LD_PRELOAD=library, REFUSE="0", REFUSE_SIZE="24576")
+        refused = list(refused_runs(command, library))
+    wrong = [(number, result) for number, result in refused if ended(result) not in (STOPPED, DONE)]
+    for name, result, outcome in [("none", whole, DONE), ("its buffer", without_buffer, STOPPED)]:
+        if ended(result) != outcome:
+            wrong.append((name, result))
+    for name, result in wrong:
+        print(f"allocation {name}: {result}")
+    print(f"{len(refused) + 2} runs, {len(wrong)} wrong")
+    return 1 if wrong else 0
+
+
+if __name__ == "__main__":
+    sys.exit(main())
