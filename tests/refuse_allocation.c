@@ -1,5 +1,6 @@
 /* Refuses the allocation whose number stands in REFUSE, counted from 1, of the program that this is
-   loaded before. With REFUSE=0 it refuses none, and tells how many there were. */
+   loaded before. With REFUSE=0 it refuses none, and tells how many there were. Allocations of as many
+   bytes as stand in REFUSE_SIZE are refused too, and do not count. */
 #define _GNU_SOURCE
 #include <dlfcn.h>
 #include <stdio.h>
@@ -7,13 +8,17 @@
 #include <string.h>
 
 static long count, refused = -1;
+static size_t refused_size;
 
-static int refuse(void)
+static int refuse(size_t size)
 {
     if (refused < 0) {
-        const char *number = getenv("REFUSE");
+        const char *number = getenv("REFUSE"), *bytes = getenv("REFUSE_SIZE");
         refused = number ? atol(number) : 0;
+        refused_size = bytes ? (size_t)atol(bytes) : 0;
     }
+    if (refused_size != 0 && size == refused_size)
+        return 1;
     return ++count == refused;
 }
 
@@ -22,7 +27,7 @@ void *malloc(size_t size)
     static void *(*real)(size_t);
     if (!real)
         real = (void *(*)(size_t))dlsym(RTLD_NEXT, "malloc");
-    return refuse() ? NULL : real(size);
+    return refuse(size) ? NULL : real(size);
 }
 
 void *realloc(void *block, size_t size)
@@ -30,7 +35,7 @@ void *realloc(void *block, size_t size)
     static void *(*real)(void *, size_t);
     if (!real)
         real = (void *(*)(void *, size_t))dlsym(RTLD_NEXT, "realloc");
-    return refuse() ? NULL : real(block, size);
+    return refuse(size) ? NULL : real(block, size);
 }
 
 void *aligned_alloc(size_t align, size_t size)
@@ -38,15 +43,16 @@ void *aligned_alloc(size_t align, size_t size)
     static void *(*real)(size_t, size_t);
     if (!real)
         real = (void *(*)(size_t, size_t))dlsym(RTLD_NEXT, "aligned_alloc");
-    return refuse() ? NULL : real(align, size);
+    return refuse(size) ? NULL : real(align, size);
 }
 
 __attribute__((destructor)) static void tell(void)
 {
     const char *file = getenv("REFUSE_COUNT");
+    long told = count; /* opening the file allocates too */
     FILE *out = refused == 0 && file ? fopen(file, "w") : NULL;
     if (out) {
-        fprintf(out, "%ld\n", count);
+        fprintf(out, "%ld\n", told);
         fclose(out);
     }
 }

@@ -1,19 +1,19 @@
 #!/usr/bin/env python3
 """Refuses each allocation of a run of three messages in turn: `refused_memory.py PROGRAM`.
 
-The run is two bids and a read, by the example table and by one of a file. Each message has to be answered 503, and has then not acted, or as in
-the run of the messages that were not answered 503; or the run ends with `auction: memory` and has
-written nothing. It needs a C compiler, `cc`. The last line is 'N runs, M wrong'.
+The run is two bids and a read, by the example table and by one of a file. Each message has to be
+answered 503, and has then not acted, or as in the run of the messages that were not answered 503; or
+the run ends with `auction: memory` and has written nothing. It needs a C compiler, `cc`. The last
+line is 'N runs, M wrong'.
 """
 import itertools
-import os
 import pathlib
 import re
-import subprocess
 import sys
 import tempfile
 
-HERE = pathlib.Path(__file__).resolve().parent
+from refusal import built_library, refused_runs, run
+
 REFUSED = (b"HTTP/1.1 503 Service Unavailable\r\ncontent-type: application/json\r\n"
            b'content-length: 18\r\n\r\n{"error":"memory"}')
 
@@ -28,29 +28,22 @@ MESSAGES = [bid(2, 1001, 500), bid(3, 1002, 1000),
             b"GET /items/1 HTTP/1.1\r\nhost: h\r\nx-member: 2\r\n\r\n"]
 
 
-def run(command, messages, **environment):
-    return subprocess.run(command, input=b"".join(messages), capture_output=True,
-                          env={**os.environ, **environment}, timeout=60)
-
-
 def allowed_outputs(command):
     """For each set of messages that find memory: their answers, and 503 for the others."""
     outputs = set()
     for kept in itertools.product([True, False], repeat=len(MESSAGES)):
-        written = run(command, itertools.compress(MESSAGES, kept)).stdout
+        written = run(command, b"".join(itertools.compress(MESSAGES, kept))).stdout
         answers = iter(re.findall(rb"HTTP/1\.1 .*?(?=HTTP/1\.1 |\Z)", written, re.S))
         outputs.add(b"".join(next(answers) if keep else REFUSED for keep in kept))
     return outputs
 
 
-def refuse_each(command, folder, library):
+def refuse_each(command, library):
     """Refuses each allocation of a command in turn: how many runs there were, and how many wrong."""
-    allowed, count = allowed_outputs(command), f"{folder}/count"
-    run(command, MESSAGES, LD_PRELOAD=library, REFUSE="0", REFUSE_COUNT=count)
-    runs = int(pathlib.Path(count).read_text())
-    wrong = told = ended = 0
-    for number in range(1, runs + 1):
-        result = run(command, MESSAGES, LD_PRELOAD=library, REFUSE=str(number))
+    allowed = allowed_outputs(command)
+    runs = wrong = told = ended = 0
+    for number, result in refused_runs(command, library, b"".join(MESSAGES)):
+        runs += 1
         told += REFUSED in result.stdout
         stopped = (result.returncode, result.stdout, result.stderr) == (1, b"", b"auction: memory\n")
         ended += stopped
@@ -63,13 +56,11 @@ def refuse_each(command, folder, library):
 
 def main():
     program = str(pathlib.Path(sys.argv[1]).resolve())
-    with tempfile.TemporaryDirectory() as folder:
-        library, table = f"{folder}/refuse.so", f"{folder}/table.csv"
-        subprocess.run(["cc", "-shared", "-fPIC", "-O1", "-o", library,
-                        str(HERE / "refuse_allocation.c"), "-ldl"], check=True)
-        pathlib.Path(table).write_text("at,step\n0,100\n2000,100\n")
-        results = [refuse_each([program, "replay", "--preset", *more], folder, library)
-                   for more in ([], ["--bands", table])]
+    with built_library() as library, tempfile.NamedTemporaryFile(suffix=".csv") as table:
+        table.write(b"at,step\n0,100\n2000,100\n")
+        table.flush()
+        results = [refuse_each([program, "replay", "--preset", *more], library)
+                   for more in ([], ["--bands", table.name])]
     runs, wrong = (sum(column) for column in zip(*results))
     print(f"{runs} runs, {wrong} wrong")
     return 1 if wrong else 0

@@ -1,0 +1,32 @@
+"""Runs of a program with each of its allocations refused in turn. It needs a C compiler, `cc`."""
+import contextlib
+import os
+import pathlib
+import subprocess
+import tempfile
+
+HERE = pathlib.Path(__file__).resolve().parent
+
+
+def run(command, given=b"", **environment):
+    return subprocess.run(command, input=given, capture_output=True,
+                          env={**os.environ, **environment}, timeout=60)
+
+
+@contextlib.contextmanager
+def built_library():
+    """The library that refuses, built from refuse_allocation.c into a folder that goes again."""
+    with tempfile.TemporaryDirectory() as folder:
+        library = f"{folder}/refuse.so"
+        subprocess.run(["cc", "-shared", "-fPIC", "-O1", "-o", library,
+                        str(HERE / "refuse_allocation.c"), "-ldl"], check=True)
+        yield library
+
+
+def refused_runs(command, library, given=b""):
+    """For each allocation of a command its number, counted from 1, and the run that is refused it."""
+    with tempfile.NamedTemporaryFile() as count:
+        run(command, given, LD_PRELOAD=library, REFUSE="0", REFUSE_COUNT=count.name)
+        allocations = int(count.read())
+    for number in range(1, allocations + 1):
+        yield number, run(command, given, LD_PRELOAD=library, REFUSE=str(number))
