@@ -1,0 +1,63 @@
+-- A keep that is being filled.
+use Rattle.std.proofs.Common.{◌≡◌, ◌⊎◌, ◌∙◌, ap, sym, inl, inr, List, [], ◌∷◌, ◌++◌, Bool, true, false, refl, Result, Ok, Err}
+use Rattle.std.specs.Prelude.{OnErr}
+use Rattle.house_rows.specs.declared.change.Change.{Change}
+use Rattle.house_rows.specs.Changed.{changed}
+use Rattle.house_rows.specs.Tables.{Tables}
+use Rattle.house.specs.Filled.{FitInTurn, IsBegun, after}
+
+-- some changes are made, and the rest fits
+pub record IsUnderWay {K : Type 0} (content : K → Tables) (is_failed : K → Bool) (is_honest : K → Type 0) (may_leave : K → Tables → Type 0) (old now : K) (made rest : List Change) : Type 0 where
+  pub leads : is_honest now → content now ≡ after (content old) made
+  pub fits : is_honest now → FitInTurn (content now) rest
+  pub honest : is_honest now → is_honest old
+  pub going : is_failed old ≡ false → is_failed now ≡ false
+  pub stays : is_failed old ≡ true → is_failed now ≡ true
+  pub crash : is_honest now → (t : Tables) → may_leave now t → may_leave old t ⊎ IsBegun (content old) (made ++ rest) t
+
+pub after_more : (t : Tables) (made : List Change) (x : Change) → after t (made ++ x ∷ []) ≡ changed (after t made) x
+after_more t [] x = refl
+after_more t (y ∷ made) x = after_more (changed t y) made x
+
+one_more : (made : List Change) (x : Change) (rest : List Change) → (made ++ x ∷ []) ++ rest ≡ made ++ x ∷ rest
+one_more [] x rest = refl
+one_more (y ∷ made) x rest = ap (λ l. y ∷ l) (one_more made x rest)
+
+pub one_made : {K : Type 0} (content : K → Tables) (is_failed : K → Bool) (is_honest : K → Type 0) (may_leave : K → Tables → Type 0) (old now new : K) (made rest : List Change) (x : Change)
+    → IsUnderWay content is_failed is_honest may_leave old now made (x ∷ rest)
+    → (is_honest new → content new ≡ changed (content now) x) → (is_honest new → is_honest now)
+    → (is_failed now ≡ false → is_failed new ≡ false) → (is_failed now ≡ true → is_failed new ≡ true)
+    → (is_honest new → (t : Tables) → may_leave new t → t ≡ content new)
+    → IsUnderWay content is_failed is_honest may_leave old new (made ++ x ∷ []) rest
+one_made content is_failed is_honest may_leave old now new made rest x way changes honest going stays kept = record {
+  leads = λ h. leads h;
+  fits = λ h. rw (changes h) (way.fits (honest h)).1;
+  honest = λ h. way.honest (honest h);
+  going = λ e. going (way.going e);
+  stays = λ e. stays (way.stays e);
+  crash = λ h t may. inr (record { made = made ++ x ∷ []; rest = rest; parts = refl; leads = kept h t may ∙ leads h });
+} where
+  leads : is_honest new → content new ≡ after (content old) (made ++ x ∷ [])
+  leads h = changes h ∙ ap (λ t. changed t x) (way.leads (honest h)) ∙ sym (after_more (content old) made x)
+
+-- a crash in the change that was not made
+pub crash_now : {K : Type 0} (content : K → Tables) (is_failed : K → Bool) (is_honest : K → Type 0) (may_leave : K → Tables → Type 0) (old now : K) (made rest : List Change) (x : Change) (t : Tables) (F G : Type 0)
+    → IsUnderWay content is_failed is_honest may_leave old now made (x ∷ rest) → is_honest now
+    → may_leave now t ⊎ (F × G × (t ≡ changed (content now) x)) → may_leave old t ⊎ IsBegun (content old) (made ++ x ∷ rest) t
+crash_now content is_failed is_honest may_leave old now made rest x t F G way honest may = elim may [
+  | inl before ↦ way.crash honest t before
+  | inr then ↦ inr (record {
+    made = made ++ x ∷ [];
+    rest = rest;
+    parts = sym (one_more made x rest);
+    leads = then.2 ∙ ap (λ t. changed t x) (way.leads honest) ∙ sym (after_more (content old) made x);
+  })
+]
+
+pub on_err : {A E : Type 0} (r : Result A E) (X : Type 0) → X → OnErr r X
+on_err (Ok a) X x = tt
+on_err (Err e) X x = x
+
+pub not_failed : (b : Bool) → (b ≡ true → ⊥) → b ≡ false
+not_failed true never = absurd (never refl)
+not_failed false never = refl

@@ -1,0 +1,81 @@
+-- Registrations and new categories: the verdict by the tables, and the tables after them.
+use Rattle.std.proofs.Common.{Bor, ◌≡◌, ℕ, List, [], ◌∷◌, ◌++◌, map, length, true, refl, ◌∙◌, sym, arith, Some, None}
+use Rattle.std.proofs.lemmas.Bool.Decides.{nat_tests}
+use Rattle.std.proofs.lemmas.List.{append-nil}
+use Rattle.proxy.specs.Rules.{first_failing}
+use Rattle.house_rows.specs.declared.change.Change.TheVariants as change
+use Rattle.house_rows.specs.declared.command.Command.TheVariants.{Register, AddCategory}
+use Rattle.house_rows.specs.declared.refusal.Refusal.{Refusal}
+use Rattle.house_rows.specs.declared.settings.Settings.{Settings}
+use Rattle.house_rows.specs.Changed.{changed}
+use Rattle.house_rows.specs.History.{History}
+use Rattle.house_rows.specs.Listings.{Listing, listings}
+use Rattle.house_rows.specs.Questions.{questions}
+use Rattle.house_rows.specs.Runs.{entry}
+use Rattle.house_rows.specs.Tables.{Tables, row_now, tables_of}
+use Rattle.house_rows.specs.Verdict.{common_rules, category_rules, register_rules, verdict}
+use Rattle.house.specs.Decided.{IsAccepted}
+
+pub register_verdict : (t : Tables) (settings : Settings) (h : History) (moment caller : ℕ) (name : List ℕ) → t ≡ tables_of settings h
+    → verdict settings h moment caller (Register name) ≡ first_failing (common_rules t.clock (length t.members) moment caller true ++ register_rules name t.members)
+unfolding tables_of verdict
+register_verdict t settings h moment caller name e = rw e refl
+
+-- items are as they were
+rows_still : (bands : List (ℕ × ℕ)) (h : History) (moment caller : ℕ) (name : List ℕ) (ls : List Listing)
+    → map (row_now bands (entry moment caller (Register name) ∷ h)) ls ≡ map (row_now bands h) ls
+rows_still bands h moment caller name [] = refl
+rows_still bands h moment caller name (l ∷ ls) = rw (rows_still bands h moment caller name ls) (simp append-nil)
+
+pub register_leads : (settings : Settings) (h : History) (moment caller : ℕ) (name : Bor (List ℕ)) → changed (tables_of settings h) (change.Register moment name) ≡ tables_of settings (entry moment caller (Register name.now) ∷ h)
+unfolding changed tables_of questions
+register_leads settings h moment caller name =
+    rw (rows_still settings.bands h moment caller name.now (listings h ++ [])) (simp append-nil)
+
+pub register_refusal : (t : Tables) (settings : Settings) (h : History) (moment caller : ℕ) (name : List ℕ) (refusal : Refusal) → t ≡ tables_of settings h
+    → Some refusal ≡ first_failing (common_rules t.clock (length t.members) moment caller true ++ register_rules name t.members) → verdict settings h moment caller (Register name) ≡ Some refusal
+register_refusal t settings h moment caller name refusal e told = register_verdict t settings h moment caller name e ∙ sym told
+
+pub register_accepts : (t : Tables) (settings : Settings) (h : History) (moment caller : ℕ) (name : List ℕ) (text : Bor (List ℕ)) → text.now ≡ name → t ≡ tables_of settings h
+    → None ≡ first_failing (common_rules t.clock (length t.members) moment caller true ++ register_rules name t.members)
+    → IsAccepted settings h moment caller (Register name) (change.Register moment text)
+unfolding tables_of
+register_accepts t settings h moment caller name text same e none =
+    let here : None ≡ first_failing (common_rules (tables_of settings h).clock (length (tables_of settings h).members) moment caller true ++ register_rules name (tables_of settings h).members) = rw e at none in
+    record {
+      accepted = register_verdict t settings h moment caller name e ∙ sym none;
+      fits = rw same (record { moment_fits = grind (arith, nat_tests, here); name_fits = grind (arith, nat_tests, here); room = grind (arith, nat_tests, here) });
+      leads = rw (← same) (register_leads settings h moment caller text);
+    }
+
+pub category_verdict : (t : Tables) (settings : Settings) (h : History) (moment caller : ℕ) (name : List ℕ) → t ≡ tables_of settings h
+    → verdict settings h moment caller (AddCategory name) ≡ first_failing (common_rules t.clock (length t.members) moment caller true ++ category_rules name t.categories)
+unfolding tables_of verdict
+category_verdict t settings h moment caller name e = rw e refl
+
+-- items are as they were
+rows_still_too : (bands : List (ℕ × ℕ)) (h : History) (moment caller : ℕ) (name : List ℕ) (ls : List Listing)
+    → map (row_now bands (entry moment caller (AddCategory name) ∷ h)) ls ≡ map (row_now bands h) ls
+rows_still_too bands h moment caller name [] = refl
+rows_still_too bands h moment caller name (l ∷ ls) = rw (rows_still_too bands h moment caller name ls) (simp append-nil)
+
+pub category_leads : (settings : Settings) (h : History) (moment caller : ℕ) (name : Bor (List ℕ)) → changed (tables_of settings h) (change.AddCategory moment name) ≡ tables_of settings (entry moment caller (AddCategory name.now) ∷ h)
+unfolding changed tables_of questions
+category_leads settings h moment caller name =
+    rw (rows_still_too settings.bands h moment caller name.now (listings h ++ [])) (simp append-nil)
+
+pub category_refusal : (t : Tables) (settings : Settings) (h : History) (moment caller : ℕ) (name : List ℕ) (refusal : Refusal) → t ≡ tables_of settings h
+    → Some refusal ≡ first_failing (common_rules t.clock (length t.members) moment caller true ++ category_rules name t.categories) → verdict settings h moment caller (AddCategory name) ≡ Some refusal
+category_refusal t settings h moment caller name refusal e told = category_verdict t settings h moment caller name e ∙ sym told
+
+pub category_accepts : (t : Tables) (settings : Settings) (h : History) (moment caller : ℕ) (name : List ℕ) (text : Bor (List ℕ)) → text.now ≡ name → t ≡ tables_of settings h
+    → None ≡ first_failing (common_rules t.clock (length t.members) moment caller true ++ category_rules name t.categories)
+    → IsAccepted settings h moment caller (AddCategory name) (change.AddCategory moment text)
+unfolding tables_of
+category_accepts t settings h moment caller name text same e none =
+    let here : None ≡ first_failing (common_rules (tables_of settings h).clock (length (tables_of settings h).members) moment caller true ++ category_rules name (tables_of settings h).categories) = rw e at none in
+    record {
+      accepted = category_verdict t settings h moment caller name e ∙ sym none;
+      fits = rw same (record { moment_fits = grind (arith, nat_tests, here); name_fits = grind (arith, nat_tests, here); room = grind (arith, nat_tests, here) });
+      leads = rw (← same) (category_leads settings h moment caller text);
+    }

@@ -1,0 +1,293 @@
+-- Bids: the verdict by the tables, and the tables after them.
+use Rattle.std.proofs.Common.{◌≡◌, ◌≢◌, ℕ, ◌+◌, ◌≤◌, List, [], ◌∷◌, ◌++◌, map, length, Bool, true, false, not, refl, ◌∙◌, ap, sym, arith, inl, inr, Option, Some, None, subst}
+use Rattle.std.specs.Prelude.{◌==◌, ◌&&◌, find, is_some, nat_le, nat_lt, option_map, unwrap_or}
+use Rattle.std.specs.List.{AllByRecursion, list_any}
+use Rattle.std.proofs.lemmas.Bool.Decides.{nat_tests}
+use Rattle.std.proofs.lemmas.List.{append-nil, length-append}
+use Rattle.proxy.specs.Bids.{greatest, is_leader, one_more, refusal, standing_of}
+use Rattle.proxy.specs.Kept.{Kept}
+use Rattle.proxy.specs.Rules.{first_failing}
+use Rattle.proxy.specs.declared.bid.Bid as bid
+use Rattle.proxy.specs.declared.bid.BidRefusal.TheVariants as no_bid
+use Rattle.house_rows.specs.declared.change.Change.TheVariants as change
+use Rattle.house_rows.specs.declared.command.Command.TheVariants.{Bid}
+use Rattle.house_rows.specs.declared.item.Terms.{Terms}
+use Rattle.house_rows.specs.declared.refusal.Refusal.{Refusal}
+use Rattle.house_rows.specs.declared.refusal.Refusal.TheVariants.{OwnItem, NotOpen, Ended, Range, NotHigher, Low, Limit, Unknown}
+use Rattle.house_rows.specs.declared.settings.Settings.{Settings}
+use Rattle.house_rows.specs.declared.state.State.{State}
+use Rattle.house_rows.specs.declared.state.State.TheVariants.{Open, Sold, Unsold, Settled}
+use Rattle.house_rows.specs.Asks.{BidFits}
+use Rattle.house_rows.specs.Bids.{bids_on}
+use Rattle.house_rows.specs.Changed.{changed, is_item, with_standing}
+use Rattle.house_rows.specs.Found.{standing_at, terms_at}
+use Rattle.house_rows.specs.History.{History, clock}
+use Rattle.house_rows.specs.Items.{closings, floor_of, is_bought, is_open, is_settled, is_taken, leader_of, purchase_of, state_of, terms_now}
+use Rattle.house_rows.specs.Limits.{most_bids, most_cents}
+use Rattle.house_rows.specs.Listings.{Listing, listing_at, listings}
+use Rattle.house_rows.specs.People.{members}
+use Rattle.house_rows.specs.Questions.{questions}
+use Rattle.house_rows.specs.Runs.{entry}
+use Rattle.house_rows.specs.Tables.{ItemRow, Tables, row_now, tables_of}
+use Rattle.house_rows.specs.Verdict.{IsHistory, Rule, bid_rules, common_rules, open_rules, verdict}
+use Rattle.house_rows.proofs.AcceptedBids.{bids_are_accepted, floor_is}
+use Rattle.house_rows.proofs.Every.{every_as, found_is}
+use Rattle.house_rows.proofs.Numbered.{numbered}
+use Rattle.house_rows.proofs.OpenItems.{not_bought, open_parts}
+use Rattle.house_rows.proofs.Passed.{common_pass, shown_is}
+use Rattle.house_rows.proofs.RangedBids.{listed_more}
+use Rattle.house.proofs.Found.{by_test, first_none, first_some}
+use Rattle.house.proofs.OnItems.{caller_there, item_judged, item_refused}
+use Rattle.house.specs.Decided.{IsAccepted, of_terms}
+use Rattle.house.specs.Refused.{as_refusal}
+
+-- the rules of a bid up to its range, and those of the item's bids
+abbrev first_rules : ℕ → ℕ → ℕ → Terms → List Rule
+first_rules moment caller maximum terms = open_rules moment caller terms ++ (nat_lt most_cents maximum, Range) ∷ []
+
+abbrev later_rules : List (ℕ × ℕ) → ℕ → ℕ → ℕ → Terms → List Rule
+later_rules bands caller maximum own terms =
+    (is_leader terms.leader caller && nat_le maximum own, NotHigher)
+    ∷ (not (is_leader terms.leader caller) && nat_lt maximum (unwrap_or (floor_of bands terms) 0), Low (unwrap_or (floor_of bands terms) 0))
+    ∷ (nat_le most_bids terms.count, Limit) ∷ []
+
+open_is : (state : State) → is_open state ≡ true → state ≡ Open
+open_is Open is = refl
+open_is Sold is = cc
+open_is Unsold is = cc
+open_is Settled is = cc
+
+-- where the first rules pass, the caller is another than the seller, the item is open and the maximum in range
+record Passed (own opened range : Bool) : Type 0 where
+  own_not : own ≡ false
+  is_open : opened ≡ true
+  within : range ≡ false
+
+first_passed : (own opened ended range : Bool) → first_failing ((own, OwnItem) ∷ (not opened, NotOpen) ∷ (ended, Ended) ∷ (range, Range) ∷ []) ≡ None → Passed own opened range
+first_passed true opened ended range none = cc
+first_passed false false ended range none = cc
+first_passed false true true range none = cc
+first_passed false true false true none = cc
+first_passed false true false false none = record { own_not = refl; is_open = refl; within = refl }
+
+-- an item on which a bid may be placed
+record Biddable (h : History) (caller maximum : ℕ) (l : Listing) : Type 0 where
+  apart : caller ≢ l.seller
+  within : maximum ≤ most_cents
+  is_open : state_of h l ≡ Open
+  unsold : purchase_of h l.item ≡ None
+  untaken : list_any (λ c. nat_le l.item c.listed && nat_le l.end c.moment) (closings h) ≡ false
+  unsettled : is_settled h l.item ≡ false
+
+apart_from : (a b : ℕ) → (a == b) ≡ false → b ≢ a
+apart_from a b not e = let f : (a == b) ≡ true = grind (arith, nat_tests) in let g : true ≡ false = sym f ∙ not in cc
+
+biddable : (bands : List (ℕ × ℕ)) (h : History) (moment caller maximum : ℕ) (l : Listing) → first_failing (first_rules moment caller maximum (terms_now bands h l)) ≡ None → Biddable h caller maximum l
+biddable bands h moment caller maximum l none =
+    let pass = first_passed (l.seller == caller) (is_open (state_of h l)) (nat_le l.end moment) (nat_lt most_cents maximum) none in
+    let parts = open_parts (is_bought h l.item) (is_taken h l) (is_some (leader_of h l)) (is_settled h l.item) pass.is_open in
+    let unsold : purchase_of h l.item ≡ None = not_bought h l.item (purchase_of h l.item) refl parts.bought_not in
+    let range = pass.within in
+    record {
+      apart = apart_from l.seller caller pass.own_not;
+      within = grind (arith, nat_tests, range);
+      is_open = open_is (state_of h l) pass.is_open;
+      unsold = unsold;
+      untaken = rw unsold at parts.taken_not;
+      unsettled = parts.settled_not;
+    }
+
+as_by_bids : (raises low full : Bool) (f : ℕ) → first_failing ((raises, NotHigher) ∷ (low, Low f) ∷ (full, Limit) ∷ [])
+    ≡ option_map as_refusal (first_failing ((raises, no_bid.NotHigher) ∷ (low, no_bid.Low f) ∷ (full, no_bid.Full) ∷ []))
+as_by_bids true low full f = refl
+as_by_bids false true full f = refl
+as_by_bids false false true f = refl
+as_by_bids false false false f = refl
+
+-- the later rules are those of the item's bids
+later_is : (bands : List (ℕ × ℕ)) (h : History) (caller maximum : ℕ) (l : Listing) → Biddable h caller maximum l
+    → first_failing (later_rules bands caller maximum (greatest (bids_on h l.item) caller) (terms_now bands h l)) ≡ option_map as_refusal (refusal bands l.start (bids_on h l.item) caller maximum)
+later_is bands h caller maximum l can =
+    rw (can.is_open, can.unsold) (rw (floor_is bands l.start (bids_on h l.item)) (as_by_bids _ _ _ _))
+
+-- the verdict on a bid whose first rules pass
+judged : (settings : Settings) (h : History) (moment caller maximum : ℕ) (l : Listing) → listing_at (listings h) l.item ≡ Some l
+    → first_failing (common_rules (clock h) (length (members h)) moment caller false) ≡ None → first_failing (first_rules moment caller maximum (terms_now settings.bands h l)) ≡ None
+    → verdict settings h moment caller (Bid l.item maximum) ≡ option_map as_refusal (refusal settings.bands l.start (bids_on h l.item) caller maximum)
+unfolding verdict
+judged settings h moment caller maximum l listed common first =
+    let own : ℕ = greatest (bids_on h l.item) caller in
+    let terms : Terms = terms_now settings.bands h l in
+    rw (shown_is settings.bands h l.item, listed) (
+    first_none (common_rules (clock h) (length (members h)) moment caller false) ((false, Unknown) ∷ bid_rules settings.bands moment caller maximum own terms) common
+    ∙ first_none (first_rules moment caller maximum terms) (later_rules settings.bands caller maximum own terms) first
+    ∙ later_is settings.bands h caller maximum l (biddable settings.bands h moment caller maximum l first)
+    )
+
+-- the row of the item after the bid
+row_bid : (bands : List (ℕ × ℕ)) (h : History) (moment caller maximum : ℕ) (l : Listing) → Biddable h caller maximum l
+    → with_standing l.item (standing_of bands l.start (one_more (bids_on h l.item) caller maximum)) (row_now bands h l) ≡ row_now bands (entry moment caller (Bid l.item maximum) ∷ h) l
+row_bid bands h moment caller maximum l can =
+    let here : (l.item == l.item) ≡ true = grind (arith, nat_tests) in
+    rw here (simp append-nil (rw (can.unsold, can.untaken, can.unsettled) refl))
+
+-- the rows of items after the bid
+rows_bid : (bands : List (ℕ × ℕ)) (h : History) (moment caller maximum : ℕ) (l : Listing) (ls : List Listing) → Biddable h caller maximum l
+    → AllByRecursion (λ a. (a.item == l.item) ≡ true → a ≡ l) ls
+    → map (with_standing l.item (standing_of bands l.start (one_more (bids_on h l.item) caller maximum))) (map (row_now bands h) ls)
+    ≡ map (row_now bands (entry moment caller (Bid l.item maximum) ∷ h)) ls
+rows_bid bands h moment caller maximum l [] can all = refl
+rows_bid bands h moment caller maximum l (a ∷ ls) can all =
+    rw (rows_bid bands h moment caller maximum l ls can all.1) (ap (λ row. row ∷ map (row_now bands (entry moment caller (Bid l.item maximum) ∷ h)) ls) (one a all.0)) where
+      one : (a : Listing) → ((a.item == l.item) ≡ true → a ≡ l)
+          → with_standing l.item (standing_of bands l.start (one_more (bids_on h l.item) caller maximum)) (row_now bands h a) ≡ row_now bands (entry moment caller (Bid l.item maximum) ∷ h) a
+      one a same = elim (by_test (a.item == l.item)) [
+        | inl here ↦ rw (same here) (row_bid bands h moment caller maximum l can)
+        | inr other ↦ (let other' : (l.item == a.item) ≡ false = grind (arith, nat_tests, other) in rw (other, other') (simp append-nil))
+      ]
+
+some_is : {A : Type 0} (x y : A) → Some x ≡ Some y → x ≡ y
+some_is x y e = cc
+
+-- the item's listing is the one of its number
+own_listing : (h : History) (l : Listing) → listing_at (listings h) l.item ≡ Some l → AllByRecursion (λ a. (a.item == l.item) ≡ true → a ≡ l) (listings h)
+own_listing h l listed =
+    every_as (λ a. listing_at (listings h) a.item ≡ Some a) (λ a. (a.item == l.item) ≡ true → a ≡ l) (listings h)
+    (λ a own here. let e : a.item ≡ l.item = grind (arith, nat_tests, here) in let there : listing_at (listings h) l.item ≡ Some a = subst (λ (i : ℕ). listing_at (listings h) i ≡ Some a) e own in some_is a l (sym there ∙ listed)) (numbered h).own
+
+bid_leads : (settings : Settings) (h : History) (moment caller maximum : ℕ) (l : Listing) → listing_at (listings h) l.item ≡ Some l → Biddable h caller maximum l
+    → changed (tables_of settings h) (change.Bid moment l.item (record { member = caller; maximum = maximum; no = length (bids_on h l.item) + 1 })
+    (standing_of settings.bands l.start (one_more (bids_on h l.item) caller maximum))) ≡ tables_of settings (entry moment caller (Bid l.item maximum) ∷ h)
+unfolding changed tables_of questions
+bid_leads settings h moment caller maximum l listed can =
+    rw (rows_bid settings.bands h moment caller maximum l (listings h) can (own_listing h l listed)) (simp append-nil)
+
+rows_found : (bands : List (ℕ × ℕ)) (h : History) (i : ℕ) (ls : List Listing) → find (is_item i) (map (row_now bands h) ls) ≡ option_map (row_now bands h) (listing_at ls i)
+rows_found bands h i [] = refl
+rows_found bands h i (l ∷ ls) = elim (by_test (l.item == i)) [ inl here ↦ rw here refl | inr other ↦ rw other (rows_found bands h i ls) ]
+
+bid_fits : (settings : Settings) (h : History) (moment caller maximum : ℕ) (l : Listing) → IsHistory settings h → listing_at (listings h) l.item ≡ Some l → Biddable h caller maximum l
+    → verdict settings h moment caller (Bid l.item maximum) ≡ None
+    → BidFits (tables_of settings h) moment l.item (record { member = caller; maximum = maximum; no = length (bids_on h l.item) + 1 }) (standing_of settings.bands l.start (one_more (bids_on h l.item) caller maximum))
+unfolding tables_of
+bid_fits settings h moment caller maximum l is listed can accepted =
+    let common = common_pass settings h moment caller (Bid l.item maximum) accepted in
+    let new = entry moment caller (Bid l.item maximum) in
+    let here : (l.item == l.item) ≡ true = grind (arith, nat_tests) in
+    let after : IsHistory settings (new ∷ h) = (accepted, is) in
+    record {
+      moment_fits = common.moment_fits;
+      row = row_now settings.bands h l;
+      row_there = rows_found settings.bands h l.item (listings h) ∙ ap (option_map (row_now settings.bands h)) listed;
+      is_open = can.is_open;
+      bidder_there = caller_there (tables_of settings h) settings h moment caller refl common;
+      apart = can.apart;
+      maximum_fits = can.within;
+      bids = bids_on h l.item;
+      stands = refl;
+      accepted = rw here at (bids_are_accepted settings (new ∷ h) after l (listed_more h new l.item l listed));
+      numbered = refl;
+      stands_after = refl;
+    }
+
+-- what is known of an item that was found with its standing
+record Listed (settings : Settings) (h : History) (item : ℕ) (terms : Terms) (kept : Kept) : Type 0 where
+  listing : Listing
+  numbered_so : listing.item ≡ item
+  listed : listing_at (listings h) listing.item ≡ Some listing
+  terms_are : terms ≡ terms_now settings.bands h listing
+  stands : kept ≡ standing_of settings.bands listing.start (bids_on h listing.item)
+
+found_listing : (settings : Settings) (h : History) (item : ℕ) (terms : Terms) (kept : Kept)
+    → terms_at (tables_of settings h) item ≡ Some terms → standing_at (tables_of settings h) item ≡ Some kept → Listed settings h item terms kept
+unfolding tables_of
+found_listing settings h item terms kept found stands =
+    by_listing (listing_at (listings h) item) refl (rw (rows_found settings.bands h item (listings h)) at found) (rw (rows_found settings.bands h item (listings h)) at stands) where
+      by_listing : (o : Option Listing) → listing_at (listings h) item ≡ o → option_map (λ (row : ItemRow). row.item.terms) (option_map (row_now settings.bands h) o) ≡ Some terms
+          → option_map (λ (row : ItemRow). row.standing) (option_map (row_now settings.bands h) o) ≡ Some kept → Listed settings h item terms kept
+      by_listing None is none stands = cc
+      by_listing (Some l) is some stands =
+          let here = found_is (λ (a : Listing). a.item == item) (listings h) l is in
+          let at' : l.item ≡ item = grind (arith, nat_tests, here) in
+          record {
+            listing = l;
+            numbered_so = at';
+            listed = subst (λ (i : ℕ). listing_at (listings h) i ≡ Some l) (sym at') is;
+            terms_are = sym (some_is (terms_now settings.bands h l) terms some);
+            stands = sym (some_is (standing_of settings.bands l.start (bids_on h l.item)) kept stands);
+          }
+
+-- what is refused before the item's rules are asked
+pub bid_unknown : (t : Tables) (settings : Settings) (h : History) (moment caller item maximum : ℕ) (told : Refusal) → t ≡ tables_of settings h
+    → ((rules : Terms → List Rule) → Some told ≡ first_failing (common_rules t.clock (length t.members) moment caller false ++ of_terms (terms_at t item) rules))
+    → verdict settings h moment caller (Bid item maximum) ≡ Some told
+unfolding verdict
+bid_unknown t settings h moment caller item maximum told e so =
+    item_refused t settings h moment caller item told (bid_rules settings.bands moment caller maximum (greatest (bids_on h item) caller)) e so
+
+-- what is refused before the item's bids are asked
+pub bid_unfit : (t : Tables) (settings : Settings) (h : History) (moment caller item maximum : ℕ) (terms : Terms) (told : Refusal) → t ≡ tables_of settings h
+    → terms_at t item ≡ Some terms → None ≡ first_failing (common_rules t.clock (length t.members) moment caller false)
+    → Some told ≡ first_failing (first_rules moment caller maximum terms) → verdict settings h moment caller (Bid item maximum) ≡ Some told
+unfolding verdict
+bid_unfit t settings h moment caller item maximum terms told e found common so =
+    let own : ℕ = greatest (bids_on h item) caller in
+    item_judged t settings h moment caller item terms (bid_rules settings.bands moment caller maximum own) e found common
+    ∙ first_some (first_rules moment caller maximum terms) (later_rules settings.bands caller maximum own terms) told (sym so)
+
+by_history : (t : Tables) (settings : Settings) (h : History) (moment caller : ℕ) → t ≡ tables_of settings h → None ≡ first_failing (common_rules t.clock (length t.members) moment caller false)
+    → first_failing (common_rules (clock h) (length (members h)) moment caller false) ≡ None
+unfolding tables_of
+by_history t settings h moment caller e common = sym (rw e at common)
+
+settings_are : (t : Tables) (settings given : Settings) (h : History) → t ≡ tables_of settings h → given ≡ t.settings → given ≡ settings
+unfolding tables_of
+settings_are t settings given h e so = rw e at so
+
+-- why the item's bids refuse it
+pub bid_refused : (t : Tables) (settings given : Settings) (h : History) (moment caller item maximum : ℕ) (terms : Terms) (kept : Kept) (member amount : ℕ) (told : Refusal) → t ≡ tables_of settings h
+    → terms_at t item ≡ Some terms → None ≡ first_failing (common_rules t.clock (length t.members) moment caller false) → None ≡ first_failing (first_rules moment caller maximum terms)
+    → standing_at t item ≡ Some kept → given ≡ t.settings → member ≡ caller → amount ≡ maximum
+    → ((bids : List bid.Bid) → kept ≡ standing_of given.bands kept.start bids → Some told ≡ option_map as_refusal (refusal given.bands kept.start bids member amount))
+    → verdict settings h moment caller (Bid item maximum) ≡ Some told
+bid_refused t settings given h moment caller item maximum terms kept member amount told e found common first stands bands same equal so =
+    let f = found_listing settings h item terms kept (rw e at found) (rw e at stands) in
+    let l : Listing = f.listing in
+    let now = by_history t settings h moment caller e common in
+    let first' : first_failing (first_rules moment caller maximum (terms_now settings.bands h l)) ≡ None = sym (rw f.terms_are at first) in
+    let bands' : given ≡ settings = settings_are t settings given h e bands in
+    let answer : Some told ≡ option_map as_refusal (refusal settings.bands l.start (bids_on h l.item) caller maximum) =
+    (rw (bands', same, equal, f.stands) at so) (bids_on h l.item) refl in
+    rw f.numbered_so at (judged settings h moment caller maximum l f.listed now first' ∙ sym answer)
+
+-- the same in other words
+renamed : (settings : Settings) (h : History) (moment caller i item named maximum amount member number count : ℕ) (kept after : Kept)
+    → i ≡ item → named ≡ i → member ≡ caller → amount ≡ maximum → count ≡ number → after ≡ kept
+    → IsAccepted settings h moment caller (Bid i maximum) (change.Bid moment i (record { member = caller; maximum = maximum; no = number }) kept)
+    → IsAccepted settings h moment caller (Bid item maximum) (change.Bid moment named (record { member = member; maximum = amount; no = count }) after)
+renamed settings h moment caller i item named maximum amount member number count kept after at' same_item same equal counts stands accepted =
+    rw (same_item, same, equal, counts, stands, ← at') accepted
+
+-- the change, where they take it
+pub bid_accepts : (t : Tables) (settings given : Settings) (h : History) (moment caller item maximum : ℕ) (terms : Terms) (kept after : Kept) (member amount count : ℕ) → IsHistory settings h → t ≡ tables_of settings h
+    → terms_at t item ≡ Some terms → None ≡ first_failing (common_rules t.clock (length t.members) moment caller false) → None ≡ first_failing (first_rules moment caller maximum terms)
+    → standing_at t item ≡ Some kept → given ≡ t.settings → member ≡ caller → amount ≡ maximum → count ≡ after.count
+    → ((bids : List bid.Bid) → kept ≡ standing_of given.bands kept.start bids
+    → (refusal given.bands kept.start bids member amount ≡ None) × (after ≡ standing_of given.bands kept.start (one_more bids member amount)))
+    → IsAccepted settings h moment caller (Bid item maximum) (change.Bid moment terms.item (record { member = member; maximum = amount; no = count }) after)
+bid_accepts t settings given h moment caller item maximum terms kept after member amount count is e found common first stands bands same equal counts so =
+    let f = found_listing settings h item terms kept (rw e at found) (rw e at stands) in
+    let l : Listing = f.listing in
+    let now = by_history t settings h moment caller e common in
+    let first' : first_failing (first_rules moment caller maximum (terms_now settings.bands h l)) ≡ None = sym (rw f.terms_are at first) in
+    let bands' : given ≡ settings = settings_are t settings given h e bands in
+    let bids : List bid.Bid = bids_on h l.item in
+    let answer : (refusal settings.bands l.start bids caller maximum ≡ None) × (after ≡ standing_of settings.bands l.start (one_more bids caller maximum)) =
+    (rw (bands', same, equal, f.stands) at so) bids refl in
+    let counted : count ≡ length bids + 1 = counts ∙ ap (λ (k : Kept). k.count) answer.1 ∙ length-append bids (record { member = caller; maximum = maximum; no = length bids + 1 } ∷ []) in
+    let can = biddable settings.bands h moment caller maximum l first' in
+    let accepted : verdict settings h moment caller (Bid l.item maximum) ≡ None = judged settings h moment caller maximum l f.listed now first' ∙ ap (option_map as_refusal) answer.0 in
+    let whole : IsAccepted settings h moment caller (Bid l.item maximum) (change.Bid moment l.item (record { member = caller; maximum = maximum; no = length bids + 1 }) (standing_of settings.bands l.start (one_more bids caller maximum))) =
+    record { accepted = accepted; fits = bid_fits settings h moment caller maximum l is f.listed can accepted; leads = bid_leads settings h moment caller maximum l f.listed can } in
+    renamed settings h moment caller l.item item terms.item maximum amount member (length bids + 1) count (standing_of settings.bands l.start (one_more bids caller maximum)) after
+    f.numbered_so (ap (λ (x : Terms). x.item) f.terms_are) same equal counted answer.1 whole

@@ -1,0 +1,101 @@
+-- A settlement: the verdict by the tables, and the tables after it.
+use Rattle.std.proofs.Common.{◌≡◌, ℕ, List, [], ◌∷◌, ◌++◌, map, length, true, false, not, refl, ◌∙◌, ap, inl, inr, Some, None}
+use Rattle.std.specs.Prelude.{◌==◌}
+use Rattle.std.specs.List.{list_any}
+use Rattle.std.proofs.lemmas.List.{append-nil}
+use Rattle.proxy.specs.Rules.{first_failing}
+use Rattle.house_rows.specs.declared.change.Change.TheVariants as change
+use Rattle.house_rows.specs.declared.command.Command.TheVariants.{Settle}
+use Rattle.house_rows.specs.declared.item.Terms.{Terms}
+use Rattle.house_rows.specs.declared.refusal.Refusal.{Refusal}
+use Rattle.house_rows.specs.declared.refusal.Refusal.TheVariants.{NotSold}
+use Rattle.house_rows.specs.declared.settings.Settings.{Settings}
+use Rattle.house_rows.specs.declared.state.State.{State}
+use Rattle.house_rows.specs.declared.state.State.TheVariants.{Open, Sold, Unsold, Settled}
+use Rattle.house_rows.specs.Asks.{SettlementFits}
+use Rattle.house_rows.specs.Changed.{changed, with_settlement}
+use Rattle.house_rows.specs.History.{History, clock}
+use Rattle.house_rows.specs.Items.{settlements}
+use Rattle.house_rows.specs.Listings.{Listing, listings}
+use Rattle.house_rows.specs.People.{members}
+use Rattle.house_rows.specs.Questions.{questions}
+use Rattle.house_rows.specs.Runs.{entry}
+use Rattle.house_rows.specs.Tables.{Tables, row_now, tables_of}
+use Rattle.house_rows.specs.Verdict.{common_rules, is_sold, settlement_rules, verdict}
+use Rattle.house_rows.proofs.Passed.{Common, common_pass}
+use Rattle.house_rows.proofs.Put.{by_test}
+use Rattle.house.specs.Decided.{IsAccepted}
+use Rattle.house.specs.Judged.{IsThere, item_rules}
+use Rattle.house.proofs.Items.{terms_shown}
+use Rattle.house.proofs.Rows.{Known, all_of, each_row, known, number_is, other_way, own_told}
+
+settle_verdict : (t : Tables) (settings : Settings) (h : History) (moment caller item : ℕ) → t ≡ tables_of settings h
+    → verdict settings h moment caller (Settle item) ≡ first_failing (item_rules t moment caller true item settlement_rules)
+unfolding tables_of verdict
+settle_verdict t settings h moment caller item e =
+    rw e (ap (λ rest. first_failing (common_rules (clock h) (length (members h)) moment caller true ++ rest)) (terms_shown settings h item settlement_rules))
+
+pub settle_unnamed : (t : Tables) (settings : Settings) (h : History) (moment caller item : ℕ) (refusal : Refusal) → t ≡ tables_of settings h
+    → first_failing (item_rules t moment caller true item settlement_rules) ≡ Some refusal → verdict settings h moment caller (Settle item) ≡ Some refusal
+settle_unnamed t settings h moment caller item refusal e told = settle_verdict t settings h moment caller item e ∙ told
+
+pub settle_refusal : (t : Tables) (settings : Settings) (h : History) (moment caller item : ℕ) (terms : Terms) (refusal : Refusal) → t ≡ tables_of settings h
+    → IsThere t moment caller true item terms → Some refusal ≡ first_failing (settlement_rules terms) → verdict settings h moment caller (Settle item) ≡ Some refusal
+settle_refusal t settings h moment caller item terms refusal e there told =
+    settle_verdict t settings h moment caller item e ∙ own_told t moment caller true item terms settlement_rules (Some refusal) there told
+
+any_here : (i j : ℕ) (ss : List ℕ) → (j == i) ≡ true → list_any (λ s. s == i) (ss ++ j ∷ []) ≡ true
+any_here i j [] here = rw here refl
+any_here i j (s ∷ ss) here = elim (by_test (s == i)) [ inl is ↦ rw is refl | inr not ↦ rw not (any_here i j ss here) ]
+
+any_other : (i j : ℕ) (ss : List ℕ) → (j == i) ≡ false → list_any (λ s. s == i) (ss ++ j ∷ []) ≡ list_any (λ s. s == i) ss
+any_other i j [] other = rw other refl
+any_other i j (s ∷ ss) other = elim (by_test (s == i)) [ inl is ↦ rw is refl | inr not ↦ rw not (any_other i j ss other) ]
+
+-- the row of that number is settled, and every other is as it was
+settled_row : (bands : List (ℕ × ℕ)) (h : History) (moment caller i : ℕ) (l : Listing)
+    → with_settlement i (row_now bands h l) ≡ row_now bands (entry moment caller (Settle i) ∷ h) l
+settled_row bands h moment caller i l =
+    elim (by_test (l.item == i)) [
+      | inl here ↦ rw (here, any_here l.item i (settlements h) (other_way l.item i true here)) (simp append-nil)
+      | inr other ↦ rw (other, any_other l.item i (settlements h) (other_way l.item i false other)) (simp append-nil)
+    ]
+
+settled_rows : (bands : List (ℕ × ℕ)) (h : History) (moment caller i : ℕ) (ls : List Listing)
+    → map (with_settlement i) (map (row_now bands h) ls) ≡ map (row_now bands (entry moment caller (Settle i) ∷ h)) ls
+settled_rows bands h moment caller i ls =
+    each_row (λ l. Unit {0}) (row_now bands h) (with_settlement i) (row_now bands (entry moment caller (Settle i) ∷ h)) ls
+    (λ l any. settled_row bands h moment caller i l) (all_of (λ l. Unit {0}) ls (λ l. tt))
+
+settle_leads : (settings : Settings) (h : History) (moment caller i : ℕ)
+    → changed (tables_of settings h) (change.Settle moment i) ≡ tables_of settings (entry moment caller (Settle i) ∷ h)
+unfolding changed tables_of questions
+settle_leads settings h moment caller i = rw (settled_rows settings.bands h moment caller i (listings h)) (simp append-nil)
+
+sold_state : (s : State) → None ≡ first_failing ((not (is_sold s), NotSold) ∷ []) → s ≡ Sold
+sold_state Open pass = cc
+sold_state Sold pass = refl
+sold_state Unsold pass = cc
+sold_state Settled pass = cc
+
+settlement_fits : (settings : Settings) (h : History) (moment caller item : ℕ) (terms : Terms) → Common h moment caller true
+    → Known settings h item terms → None ≡ first_failing (settlement_rules terms) → SettlementFits (tables_of settings h) moment item
+settlement_fits settings h moment caller item terms common it told = record {
+  moment_fits = common.moment_fits;
+  row = row_now settings.bands h it.listing;
+  row_there = it.row_there;
+  is_sold = sold_state _ (rw it.same at told);
+}
+
+pub settle_accepts : (t : Tables) (settings : Settings) (h : History) (moment caller item : ℕ) (terms : Terms) → t ≡ tables_of settings h
+    → IsThere t moment caller true item terms → None ≡ first_failing (settlement_rules terms)
+    → IsAccepted settings h moment caller (Settle item) (change.Settle moment terms.item)
+settle_accepts t settings h moment caller item terms e there told =
+    let accepted : verdict settings h moment caller (Settle item) ≡ None =
+    settle_verdict t settings h moment caller item e ∙ own_told t moment caller true item terms settlement_rules None there told in
+    let it : Known settings h item terms = known settings h item terms (rw e at there.found) in
+    rw (number_is settings h item terms it) (record {
+      accepted = accepted;
+      fits = settlement_fits settings h moment caller item terms (common_pass settings h moment caller (Settle item) accepted) it told;
+      leads = settle_leads settings h moment caller item;
+    })

@@ -1,0 +1,45 @@
+use Rattle.std.proofs.Common.{◌≡◌, ◌≢◌, ℕ, true, false, ◌∙◌, sym, arith}
+use Rattle.std.specs.Prelude.{◌==◌}
+use Rattle.std.proofs.lemmas.Bool.Decides.{nat_tests}
+use Rattle.house_rows.specs.Found.{question_at}
+use Rattle.house.proofs.NewAnswers.{answer_accepts, answer_of_other, answer_of_seller, answer_refused}
+use Rattle.house.proofs.Unchanged.{still_there}
+use Rattle.house.proofs.answers.answer.Goals as goal
+use Rattle.house.proofs.answers.answer.Goals.{In_ok-question}
+
+sells : (n seller caller : ℕ) → n ≡ seller → n ≡ caller → (seller == caller) ≡ true
+sells n seller caller e same = grind (arith, nat_tests)
+
+sells_not : (n seller caller : ℕ) → n ≡ seller → n ≢ caller → (seller == caller) ≡ false
+sells_not n seller caller e other = grind (arith, nat_tests)
+
+-- what the second read answered is true of the tables before the first
+found : (g : _) (c : In_ok-question g) → g.K.Keep.is_honest c.question.new.self
+    → c.in_ok-question.field-0 ≡ question_at (g.K.Keep.content c.args.keep.now) c.args.item c.args.asker c.args.number
+found g c honest =
+    rw (still_there c.in_ok-on.field-0 g.K.Keep.content g.K.Keep.is_failed g.K.Keep.is_honest g.K.Keep.may_leave c.args.keep.now c.on_item.new.keep
+    c.in_ok-on.ensures.faults c.in_ok-on.ensures.read (c.in_ok-question.ensures.read.honest honest)) at (c.in_ok-question.ensures.value honest)
+
+pub returns-in-Err-clause-decided : goal.returns-in-Err-clause-decided
+returns-in-Err-clause-decided g c = λ honest settings h is e.
+    answer_refused (g.K.Keep.content c.args.keep.now) settings h c.args.moment c.args.caller c.args.item c.args.asker c.args.number c.args.text.now c.in-Err.refusal e (rw c.in-Err.is at c.in_ok-on.ensures.value honest)
+
+pub returns-then-from-caller-clause-decided : goal.returns-then-from-caller-clause-decided
+returns-then-from-caller-clause-decided g c = λ honest settings h is e.
+    let on = rw c.in-Ok.is at c.in_ok-on.ensures.value honest in
+    answer_of_other (g.K.Keep.content c.args.keep.now) settings h c.args.moment c.args.caller c.args.item c.args.asker c.args.number c.args.text.now c.in-Ok.on.terms e on.1 on.2
+    (sells_not c.from.result c.in-Ok.on.terms.seller c.args.caller c.from.ensures c.if-from-caller.true)
+
+pub returns-in-Err-waiting-clause-decided : goal.returns-in-Err-waiting-clause-decided
+returns-in-Err-waiting-clause-decided g c = λ honest settings h is e.
+    let on = rw c.in-Ok.is at c.in_ok-on.ensures.value (c.in_ok-question.ensures.read.honest honest) in
+    answer_of_seller (g.K.Keep.content c.args.keep.now) settings h c.args.moment c.args.caller c.args.item c.args.asker c.args.number c.args.text.now c.in-Ok.on.terms e on.1 on.2
+    (sells c.from.result c.in-Ok.on.terms.seller c.args.caller c.from.ensures c.if-from-caller.false)
+    ∙ sym (rw (found g (goal.at.returns-in-Err-waiting-clause-decided g c).In_ok-question honest) at c.in-Err-waiting.ensures)
+
+pub returns-in-Ok-waiting-clause-decided : goal.returns-in-Ok-waiting-clause-decided
+returns-in-Ok-waiting-clause-decided g c = λ honest settings h is e.
+    let on = rw c.in-Ok.is at c.in_ok-on.ensures.value (c.in_ok-question.ensures.read.honest honest) in
+    let asked = rw (found g (goal.at.returns-in-Ok-waiting-clause-decided g c).In_ok-question honest) at c.in-Ok-waiting.ensures in
+    answer_accepts (g.K.Keep.content c.args.keep.now) settings h c.args.moment c.args.caller c.args.item c.args.asker c.args.number c.args.text.now c.in-Ok.on.terms c.in-Ok-waiting.question c.as_str.result
+    e c.as_str.ensures on.1 on.2 (sells c.from.result c.in-Ok.on.terms.seller c.args.caller c.from.ensures c.if-from-caller.false) asked.0 asked.1

@@ -1,0 +1,11 @@
+use Rattle.std.proofs.Common.{◌∙◌, sym}
+use Rattle.house.proofs.NewNames.{category_accepts, category_refusal}
+use Rattle.house.proofs.people.add_category.Goals as goal
+
+pub returns-in-Some-clause-decided : goal.returns-in-Some-clause-decided
+returns-in-Some-clause-decided g c = λ honest settings h is e.
+    category_refusal (g.K.Keep.content c.args.keep.now) settings h c.args.moment c.args.caller c.args.name.now c.in-Some.refusal e (sym c.in-Some.is ∙ c.in_ok-refusal.ensures.value honest)
+
+pub returns-in-None-clause-decided : goal.returns-in-None-clause-decided
+returns-in-None-clause-decided g c = λ honest settings h is e.
+    category_accepts (g.K.Keep.content c.args.keep.now) settings h c.args.moment c.args.caller c.args.name.now c.as_str.result c.as_str.ensures e (sym c.in-None.is ∙ c.in_ok-refusal.ensures.value honest)

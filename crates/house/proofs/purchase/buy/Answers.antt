@@ -1,0 +1,18 @@
+use Rattle.house_rows.specs.Verdict.{purchase_rules}
+use Rattle.house.proofs.Purchases.{buy_accepts, buy_refusal, buy_unnamed}
+use Rattle.house.proofs.purchase.buy.Goals as goal
+
+pub returns-in-Err-clause-decided : goal.returns-in-Err-clause-decided
+returns-in-Err-clause-decided g c = λ honest settings h is e.
+    buy_unnamed (g.K.Keep.content c.args.keep.now) settings h c.args.moment c.args.caller c.args.item c.in-Err.refusal e
+    (rw c.in-Err.is at (c.in_ok-terms.ensures.value honest) (purchase_rules c.args.moment c.args.caller))
+
+pub returns-in-Ok-purchase_price-clause-decided : goal.returns-in-Ok-purchase_price-clause-decided
+returns-in-Ok-purchase_price-clause-decided g c = λ honest settings h is e.
+    buy_accepts (g.K.Keep.content c.args.keep.now) settings h c.args.moment c.args.caller c.args.item c.in-Ok-purchase_price.price c.in-Ok.terms e
+    (rw c.in-Ok.is at (c.in_ok-terms.ensures.value honest)) c.in-Ok-purchase_price.ensures
+
+pub returns-in-Err-purchase_price-clause-decided : goal.returns-in-Err-purchase_price-clause-decided
+returns-in-Err-purchase_price-clause-decided g c = λ honest settings h is e.
+    buy_refusal (g.K.Keep.content c.args.keep.now) settings h c.args.moment c.args.caller c.args.item c.in-Ok.terms c.in-Err-purchase_price.refusal e
+    (rw c.in-Ok.is at (c.in_ok-terms.ensures.value honest)) c.in-Err-purchase_price.ensures

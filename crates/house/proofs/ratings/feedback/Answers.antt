@@ -1,0 +1,29 @@
+use Rattle.std.proofs.Common.{◌≡◌, ◌∙◌, sym}
+use Rattle.house_rows.specs.Found.{is_given}
+use Rattle.house.proofs.NewFeedback.{feedback_accepts, feedback_judged, feedback_refused}
+use Rattle.house.proofs.Unchanged.{still_there}
+use Rattle.house.proofs.ratings.feedback.Goals as goal
+use Rattle.house.proofs.ratings.feedback.Goals.{In_ok-is_given}
+
+-- what the second read answered is true of the tables before the first
+given : (g : _) (c : In_ok-is_given g) → g.K.Keep.is_honest c.given.new.self → c.in_ok-is_given.is_given ≡ is_given (g.K.Keep.content c.args.keep.now) c.args.item c.args.caller
+given g c honest =
+    rw (still_there c.in_ok-on.field-0 g.K.Keep.content g.K.Keep.is_failed g.K.Keep.is_honest g.K.Keep.may_leave c.args.keep.now c.on_item.new.keep
+    c.in_ok-on.ensures.faults c.in_ok-on.ensures.read (c.in_ok-is_given.ensures.read.honest honest)) at (c.in_ok-is_given.ensures.value honest)
+
+pub returns-in-Err-clause-decided : goal.returns-in-Err-clause-decided
+returns-in-Err-clause-decided g c = λ honest settings h is e.
+    feedback_refused (g.K.Keep.content c.args.keep.now) settings h c.args.moment c.args.caller c.args.item c.args.rating c.args.text.now c.in-Err.refusal e (rw c.in-Err.is at c.in_ok-on.ensures.value honest)
+
+pub returns-in-Err-taken_rating-clause-decided : goal.returns-in-Err-taken_rating-clause-decided
+returns-in-Err-taken_rating-clause-decided g c = λ honest settings h is e.
+    let on = rw c.in-Ok.is at c.in_ok-on.ensures.value (c.in_ok-is_given.ensures.read.honest honest) in
+    feedback_judged (g.K.Keep.content c.args.keep.now) settings h c.args.moment c.args.caller c.args.item c.args.rating c.args.text.now c.in-Ok.on.terms e on.1 on.2
+    ∙ sym (rw (given g (goal.at.returns-in-Err-taken_rating-clause-decided g c).In_ok-is_given honest) at c.in-Err-taken_rating.ensures)
+
+pub returns-in-Ok-taken_rating-clause-decided : goal.returns-in-Ok-taken_rating-clause-decided
+returns-in-Ok-taken_rating-clause-decided g c = λ honest settings h is e.
+    let on = rw c.in-Ok.is at c.in_ok-on.ensures.value (c.in_ok-is_given.ensures.read.honest honest) in
+    let taken = rw (given g (goal.at.returns-in-Ok-taken_rating-clause-decided g c).In_ok-is_given honest) at c.in-Ok-taken_rating.ensures in
+    feedback_accepts (g.K.Keep.content c.args.keep.now) settings h c.args.moment c.args.caller c.args.item c.args.rating c.args.text.now c.in-Ok.on.terms c.in-Ok.on.member c.other_party.result c.in-Ok-taken_rating.rating c.as_str.result
+    e c.as_str.ensures on.0 c.other_party.ensures taken.0 on.1 on.2 taken.1

@@ -1,0 +1,19 @@
+use Rattle.std.proofs.Common.{◌∙◌, sym}
+use Rattle.house_rows.specs.Verdict.{settlement_rules}
+use Rattle.house.proofs.Settlements.{settle_accepts, settle_refusal, settle_unnamed}
+use Rattle.house.proofs.settlement.settle.Goals as goal
+
+pub returns-in-Err-clause-decided : goal.returns-in-Err-clause-decided
+returns-in-Err-clause-decided g c = λ honest settings h is e.
+    settle_unnamed (g.K.Keep.content c.args.keep.now) settings h c.args.moment c.args.caller c.args.item c.in-Err.refusal e
+    (rw c.in-Err.is at (c.in_ok-terms.ensures.value honest) settlement_rules)
+
+pub returns-in-Some-clause-decided : goal.returns-in-Some-clause-decided
+returns-in-Some-clause-decided g c = λ honest settings h is e.
+    settle_refusal (g.K.Keep.content c.args.keep.now) settings h c.args.moment c.args.caller c.args.item c.in-Ok.terms c.in-Some.refusal e
+    (rw c.in-Ok.is at (c.in_ok-terms.ensures.value honest)) (sym c.in-Some.is ∙ c.settlement_refused.ensures)
+
+pub returns-in-None-clause-decided : goal.returns-in-None-clause-decided
+returns-in-None-clause-decided g c = λ honest settings h is e.
+    settle_accepts (g.K.Keep.content c.args.keep.now) settings h c.args.moment c.args.caller c.args.item c.in-Ok.terms e
+    (rw c.in-Ok.is at (c.in_ok-terms.ensures.value honest)) (sym c.in-None.is ∙ c.settlement_refused.ensures)

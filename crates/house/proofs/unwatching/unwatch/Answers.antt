@@ -1,0 +1,11 @@
+use Rattle.house.proofs.Watched.{unwatch_accepts, unwatch_refused}
+use Rattle.house.proofs.unwatching.unwatch.Goals as goal
+
+pub returns-in-Err-clause-decided : goal.returns-in-Err-clause-decided
+returns-in-Err-clause-decided g c = λ honest settings h is e.
+    unwatch_refused (g.K.Keep.content c.args.keep.now) settings h c.args.moment c.args.caller c.args.item c.in-Err.refusal e (rw c.in-Err.is at c.in_ok-refusal.ensures.value honest)
+
+pub returns-in-Ok-clause-decided : goal.returns-in-Ok-clause-decided
+returns-in-Ok-clause-decided g c = λ honest settings h is e.
+    let on = rw c.in-Ok.is at c.in_ok-refusal.ensures.value honest in
+    unwatch_accepts (g.K.Keep.content c.args.keep.now) settings h c.args.moment c.args.caller c.args.item c.in-Ok.on.terms c.in-Ok.on.member e on.0 on.1 on.2

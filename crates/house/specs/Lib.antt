@@ -1,0 +1,6 @@
+pub mod Decided
+pub mod Refused
+pub mod Judged
+pub mod Offered
+pub mod Waiting
+pub mod Filled

@@ -1,0 +1,93 @@
+//! Bidding.
+ghost use Rattle.std.specs.Prelude.{◌≡◌, ◌++◌, ◌∷◌, [], List, IfOk, MatchResult, None, Some, nat_lt, option_map};
+ghost use Rattle.proxy.specs.declared.bid.Bid.{Bid as TheBid};
+ghost use Rattle.proxy.specs.Bids.{one_more, refusal, standing_of};
+ghost use Rattle.proxy.specs.Rules.{first_failing};
+ghost use Rattle.house_rows.specs.declared.command.Command.TheVariants as command;
+ghost use Rattle.house_rows.specs.declared.settings.Settings.{Settings as TheSettings};
+ghost use Rattle.house_rows.specs.History.{History};
+ghost use Rattle.house_rows.specs.Keeping.{Faults, IsRead};
+ghost use Rattle.house_rows.specs.Limits.{most_cents};
+ghost use Rattle.house_rows.specs.Tables.{tables_of};
+ghost use Rattle.house_rows.specs.Verdict.{IsHistory, open_rules};
+ghost use Rattle.house.specs.Decided.{IsDecided};
+ghost use Rattle.house.specs.Refused.{as_refusal};
+
+use crate::targets::{on_item, open_refused};
+use cents::Cents;
+use house_rows::{Change, Keep, KeepFault, Refusal, Terms};
+use proxy::{Bid, BidRefusal, Standing};
+use steps::Bands;
+
+/// Decides on a bid. The maximum is in cents, and sealed: no refusal tells another's.
+///
+/// The change carries the bid with its number, and the standing of the item with it.
+pub fn bid<'c, K: Keep>(
+    keep: &mut K,
+    moment: u64,
+    caller: u64,
+    item: u64,
+    maximum: u64,
+) -> Result<Result<Change<'c>, Refusal>, KeepFault>
+    ensures decided { K.is_honest keep.new → (settings : TheSettings) (h : History) → IsHistory settings h
+        → K.content keep.old ≡ tables_of settings h → IfOk result (IsDecided settings h moment caller (command.Bid item maximum)) }
+    ensures faults { Faults result (K.is_honest keep.new) (K.is_failed keep.new) (K.content keep.old) }
+    ensures read { IsRead K.content K.is_failed K.is_honest K.may_leave keep.old keep.new }
+{
+    let on = match on_item(keep, moment, caller, item)? {
+        Ok(on) => on,
+        Err(refusal) => return Ok(Err(refusal)),
+    };
+    let maximum = match open_maximum(moment, caller, maximum, &on.terms) {
+        Ok(maximum) => maximum,
+        Err(refusal) => return Ok(Err(refusal)),
+    };
+    let Some(standing) = keep.standing(item)? else {
+        return Ok(Err(Refusal::Unknown));
+    };
+    match placed(standing, &keep.settings()?.bands, on.member, maximum) {
+        Err(refusal) => Ok(Err(refusal)),
+        Ok(standing) => Ok(Ok(Change::Bid {
+            moment,
+            item: on.terms.item,
+            placed: Bid {
+                member: on.member,
+                maximum,
+                no: standing.count(),
+            },
+            standing,
+        })),
+    }
+}
+
+// A maximum that may be bid on an open item, or why it may not.
+fn open_maximum(moment: u64, caller: u64, maximum: u64, terms: &Terms) -> Result<Cents, Refusal>
+    ensures { let told = first_failing (open_rules moment caller terms.now ++ (nat_lt most_cents maximum, Refusal.Range) ∷ []) in
+        MatchResult result (λ amount. (amount ≡ maximum) × (None ≡ told)) (λ refusal. Some refusal ≡ told) }
+{
+    if let Some(refusal) = open_refused(moment, caller, terms) {
+        return Err(refusal);
+    }
+    Cents::new(maximum).ok_or(Refusal::Range)
+}
+
+// The standing with one more bid, or why the bid is refused.
+fn placed(
+    mut standing: Standing,
+    bands: &Bands,
+    member: u32,
+    maximum: Cents,
+) -> Result<Standing, Refusal>
+    ensures { (bids : List TheBid) → standing ≡ standing_of bands.now standing.start bids
+        → MatchResult result
+        (λ after. (refusal bands.now standing.start bids member maximum ≡ None)
+        × (after ≡ standing_of bands.now standing.start (one_more bids member maximum)))
+        (λ told. Some told ≡ option_map as_refusal (refusal bands.now standing.start bids member maximum)) }
+{
+    match standing.place(bands, member, maximum) {
+        Ok(()) => Ok(standing),
+        Err(BidRefusal::Low { floor }) => Err(Refusal::Low { floor }),
+        Err(BidRefusal::NotHigher) => Err(Refusal::NotHigher),
+        Err(BidRefusal::Full) => Err(Refusal::Limit),
+    }
+}

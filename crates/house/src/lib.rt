@@ -1,0 +1,37 @@
+//! What the house decides: each command gets the verdict of its rules, and where it is accepted the one
+//! change that leads to the tables of the history with it.
+//!
+//! Promised of any keep and any history whose tables it keeps, while nothing is changed here. Read
+//! `specs/Decided.antt` first, then `decision`, whose `decide` is the call that matters, `common`, whose
+//! rules every command begins with, and `targets`, which finds the item that a command names.
+#![tactic(auto)]
+
+mod answers;
+mod bidding;
+mod closing;
+mod common;
+mod decision;
+mod filling;
+mod listing;
+mod people;
+mod purchase;
+mod questions;
+mod ratings;
+mod settlement;
+mod targets;
+mod unwatching;
+mod watching;
+
+pub use answers::answer;
+pub use bidding::bid;
+pub use closing::close;
+pub use decision::decide;
+pub use filling::fill;
+pub use listing::{Offer, list};
+pub use people::{add_category, register};
+pub use purchase::buy;
+pub use questions::ask;
+pub use ratings::feedback;
+pub use settlement::settle;
+pub use unwatching::unwatch;
+pub use watching::watch;

@@ -1,0 +1,236 @@
+//! Listing an item for sale.
+ghost use Rattle.std.specs.Prelude.{◌≡◌, ◌<◌, ◌^◌, ◌==◌, ◌&&◌, ◌++◌, nat_le, IfOk, IfSome, OnOk, false, is_some};
+ghost use Rattle.std.specs.List.{list_all, list_any};
+ghost use Rattle.proxy.specs.Rules.{first_failing};
+ghost use Rattle.house_rows.specs.declared.command.Command.TheVariants as command;
+ghost use Rattle.house_rows.specs.declared.settings.Settings.{Settings as TheSettings};
+ghost use Rattle.house_rows.specs.History.{History};
+ghost use Rattle.house_rows.specs.Keeping.{Faults, IsRead};
+ghost use Rattle.house_rows.specs.Limits.{most_cents};
+ghost use Rattle.house_rows.specs.Tables.{tables_of};
+ghost use Rattle.house_rows.specs.Text.{has_length, is_lot, is_lot_byte, same_text};
+ghost use Rattle.house_rows.specs.Verdict.{IsHistory, are_terms, is_buy_now};
+ghost use Rattle.house.specs.Decided.{IsDecided};
+ghost use Rattle.house.specs.Judged.{first_rules};
+ghost use Rattle.house.specs.Offered.{AreOf, offer_rules, terms_rules, told};
+
+use crate::common::{LAST_MOMENT, common, is_text};
+use cents::Cents;
+use house_rows::{Change, Keep, KeepFault, Refusal, Text};
+
+/// The most items.
+const MOST_ITEMS: u32 = 1_000_000;
+
+/// What a member offers for sale, in range or not. Amounts are in cents, and the end is in whole
+/// seconds since 1970-01-01T00:00:00Z.
+#[derive(Clone, Copy, Debug)]
+pub struct Offer<'c> {
+    /// The number of the category.
+    pub category: u64,
+    /// The seller's own code for the item.
+    pub lot: &'c Text,
+    /// The title.
+    pub title: &'c Text,
+    /// The description.
+    pub text: &'c Text,
+    /// The price that bidding begins with.
+    pub start: u64,
+    /// The price for which the item may be bought at once.
+    pub buy_now: Option<u64>,
+    /// When the offer ends.
+    pub end: u64,
+}
+
+// The prices of an offer that are in range.
+#[derive(Clone, Copy, Debug)]
+struct Prices {
+    start: Cents,
+    buy_now: Option<Cents>,
+}
+
+/// Decides on the listing of an item.
+pub fn list<'c, K: Keep>(
+    keep: &mut K,
+    moment: u64,
+    caller: u64,
+    offer: &Offer<'c>,
+) -> Result<Result<Change<'c>, Refusal>, KeepFault>
+    ensures decided { K.is_honest keep.new → (settings : TheSettings) (h : History) → IsHistory settings h
+        → K.content keep.old ≡ tables_of settings h → IfOk result (IsDecided settings h moment caller
+        (command.List offer.now.category offer.now.lot.now offer.now.title.now offer.now.text.now offer.now.start offer.now.buy_now offer.now.end)) }
+    ensures faults { Faults result (K.is_honest keep.new) (K.is_failed keep.new) (K.content keep.old) }
+    ensures read { IsRead K.content K.is_failed K.is_honest K.may_leave keep.old keep.new }
+{
+    let (category, prices) = match judged(keep, moment, caller, offer)? {
+        Ok(taken) => taken,
+        Err(refusal) => return Ok(Err(refusal)),
+    };
+    Ok(Ok(Change::List {
+        moment,
+        seller: caller as u32,
+        category,
+        lot: offer.lot.as_str(),
+        title: offer.title.as_str(),
+        text: offer.text.as_str(),
+        start: prices.start,
+        buy_now: prices.buy_now,
+        end: offer.end,
+    }))
+}
+
+// The category and the prices of an offer, or why it is refused.
+#[tactic(auto, using(crate::proofs::Found::first_some, crate::proofs::Found::first_none))]
+fn judged<K: Keep>(
+    keep: &mut K,
+    moment: u64,
+    caller: u64,
+    offer: &Offer<'_>,
+) -> Result<Result<(u32, Prices), Refusal>, KeepFault>
+    ensures value { K.is_honest keep.new → IfOk result (λ r. told r ≡ first_failing (
+        first_rules (K.content keep.old) moment caller false ++ offer_rules (K.content keep.old) moment caller offer.now)) }
+    ensures same { K.is_honest keep.new → IfOk result (λ r. IfOk r (AreOf offer.now)) }
+    ensures numbered { IfOk result (λ r. OnOk r (caller < 2 ^ 32)) }
+    ensures faults { Faults result (K.is_honest keep.new) (K.is_failed keep.new) (K.content keep.old) }
+    ensures read { IsRead K.content K.is_failed K.is_honest K.may_leave keep.old keep.new }
+{
+    match common(keep, moment, caller, false)? {
+        Some(refusal) => Ok(Err(refusal)),
+        None => offered(keep, moment, caller, offer),
+    }
+}
+
+// The same by an offer's own rules.
+fn offered<K: Keep>(
+    keep: &mut K,
+    moment: u64,
+    caller: u64,
+    offer: &Offer<'_>,
+) -> Result<Result<(u32, Prices), Refusal>, KeepFault>
+    requires going { K.is_failed keep.old ≡ false }
+    ensures value { K.is_honest keep.new → IfOk result (λ r. told r ≡ first_failing (offer_rules (K.content keep.old) moment caller offer.now)) }
+    ensures same { K.is_honest keep.new → IfOk result (λ r. IfOk r (AreOf offer.now)) }
+    ensures faults { Faults result (K.is_honest keep.new) (K.is_failed keep.new) (K.content keep.old) }
+    ensures read { IsRead K.content K.is_failed K.is_honest K.may_leave keep.old keep.new }
+{
+    if !is_lot(offer.lot) {
+        return Ok(Err(Refusal::Range));
+    }
+    if has_lot(keep, caller, offer.lot)? {
+        return Ok(Err(Refusal::LotExists));
+    }
+    taken(keep, moment, offer)
+}
+
+// The same behind the rules of its lot.
+fn taken<K: Keep>(
+    keep: &mut K,
+    moment: u64,
+    offer: &Offer<'_>,
+) -> Result<Result<(u32, Prices), Refusal>, KeepFault>
+    requires going { K.is_failed keep.old ≡ false }
+    ensures value { K.is_honest keep.new → IfOk result (λ r. told r ≡ first_failing (terms_rules (K.content keep.old) moment offer.now)) }
+    ensures same { K.is_honest keep.new → IfOk result (λ r. IfOk r (AreOf offer.now)) }
+    ensures faults { Faults result (K.is_honest keep.new) (K.is_failed keep.new) (K.content keep.old) }
+    ensures read { IsRead K.content K.is_failed K.is_honest K.may_leave keep.old keep.new }
+{
+    let Some(prices) = prices_in_range(moment, offer) else {
+        return Ok(Err(Refusal::Range));
+    };
+    let Some(category) = category_number(keep, offer.category)? else {
+        return Ok(Err(Refusal::Unknown));
+    };
+    if keep.counts()?.items >= MOST_ITEMS {
+        return Ok(Err(Refusal::Limit));
+    }
+    Ok(Ok((category, prices)))
+}
+
+// The number of a category, if it is there.
+#[tactic(auto, using(crate::proofs::Offers::category_is, crate::proofs::Offers::some_category))]
+fn category_number<K: Keep>(keep: &mut K, category: u64) -> Result<Option<u32>, KeepFault>
+    ensures value { K.is_honest keep.new → IfOk result (λ v. is_some v ≡ list_any (λ k. k.category == category) (K.content keep.old).categories) }
+    ensures same { K.is_honest keep.new → IfOk result (λ v. IfSome v (λ n. n ≡ category)) }
+    ensures faults { Faults result (K.is_honest keep.new) (K.is_failed keep.new) (K.content keep.old) }
+    ensures read { IsRead K.content K.is_failed K.is_honest K.may_leave keep.old keep.new }
+{
+    let Some(found) = keep.category(category)? else {
+        return Ok(None);
+    };
+    Ok(Some(found.category))
+}
+
+// Whether a seller has an item with a lot.
+#[tactic(auto, using(crate::proofs::Offers::lot_found))]
+fn has_lot<K: Keep>(keep: &mut K, seller: u64, lot: &Text) -> Result<bool, KeepFault>
+    ensures value { K.is_honest keep.new → IfOk result (λ v. v
+        ≡ list_any (λ row. (row.item.terms.seller == seller) && same_text row.item.lot lot.now) (K.content keep.old).items) }
+    ensures faults { Faults result (K.is_honest keep.new) (K.is_failed keep.new) (K.content keep.old) }
+    ensures read { IsRead K.content K.is_failed K.is_honest K.may_leave keep.old keep.new }
+{
+    Ok(keep.item_of(seller, lot.as_str())?.is_some())
+}
+
+// The prices of an offer, where all of it but lot and category is in range.
+fn prices_in_range(moment: u64, offer: &Offer<'_>) -> Option<Prices>
+    ensures fits { is_some result ≡ are_terms moment offer.now.title.now offer.now.text.now offer.now.start offer.now.buy_now offer.now.end }
+    ensures same { IfSome result (λ p. (p.start ≡ offer.now.start) × (p.buy_now ≡ offer.now.buy_now)) }
+{
+    let is_described = is_text(1, 80, offer.title) && is_text(0, 2000, offer.text);
+    if !is_described || offer.end <= moment || offer.end > LAST_MOMENT {
+        return None;
+    }
+    priced(offer.start, offer.buy_now)
+}
+
+// Prices of so many cents, where they are in range.
+fn priced(start: u64, buy_now: Option<u64>) -> Option<Prices>
+    ensures fits { is_some result ≡ (nat_le 1 start && (nat_le start most_cents && is_buy_now start buy_now)) }
+    ensures same { IfSome result (λ p. (p.start ≡ start) × (p.buy_now ≡ buy_now)) }
+{
+    if start == 0 {
+        return None;
+    }
+    let start = Cents::new(start)?;
+    let Some(amount) = buy_now else {
+        return Some(Prices {
+            start,
+            buy_now: None,
+        });
+    };
+    let amount = Cents::new(amount)?;
+    if amount < start {
+        return None;
+    }
+    Some(Prices {
+        start,
+        buy_now: Some(amount),
+    })
+}
+
+// Whether a text is a seller's code for an item.
+fn is_lot(text: &Text) -> bool
+    ensures { result ≡ is_lot text.now }
+{
+    has_length(1, 20, text) && has_lot_bytes(text)
+}
+
+// Whether it has so many bytes.
+fn has_length(least: usize, most: usize, text: &Text) -> bool
+    ensures { result ≡ has_length least most text.now }
+{
+    least <= text.len() && text.len() <= most
+}
+
+// Whether it has none but the bytes of a code.
+fn has_lot_bytes(text: &Text) -> bool
+    ensures { result ≡ list_all is_lot_byte text.now }
+{
+    text.as_str().as_bytes().iter().all(|b| is_lot_byte(*b))
+}
+
+// Whether a byte is an ASCII letter, a digit or `-`.
+fn is_lot_byte(byte: u8) -> bool
+    ensures { result ≡ is_lot_byte byte }
+{
+    byte.is_ascii_alphanumeric() || byte == b'-'
+}

@@ -1,0 +1,96 @@
+//! Feedback of one party of a sale on the other.
+ghost use Rattle.std.specs.Prelude.{◌≡◌, ◌==◌, ◌||◌, IfOk, MatchResult, None, Some};
+ghost use Rattle.proxy.specs.Bids.{is_leader};
+ghost use Rattle.proxy.specs.Rules.{first_failing};
+ghost use Rattle.house_rows.specs.declared.command.Command.TheVariants as command;
+ghost use Rattle.house_rows.specs.declared.settings.Settings.{Settings as TheSettings};
+ghost use Rattle.house_rows.specs.History.{History};
+ghost use Rattle.house_rows.specs.Keeping.{Faults, IsRead};
+ghost use Rattle.house_rows.specs.Ratings.{other_party};
+ghost use Rattle.house_rows.specs.Tables.{tables_of};
+ghost use Rattle.house_rows.specs.Verdict.{IsHistory, feedback_rules};
+ghost use Rattle.house.specs.Decided.{IsDecided};
+
+use crate::common::is_text;
+use crate::targets::on_item;
+use house_rows::{Change, Keep, KeepFault, Rating, Refusal, State, Terms, Text};
+
+/// Decides on feedback to the other party of a sale. A rating of none is one that was out of range.
+pub fn feedback<'c, K: Keep>(
+    keep: &mut K,
+    moment: u64,
+    caller: u64,
+    item: u64,
+    rating: Option<Rating>,
+    text: &'c Text,
+) -> Result<Result<Change<'c>, Refusal>, KeepFault>
+    ensures decided { K.is_honest keep.new → (settings : TheSettings) (h : History) → IsHistory settings h
+        → K.content keep.old ≡ tables_of settings h → IfOk result (IsDecided settings h moment caller (command.Feedback item rating text.now)) }
+    ensures faults { Faults result (K.is_honest keep.new) (K.is_failed keep.new) (K.content keep.old) }
+    ensures read { IsRead K.content K.is_failed K.is_honest K.may_leave keep.old keep.new }
+{
+    let on = match on_item(keep, moment, caller, item)? {
+        Ok(on) => on,
+        Err(refusal) => return Ok(Err(refusal)),
+    };
+    let is_given = keep.given(item, caller)?;
+    match taken_rating(caller, rating, text, is_given, &on.terms) {
+        Err(refusal) => Ok(Err(refusal)),
+        Ok(rating) => Ok(Ok(Change::Feedback {
+            moment,
+            item: on.terms.item,
+            from: on.member,
+            to: other_party(&on.terms, caller),
+            rating,
+            text: text.as_str(),
+        })),
+    }
+}
+
+// The rating that the caller gives on the item; or why its feedback is refused.
+fn taken_rating(
+    caller: u64,
+    rating: Option<Rating>,
+    text: &Text,
+    is_given: bool,
+    terms: &Terms,
+) -> Result<Rating, Refusal>
+    ensures { MatchResult result
+        (λ taken. (rating ≡ Some taken) × (None ≡ first_failing (feedback_rules caller rating text.now is_given terms.now)))
+        (λ refusal. Some refusal ≡ first_failing (feedback_rules caller rating text.now is_given terms.now)) }
+{
+    if !matches!(terms.state, State::Sold | State::Settled) {
+        return Err(Refusal::NotSold);
+    }
+    if !is_party(terms, caller) {
+        return Err(Refusal::NotParty);
+    }
+    if is_given {
+        return Err(Refusal::AlreadyGiven);
+    }
+    match rating {
+        Some(rating) if is_text(0, 200, text) => Ok(rating),
+        _ => Err(Refusal::Range),
+    }
+}
+
+// Whether a member sells the item, or leads it.
+fn is_party(terms: &Terms, member: u64) -> bool
+    ensures { result ≡ ((terms.now.seller == member) || is_leader terms.now.leader member) }
+{
+    u64::from(terms.seller) == member
+        || terms
+            .leader
+            .is_some_and(|leader| u64::from(leader) == member)
+}
+
+// The other party of the sale of an item that somebody leads.
+fn other_party(terms: &Terms, member: u64) -> u32
+    ensures { result ≡ other_party terms.now.seller terms.now.leader member }
+{
+    if u64::from(terms.seller) == member {
+        terms.leader.unwrap_or(0)
+    } else {
+        terms.seller
+    }
+}

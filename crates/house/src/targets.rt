@@ -1,0 +1,86 @@
+//! What every command on an item begins with.
+ghost use Rattle.std.specs.Prelude.{◌≡◌, ◌<◌, ◌^◌, ◌++◌, List, IfOk, OnOk, MatchResult, None, Some, false, length};
+ghost use Rattle.proxy.specs.Rules.{first_failing};
+ghost use Rattle.house_rows.specs.declared.item.Terms.{Terms as TheTerms};
+ghost use Rattle.house_rows.specs.Found.{terms_at};
+ghost use Rattle.house_rows.specs.Keeping.{Faults, IsRead};
+ghost use Rattle.house_rows.specs.Verdict.{Rule, common_rules, open_rules};
+ghost use Rattle.house.specs.Decided.{of_terms};
+ghost use Rattle.house.specs.Judged.{IsNamed};
+
+use crate::common::common;
+use house_rows::{Keep, KeepFault, Refusal, State, Terms};
+
+/// A member, and the item that its command names.
+#[derive(Clone, Copy)]
+pub(crate) struct OnItem {
+    /// The number of the member.
+    pub(crate) member: u32,
+    /// The item without its texts.
+    pub(crate) terms: Terms,
+}
+
+/// The terms of the item that a command names, or why the command is refused before the item's own
+/// rules. A caller that passes has a number that fits a `u32`.
+#[tactic(auto, using(crate::proofs::Found::first_some, crate::proofs::Found::first_none))]
+pub(crate) fn named_item<K: Keep>(
+    keep: &mut K,
+    moment: u64,
+    caller: u64,
+    of_house: bool,
+    item: u64,
+) -> Result<Result<Terms, Refusal>, KeepFault>
+    ensures value { K.is_honest keep.new → IfOk result (IsNamed (K.content keep.old) moment caller of_house item) }
+    ensures numbered { IfOk result (λ r. OnOk r (caller < 2 ^ 32)) }
+    ensures faults { Faults result (K.is_honest keep.new) (K.is_failed keep.new) (K.content keep.old) }
+    ensures read { IsRead K.content K.is_failed K.is_honest K.may_leave keep.old keep.new }
+{
+    if let Some(refusal) = common(keep, moment, caller, of_house)? {
+        return Ok(Err(refusal));
+    }
+    Ok(keep.terms(item)?.ok_or(Refusal::Unknown))
+}
+
+/// The member that calls and the item that it names; or why the command is refused, whatever the
+/// rules of the item are.
+pub(crate) fn on_item<K: Keep>(
+    keep: &mut K,
+    moment: u64,
+    caller: u64,
+    item: u64,
+) -> Result<Result<OnItem, Refusal>, KeepFault>
+    ensures value { K.is_honest keep.new → IfOk result (λ r. MatchResult r
+        (λ on. (on.member ≡ caller) × (terms_at (K.content keep.old) item ≡ Some on.terms)
+        × (None ≡ first_failing (common_rules (K.content keep.old).clock (length (K.content keep.old).members) moment caller false)))
+        (λ refusal. (rules : TheTerms → List Rule) → Some refusal ≡ first_failing (
+        common_rules (K.content keep.old).clock (length (K.content keep.old).members) moment caller false
+        ++ of_terms (terms_at (K.content keep.old) item) rules))) }
+    ensures faults { Faults result (K.is_honest keep.new) (K.is_failed keep.new) (K.content keep.old) }
+    ensures read { IsRead K.content K.is_failed K.is_honest K.may_leave keep.old keep.new }
+{
+    let terms = match named_item(keep, moment, caller, false, item)? {
+        Ok(terms) => terms,
+        Err(refusal) => return Ok(Err(refusal)),
+    };
+    Ok(Ok(OnItem {
+        member: caller as u32,
+        terms,
+    }))
+}
+
+/// Why the caller may not bid on an item, buy it or ask about it, if it may not: it sells the item,
+/// or the item isn't open, or has ended.
+pub(crate) fn open_refused(moment: u64, caller: u64, terms: &Terms) -> Option<Refusal>
+    ensures { result ≡ first_failing (open_rules moment caller terms.now) }
+{
+    if u64::from(terms.seller) == caller {
+        return Some(Refusal::OwnItem);
+    }
+    if terms.state != State::Open {
+        return Some(Refusal::NotOpen);
+    }
+    if terms.end <= moment {
+        return Some(Refusal::Ended);
+    }
+    None
+}
