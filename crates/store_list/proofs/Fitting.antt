@@ -1,0 +1,80 @@
+-- What is found in a table whose rows fit, fits.
+use Rattle.std.proofs.Common.{◌≡◌, ℕ, zero, suc, List, [], ◌∷◌, length, take, map, filter, Bool, true, ◌∙◌, ap, sym, arith, inl, inr, Option, Some, None, Result, Ok, Err}
+use Rattle.std.specs.Prelude.{IfOk, IfSome, Vec, find, option_map, ◌&&◌, nat_le, nat_lt}
+use Rattle.std.specs.List.{AllByRecursion}
+use Rattle.std.proofs.lemmas.Bool.Decides.{nat_tests}
+use Rattle.proxy.specs.declared.bid.Bid.{Bid}
+use Rattle.proxy.specs.Bids.{standing_of}
+use Rattle.proxy.specs.Kept.{Kept}
+use Rattle.proxy.proofs.Placed.{standing-none}
+use Rattle.house_rows.specs.declared.item.Item.{Item}
+use Rattle.house_rows.specs.declared.item.OwnBid.{OwnBid}
+use Rattle.house_rows.specs.Fits.{IsItem, IsMember, ItemFits, OwnBidFits, StandingFits}
+use Rattle.house_rows.specs.Found.{all_items, own_bid, own_bids}
+use Rattle.house_rows.specs.Keeping.{AreSound, ItemRowFits}
+use Rattle.house_rows.specs.Limits.{most_shown}
+use Rattle.house_rows.specs.Tables.{ItemRow, Tables}
+use Rattle.house_rows.proofs.Every.{every_as, every_map}
+use Rattle.house_rows.proofs.Put.{by_test}
+
+pub find_fits : {A : Type 0} (P : A → Type 0) (p : A → Bool) (xs : List A) → AllByRecursion P xs → IfSome (find p xs) P
+find_fits P p [] all = tt
+find_fits P p (x ∷ xs) all = elim (by_test (p x)) [ inl is ↦ rw is all.0 | inr not ↦ rw not (find_fits P p xs all.1) ]
+
+pub some_as : {A B : Type 0} (f : A → B) (P : A → Type 0) (Q : B → Type 0) (o : Option A) → ((x : A) → P x → Q (f x)) → IfSome o P → IfSome (option_map f o) Q
+some_as f P Q None as' fits = tt
+some_as f P Q (Some x) as' fits = as' x fits
+
+pub filter_fits : {A : Type 0} (P : A → Type 0) (p : A → Bool) (xs : List A) → AllByRecursion P xs → AllByRecursion P (filter p xs)
+filter_fits P p [] all = tt
+filter_fits P p (x ∷ xs) all = elim (by_test (p x)) [ inl is ↦ rw is (all.0, filter_fits P p xs all.1) | inr not ↦ rw not (filter_fits P p xs all.1) ]
+
+pub take_fits : {A : Type 0} (P : A → Type 0) (n : ℕ) (xs : List A) → AllByRecursion P xs → AllByRecursion P (take n xs)
+take_fits P zero xs all = tt
+take_fits P (suc n) [] all = tt
+take_fits P (suc n) (x ∷ xs) all = (all.0, take_fits P n xs all.1)
+
+-- what was answered is what fits
+pub ok_fits : {A E : Type 0} (P : A → Type 0) (r : Result A E) (v : A) → IfOk r (λ a. a ≡ v) → P v → IfOk r P
+ok_fits P (Ok a) v is fits = rw is fits
+ok_fits P (Err e) v is fits = tt
+
+-- the same of lists
+pub ok_items : {A Z E : Type 0} (P : List A → Type 0) (r : Result (Vec A Z) E) (xs : List A) → IfOk r (λ v. v.items ≡ xs) → P xs → IfOk r (λ v. P v.items)
+ok_items P (Ok v) xs is fits = rw is fits
+ok_items P (Err e) xs is fits = tt
+
+pub ok_same : {A Z E : Type 0} (r : Result (Vec A Z) E) (xs ys : List A) → IfOk r (λ v. v.items ≡ xs) → xs ≡ ys → IfOk r (λ v. v.items ≡ ys)
+ok_same (Ok v) xs ys is same = is ∙ same
+ok_same (Err e) xs ys is same = tt
+
+-- what passes a test has the property, and passes
+pub passed : {A : Type 0} (P : A → Type 0) (p : A → Bool) (xs : List A) → AllByRecursion P xs → AllByRecursion (λ x. P x × (p x ≡ true)) (filter p xs)
+passed P p [] all = tt
+passed P p (x ∷ xs) all = elim (by_test (p x)) [ inl is ↦ rw is ((all.0, is), passed P p xs all.1) | inr not ↦ rw not (passed P p xs all.1) ]
+
+pub items_fit : (t : Tables) → AreSound t → AllByRecursion ItemFits (all_items t)
+items_fit t sound = every_map (λ (row : ItemRow). row.item) ItemFits t.items
+    (every_as (ItemRowFits t.settings.bands) (λ (row : ItemRow). ItemFits row.item) t.items (λ row fits. fits.item) sound.items)
+
+none_leads : (bands : List (ℕ × ℕ)) (start : ℕ) (bids : List Bid) (k : Kept) → k ≡ standing_of bands start bids → k.count ≡ 0 → IfSome k.leader IsMember
+none_leads bands start [] k is none = rw (is ∙ standing-none bands start) tt
+none_leads bands start (b ∷ bids) k is none = absurd (let n : length (b ∷ bids) ≡ 0 = sym (ap (λ (x : Kept). x.count) is) ∙ none in omega arith)
+
+pub standing_fits : (bands : List (ℕ × ℕ)) (row : ItemRow) → ItemRowFits bands row → StandingFits row.standing
+standing_fits bands row fits = record {
+  leader = elim fits.told [
+    | inl told ↦ rw (← told.leader) fits.item.terms.leader
+    | inr bought ↦ none_leads bands row.item.terms.start fits.bids row.standing fits.stands bought.no_bid
+  ];
+  count = let n : row.standing.count ≡ length fits.bids = ap (λ (x : Kept). x.count) fits.stands in let few = fits.few in omega arith;
+}
+
+pub own_bids_fit : (t : Tables) (member from : ℕ) → AreSound t → AllByRecursion OwnBidFits (own_bids t member from)
+own_bids_fit t member from sound =
+    let test : OwnBid → Bool = λ b. nat_lt 0 b.mine && nat_le from b.item in
+    let made : List OwnBid = map (own_bid t member) (all_items t) in
+    let known : AllByRecursion (λ (b : OwnBid). IsItem b.item) made = every_map (own_bid t member) (λ (b : OwnBid). IsItem b.item) (all_items t)
+    (every_as ItemFits (λ (it : Item). IsItem it.terms.item) (all_items t) (λ it fits. fits.terms.item) (items_fit t sound)) in
+    take_fits OwnBidFits most_shown (filter test made)
+    (every_as (λ (b : OwnBid). IsItem b.item × (test b ≡ true)) OwnBidFits (filter test made) (λ b one. record { item = one.0; mine = let is = one.1 in grind (arith, nat_tests, is) }) (passed (λ (b : OwnBid). IsItem b.item) test made known))

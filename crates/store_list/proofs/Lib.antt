@@ -1,0 +1,7 @@
+pub mod Chosen
+pub mod Placing
+pub mod Fitting
+pub mod Apart
+pub mod Sold
+pub mod Parties
+pub mod Changing

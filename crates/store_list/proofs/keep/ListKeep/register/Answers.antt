@@ -1,0 +1,16 @@
+use Rattle.std.proofs.Common.{refl}
+use Rattle.house_rows.specs.declared.change.Change.TheVariants as change
+use Rattle.house_rows.specs.Changed.{changed}
+use Rattle.store_list.proofs.Changing.{fits_here, kept_after, makes_ok}
+use Rattle.store_list.proofs.keep.ListKeep.register.Goals as goal
+
+pub register-requires : goal.register-requires
+register-requires c = record { room = (fits_here c.args.self.now _ (change.Register c.args.moment c.args.name) c.self.view_is c.self.invariant.sound c.requires.fits).room }
+
+pub invariant_of-self-2 : goal.invariant_of-self-2
+unfolding changed
+invariant_of-self-2 c = kept_after c.args.self.now _ _ (change.Register c.args.moment c.args.name) c.self.view_is c.self.invariant c.requires.fits c.in_ok-register.ensures.free (rw c.in_ok-register.ensures.ok refl)
+
+pub returns : goal.returns
+unfolding changed
+returns c = makes_ok c.args.self.now _ _ (change.Register c.args.moment c.args.name) c.self.view_is c.in_ok-register.ensures.free (rw c.in_ok-register.ensures.ok refl)

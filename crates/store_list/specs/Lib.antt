@@ -1,0 +1,4 @@
+pub mod Makes
+pub mod Kept
+pub mod Sales
+pub mod Listed

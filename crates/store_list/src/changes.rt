@@ -1,0 +1,214 @@
+//! Changes, each made whole or not at all: whatever may fail comes before anything changes.
+ghost use Rattle.house_rows.specs.declared.change.Change.TheVariants as change;
+ghost use Rattle.house_rows.specs.Asks.{ChangeFits};
+ghost use Rattle.house_rows.specs.Keeping.{AreSound};
+ghost use Rattle.store_list.specs.Listed.{listed};
+ghost use Rattle.store_list.specs.Makes.{Applies};
+
+use crate::items::{self, Listing};
+use crate::keep::ListKeep;
+use crate::{bids, people, questions, ratings, watches};
+use cents::Cents;
+use house_rows::{Change, KeepFault, Rating};
+use proxy::{Bid, Standing};
+
+impl ListKeep {
+    /// Makes a change.
+    pub(crate) fn change(&mut self, change: &Change<'_>) -> Result<(), KeepFault>
+        requires fits { AreSound self.old → ChangeFits self.old change.now }
+        ensures { Applies result self.old self.new change.now }
+    {
+        match *change {
+            Change::Register { moment, name } => self.register(moment, name),
+            Change::AddCategory { moment, name } => self.add_category(moment, name),
+            Change::List {
+                moment,
+                seller,
+                category,
+                lot,
+                title,
+                text,
+                start,
+                buy_now,
+                end,
+            } => {
+                let listing = Listing {
+                    seller,
+                    category,
+                    lot,
+                    title,
+                    text,
+                    start,
+                    buy_now,
+                    end,
+                };
+                self.list(moment, &listing)
+            }
+            Change::Bid {
+                moment,
+                item,
+                placed,
+                standing,
+            } => self.place(moment, item, placed, standing),
+            Change::Buy {
+                moment,
+                item,
+                buyer,
+                price,
+            } => self.buy(moment, item, buyer, price),
+            Change::Close { moment } => self.close(moment),
+            Change::Settle { moment, item } => self.settle(moment, item),
+            Change::Watch { member, item } => self.watch(member, item),
+            Change::Unwatch { member, item } => self.unwatch(member, item),
+            Change::Ask {
+                item,
+                asker,
+                number,
+                text,
+            } => self.ask(item, asker, number, text),
+            Change::Answer {
+                moment,
+                item,
+                asker,
+                number,
+                text,
+            } => self.answer(moment, item, asker, number, text),
+            Change::Feedback {
+                moment,
+                item,
+                from,
+                to,
+                rating,
+                text,
+            } => self.give(moment, item, from, to, rating, text),
+        }
+    }
+
+    fn register(&mut self, moment: u64, name: &str) -> Result<(), KeepFault>
+        requires fits { AreSound self.old → ChangeFits self.old (change.Register moment name) }
+        ensures { Applies result self.old self.new (change.Register moment name.entry) }
+    {
+        people::register(self.alloc, &mut self.members, name)?;
+        self.clock = moment;
+        Ok(())
+    }
+
+    fn add_category(&mut self, moment: u64, name: &str) -> Result<(), KeepFault>
+        requires fits { AreSound self.old → ChangeFits self.old (change.AddCategory moment name) }
+        ensures { Applies result self.old self.new (change.AddCategory moment name.entry) }
+    {
+        people::add_category(self.alloc, &mut self.categories, name)?;
+        self.clock = moment;
+        Ok(())
+    }
+
+    fn list(&mut self, moment: u64, listing: &Listing<'_>) -> Result<(), KeepFault>
+        requires fits { AreSound self.old → ChangeFits self.old (listed moment listing.now) }
+        ensures { Applies result self.old self.new (listed moment listing.now) }
+    {
+        items::list(self.alloc, &mut self.items, listing)?;
+        self.clock = moment;
+        Ok(())
+    }
+
+    fn place(
+        &mut self,
+        moment: u64,
+        item: u32,
+        placed: Bid,
+        standing: Standing,
+    ) -> Result<(), KeepFault>
+        requires fits { AreSound self.old → ChangeFits self.old (change.Bid moment item placed standing) }
+        ensures { Applies result self.old self.new (change.Bid moment item placed standing) }
+    {
+        // The one step that can fail comes first.
+        bids::place(&mut self.bids, item, placed)?;
+        items::stand(&mut self.items, item, standing);
+        self.clock = moment;
+        Ok(())
+    }
+
+    fn buy(&mut self, moment: u64, item: u32, buyer: u32, price: Cents) -> Result<(), KeepFault>
+        requires fits { AreSound self.old → ChangeFits self.old (change.Buy moment item buyer price) }
+        ensures { Applies result self.old self.new (change.Buy moment item buyer price) }
+    {
+        items::buy(&mut self.items, item, buyer, price, moment);
+        self.clock = moment;
+        Ok(())
+    }
+
+    fn close(&mut self, moment: u64) -> Result<(), KeepFault>
+        requires fits { AreSound self.old → ChangeFits self.old (change.Close moment) }
+        ensures { Applies result self.old self.new (change.Close moment) }
+    {
+        items::close(&mut self.items, moment);
+        self.clock = moment;
+        Ok(())
+    }
+
+    fn settle(&mut self, moment: u64, item: u32) -> Result<(), KeepFault>
+        requires fits { AreSound self.old → ChangeFits self.old (change.Settle moment item) }
+        ensures { Applies result self.old self.new (change.Settle moment item) }
+    {
+        items::settle(&mut self.items, item);
+        self.clock = moment;
+        Ok(())
+    }
+
+    fn watch(&mut self, member: u32, item: u32) -> Result<(), KeepFault>
+        requires fits { AreSound self.old → ChangeFits self.old (change.Watch member item) }
+        ensures { Applies result self.old self.new (change.Watch member item) }
+    {
+        watches::watch(&mut self.watches, member, item)?;
+        Ok(())
+    }
+
+    fn unwatch(&mut self, member: u32, item: u32) -> Result<(), KeepFault>
+        requires fits { AreSound self.old → ChangeFits self.old (change.Unwatch member item) }
+        ensures { Applies result self.old self.new (change.Unwatch member item) }
+    {
+        watches::unwatch(&mut self.watches, member, item);
+        Ok(())
+    }
+
+    fn ask(&mut self, item: u32, asker: u32, number: u32, text: &str) -> Result<(), KeepFault>
+        requires fits { AreSound self.old → ChangeFits self.old (change.Ask item asker number text) }
+        ensures { Applies result self.old self.new (change.Ask item asker number text.entry) }
+    {
+        questions::ask(self.alloc, &mut self.questions, item, asker, number, text)?;
+        Ok(())
+    }
+
+    fn answer(
+        &mut self,
+        moment: u64,
+        item: u32,
+        asker: u32,
+        number: u32,
+        text: &str,
+    ) -> Result<(), KeepFault>
+        requires fits { AreSound self.old → ChangeFits self.old (change.Answer moment item asker number text) }
+        ensures { Applies result self.old self.new (change.Answer moment item asker number text.entry) }
+    {
+        questions::answer(self.alloc, &mut self.questions, item, asker, number, text)?;
+        self.clock = moment;
+        Ok(())
+    }
+
+    fn give(
+        &mut self,
+        moment: u64,
+        item: u32,
+        from: u32,
+        to: u32,
+        rating: Rating,
+        text: &str,
+    ) -> Result<(), KeepFault>
+        requires fits { AreSound self.old → ChangeFits self.old (change.Feedback moment item from to rating text) }
+        ensures { Applies result self.old self.new (change.Feedback moment item from to rating text.entry) }
+    {
+        ratings::give(self.alloc, &mut self.feedback, item, from, to, rating, text)?;
+        self.clock = moment;
+        Ok(())
+    }
+}

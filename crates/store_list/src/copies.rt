@@ -1,0 +1,163 @@
+//! Copies of rows that hold texts.
+ghost use Rattle.std.specs.Prelude.{◌≡◌, ◌++◌, ◌∷◌, [], Bool, IfOk, IfErr, OnOk, OnErr, take, filter};
+ghost use Rattle.std.specs.Option.{option_copied};
+ghost use Rattle.house_rows.specs.declared.fault.KeepFault.TheVariants as fault;
+
+use house_rows::{Category, Feedback, Item, KeepFault, Member, Question, Text};
+use std::alloc::{AllocError, Global};
+
+/// The most rows of a list that begins at a number.
+pub(crate) const MOST_SHOWN: usize = 50;
+
+/// A row that can be copied.
+pub(crate) trait Copied {
+    /// A copy of it.
+    fn copied(&self, alloc: Global) -> Result<Self, AllocError>
+    where
+        Self: Sized,
+        ensures { IfOk result (λ copy. copy ≡ self.now) };
+}
+
+impl Copied for Member {
+    fn copied(&self, alloc: Global) -> Result<Member, AllocError> {
+        Ok(Member {
+            member: self.member,
+            name: Text::copy_of(alloc, self.name.as_str())?,
+        })
+    }
+}
+
+impl Copied for Category {
+    fn copied(&self, alloc: Global) -> Result<Category, AllocError> {
+        Ok(Category {
+            category: self.category,
+            name: Text::copy_of(alloc, self.name.as_str())?,
+        })
+    }
+}
+
+impl Copied for Item {
+    fn copied(&self, alloc: Global) -> Result<Item, AllocError> {
+        Ok(Item {
+            terms: self.terms,
+            lot: Text::copy_of(alloc, self.lot.as_str())?,
+            title: Text::copy_of(alloc, self.title.as_str())?,
+            text: Text::copy_of(alloc, self.text.as_str())?,
+        })
+    }
+}
+
+impl Copied for Question {
+    fn copied(&self, alloc: Global) -> Result<Question, AllocError> {
+        let answer = match &self.answer {
+            Some(text) => Some(Text::copy_of(alloc, text.as_str())?),
+            None => None,
+        };
+        Ok(Question {
+            item: self.item,
+            asker: self.asker,
+            number: self.number,
+            text: Text::copy_of(alloc, self.text.as_str())?,
+            answer,
+        })
+    }
+}
+
+impl Copied for Feedback {
+    fn copied(&self, alloc: Global) -> Result<Feedback, AllocError> {
+        Ok(Feedback {
+            item: self.item,
+            from: self.from,
+            to: self.to,
+            rating: self.rating,
+            text: Text::copy_of(alloc, self.text.as_str())?,
+        })
+    }
+}
+
+/// A copy of a text.
+pub(crate) fn text_of(alloc: Global, text: &str) -> Result<Text, KeepFault>
+    ensures value { IfOk result (λ copy. copy ≡ text.now) }
+    ensures memory { IfErr result (λ e. e ≡ fault.Memory) }
+{
+    match Text::copy_of(alloc, text) {
+        Ok(copy) => Ok(copy),
+        Err(_) => Err(KeepFault::Memory),
+    }
+}
+
+/// A copy of what was found.
+pub(crate) fn found<R: Copied>(alloc: Global, row: Option<&R>) -> Result<Option<R>, KeepFault>
+    ensures value { IfOk result (λ copy. copy ≡ option_copied row.entry) }
+    ensures memory { IfErr result (λ e. e ≡ fault.Memory) }
+{
+    match row {
+        Some(row) => match row.copied(alloc) {
+            Ok(copy) => Ok(Some(copy)),
+            Err(_) => Err(KeepFault::Memory),
+        },
+        None => Ok(None),
+    }
+}
+
+/// One more row at the end.
+pub(crate) fn push<R: Drop>(rows: &mut Vec<R>, row: R) -> Result<(), KeepFault>
+    ensures ok { OnOk result (rows.new.items ≡ rows.old.items ++ row ∷ []) }
+    ensures err { OnErr result (rows.new.items ≡ rows.old.items) }
+    ensures memory { IfErr result (λ e. e ≡ fault.Memory) }
+{
+    match rows.push(row) {
+        Ok(()) => Ok(()),
+        Err(_) => Err(KeepFault::Memory),
+    }
+}
+
+/// A copy of one more row.
+pub(crate) fn push_copy<R: Copied + Drop>(
+    alloc: Global,
+    rows: &mut Vec<R>,
+    row: &R,
+) -> Result<(), KeepFault>
+    ensures ok { OnOk result (rows.new.items ≡ rows.old.items ++ row.now ∷ []) }
+    ensures memory { IfErr result (λ e. e ≡ fault.Memory) }
+{
+    match row.copied(alloc) {
+        Ok(copy) => push(rows, copy),
+        Err(_) => Err(KeepFault::Memory),
+    }
+}
+
+/// Copies of all rows.
+pub(crate) fn copies<R: Copied + Drop>(alloc: Global, rows: &[R]) -> Result<Vec<R>, KeepFault>
+    ensures value { IfOk result (λ v. v.items ≡ rows.now) }
+    ensures memory { IfErr result (λ e. e ≡ fault.Memory) }
+{
+    let mut found = Vec::new(alloc);
+    for row in rows {
+        push_copy(alloc, &mut found, row)?;
+    }
+    Ok(found)
+}
+
+/// Copies of the first rows that pass, at most so many.
+pub(crate) fn chosen<R: Copied + Drop, F: Fn(&R) -> bool + Drop>(
+    alloc: Global,
+    rows: &[R],
+    most: usize,
+    passes: F,
+) -> Result<Vec<R>, KeepFault>
+    requires callable { F.IsAlwaysCallable passes }
+    ensures value { (test : R → Bool) → ((row : _) (answer : Bool) → F.post passes row answer → answer ≡ test row.now)
+        → IfOk result (λ v. v.items ≡ take most (filter test rows.now)) }
+    ensures memory { IfErr result (λ e. e ≡ fault.Memory) }
+{
+    let mut found = Vec::new(alloc);
+    for row in rows {
+        let wanted = passes(row);
+        let room = found.len() < most;
+        if wanted && room {
+            push_copy(alloc, &mut found, row)?;
+        }
+    }
+    Ok(found)
+}

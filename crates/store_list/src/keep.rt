@@ -1,0 +1,239 @@
+//! The keep in memory.
+ghost use Rattle.std.specs.Prelude.{◌≡◌, [], false, IfOk, IfErr};
+ghost use Rattle.house_rows.specs.Tables.{tables_of};
+ghost use Rattle.house_rows.specs.declared.fault.KeepFault.TheVariants as fault;
+
+use crate::copies::{copies, found};
+use crate::entries::{BidEntry, ItemEntry, WatchEntry};
+use crate::{bids, items, people, questions, ratings, sales, watches};
+use house_rows::{
+    Category, Change, Counts, Due, Feedback, Item, Keep, KeepFault, Member, OwnBest, OwnBid,
+    Question, Ratings, Settings, Terms,
+};
+use proxy::Standing;
+use settle::Sold;
+use std::alloc::Global;
+use std::marker::Model;
+
+/// The tables of a house, each in the order of its keys. Clauses see the `Tables`, which are sound.
+#[derive(Debug, Drop)]
+pub struct ListKeep {
+    pub(crate) alloc: Global,
+    pub(crate) settings: Settings,
+    pub(crate) clock: u64,
+    pub(crate) members: Vec<Member>,
+    pub(crate) categories: Vec<Category>,
+    pub(crate) items: Vec<ItemEntry>,
+    pub(crate) bids: Vec<BidEntry>,
+    pub(crate) watches: Vec<WatchEntry>,
+    pub(crate) questions: Vec<Question>,
+    pub(crate) feedback: Vec<Feedback>,
+}
+
+impl Model for ListKeep {
+    ghost use Rattle.house_rows.specs.Tables.{Tables};
+
+    ghost Value = { Tables };
+
+    ghost use Rattle.store_list.specs.Kept.{IsKept};
+
+    ghost view = { λ k. record {
+      settings = k.settings;
+      clock = k.clock;
+      members = k.members.items;
+      categories = k.categories.items;
+      items = k.items.items;
+      bids = k.bids.items;
+      watches = k.watches.items;
+      questions = k.questions.items;
+      feedback = k.feedback.items;
+    } };
+
+    ghost invariant = { λ k. IsKept (record {
+      settings = k.settings;
+      clock = k.clock;
+      members = k.members.items;
+      categories = k.categories.items;
+      items = k.items.items;
+      bids = k.bids.items;
+      watches = k.watches.items;
+      questions = k.questions.items;
+      feedback = k.feedback.items;
+    }) };
+}
+
+impl ListKeep {
+    /// The keep of a house to which nothing has happened yet.
+    ///
+    /// The only error is `KeepFault::Memory`.
+    #[tactic(auto, unfolding(house_rows::specs::Tables::tables_of, house_rows::specs::Questions::questions))]
+    pub fn create(alloc: Global, settings: Settings) -> Result<ListKeep, KeepFault>
+        ensures empty { IfOk result (λ keep. keep ≡ tables_of settings []) }
+        ensures memory { IfErr result (λ e. e ≡ fault.Memory) }
+    {
+        Ok(ListKeep {
+            alloc,
+            settings,
+            clock: 0,
+            members: Vec::new(alloc),
+            categories: Vec::new(alloc),
+            items: Vec::new(alloc),
+            bids: Vec::new(alloc),
+            watches: Vec::new(alloc),
+            questions: Vec::new(alloc),
+            feedback: Vec::new(alloc),
+        })
+    }
+}
+
+impl Keep for ListKeep {
+    ghost content = { λ k. k };
+
+    ghost is_failed = { λ k. false };
+
+    ghost is_honest = { λ k. Unit {0} };
+
+    ghost may_leave = { λ k t. t ≡ k };
+
+    fn settings(&self) -> Result<&Settings, KeepFault> {
+        Ok(&self.settings)
+    }
+
+    fn clock(&mut self) -> Result<u64, KeepFault> {
+        Ok(self.clock)
+    }
+
+    fn counts(&mut self) -> Result<Counts, KeepFault> {
+        Ok(Counts {
+            members: self.members.len() as u32,
+            categories: self.categories.len() as u32,
+            items: self.items.len() as u32,
+        })
+    }
+
+    fn member(&mut self, member: u64) -> Result<Option<Member>, KeepFault> {
+        found(self.alloc, people::member(&self.members, member))
+    }
+
+    fn member_named(&mut self, name: &str) -> Result<Option<Member>, KeepFault> {
+        found(self.alloc, people::member_named(&self.members, name))
+    }
+
+    fn category(&mut self, category: u64) -> Result<Option<Category>, KeepFault> {
+        found(self.alloc, people::category(&self.categories, category))
+    }
+
+    fn category_named(&mut self, name: &str) -> Result<Option<Category>, KeepFault> {
+        found(self.alloc, people::category_named(&self.categories, name))
+    }
+
+    fn item(&mut self, item: u64) -> Result<Option<Item>, KeepFault> {
+        found(self.alloc, items::item(&self.items, item))
+    }
+
+    fn terms(&mut self, item: u64) -> Result<Option<Terms>, KeepFault> {
+        Ok(items::terms(&self.items, item))
+    }
+
+    fn item_of(&mut self, seller: u64, lot: &str) -> Result<Option<u32>, KeepFault> {
+        Ok(items::number_with_lot(&self.items, seller, lot))
+    }
+
+    fn standing(&mut self, item: u64) -> Result<Option<Standing>, KeepFault> {
+        Ok(items::standing(&self.items, item))
+    }
+
+    fn own_best(&mut self, item: u64, member: u64) -> Result<OwnBest, KeepFault> {
+        Ok(bids::best(&self.bids, member, item))
+    }
+
+    fn watched(&mut self, member: u64, item: u64) -> Result<bool, KeepFault> {
+        Ok(watches::is_watched(&self.watches, member, item))
+    }
+
+    fn watch_count(&mut self, member: u64) -> Result<u64, KeepFault> {
+        Ok(watches::count(&self.watches, member))
+    }
+
+    fn ask_count(&mut self, item: u64, asker: u64) -> Result<u64, KeepFault> {
+        Ok(questions::count(&self.questions, asker, item))
+    }
+
+    fn question(
+        &mut self,
+        item: u64,
+        asker: u64,
+        number: u64,
+    ) -> Result<Option<Question>, KeepFault> {
+        let question = questions::question(&self.questions, item, asker, number);
+        found(self.alloc, question)
+    }
+
+    fn given(&mut self, item: u64, giver: u64) -> Result<bool, KeepFault> {
+        Ok(ratings::is_given(&self.feedback, item, giver))
+    }
+
+    fn ratings(&mut self, member: u64) -> Result<Ratings, KeepFault> {
+        Ok(ratings::ratings(&self.feedback, member))
+    }
+
+    fn due(&mut self, moment: u64) -> Result<Due, KeepFault> {
+        Ok(items::due(&self.items, moment))
+    }
+
+    fn items_in(&mut self, category: u64, from: u64) -> Result<Vec<Item>, KeepFault> {
+        items::in_category(self.alloc, &self.items, category, from)
+    }
+
+    fn bids_of(&mut self, member: u64, from: u64) -> Result<Vec<OwnBid>, KeepFault> {
+        bids::own_bids(self.alloc, &self.items, &self.bids, member, from)
+    }
+
+    fn published(&mut self, item: u64, from: u64) -> Result<Vec<Question>, KeepFault> {
+        questions::published(self.alloc, &self.questions, item, from)
+    }
+
+    fn questions_of(&mut self, member: u64, from: u64) -> Result<Vec<Question>, KeepFault> {
+        questions::asked_by(self.alloc, &self.questions, member, from)
+    }
+
+    fn feedback_for(&mut self, member: u64, from: u64) -> Result<Vec<Feedback>, KeepFault> {
+        ratings::given_to(self.alloc, &self.feedback, member, from)
+    }
+
+    fn categories(&mut self) -> Result<Vec<Category>, KeepFault> {
+        copies(self.alloc, &self.categories)
+    }
+
+    fn members(&mut self) -> Result<Vec<Member>, KeepFault> {
+        copies(self.alloc, &self.members)
+    }
+
+    fn items(&mut self) -> Result<Vec<Item>, KeepFault> {
+        items::all(self.alloc, &self.items)
+    }
+
+    fn all_published(&mut self) -> Result<Vec<Question>, KeepFault> {
+        questions::all_published(self.alloc, &self.questions)
+    }
+
+    fn all_feedback(&mut self) -> Result<Vec<Feedback>, KeepFault> {
+        copies(self.alloc, &self.feedback)
+    }
+
+    fn watches_of(&mut self, member: u64) -> Result<Vec<Item>, KeepFault> {
+        watches::items_watched(self.alloc, &self.items, &self.watches, member)
+    }
+
+    fn waiting_for(&mut self, member: u64) -> Result<Vec<Question>, KeepFault> {
+        questions::waiting_for(self.alloc, &self.items, &self.questions, member)
+    }
+
+    fn sold_of(&mut self, member: u64) -> Result<Vec<Sold>, KeepFault> {
+        sales::sales_to(self.alloc, &self.items, member)
+    }
+
+    fn apply(&mut self, change: &Change<'_>) -> Result<(), KeepFault> {
+        self.change(change)
+    }
+}
