@@ -4,7 +4,7 @@
 CASES ?= ../shared/conformance
 SUITES = first-path money
 
-.PHONY: help demo test auction program cases memory
+.PHONY: help demo test auction program cases memory statement
 
 help:
 	@echo "make demo      answers examples/first-bid.http, without waiting for the proofs"
@@ -12,7 +12,8 @@ help:
 	@echo "make auction   proves and builds the program, as bin/auction"
 	@echo "make program   checks the exit statuses and lines of the program that make test has left"
 	@echo "make cases     runs the conformance cases on the program that make test has left"
-	@echo "make memory    refuses each allocation of that program in turn (needs cc)"
+	@echo "make memory    refuses each allocation of that program, a statement and an inbox (needs cc)"
+	@echo "make statement compares statements with those that Python makes"
 
 demo:
 	@cd crates/auction && rt try -- replay --preset < ../../examples/first-bid.http
@@ -35,3 +36,8 @@ cases:
 
 memory:
 	python3 tests/refused_memory.py crates/auction/out/auction
+	python3 tests/refused_statement.py crates/settle_bench/out/settle_bench
+	python3 tests/refused_inbox.py crates/wire_bench/out/wire_bench
+
+statement:
+	python3 tests/compared_statements.py crates/settle_bench/out/settle_bench
