@@ -1,22 +1,22 @@
 -- The lines of a head: where they end, and the fields that they have.
-use Rattle.std.proofs.Common.{◌≡◌, ◌⊎◌, ℕ, ◌+◌, ◌-◌, ◌<◌, ◌≤◌, ◌==◌, List, [], ◌∷◌, ◌++◌, Bool, true, false, Option, Some, None, All, IsTrue, codes, length, map, take, drop, get_or, nat_lt, if◌then◌else◌, refl, sym, ap, ◌∙◌, subst, arith, rules, inl, inr, append-nil, append_assoc, length-append}
+use Rattle.std.proofs.Common.{◌≡◌, ℕ, ◌+◌, ◌-◌, ◌<◌, ◌≤◌, ◌==◌, List, [], ◌∷◌, ◌++◌, Bool, true, false, Option, Some, None, All, IsTrue, length, map, take, drop, get_or, nat_lt, if◌then◌else◌, refl, sym, ap, ◌∙◌, subst, arith, rules, inl, inr, append-nil, append_assoc, length-append}
 use Rattle.std.specs.List.{filter, flat_map, position_or_len, slice_split}
-use Rattle.std.specs.Str.{str_eq_ignore_ascii_case, str_to_ascii_lowercase}
-use Rattle.std.specs.Char.{to_ascii_lowercase}
-use Rattle.std.proofs.Math.Seq.{drop-append-add, take-append_seam, get_or-append_seam}
-use Rattle.std.proofs.lemmas.Bool.{eq-eqb, eqb-true, true≢false}
+use Rattle.std.specs.Str.{IsTrimAsciiStart, str_eq_ignore_ascii_case, str_to_ascii_lowercase}
+use Rattle.std.specs.Char.{is_ascii_whitespace, to_ascii_lowercase}
+use Rattle.std.proofs.Math.Seq.{drop-append-add, drop-append_seam, take-append_seam, get_or-append_seam}
+use Rattle.std.proofs.lemmas.Bool.{cases_eq, cases_lt, cases_order, eq-eqb, true≢false}
 use Rattle.std.proofs.lemmas.Bool.Decides.{eqb_tells}
 use Rattle.std.proofs.lemmas.List.{drop-drop, get_or_append_left, length-map, length-take-le, map-append, take_all, take_rest}
 use Rattle.std.proofs.lemmas.List.Elements.{All-append, All-cons, All-from_get_or, All-get_or, All-head, All-nil, All-tail, filter-append}
 use Rattle.std.proofs.lemmas.List.Splits.{slice_split_at, slice_split_first, slice_split_none}
-use Rattle.std.proofs.lemmas.List.Sums.{passes_at_first, position_or_len_is}
+use Rattle.std.proofs.lemmas.List.Sums.{position_or_len_is}
 use Rattle.std.proofs.lemmas.Slice.Eq.{bytes_eq-Decides}
-use Rattle.httparse.specs.Grammar.{AllPass, Field, IsField, IsRequestHead, LineEnd, RequestHead, crlf, is_token_byte, is_uri_byte, is_value_byte, lf, print_blank, print_end, print_field, print_request, print_section, print_version, trim_ows}
+use Rattle.httparse.specs.Grammar.{AllPass, Field, IsField, IsRequestHead, IsToken, LineEnd, RequestHead, crlf, is_token_byte, is_value_byte, lf, print_blank, print_end, print_field, print_request, print_section, print_version, trim_ows}
 use Rattle.httparse.specs.Spans.{name_and_value}
 use Rattle.httparse.proofs.GrammarLemmas.{cons-append, print_request-append}
 use Rattle.memchr.specs.Find.{IsFirstByte, is_byte}
 use Rattle.wire.specs.Fields.{Pair, values_of}
-use Rattle.wire.specs.Lines.{field_in, fields_in, name_end, value_behind}
+use Rattle.wire.specs.Lines.{field_in, fields_in, name_end, request_line, value_behind}
 use Rattle.wire.proofs.FieldLemmas.{values_of-more, values_of-none}
 
 -- no byte of the list is x
@@ -138,26 +138,23 @@ other_length a b other = is_not (str_eq_ignore_ascii_case a b) (λ e. other (sam
         let lists = (bytes_eq-Decides (str_to_ascii_lowercase a) (str_to_ascii_lowercase b)).0 e in
         sym (length-map a to_ascii_lowercase) ∙ ap (λ (l : List ℕ). length l) lists ∙ length-map b to_ascii_lowercase
 
--- a line whose colon does not stand behind so many bytes as the name has is of another name
-pub other_line : (line name : List ℕ) → (length name < length line → get_or line (length name) 0 ≡ 58 → ⊥)
+-- a line of whose name it is told that it is another has no value of this one
+pub other_name : (line name : List ℕ) → (name_end line < length line → name_end line ≡ length name → str_eq_ignore_ascii_case
+    (take (name_end line) line) name ≡ false)
     → values_of name (field_in line) ≡ []
-other_line line name other = by_test (nat_lt (name_end line) (length line)) refl
+other_name line name other = elim (cases_lt (name_end line) (length line)) [
+  | inr none ↦ ap (values_of name) (field_nowhere line none) ∙ values_of-none name
+  | inl low ↦ ap (values_of name) (field_at line (name_end line) refl low)
+      ∙ named_other name (take (name_end line) line, value_behind (drop (name_end line + 1) line)) (differs low)
+]
   where
-    by_test : (t : Bool) → nat_lt (name_end line) (length line) ≡ t → values_of name (field_in line) ≡ []
-    by_test false test =
-        let none : length line ≤ name_end line = search (rules, test) in
-        ap (values_of name) (field_nowhere line none) ∙ values_of-none name
-    by_test true test =
-        let low : name_end line < length line = search (rules, test) in
-        let colon : get_or line (name_end line) 0 ≡ 58 = eqb-true (get_or line (name_end line) 0) 58
-        (passes_at_first (λ b. b == 58) line 0 low) in
+    differs : name_end line < length line → str_eq_ignore_ascii_case (take (name_end line) line) name ≡ false
+    differs low =
         let long : length (take (name_end line) line) ≡ name_end line = length-take-le (name_end line) line (omega (arith, low)) in
-        let differ : length (take (name_end line) line) ≡ length name → ⊥ = λ e.
-        let here : name_end line ≡ length name = sym long ∙ e in
-        other (subst (λ n. n < length line) here low) (subst (λ n. get_or line n 0 ≡ 58) here colon) in
-        ap (values_of name) (field_at line (name_end line) refl low)
-        ∙ named_other name (take (name_end line) line, value_behind (drop (name_end line + 1) line))
-        (other_length (take (name_end line) line) name differ)
+        elim (cases_eq (name_end line) (length name)) [
+          | inl e ↦ other low e
+          | inr not ↦ other_length (take (name_end line) line) name (λ e. not (sym long ∙ e))
+        ]
 
 pub values_of-append : (name : List ℕ) (xs ys : List Pair) → values_of name (xs ++ ys) ≡ values_of name xs ++ values_of name ys
 unfolding values_of
@@ -247,10 +244,6 @@ section_fields (f ∷ fields) last all =
     regroup : (a b c d : List ℕ) → ((a ++ b) ++ c) ++ d ≡ a ++ (b ++ (c ++ d))
     regroup a b c d = simp append_assoc
 
--- the line of a request without its end
-abbrev pub request_line : RequestHead → List ℕ
-request_line h = h.method ++ 32 ∷ (h.target ++ 32 ∷ print_version h.minor)
-
 -- what stands behind the empty lines of a head
 abbrev pub behind_blank : RequestHead → List ℕ
 behind_blank h = request_line h ++ (print_end h.line_end ++ print_section h.fields h.last)
@@ -264,62 +257,74 @@ head_lines h =
         → a ++ (b ++ 32 ∷ (c ++ 32 ∷ (d ++ (e ++ (f ++ []))))) ≡ a ++ ((b ++ 32 ∷ (c ++ 32 ∷ d)) ++ (e ++ f))
     regroup a b c d e f = simp (append_assoc, cons-append, append-nil)
 
-line_lacks : (h : RequestHead) → IsRequestHead h → Lacks 10 (request_line h)
-line_lacks h is =
-    lacks_both 10 h.method (32 ∷ (h.target ++ 32 ∷ print_version h.minor)) (token_lacks_line h.method is.method.1)
-    (also_lacks 10 32 (h.target ++ 32 ∷ print_version h.minor) refl
-    (lacks_both 10 h.target (32 ∷ print_version h.minor) (lacks_by is_uri_byte 10 refl h.target is.target.1)
-    (also_lacks 10 32 (print_version h.minor) refl
-    (lacks_both 10 (codes "HTTP/1.") ((48 + h.minor) ∷ []) (lacks_by is_uri_byte 10 refl (codes "HTTP/1.") (search rules))
-    (also_lacks 10 (48 + h.minor) [] digit (lacks_none 10))))))
+-- the ends of lines are white space
+blank_space : (ends : List LineEnd) → AllPass is_ascii_whitespace (print_blank ends)
+blank_space [] = All-nil (λ b. IsTrue (is_ascii_whitespace b))
+blank_space (lf ∷ ends) = All-cons (λ b. IsTrue (is_ascii_whitespace b)) 10 (print_blank ends) refl (blank_space ends)
+blank_space (crlf ∷ ends) =
+    All-cons (λ b. IsTrue (is_ascii_whitespace b)) 13 (10 ∷ print_blank ends) refl
+    (All-cons (λ b. IsTrue (is_ascii_whitespace b)) 10 (print_blank ends) refl (blank_space ends))
+
+no_space : (b : ℕ) → (b == 9) ≡ false → (b == 10) ≡ false → (b == 12) ≡ false → (b == 13) ≡ false → (b == 32) ≡ false
+    → is_ascii_whitespace b ≡ false
+no_space b = search rules
+
+-- a token begins with no white space
+token_no_space : (token rest : List ℕ) → IsToken token → is_ascii_whitespace (get_or (token ++ rest) 0 0) ≡ false
+unfolding is_token_byte
+token_no_space token rest is =
+    let first = get_or token 0 0 in
+    let other : (x : ℕ) → is_token_byte x ≡ false → (first == x) ≡ false = λ x fails. All-get_or (λ b. (b == x) ≡ false) token 0 0 is.0
+    (lacks_by is_token_byte x fails token is.1) in
+    ap is_ascii_whitespace (get_or_append_left token rest 0 0 is.0)
+    ∙ no_space first (other 9 refl) (other 10 refl) (other 12 refl) (other 13 refl) (other 32 refl)
+
+-- white space up to what begins with none is what a trim takes off
+trims : (space text r : List ℕ) → AllPass is_ascii_whitespace space → 0 < length text → is_ascii_whitespace (get_or text 0 0) ≡ false
+    → IsTrimAsciiStart (space ++ text) r → r ≡ text
+trims space text r all some first (n, is, long, below, stops) = elim (cases_order n (length space)) [
+  | inl e ↦ is ∙ ap (λ k. drop k (space ++ text)) e ∙ drop-append_seam space text
+  | inr (inl low) ↦ absurd (true≢false
+      (sym (All-get_or (λ b. IsTrue (is_ascii_whitespace b)) space n 0 low all) ∙ ap is_ascii_whitespace
+      (sym (get_or_append_left space text 0 n low)) ∙ stops (omega (arith, length-append space text, low))))
+  | inr (inr past) ↦ absurd (true≢false
+      (sym (below (length space) past) ∙ ap is_ascii_whitespace (get_or-append space text) ∙ first))
+]
   where
-    digit : ((48 + h.minor) == 10) ≡ false
-    digit = elim (eqb_tells (48 + h.minor) 10) [ inl e ↦ absurd (omega (arith, e.1)) | inr e ↦ e.0 ]
+    get_or-append : (xs ys : List ℕ) → get_or (xs ++ ys) (length xs) 0 ≡ get_or ys 0 0
+    get_or-append [] ys = refl
+    get_or-append (x ∷ xs) ys = get_or-append xs ys
 
--- what stands behind the first line of a head, some of whose empty lines are passed
-pub record Behind (h : RequestHead) (rest : List ℕ) (k : ℕ) : Type 0 where
-  pub inside : k < length rest
-  pub next : ((k ≤ 1) × (ends : List LineEnd) × (drop (k + 1) rest ≡ print_blank ends ++ behind_blank h)) ⊎ ((1 < k) ×
-      (drop (k + 1) rest ≡ print_section h.fields h.last))
-
--- where a text begins with a line, that line ends at the first line feed
-cut : (rest line more : List ℕ) (k : ℕ) → rest ≡ line ++ 10 ∷ more → Lacks 10 line → place_of 10 rest ≡ k
-    → (k ≡ length line) × (k < length rest) × (drop (k + 1) rest ≡ more)
-cut rest line more k e lacks at_k =
-    let same : k ≡ length line = sym at_k ∙ ap (place_of 10) e ∙ place_behind 10 line more lacks in
-    let long : length rest ≡ length line + length (10 ∷ more) = ap (λ (l : List ℕ). length l) e ∙ length-append line (10 ∷ more) in (
-      same,
-      omega (arith, same, long),
-      ap (λ n. drop (n + 1) rest) same ∙ ap (drop (length line + 1)) e ∙ drop-append-add line (10 ∷ more) 1,
+-- behind the line of a request, the empty lines before it trimmed off, stands its end, and then the lines of the fields
+pub behind_request_line : (h : RequestHead) (text : List ℕ) → IsRequestHead h → IsTrimAsciiStart (print_request h) text
+    → (length (request_line h) ≤ length text) × (drop (length (request_line h)) text ≡ print_end h.line_end ++ print_section h.fields h.last)
+behind_request_line h text is trimmed =
+    let rest = print_end h.line_end ++ print_section h.fields h.last in
+    let behind_method = 32 ∷ (h.target ++ 32 ∷ print_version h.minor) in
+    let begins : is_ascii_whitespace (get_or (behind_blank h) 0 0) ≡ false = ap (λ (l : List ℕ). is_ascii_whitespace (get_or l 0 0))
+    (append_assoc h.method behind_method rest) ∙ token_no_space h.method (behind_method ++ rest) is.method in
+    let some : 0 < length (behind_blank h) = omega (
+      arith,
+      length-append (request_line h) rest,
+      length-append h.method
+          behind_method,
+      is.method.0,
+    ) in
+    let same : text ≡ behind_blank h = trims (print_blank h.blank) (behind_blank h) text (blank_space h.blank) some begins (subst
+    (λ t. IsTrimAsciiStart t text) (head_lines h) trimmed) in (
+      omega (arith, ap (λ (l : List ℕ). length l) same, length-append (request_line h) rest),
+      ap (drop (length (request_line h))) same ∙ drop-append_seam (request_line h) rest,
     )
 
-pub head_step : (h : RequestHead) → IsRequestHead h → (ends : List LineEnd) (rest : List ℕ) (k : ℕ)
-    → rest ≡ print_blank ends ++ behind_blank h → place_of 10 rest ≡ k → Behind h rest k
-head_step h is (lf ∷ ends) rest k e at_k =
-    let (same, inside, left) = cut rest [] (print_blank ends ++ behind_blank h) k e (lacks_none 10) at_k in
-    record { inside = inside; next = inl (omega (arith, same), ends, left) }
-head_step h is (crlf ∷ ends) rest k e at_k =
-    let (same, inside, left) = cut rest (13 ∷ []) (print_blank ends ++ behind_blank h) k e return_lacks at_k in
-    record { inside = inside; next = inl (omega (arith, same), ends, left) }
-head_step h is [] rest k e at_k = by_end h.line_end refl
-  where
-    long : 1 < length (request_line h)
-    long = omega (arith, length-append h.method (32 ∷ (h.target ++ 32 ∷ print_version h.minor)), is.method.0)
-
-    by_end : (end : LineEnd) → h.line_end ≡ end → Behind h rest k
-    by_end lf end =
-        let whole : rest ≡ request_line h ++ 10 ∷ print_section h.fields h.last = e ∙ ap (λ x. request_line h ++
-        (print_end x ++ print_section h.fields h.last)) end in
-        let (same, inside, left) = cut rest (request_line h) (print_section h.fields h.last) k whole (line_lacks h is) at_k in
-        record { inside = inside; next = inr (omega (arith, same, long), left) }
-    by_end crlf end =
-        let whole : rest ≡ (request_line h ++ 13 ∷ []) ++ 10 ∷ print_section h.fields h.last = e ∙ ap (λ x. request_line h ++
-        (print_end x ++ print_section h.fields h.last)) end ∙ sym (append_assoc (request_line h) (13 ∷ [])
-        (10 ∷ print_section h.fields h.last)) in
-        let lacks : Lacks 10 (request_line h ++ 13 ∷ []) = lacks_both 10 (request_line h) (13 ∷ []) (line_lacks h is) return_lacks in
-        let (same, inside, left) = cut rest (request_line h ++ 13 ∷ []) (print_section h.fields h.last) k whole lacks at_k in
-        let more : length (request_line h ++ 13 ∷ []) ≡ length (request_line h) + 1 = length-append (request_line h) (13 ∷ []) in
-        record { inside = inside; next = inr (omega (arith, same, long, more), left) }
+-- the line of a request is its method, its target and ten bytes, and it is part of the head
+pub request_line_long : (h : RequestHead)
+    → (length (request_line h) ≡ length h.method + length h.target + 10) × (length (request_line h) ≤ length (print_request h))
+request_line_long h =
+    let method = length-append h.method (32 ∷ (h.target ++ 32 ∷ print_version h.minor)) in
+    let target = length-append h.target (32 ∷ print_version h.minor) in
+    let whole = ap (λ (l : List ℕ). length l) (head_lines h) ∙ length-append (print_blank h.blank) (behind_blank h) in
+    let behind = length-append (request_line h) (print_end h.line_end ++ print_section h.fields h.last) in
+    (omega (arith, method, target), omega (arith, whole, behind))
 
 -- what stands behind a line and its line feed
 pub behind_line : (text : List ℕ) (k : ℕ)

@@ -1,8 +1,6 @@
 -- What the bytes of a stream tell so far.
-use Rattle.std.specs.Prelude.{ℕ, ◌<◌, ◌≤◌, List, ◌++◌, length, drop, Result, Ok, Err}
-use Rattle.httparse.specs.Grammar.{RequestHead, MayBecomeRequest}
-use Rattle.httparse.specs.Spans.{IsRequestAt, IsRequestWithin}
-use Rattle.httparse.specs.declared.spans.HeaderSpan.{HeaderSpan}
+use Rattle.std.specs.Prelude.{◌≡◌, ℕ, ◌<◌, ◌≤◌, List, ◌++◌, length, drop, Result, Ok, Err}
+use Rattle.httparse.specs.Grammar.{RequestHead, MayBecomeRequest, print_request}
 use Rattle.wire.specs.Frame.{IsFront, IsMessageAt, fields_of}
 use Rattle.wire.specs.Head.{BeginsHead, NeverHead, NoHead, most_bytes}
 use Rattle.wire.specs.Known.{IsKnown}
@@ -13,6 +11,7 @@ use Rattle.wire.specs.declared.front.Missing.{Missing}
 use Rattle.wire.specs.declared.front.Missing.TheVariants as missing
 use Rattle.wire.specs.declared.head.Head.{Head}
 use Rattle.wire.specs.declared.head.Head.TheVariants.{Found, More, Never}
+use Rattle.wire.specs.declared.head.Parts.{Parts}
 
 -- the bytes have no head within the limits yet, and more bytes may make one of them
 pub record EndsInHead (bytes : List ℕ) : Type 0 where
@@ -28,11 +27,18 @@ EndsInBody bytes = IsFront bytes (Err fault.End) × (length bytes < 24576)
 abbrev pub IsKnownFault : List ℕ → WireFault → Type 0
 IsKnownFault bytes f = (more : List ℕ) → IsFront (bytes ++ more) (Err f)
 
+-- these are the parts of the head h
+pub record ArePartsOf (h : RequestHead) (parts : Parts) : Type 0 where
+  pub method : parts.method.now ≡ h.method
+  pub target : parts.target.now ≡ h.target
+  pub minor : parts.minor ≡ h.minor
+  pub known : IsKnown (fields_of h) parts.known
+  pub len : parts.len ≡ length (print_request h)
+
 -- what the search for a head tells
 abbrev pub IsFound : List ℕ → Head → Type 0
-IsFound bytes (Found r known) =
-    (spans : List HeaderSpan) × IsRequestWithin bytes spans r × (h : RequestHead) × IsRequestAt bytes spans r h
-    × BeginsHead bytes h (drop r.len bytes) × IsKnown (fields_of h) known
+IsFound bytes (Found parts) =
+    (h : RequestHead) × ArePartsOf h parts × BeginsHead bytes h (drop parts.len bytes) × (parts.len ≤ length bytes)
 IsFound bytes More = EndsInHead bytes
 IsFound bytes Never = NeverHead bytes
 

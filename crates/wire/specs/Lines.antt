@@ -1,7 +1,7 @@
 -- The fields of a head, by its lines.
-use Rattle.std.specs.Prelude.{ℕ, ◌+◌, List, [], ◌∷◌, length, take, drop, nat_lt, ◌==◌, if◌then◌else◌}
+use Rattle.std.specs.Prelude.{ℕ, ◌+◌, List, [], ◌∷◌, ◌++◌, length, take, drop, nat_lt, ◌==◌, if◌then◌else◌}
 use Rattle.std.specs.List.{before_first, flat_map, position_or_len, slice_split}
-use Rattle.httparse.specs.Grammar.{trim_ows}
+use Rattle.httparse.specs.Grammar.{RequestHead, print_version, trim_ows}
 use Rattle.wire.specs.Fields.{Pair}
 
 -- where the name of a line ends: at its first colon, or else at its end
@@ -20,3 +20,7 @@ field_in line =
 -- the fields of the lines that line feeds part
 unfoldable pub fields_in : List ℕ → List Pair
 fields_in text = flat_map field_in (slice_split (λ b. b == 10) text)
+
+-- the line of a request without its end
+abbrev pub request_line : RequestHead → List ℕ
+request_line h = h.method ++ 32 ∷ (h.target ++ 32 ∷ print_version h.minor)

@@ -31,11 +31,13 @@ impl<'b> Values<'b> {
 }
 
 /// Whether two names are the same but for ASCII case.
+#[inline(always)]
 pub(crate) fn is_same(name: &[u8], wanted: &[u8]) -> bool
     ensures { result ≡ str_eq_ignore_ascii_case name.now wanted.now }
 {
-    // Most names come in the case in which they are asked for.
-    name == wanted || name.eq_ignore_ascii_case(wanted)
+    // Most names come in the case in which they are asked for. At a constant, `starts_with` is a
+    // compare or two, where `==` is a call.
+    name.len() == wanted.len() && (name.starts_with(wanted) || name.eq_ignore_ascii_case(wanted))
 }
 
 // Whether a byte is a space or a tab.
@@ -68,7 +70,8 @@ fn is_close_token(piece: &[u8]) -> bool
     trim(piece).eq_ignore_ascii_case(b"close")
 }
 
-/// Whether a list, parted by commas, has the token `close`.
+/// Whether a list, parted by commas, has the token `close`. Few messages have such a list.
+#[inline(never)]
 pub(crate) fn has_close(list: &[u8]) -> bool
     ensures { result ≡ names_close list.now }
 {

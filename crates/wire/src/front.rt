@@ -6,6 +6,9 @@ use crate::head::{Head, head_at};
 use crate::lines::field_lines;
 use crate::request::Request;
 
+// What stands round the method and the target in the line of a request, of either version.
+const VERSION: &[u8] = b"  HTTP/1.1";
+
 /// Why the bytes are no message yet.
 #[derive(Clone, Copy)]
 pub(crate) enum Missing {
@@ -21,12 +24,12 @@ pub(crate) enum Missing {
 pub(crate) fn front<'b>(bytes: &'b [u8]) -> Result<Request<'b>, Missing>
     ensures { IsFrontSoFar bytes.now result }
 {
-    let (head, known) = match head_at(bytes) {
-        Head::Found(head, known) => (head, known),
+    let head = match head_at(bytes) {
+        Head::Found(head) => head,
         Head::More => return Err(Missing::Head),
         Head::Never => return Err(Missing::Fault(WireFault::Head)),
     };
-    let size = match known.body_length(head.version) {
+    let size = match head.known.body_length(head.minor) {
         Ok(size) => size,
         Err(fault) => return Err(Missing::Fault(fault)),
     };
@@ -35,12 +38,15 @@ pub(crate) fn front<'b>(bytes: &'b [u8]) -> Result<Request<'b>, Missing>
         return Err(Missing::Body);
     }
     Ok(Request {
-        method: head.method.of(bytes),
-        target: head.path.of(bytes),
-        minor: head.version,
-        lines: field_lines(&bytes[..head.len]),
+        method: head.method,
+        target: head.target,
+        minor: head.minor,
+        lines: field_lines(
+            &bytes[..head.len],
+            head.method.len() + head.target.len() + VERSION.len(),
+        ),
         body: &after[..size],
-        closes: known.ends_connection(head.version),
+        closes: head.known.ends_connection(head.minor),
         size: head.len + size,
     })
 }

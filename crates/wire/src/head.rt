@@ -4,7 +4,7 @@ ghost use Rattle.httparse.specs.Spans.{RequestOverflows};
 ghost use Rattle.wire.specs.Front.{IsFound};
 
 use crate::known::{Known, known_of};
-use httparse::spans::{EMPTY_HEADER_SPAN, HeaderSpan, RequestSpans, parse_request};
+use httparse::spans::{EMPTY_HEADER_SPAN, HeaderSpan, parse_request};
 use httparse::{Error, Status};
 
 // The most fields of a head.
@@ -16,11 +16,22 @@ const FEW_FIELDS: usize = 16;
 // The most bytes of a head.
 const MOST_BYTES: usize = 8192;
 
+/// What the frame takes from a head.
+#[derive(Clone, Copy)]
+pub(crate) struct Parts<'b> {
+    pub(crate) method: &'b [u8],
+    pub(crate) target: &'b [u8],
+    pub(crate) minor: u8,
+    pub(crate) known: Known<'b>,
+    /// The length of the head, where the body begins.
+    pub(crate) len: usize,
+}
+
 /// What the search for a head tells.
 #[derive(Drop)]
 pub(crate) enum Head<'b> {
-    /// Where the parts of the head are, and what the frame asks of its fields.
-    Found(RequestSpans, Known<'b>),
+    /// The parts of the head.
+    Found(Parts<'b>),
     /// The bytes end before a head does.
     More,
     /// No bytes can follow that make a head.
@@ -37,8 +48,13 @@ fn head_in<'b>(bytes: &'b [u8], room: &mut [HeaderSpan]) -> Option<Head<'b>>
     match parse_request(bytes, room) {
         Ok(Status::Complete(spans)) => {
             if spans.len <= MOST_BYTES {
-                let known = known_of(bytes, &room[..spans.headers]);
-                Some(Head::Found(spans, known))
+                Some(Head::Found(Parts {
+                    method: spans.method.of(bytes),
+                    target: spans.path.of(bytes),
+                    minor: spans.version,
+                    known: known_of(bytes, &room[..spans.headers]),
+                    len: spans.len,
+                }))
             } else {
                 Some(Head::Never)
             }

@@ -21,6 +21,7 @@ pub(crate) struct Known<'b> {
 }
 
 /// Reads what the frame asks off the fields.
+#[inline(always)]
 pub(crate) fn known_of<'b>(bytes: &'b [u8], spans: &[HeaderSpan]) -> Known<'b>
     requires { All (IsHeaderWithin (length bytes.now)) spans.now }
     ensures { IsKnown (map (header_bytes bytes.now) spans.now) result }
@@ -38,6 +39,7 @@ pub(crate) fn known_of<'b>(bytes: &'b [u8], spans: &[HeaderSpan]) -> Known<'b>
 }
 
 // Whether a field is a `connection` that names `close`.
+#[inline(always)]
 fn is_closing(name: &[u8], value: &[u8]) -> bool
     ensures { result ≡ (str_eq_ignore_ascii_case name.now (codes "connection") && names_close value.now) }
 {

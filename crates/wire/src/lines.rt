@@ -1,28 +1,36 @@
 //! The lines of a head.
-ghost use Rattle.std.specs.Prelude.{◌≡◌, ◌++◌, ◌∷◌, [], ◌==◌, List, MatchOption, option_map};
+ghost use Rattle.std.specs.Prelude.{◌≡◌, ◌++◌, ◌∷◌, [], ◌==◌, List, MatchOption, length, option_map, ℕ};
 ghost use Rattle.std.specs.List.{before_first};
-ghost use Rattle.httparse.specs.Grammar.{IsRequestHead, RequestHead, print_request};
+ghost use Rattle.httparse.specs.Grammar.{IsRequestHead, LineEnd, RequestHead, print_end, print_request};
 ghost use Rattle.wire.specs.Fields.{Pair, only, values_of};
 ghost use Rattle.wire.specs.Frame.{fields_of};
 ghost use Rattle.wire.specs.Known.{IsCount};
-ghost use Rattle.wire.specs.Lines.{field_in, fields_in};
+ghost use Rattle.wire.specs.Lines.{field_in, fields_in, request_line};
 
 use crate::fields::{Values, is_same, trim};
 use memchr::memchr;
 
-/// The lines of the fields of a head: those behind the line of the request.
-pub(crate) fn field_lines(head: &[u8]) -> &[u8]
-    ensures { (h : RequestHead) → IsRequestHead h → head.now ≡ print_request h → fields_in result.now ≡ fields_of h }
+// What stands behind the end of a line.
+fn behind_end(text: &[u8]) -> &[u8]
+    ensures { (end : LineEnd) (rest : List ℕ) → text.now ≡ print_end end ++ rest → result.now ≡ rest }
 {
-    let mut rest = head;
-    while let Some(end) = memchr(b'\n', rest) {
-        rest = &rest[end..][1..];
-        // An empty line before that of the request has a carriage return at most.
-        if end > 1 {
-            return rest;
-        }
+    match text {
+        [b'\n', rest @ ..] => rest,
+        [_, _, rest @ ..] => rest,
+        _ => &[],
     }
-    rest
+}
+
+/// The lines of the fields of a head: those behind the line of the request, which has that length
+/// without its end.
+pub(crate) fn field_lines(head: &[u8], line: usize) -> &[u8]
+    ensures { (h : RequestHead) → IsRequestHead h → head.now ≡ print_request h → line ≡ length (request_line h) → fields_in result.now ≡ fields_of h }
+{
+    // Empty lines may stand before that of the request.
+    match head.trim_ascii_start().get(line..) {
+        Some(text) => behind_end(text),
+        None => &[],
+    }
 }
 
 // What stands before the carriage return.
@@ -44,12 +52,14 @@ fn value_in<'b>(line: &'b [u8], name: &[u8]) -> Option<&'b [u8]>
     if line.len() <= name.len() || line[name.len()] != b':' {
         return None;
     }
-    let colon = memchr(b':', line)?;
-    if is_same(&line[..colon], name) {
-        Some(trim(before_return(&line[colon + 1..])))
-    } else {
-        None
+    if !is_same(&line[..name.len()], name) {
+        return None;
     }
+    let colon = memchr(b':', line)?;
+    if colon < name.len() {
+        return None;
+    }
+    Some(trim(before_return(&line[colon + 1..])))
 }
 
 // These values, and that of one more line.

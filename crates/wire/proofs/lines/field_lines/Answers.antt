@@ -1,38 +1,22 @@
--- The line of a request is the first that is not empty.
-use Rattle.std.proofs.Common.{length, arith, inl, inr, ap, ◌∙◌}
+-- What stands behind the line of the request, which is as long as it is said to be.
+use Rattle.std.proofs.Common.{drop, arith, ap, ◌∙◌, subst, inl, inr}
+use Rattle.std.specs.Str.{IsTrimAsciiStart}
+use Rattle.std.proofs.lemmas.List.{take_rest}
+use Rattle.httparse.specs.Grammar.{print_section}
 use Rattle.wire.specs.Lines.{fields_in}
-use Rattle.wire.proofs.LineLemmas.{behind_line, found_at, head_lines, head_step, lacks_place, lacks_unfound, section_fields}
+use Rattle.wire.proofs.LineLemmas.{behind_request_line, section_fields}
 use Rattle.wire.proofs.lines.field_lines.Goals as goal
 
-pub loop-end-init : goal.loop-end-init
-loop-end-init c = λ h is e. (h.blank, e ∙ head_lines h)
+pub returns-in-Some : goal.returns-in-Some
+returns-in-Some c = λ h is e line.
+    let text = c.trim_ascii_start.result.now in
+    let (fits, behind) = behind_request_line h text is (subst (λ t. IsTrimAsciiStart t text) e c.trim_ascii_start.ensures.value) in
+    let cut = c.in-Some.ensures.lookup.0 in
+    let rest = cut.2 ∙ take_rest text c.args.line ∙ ap (λ n. drop n text) line ∙ behind in
+    ap fields_in (c.behind_end.ensures h.line_end (print_section h.fields h.last) rest) ∙ section_fields h.fields h.last is.fields
 
-pub returns-then-end-gt1 : goal.returns-then-end-gt1
-returns-then-end-gt1 c = λ h is e.
-    let rest = c.loop-end.rest.now in
-    let k = c.in-Some.end in
-    let (ends, here) = c.loop-end.invariant h is e in
-    let behind = head_step h is ends rest k here (found_at 10 rest k c.in-Some.ensures) in
-    elim behind.next [
-      | inl small ↦ absurd (omega (arith, small.0, c.if-end-gt1.true))
-      | inr large ↦ ap fields_in (behind_line rest k ∙ large.1) ∙ section_fields h.fields h.last is.fields
-    ]
-
-pub loop-end-preserved : goal.loop-end-preserved
-loop-end-preserved c = λ h is e.
-    let rest = c.loop-end.rest.now in
-    let k = c.in-Some.end in
-    let (ends, here) = c.loop-end.invariant h is e in
-    let behind = head_step h is ends rest k here (found_at 10 rest k c.in-Some.ensures) in
-    elim behind.next [
-      | inl small ↦ (small.1, behind_line rest k ∙ small.2)
-      | inr large ↦ absurd (omega (arith, large.0, c.if-end-gt1.false))
-    ]
-
-pub returns : goal.returns
-returns c = λ h is e.
-    let rest = c.loop-end.rest.now in
-    let (ends, here) = c.loop-end.invariant h is e in
-    let nowhere = lacks_place 10 rest (lacks_unfound 10 rest c.memchr.result c.in_default.not-Some c.memchr.ensures) in
-    let behind = head_step h is ends rest (length rest) here nowhere in
-    absurd (omega (arith, behind.inside))
+pub returns-in-None : goal.returns-in-None
+returns-in-None c = λ h is e line.
+    let text = c.trim_ascii_start.result.now in
+    let (fits, behind) = behind_request_line h text is (subst (λ t. IsTrimAsciiStart t text) e c.trim_ascii_start.ensures.value) in
+    elim c.in-None.ensures.lookup.0 [ inl short ↦ absurd (omega (arith, short, fits, line)) | inr short ↦ absurd (omega (arith, short)) ]
