@@ -4,7 +4,7 @@
 CASES ?= ../shared/conformance
 SUITES = first-path money
 
-.PHONY: help demo test auction program cases memory statement
+.PHONY: help demo test auction program cases memory statement wrong
 
 help:
 	@echo "make demo      answers examples/first-bid.http, without waiting for the proofs"
@@ -14,6 +14,7 @@ help:
 	@echo "make cases     runs the conformance cases on the program that make test has left"
 	@echo "make memory    refuses each allocation of that program, a statement and an inbox (needs cc)"
 	@echo "make statement compares statements with those that Python makes"
+	@echo "make wrong     tries the wrong bodies that make test leaves out"
 
 demo:
 	@cd crates/auction && rt try -- replay --preset < ../../examples/first-bid.http
@@ -41,3 +42,6 @@ memory:
 
 statement:
 	python3 tests/compared_statements.py crates/settle_bench/out/settle_bench
+
+wrong:
+	python3 tests/wrong.py

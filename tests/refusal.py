@@ -30,3 +30,16 @@ def refused_runs(command, library, given=b""):
         allocations = int(count.read())
     for number in range(1, allocations + 1):
         yield number, run(command, given, LD_PRELOAD=library, REFUSE=str(number))
+
+
+def ended(result):
+    """How a run ended: its status and what it wrote."""
+    return result.returncode, result.stdout, result.stderr
+
+
+def told(runs, wrong):
+    """Tells which of so many runs were wrong, by what each was refused: the exit status."""
+    for what, result in wrong:
+        print(f"allocation {what}: {result}")
+    print(f"{runs} runs, {len(wrong)} wrong")
+    return 1 if wrong else 0

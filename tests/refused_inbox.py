@@ -9,14 +9,10 @@ compiler, `cc`. The last line is 'N runs, M wrong'.
 import pathlib
 import sys
 
-from refusal import built_library, refused_runs, run
+from refusal import built_library, ended, refused_runs, run, told
 
 DONE = (0, b"512\n", b"")
 STOPPED = (1, b"", b"wire_bench: memory\n")
-
-
-def ended(result):
-    return result.returncode, result.stdout, result.stderr
 
 
 def main():
@@ -29,10 +25,7 @@ def main():
     for name, result, outcome in [("none", whole, DONE), ("its buffer", without_buffer, STOPPED)]:
         if ended(result) != outcome:
             wrong.append((name, result))
-    for name, result in wrong:
-        print(f"allocation {name}: {result}")
-    print(f"{len(refused) + 2} runs, {len(wrong)} wrong")
-    return 1 if wrong else 0
+    return told(len(refused) + 2, wrong)
 
 
 if __name__ == "__main__":

@@ -9,14 +9,10 @@ there was no memory, and has written nothing. It needs a C compiler, `cc`. The l
 import pathlib
 import sys
 
-from refusal import built_library, refused_runs, run
+from refusal import built_library, ended, refused_runs, run, told
 from statement import statement
 
 REFUSED = (1, b"", b"settle_bench: out of memory\n")
-
-
-def ended(result):
-    return result.returncode, result.stdout, result.stderr
 
 
 def main():
@@ -27,10 +23,7 @@ def main():
     wrong = [(number, result) for number, result in refused if ended(result) != REFUSED]
     if ended(whole) != (0, statement(240).encode(), b""):
         wrong.append(("none", whole))
-    for number, result in wrong:
-        print(f"allocation {number}: {result}")
-    print(f"{len(refused) + 1} runs, {len(wrong)} wrong")
-    return 1 if wrong else 0
+    return told(len(refused) + 1, wrong)
 
 
 if __name__ == "__main__":

@@ -18,8 +18,6 @@ mod refusal;
 mod settings;
 mod state;
 mod talk;
-#[cfg(test)]
-mod tests;
 mod text;
 
 pub use change::Change;

@@ -1,4 +1,4 @@
--- Which rows are a standing: those that accepted bids leave.
+-- Which rows are taken as a standing: those whose values fit together. Accepted bids leave no other, but can't leave each of these.
 use Rattle.std.specs.Prelude.{ℕ, List, Bool, false, ◌==◌, ◌&&◌, nat_le, Option, Some, None}
 use Rattle.proxy.specs.Bids.{price_from}
 use Rattle.proxy.specs.Kept.{Kept}
@@ -14,6 +14,6 @@ is_shape bands start price count None None (Some second) = false
 is_shape bands start price count None (Some top) second = false
 is_shape bands start price count (Some leader) None second = false
 
--- whether what is kept is a standing
+-- whether what is kept is taken as one
 abbrev pub is_standing : List (ℕ × ℕ) → Kept → Bool
 is_standing bands k = is_shape bands k.start k.price k.count k.leader k.top k.second

@@ -11,8 +11,6 @@ mod bid;
 mod laws;
 mod scans;
 mod standing;
-#[cfg(test)]
-mod tests;
 
 pub use bid::{Bid, BidRefusal};
 pub use laws::{

@@ -76,11 +76,15 @@ impl Standing {
         }
     }
 
-    /// The standing of a row that tells it, if accepted bids can leave such a row.
+    /// The standing of a row that tells it, if the values of the row fit together.
     ///
     /// Either nobody has bid, and the price is the start. Or one member has, and the price is the
     /// start. Or several have, the second lies between start and top, and the price is one step
-    /// over it, but at most the top. The bids are not looked at.
+    /// over it, but at most the top.
+    ///
+    /// Accepted bids leave no other row, but they can't leave each of these, since the bids are not
+    /// looked at. By the example bands, a start and second of 500 and a top of 510 fit; but behind
+    /// any first bid another member's is accepted from 550 on.
     pub fn of_row(
         start: Cents,
         bands: &Bands,

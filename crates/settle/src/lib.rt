@@ -15,8 +15,6 @@ mod numerals;
 mod output;
 mod sale;
 mod statement;
-#[cfg(test)]
-mod tests;
 mod totals;
 mod zone;
 

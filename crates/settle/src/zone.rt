@@ -46,7 +46,7 @@ impl Zone {
     }
 
     /// The civil day of a moment, if it is one of 1970 to 2100.
-    pub(crate) fn day(&self, moment: u64) -> Option<Day>
+    pub fn day(&self, moment: u64) -> Option<Day>
         requires { moment ≤ LAST_MOMENT }
         ensures some { IfSome result (λ d. day_at self.now moment ≡ pos d) }
         ensures none { IsNone result → (d : ℕ) → d ≤ LAST_DAY → day_at self.now moment ≢ pos d }

@@ -10,8 +10,6 @@ mod fault;
 mod judged;
 mod laws;
 mod reading;
-#[cfg(test)]
-mod tests;
 
 pub use bands::Bands;
 pub use fault::BandsFault;

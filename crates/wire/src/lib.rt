@@ -21,8 +21,6 @@ mod lines;
 mod look;
 mod request;
 mod status;
-#[cfg(test)]
-mod tests;
 
 pub use answer::Answer;
 pub use fault::WireFault;
