@@ -1,7 +1,7 @@
 -- Tables that changes are made to, one behind the other.
 use Rattle.std.specs.Prelude.{◌≡◌, List, [], ◌∷◌, ◌++◌}
 use Rattle.house_rows.specs.declared.change.Change.{Change}
-use Rattle.house_rows.specs.Asks.{ChangeFits}
+use Rattle.house_rows.specs.Asks.{ChangeFits, IsFree}
 use Rattle.house_rows.specs.Changed.{changed}
 use Rattle.house_rows.specs.Tables.{Tables}
 
@@ -14,6 +14,11 @@ after t (change ∷ changes) = after (changed t change) changes
 abbrev pub FitInTurn : Tables → List Change → Type 0
 FitInTurn t [] = Unit {0}
 FitInTurn t (change ∷ changes) = ChangeFits t change × FitInTurn (changed t change) changes
+
+-- the new key of each change is free in the tables that those before it leave
+abbrev pub AreFreeInTurn : Tables → List Change → Type 0
+AreFreeInTurn t [] = Unit {0}
+AreFreeInTurn t (change ∷ changes) = IsFree t change × AreFreeInTurn (changed t change) changes
 
 -- the tables after a beginning of the changes
 pub record IsBegun (t : Tables) (changes : List Change) (now : Tables) : Type 0 where

@@ -1,8 +1,9 @@
 //! Filling a keep with changes.
 ghost use Rattle.std.specs.Prelude.{◌≡◌, ◌⊎◌, ◌↔◌, OnOk, OnErr, IsErrOf, false, true};
 ghost use Rattle.house_rows.specs.declared.fault.KeepFault.TheVariants.{Store, Damaged};
+ghost use Rattle.house_rows.specs.Keeping.{AreSound};
 ghost use Rattle.house_rows.specs.Tables.{Tables};
-ghost use Rattle.house.specs.Filled.{FitInTurn, IsBegun, after};
+ghost use Rattle.house.specs.Filled.{AreFreeInTurn, FitInTurn, IsBegun, after};
 
 use house_rows::{Change, Keep, KeepFault};
 
@@ -14,6 +15,10 @@ pub fn fill<K: Keep>(keep: &mut K, changes: &[Change<'_>]) -> Result<(), KeepFau
     ensures err { K.is_honest keep.new → K.is_failed keep.new ≡ false
         → OnErr result (IsBegun (K.content keep.old) changes.now (K.content keep.new)) }
     ensures store { K.is_failed keep.old ≡ false → (IsErrOf result Store ↔ (K.is_failed keep.new ≡ true)) }
+    // Damaged has a cause: tables that aren't sound, or a key that is taken. After Ok no key was taken.
+    ensures damaged { K.is_honest keep.new → AreSound (K.content keep.old) → AreFreeInTurn (K.content keep.old) changes.now
+        → ¬ (IsErrOf result Damaged) }
+    ensures taken { K.is_honest keep.new → OnOk result (AreFreeInTurn (K.content keep.old) changes.now) }
     ensures honest { K.is_honest keep.new → K.is_honest keep.old }
     ensures stays { K.is_failed keep.old ≡ true → K.is_failed keep.new ≡ true }
     ensures crash { K.is_honest keep.new → (t : Tables) → K.may_leave keep.new t
