@@ -11,7 +11,7 @@ use Rattle.house_rows.specs.Keeping.{AreSound}
 use Rattle.house_rows.specs.Questions.{is_question}
 use Rattle.house_rows.specs.Tables.{Tables}
 use Rattle.store_list.specs.Kept.{AreApart, IsKept}
-use Rattle.store_list.specs.Makes.{Makes}
+use Rattle.list_rows.specs.Makes.{Makes}
 use Rattle.store_list.proofs.Apart.{apart_answered, apart_put, none_found}
 use Rattle.house_rows.proofs.SoundAfter.{sound_after}
 

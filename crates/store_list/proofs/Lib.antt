@@ -1,4 +1,3 @@
-pub mod Chosen
 pub mod Placing
 pub mod Fitting
 pub mod Apart

@@ -13,7 +13,7 @@ use Rattle.house_rows.specs.Tables.{ItemRow, Tables}
 use Rattle.house_rows.specs.Verdict.{was_sold}
 use Rattle.house_rows.proofs.Put.{by_test}
 use Rattle.store_list.specs.Sales.{sale_if_sold}
-use Rattle.store_list.proofs.Chosen.{filter_few}
+use Rattle.list_rows.proofs.Growing.{filter_few}
 use Rattle.store_list.proofs.Sold.{sales_are}
 
 abbrev of_row : ItemRow → Option Sold

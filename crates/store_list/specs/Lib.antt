@@ -1,4 +1,3 @@
-pub mod Makes
 pub mod Kept
 pub mod Sales
 pub mod Listed

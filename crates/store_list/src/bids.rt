@@ -7,13 +7,13 @@ ghost use Rattle.house_rows.specs.Found.{best_of, own_bid, own_bids};
 ghost use Rattle.house_rows.specs.History.{put_by};
 ghost use Rattle.house_rows.specs.Tables.{Tables};
 ghost use Rattle.house_rows.specs.declared.fault.KeepFault.TheVariants as fault;
-ghost use Rattle.store_list.specs.Makes.{Makes};
+ghost use Rattle.list_rows.specs.Makes.{Makes};
 
-use crate::copies::{MOST_SHOWN, push};
 use crate::entries::{BidEntry, ItemEntry};
 use crate::places::put;
 use cents::Cents;
 use house_rows::{KeepFault, OwnBest, OwnBid, Terms};
+use list_rows::{MOST_SHOWN, push};
 use proxy::Bid;
 use std::alloc::Global;
 

@@ -3,11 +3,11 @@ ghost use Rattle.house_rows.specs.declared.change.Change.TheVariants as change;
 ghost use Rattle.house_rows.specs.Asks.{ChangeFits};
 ghost use Rattle.house_rows.specs.Keeping.{AreSound};
 ghost use Rattle.store_list.specs.Listed.{listed};
-ghost use Rattle.store_list.specs.Makes.{Applies};
+ghost use Rattle.list_rows.specs.Makes.{Applies};
 
 use crate::items::{self, Listing};
 use crate::keep::ListKeep;
-use crate::{bids, people, questions, ratings, watches};
+use crate::{bids, questions, ratings, watches};
 use cents::Cents;
 use house_rows::{Change, KeepFault, Rating};
 use proxy::{Bid, Standing};
@@ -88,7 +88,7 @@ impl ListKeep {
         requires fits { AreSound self.old → ChangeFits self.old (change.Register moment name) }
         ensures { Applies result self.old self.new (change.Register moment name.entry) }
     {
-        people::register(self.alloc, &mut self.members, name)?;
+        self.members.register(self.alloc, name)?;
         self.clock = moment;
         Ok(())
     }
@@ -97,7 +97,7 @@ impl ListKeep {
         requires fits { AreSound self.old → ChangeFits self.old (change.AddCategory moment name) }
         ensures { Applies result self.old self.new (change.AddCategory moment name.entry) }
     {
-        people::add_category(self.alloc, &mut self.categories, name)?;
+        self.categories.add(self.alloc, name)?;
         self.clock = moment;
         Ok(())
     }

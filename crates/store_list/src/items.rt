@@ -10,12 +10,12 @@ ghost use Rattle.house_rows.specs.Tables.{ItemRow, Tables};
 ghost use Rattle.house_rows.specs.Text.{same_text};
 ghost use Rattle.house_rows.specs.declared.item.Item.{Item as TheItem};
 ghost use Rattle.house_rows.specs.declared.fault.KeepFault.TheVariants as fault;
-ghost use Rattle.store_list.specs.Makes.{Makes};
+ghost use Rattle.list_rows.specs.Makes.{Makes};
 
-use crate::copies::{MOST_SHOWN, push, push_copy, text_of};
 use crate::entries::ItemEntry;
 use cents::Cents;
 use house_rows::{Due, Item, KeepFault, State, Terms};
+use list_rows::{MOST_SHOWN, push, push_copy, text_of};
 use proxy::Standing;
 use std::alloc::Global;
 

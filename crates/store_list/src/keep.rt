@@ -3,13 +3,14 @@ ghost use Rattle.std.specs.Prelude.{◌≡◌, [], false, IfOk, IfErr};
 ghost use Rattle.house_rows.specs.Tables.{tables_of};
 ghost use Rattle.house_rows.specs.declared.fault.KeepFault.TheVariants as fault;
 
-use crate::copies::{copies, found};
 use crate::entries::{BidEntry, ItemEntry, WatchEntry};
-use crate::{bids, items, people, questions, ratings, sales, watches};
+use crate::{bids, items, questions, ratings, sales, watches};
 use house_rows::{
     Category, Change, Counts, Due, Feedback, Item, Keep, KeepFault, Member, OwnBest, OwnBid,
     Question, Ratings, Settings, Terms,
 };
+use list_people::{Categories, Members};
+use list_rows::{copies_of, found};
 use proxy::Standing;
 use settle::Sold;
 use std::alloc::Global;
@@ -21,8 +22,8 @@ pub struct ListKeep {
     pub(crate) alloc: Global,
     pub(crate) settings: Settings,
     pub(crate) clock: u64,
-    pub(crate) members: Vec<Member>,
-    pub(crate) categories: Vec<Category>,
+    pub(crate) members: Members,
+    pub(crate) categories: Categories,
     pub(crate) items: Vec<ItemEntry>,
     pub(crate) bids: Vec<BidEntry>,
     pub(crate) watches: Vec<WatchEntry>,
@@ -40,8 +41,8 @@ impl Model for ListKeep {
     ghost view = { λ k. record {
       settings = k.settings;
       clock = k.clock;
-      members = k.members.items;
-      categories = k.categories.items;
+      members = k.members;
+      categories = k.categories;
       items = k.items.items;
       bids = k.bids.items;
       watches = k.watches.items;
@@ -52,8 +53,8 @@ impl Model for ListKeep {
     ghost invariant = { λ k. IsKept (record {
       settings = k.settings;
       clock = k.clock;
-      members = k.members.items;
-      categories = k.categories.items;
+      members = k.members;
+      categories = k.categories;
       items = k.items.items;
       bids = k.bids.items;
       watches = k.watches.items;
@@ -75,8 +76,8 @@ impl ListKeep {
             alloc,
             settings,
             clock: 0,
-            members: Vec::new(alloc),
-            categories: Vec::new(alloc),
+            members: Members::new(alloc),
+            categories: Categories::new(alloc),
             items: Vec::new(alloc),
             bids: Vec::new(alloc),
             watches: Vec::new(alloc),
@@ -105,26 +106,26 @@ impl Keep for ListKeep {
 
     fn counts(&mut self) -> Result<Counts, KeepFault> {
         Ok(Counts {
-            members: self.members.len() as u32,
-            categories: self.categories.len() as u32,
+            members: self.members.rows().len() as u32,
+            categories: self.categories.rows().len() as u32,
             items: self.items.len() as u32,
         })
     }
 
     fn member(&mut self, member: u64) -> Result<Option<Member>, KeepFault> {
-        found(self.alloc, people::member(&self.members, member))
+        found(self.alloc, self.members.member(member))
     }
 
     fn member_named(&mut self, name: &str) -> Result<Option<Member>, KeepFault> {
-        found(self.alloc, people::member_named(&self.members, name))
+        found(self.alloc, self.members.named(name))
     }
 
     fn category(&mut self, category: u64) -> Result<Option<Category>, KeepFault> {
-        found(self.alloc, people::category(&self.categories, category))
+        found(self.alloc, self.categories.category(category))
     }
 
     fn category_named(&mut self, name: &str) -> Result<Option<Category>, KeepFault> {
-        found(self.alloc, people::category_named(&self.categories, name))
+        found(self.alloc, self.categories.named(name))
     }
 
     fn item(&mut self, item: u64) -> Result<Option<Item>, KeepFault> {
@@ -202,11 +203,11 @@ impl Keep for ListKeep {
     }
 
     fn categories(&mut self) -> Result<Vec<Category>, KeepFault> {
-        copies(self.alloc, &self.categories)
+        copies_of(self.alloc, self.categories.rows())
     }
 
     fn members(&mut self) -> Result<Vec<Member>, KeepFault> {
-        copies(self.alloc, &self.members)
+        copies_of(self.alloc, self.members.rows())
     }
 
     fn items(&mut self) -> Result<Vec<Item>, KeepFault> {
@@ -218,7 +219,7 @@ impl Keep for ListKeep {
     }
 
     fn all_feedback(&mut self) -> Result<Vec<Feedback>, KeepFault> {
-        copies(self.alloc, &self.feedback)
+        copies_of(self.alloc, &self.feedback)
     }
 
     fn watches_of(&mut self, member: u64) -> Result<Vec<Item>, KeepFault> {

@@ -7,17 +7,13 @@
 
 mod bids;
 mod changes;
-mod copies;
 mod entries;
 mod items;
 mod keep;
-mod people;
 mod places;
 mod questions;
 mod ratings;
 mod sales;
-#[cfg(test)]
-mod tests;
 mod watches;
 
 pub use entries::{BidEntry, ItemEntry, WatchEntry};

@@ -8,13 +8,13 @@ ghost use Rattle.house_rows.specs.Limits.{most_shown};
 ghost use Rattle.house_rows.specs.Questions.{is_question};
 ghost use Rattle.house_rows.specs.declared.fault.KeepFault.TheVariants as fault;
 ghost use Rattle.store_list.specs.Kept.{AreApart};
-ghost use Rattle.store_list.specs.Makes.{Makes};
+ghost use Rattle.list_rows.specs.Makes.{Makes};
 
-use crate::copies::{MOST_SHOWN, chosen, text_of};
 use crate::entries::ItemEntry;
 use crate::items::is_sold_by;
 use crate::places::put;
 use house_rows::{KeepFault, Question, Text};
+use list_rows::{MOST_SHOWN, chosen, text_of};
 use std::alloc::Global;
 
 // Whether it is the question of that item, asker and number.

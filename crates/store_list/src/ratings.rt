@@ -6,11 +6,11 @@ ghost use Rattle.house_rows.specs.Limits.{most_shown};
 ghost use Rattle.house_rows.specs.Pages.{ratings_of};
 ghost use Rattle.house_rows.specs.Ratings.{feedback_key, is_minus, is_plus, is_zero};
 ghost use Rattle.house_rows.specs.declared.fault.KeepFault.TheVariants as fault;
-ghost use Rattle.store_list.specs.Makes.{Makes};
+ghost use Rattle.list_rows.specs.Makes.{Makes};
 
-use crate::copies::{MOST_SHOWN, chosen, text_of};
 use crate::places::put;
 use house_rows::{Feedback, KeepFault, Rating, Ratings};
+use list_rows::{MOST_SHOWN, chosen, text_of};
 use std::alloc::Global;
 
 /// Whether a member has given feedback on an item.

@@ -5,7 +5,7 @@ ghost use Rattle.house_rows.specs.History.{counted, put_by};
 ghost use Rattle.house_rows.specs.Tables.{ItemRow};
 ghost use Rattle.house_rows.specs.Watches.{is_watch, unwatched, watch_key};
 ghost use Rattle.house_rows.specs.declared.fault.KeepFault.TheVariants as fault;
-ghost use Rattle.store_list.specs.Makes.{Makes};
+ghost use Rattle.list_rows.specs.Makes.{Makes};
 
 use crate::entries::{ItemEntry, WatchEntry};
 use crate::items::chosen_items;

@@ -2,7 +2,7 @@ use Rattle.std.proofs.Common.{◌≡◌, Bool, true, false, max, sym, ◌∙◌,
 use Rattle.std.specs.Prelude.{◌==◌, ◌&&◌}
 use Rattle.std.proofs.lemmas.Bool.Decides.{nat_tests}
 use Rattle.house_rows.specs.Bids.{BidRow}
-use Rattle.store_list.proofs.Chosen.{greatest_left, greatest_passed}
+use Rattle.list_rows.proofs.Growing.{greatest_left, greatest_passed}
 use Rattle.store_list.proofs.bids.greatest.Goals as goal
 use Rattle.store_list.proofs.bids.greatest.Goals.{then-is_own, else-is_own}
 

@@ -4,7 +4,7 @@ use Rattle.house_rows.specs.declared.item.OwnBid.{OwnBid}
 use Rattle.house_rows.specs.Found.{own_bid}
 use Rattle.house_rows.specs.Limits.{most_shown}
 use Rattle.house_rows.specs.Tables.{ItemRow}
-use Rattle.store_list.proofs.Chosen.{made_all, made_full, made_less, made_shown, map_twice}
+use Rattle.list_rows.proofs.Growing.{made_all, made_full, made_less, made_shown, map_twice}
 use Rattle.store_list.proofs.bids.own_bids.Goals as goal
 use Rattle.store_list.proofs.bids.own_bids.Goals.{then-wanted+then-room+in_ok-push, else-wanted, else-wanted-via-then-wanted+else-room, else-wanted-via-else-wanted}
 

@@ -1,7 +1,7 @@
 use Rattle.std.proofs.Common.{length, rules, tests, refl}
 use Rattle.std.proofs.Common.{true}
 use Rattle.house_rows.specs.Tables.{ItemRow}
-use Rattle.store_list.proofs.Chosen.{whole_list}
+use Rattle.list_rows.proofs.Growing.{whole_list}
 use Rattle.store_list.proofs.Fitting.{ok_same}
 use Rattle.store_list.proofs.items.all.Goals as goal
 

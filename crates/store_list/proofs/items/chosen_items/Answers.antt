@@ -1,7 +1,7 @@
 use Rattle.std.proofs.Common.{◌≡◌, ◌≤◌, ◌<◌, List, length, take, filter, sym, ◌∙◌, ap, arith}
 use Rattle.house_rows.specs.declared.item.Item.{Item}
 use Rattle.house_rows.specs.Tables.{ItemRow}
-use Rattle.store_list.proofs.Chosen.{made_all, made_full, made_less, made_shown}
+use Rattle.list_rows.proofs.Growing.{made_all, made_full, made_less, made_shown}
 use Rattle.store_list.proofs.items.chosen_items.Goals as goal
 use Rattle.store_list.proofs.items.chosen_items.Goals.{then-wanted+then-room+in_ok-push_copy, else-wanted, else-wanted-via-then-wanted+else-room, else-wanted-via-else-wanted}
 

@@ -1,7 +1,7 @@
 use Rattle.std.proofs.Common.{rules, tests}
 use Rattle.std.specs.Prelude.{is_some}
 use Rattle.house_rows.specs.declared.talk.Question.{Question}
-use Rattle.store_list.proofs.Chosen.{take_filter}
+use Rattle.list_rows.proofs.Growing.{take_filter}
 use Rattle.store_list.proofs.Fitting.{ok_same}
 use Rattle.store_list.proofs.questions.all_published.Goals as goal
 

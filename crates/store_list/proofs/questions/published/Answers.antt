@@ -2,7 +2,7 @@ use Rattle.std.proofs.Common.{List, take, ap, rules, tests}
 use Rattle.std.specs.Prelude.{◌==◌, ◌&&◌, nat_le, is_some}
 use Rattle.house_rows.specs.declared.talk.Question.{Question}
 use Rattle.house_rows.specs.Limits.{most_shown}
-use Rattle.store_list.proofs.Chosen.{filter_twice}
+use Rattle.list_rows.proofs.Growing.{filter_twice}
 use Rattle.store_list.proofs.Fitting.{ok_same}
 use Rattle.store_list.proofs.questions.published.Goals as goal
 

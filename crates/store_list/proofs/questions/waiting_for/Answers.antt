@@ -3,7 +3,7 @@ use Rattle.std.specs.Prelude.{◌&&◌, not, is_some, find}
 use Rattle.house_rows.specs.declared.talk.Question.{Question}
 use Rattle.house_rows.specs.Changed.{is_item}
 use Rattle.house_rows.specs.Found.{sells}
-use Rattle.store_list.proofs.Chosen.{take_filter}
+use Rattle.list_rows.proofs.Growing.{take_filter}
 use Rattle.store_list.proofs.Fitting.{ok_same}
 use Rattle.store_list.proofs.questions.waiting_for.Goals as goal
 

@@ -3,7 +3,7 @@ use Rattle.std.specs.List.{list_any}
 use Rattle.house_rows.specs.Tables.{ItemRow}
 use Rattle.house_rows.specs.declared.item.Item.{Item}
 use Rattle.house_rows.specs.Watches.{is_watch}
-use Rattle.store_list.proofs.Chosen.{whole_filter}
+use Rattle.list_rows.proofs.Growing.{whole_filter}
 use Rattle.store_list.proofs.Fitting.{ok_same}
 use Rattle.store_list.proofs.watches.items_watched.Goals as goal
 

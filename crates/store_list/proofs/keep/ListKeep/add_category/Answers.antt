@@ -4,13 +4,13 @@ use Rattle.house_rows.specs.Changed.{changed}
 use Rattle.store_list.proofs.Changing.{fits_here, kept_after, makes_ok}
 use Rattle.store_list.proofs.keep.ListKeep.add_category.Goals as goal
 
-pub add_category-requires : goal.add_category-requires
-add_category-requires c = record { room = (fits_here c.args.self.now _ (change.AddCategory c.args.moment c.args.name) c.self.view_is c.self.invariant.sound c.requires.fits).room }
+pub add-requires : goal.add-requires
+add-requires c = record { room = (fits_here c.args.self.now _ (change.AddCategory c.args.moment c.args.name) c.self.view_is c.self.invariant.sound c.requires.fits).room }
 
 pub invariant_of-self-2 : goal.invariant_of-self-2
 unfolding changed
-invariant_of-self-2 c = kept_after c.args.self.now _ _ (change.AddCategory c.args.moment c.args.name) c.self.view_is c.self.invariant c.requires.fits c.in_ok-add_category.ensures.free (rw c.in_ok-add_category.ensures.ok refl)
+invariant_of-self-2 c = kept_after c.args.self.now _ _ (change.AddCategory c.args.moment c.args.name) c.self.view_is c.self.invariant c.requires.fits c.in_ok-add.ensures.free (rw c.in_ok-add.ensures.ok refl)
 
 pub returns : goal.returns
 unfolding changed
-returns c = makes_ok c.args.self.now _ _ (change.AddCategory c.args.moment c.args.name) c.self.view_is c.in_ok-add_category.ensures.free (rw c.in_ok-add_category.ensures.ok refl)
+returns c = makes_ok c.args.self.now _ _ (change.AddCategory c.args.moment c.args.name) c.self.view_is c.in_ok-add.ensures.free (rw c.in_ok-add.ensures.ok refl)

@@ -1,5 +1,5 @@
 use Rattle.std.proofs.Common.{◌≡◌, take}
-use Rattle.store_list.proofs.copies.copies.Given as goal
+use Rattle.list_rows.proofs.copies.copies_of.Given as goal
 
 -- the rows so far were copied
 abbrev pub invariant-loop-row : goal.invariant-loop-row

@@ -7,10 +7,10 @@ use house_rows::{Category, Feedback, Item, KeepFault, Member, Question, Text};
 use std::alloc::{AllocError, Global};
 
 /// The most rows of a list that begins at a number.
-pub(crate) const MOST_SHOWN: usize = 50;
+pub const MOST_SHOWN: usize = 50;
 
 /// A row that can be copied.
-pub(crate) trait Copied {
+pub trait Copied {
     /// A copy of it.
     fn copied(&self, alloc: Global) -> Result<Self, AllocError>
     where
@@ -76,7 +76,7 @@ impl Copied for Feedback {
 }
 
 /// A copy of a text.
-pub(crate) fn text_of(alloc: Global, text: &str) -> Result<Text, KeepFault>
+pub fn text_of(alloc: Global, text: &str) -> Result<Text, KeepFault>
     ensures value { IfOk result (λ copy. copy ≡ text.now) }
     ensures memory { IfErr result (λ e. e ≡ fault.Memory) }
 {
@@ -87,7 +87,7 @@ pub(crate) fn text_of(alloc: Global, text: &str) -> Result<Text, KeepFault>
 }
 
 /// A copy of what was found.
-pub(crate) fn found<R: Copied>(alloc: Global, row: Option<&R>) -> Result<Option<R>, KeepFault>
+pub fn found<R: Copied>(alloc: Global, row: Option<&R>) -> Result<Option<R>, KeepFault>
     ensures value { IfOk result (λ copy. copy ≡ option_copied row.entry) }
     ensures memory { IfErr result (λ e. e ≡ fault.Memory) }
 {
@@ -101,7 +101,7 @@ pub(crate) fn found<R: Copied>(alloc: Global, row: Option<&R>) -> Result<Option<
 }
 
 /// One more row at the end.
-pub(crate) fn push<R: Drop>(rows: &mut Vec<R>, row: R) -> Result<(), KeepFault>
+pub fn push<R: Drop>(rows: &mut Vec<R>, row: R) -> Result<(), KeepFault>
     ensures ok { OnOk result (rows.new.items ≡ rows.old.items ++ row ∷ []) }
     ensures err { OnErr result (rows.new.items ≡ rows.old.items) }
     ensures memory { IfErr result (λ e. e ≡ fault.Memory) }
@@ -113,7 +113,7 @@ pub(crate) fn push<R: Drop>(rows: &mut Vec<R>, row: R) -> Result<(), KeepFault>
 }
 
 /// A copy of one more row.
-pub(crate) fn push_copy<R: Copied + Drop>(
+pub fn push_copy<R: Copied + Drop>(
     alloc: Global,
     rows: &mut Vec<R>,
     row: &R,
@@ -128,7 +128,7 @@ pub(crate) fn push_copy<R: Copied + Drop>(
 }
 
 /// Copies of all rows.
-pub(crate) fn copies<R: Copied + Drop>(alloc: Global, rows: &[R]) -> Result<Vec<R>, KeepFault>
+pub fn copies_of<R: Copied + Drop>(alloc: Global, rows: &[R]) -> Result<Vec<R>, KeepFault>
     ensures value { IfOk result (λ v. v.items ≡ rows.now) }
     ensures memory { IfErr result (λ e. e ≡ fault.Memory) }
 {
@@ -140,7 +140,7 @@ pub(crate) fn copies<R: Copied + Drop>(alloc: Global, rows: &[R]) -> Result<Vec<
 }
 
 /// Copies of the first rows that pass, at most so many.
-pub(crate) fn chosen<R: Copied + Drop, F: Fn(&R) -> bool + Drop>(
+pub fn chosen<R: Copied + Drop, F: Fn(&R) -> bool + Drop>(
     alloc: Global,
     rows: &[R],
     most: usize,

@@ -1,5 +1,5 @@
 use Rattle.std.proofs.Common.{◌≡◌, Bool, Bor, take, filter}
-use Rattle.store_list.proofs.copies.chosen.Given as goal
+use Rattle.list_rows.proofs.copies.chosen.Given as goal
 
 -- those of the rows so far that pass were copied
 abbrev pub invariant-loop-row : goal.invariant-loop-row

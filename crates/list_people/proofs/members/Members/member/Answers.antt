@@ -1,0 +1,6 @@
+use Rattle.house_rows.specs.declared.people.Member.{Member}
+use Rattle.list_people.proofs.Finding.{number_found}
+use Rattle.list_people.proofs.members.Members.member.Goals as goal
+
+pub returns : goal.returns
+returns c = number_found (λ (m : Member). m.member) _ _ c.args.self.now c.args.number _ c.numbered.ensures c.deref.ensures.value c.self.view_is c.self.invariant.in_turn

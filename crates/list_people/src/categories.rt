@@ -1,0 +1,86 @@
+//! Categories.
+ghost use Rattle.std.specs.Prelude.{◌≡◌, ◌<◌, ◌+◌, ◌++◌, ◌∷◌, [], ◌==◌, find, length, None};
+ghost use Rattle.std.specs.Option.{option_copied};
+ghost use Rattle.house_rows.specs.Limits.{most_categories};
+ghost use Rattle.house_rows.specs.Text.{same_text};
+ghost use Rattle.list_rows.specs.Makes.{Makes};
+
+use crate::names::{Names, numbered};
+use house_rows::{Category, KeepFault};
+use list_rows::text_of;
+use std::alloc::Global;
+use std::marker::Model;
+
+/// The categories. Clauses see the list of them, in the order in which they were added.
+#[derive(Debug, Drop)]
+pub struct Categories {
+    rows: Vec<Category>,
+    names: Names,
+}
+
+impl Model for Categories {
+    ghost use Rattle.std.specs.Prelude.{List};
+    ghost use Rattle.house_rows.specs.declared.people.Category.{Category};
+
+    ghost Value = { List Category };
+
+    ghost use Rattle.list_people.specs.Named.{AreNamed};
+
+    ghost view = { λ k. k.rows.items };
+
+    ghost invariant = { λ k. AreNamed (λ (row : Category). row.category) (λ (row : Category). row.name) k.rows.items k.names };
+}
+
+impl Categories {
+    /// No categories.
+    pub fn new(alloc: Global) -> Categories
+        ensures { result ≡ [] }
+    {
+        Categories {
+            rows: Vec::new(alloc),
+            names: Names::new(alloc),
+        }
+    }
+
+    /// All categories.
+    pub fn rows(&self) -> &[Category]
+        ensures { result.now ≡ self.now }
+    {
+        &self.rows
+    }
+
+    /// The category of a number.
+    pub fn category(&self, number: u64) -> Option<&Category>
+        ensures { option_copied result ≡ find (λ k. k.category == number) self.now }
+    {
+        numbered(&self.rows, number)
+    }
+
+    /// The category of a name.
+    pub fn named(&self, name: &str) -> Option<&Category>
+        ensures { option_copied result ≡ find (λ k. same_text k.name name.now) self.now }
+    {
+        let place = self.names.place(name)?;
+        self.rows.get(place)
+    }
+
+    /// A category comes, with the next number.
+    ///
+    /// `KeepFault::Damaged` comes where the name is taken, and `KeepFault::Memory` is the only other error.
+    pub fn add(&mut self, alloc: Global, name: &str) -> Result<(), KeepFault>
+        requires room { length self.old < most_categories }
+        ensures { Makes result self.old self.new
+            (self.old ++ record { category = length self.old + 1; name = name.now } ∷ [])
+            (find (λ k. same_text k.name name.now) self.old ≡ None) }
+    {
+        if self.named(name).is_some() {
+            return Err(KeepFault::Damaged);
+        }
+        let category = Category {
+            category: self.rows.len() as u32 + 1,
+            name: text_of(alloc, name)?,
+        };
+        self.names.push(alloc, &mut self.rows, name, category)?;
+        Ok(())
+    }
+}
