@@ -1,0 +1,109 @@
+//! The words of a line.
+ghost use Rattle.std.specs.Prelude.{◌<◌};
+
+use crate::script::Fault;
+use house_rows::{Rating, Text};
+use std::alloc::{AllocError, Global};
+use std::str::SplitWhitespace;
+
+/// The words of a line that aren't taken yet.
+#[derive(Drop)]
+pub(crate) struct Words<'l> {
+    alloc: Global,
+    words: SplitWhitespace<'l>,
+}
+
+impl<'l> Words<'l> {
+    /// All words of a line.
+    pub(crate) fn new(alloc: Global, line: &'l str) -> Words<'l> {
+        Words {
+            alloc,
+            words: line.split_whitespace(),
+        }
+    }
+
+    /// The next word, if there is one.
+    pub(crate) fn next(&mut self) -> Option<&'l str> {
+        self.words.next()
+    }
+
+    /// That there are no more words.
+    pub(crate) fn end(&mut self) -> Result<(), Fault> {
+        match self.next() {
+            None => Ok(()),
+            Some(_) => Err(Fault::Script),
+        }
+    }
+
+    /// The next word.
+    pub(crate) fn word(&mut self) -> Result<&'l str, Fault> {
+        self.next().ok_or(Fault::Script)
+    }
+
+    /// The number that the next word spells.
+    pub(crate) fn number(&mut self) -> Result<u64, Fault> {
+        self.word()?.parse().map_err(|_| Fault::Script)
+    }
+
+    /// The number that the next word spells, or none where it is `-`.
+    pub(crate) fn number_or_none(&mut self) -> Result<Option<u64>, Fault> {
+        match self.word()? {
+            "-" => Ok(None),
+            word => Ok(Some(word.parse().map_err(|_| Fault::Script)?)),
+        }
+    }
+
+    /// The rating that the next word spells, or none where it spells no rating.
+    pub(crate) fn rating(&mut self) -> Result<Option<Rating>, Fault> {
+        Ok(match self.word()? {
+            "-1" => Some(Rating::Minus),
+            "0" => Some(Rating::Zero),
+            "1" => Some(Rating::Plus),
+            _ => None,
+        })
+    }
+
+    /// The text that the next word spells: `-` is an empty one, `_` a space, `%7f` a character by two
+    /// digits, and `*40` at the end writes what stands before it so often.
+    pub(crate) fn text(&mut self) -> Result<Text, Fault> {
+        let word = self.word()?;
+        let (part, times) = match word.split_once('*') {
+            Some((part, times)) => (part, times.parse().map_err(|_| Fault::Script)?),
+            None => (word, 1u32),
+        };
+        let mut text = String::new(self.alloc);
+        if part != "-" {
+            for _ in 0..times {
+                push(&mut text, part)?;
+            }
+        }
+        Ok(Text::new(text))
+    }
+}
+
+// Writes a part once.
+fn push(text: &mut String, part: &str) -> Result<(), AllocError> {
+    let mut characters = part.chars();
+    while let Some(character) = characters.next() {
+        match character {
+            '_' => text.push(' ')?,
+            '%' => {
+                let high = digit(characters.next());
+                text.push(char::from(high * 16 + digit(characters.next())))?;
+            }
+            other => text.push(other)?,
+        }
+    }
+    Ok(())
+}
+
+// The value of a hexadecimal digit, from 0 to 15.
+fn digit(character: Option<char>) -> u8
+    ensures { result < 16 }
+{
+    match character {
+        Some(c @ '0'..='9') => c as u8 - b'0',
+        Some(c @ 'a'..='f') => c as u8 - b'a' + 10,
+        _ => 0,
+    }
+}
