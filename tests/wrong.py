@@ -18,7 +18,7 @@ def main():
     names = sys.argv[1:] or sorted(path.parent.name for path in ROOT.glob("crates/*/wrong"))
     with tempfile.TemporaryDirectory() as folder:
         copy = pathlib.Path(folder) / "house"
-        shutil.copytree(ROOT, copy, ignore=shutil.ignore_patterns("bin", "target"))
+        shutil.copytree(ROOT, copy, ignore=shutil.ignore_patterns("out", "bin", "target"))
         for edits in copy.glob("crates/*/must-fail"):
             shutil.rmtree(edits)
         for name in names:
