@@ -12,7 +12,7 @@ use Rattle.house_rows.specs.Limits.{last_moment, most_items}
 use Rattle.house_rows.specs.Tables.{ItemRow, Tables}
 use Rattle.house_rows.specs.Verdict.{was_sold}
 use Rattle.house_rows.proofs.Put.{by_test}
-use Rattle.store_list.specs.Sales.{sale_if_sold}
+use Rattle.list_items.specs.Sales.{sale_if_sold}
 use Rattle.list_rows.proofs.Growing.{filter_few}
 use Rattle.store_list.proofs.Sold.{sales_are}
 

@@ -6,7 +6,7 @@ use Rattle.house_rows.specs.Found.{sales_in, sales_to}
 use Rattle.house_rows.specs.Tables.{ItemRow, Tables}
 use Rattle.house_rows.specs.Verdict.{was_sold}
 use Rattle.house_rows.proofs.Put.{by_test}
-use Rattle.store_list.specs.Sales.{sale_if_sold}
+use Rattle.list_items.specs.Sales.{sale_if_sold}
 
 sales_of_rows : (rows : List ItemRow) → filter_map (λ (row : ItemRow). sale_if_sold row.item.terms) rows ≡ sales_in (map (λ (row : ItemRow). row.item) rows)
 sales_of_rows [] = refl

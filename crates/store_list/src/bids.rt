@@ -9,10 +9,11 @@ ghost use Rattle.house_rows.specs.Tables.{Tables};
 ghost use Rattle.house_rows.specs.declared.fault.KeepFault.TheVariants as fault;
 ghost use Rattle.list_rows.specs.Makes.{Makes};
 
-use crate::entries::{BidEntry, ItemEntry};
+use crate::entries::BidEntry;
 use crate::places::put;
 use cents::Cents;
 use house_rows::{KeepFault, OwnBest, OwnBid, Terms};
+use list_items::ItemEntry;
 use list_rows::{MOST_SHOWN, push};
 use proxy::Bid;
 use std::alloc::Global;
@@ -84,7 +85,7 @@ pub(crate) fn own_bids(
 {
     let mut found = Vec::new(alloc);
     for row in items {
-        let bid = own_bid(rows, member, &row.item.terms);
+        let bid = own_bid(rows, member, &row.item().terms);
         let wanted = is_listed(&bid, from);
         let room = found.len() < MOST_SHOWN;
         if wanted && room {

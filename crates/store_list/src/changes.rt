@@ -5,11 +5,11 @@ ghost use Rattle.house_rows.specs.Keeping.{AreSound};
 ghost use Rattle.store_list.specs.Listed.{listed};
 ghost use Rattle.list_rows.specs.Makes.{Applies};
 
-use crate::items::{self, Listing};
 use crate::keep::ListKeep;
 use crate::{bids, questions, ratings, watches};
 use cents::Cents;
 use house_rows::{Change, KeepFault, Rating};
+use list_items::Listing;
 use proxy::{Bid, Standing};
 
 impl ListKeep {
@@ -106,7 +106,7 @@ impl ListKeep {
         requires fits { AreSound self.old → ChangeFits self.old (listed moment listing.now) }
         ensures { Applies result self.old self.new (listed moment listing.now) }
     {
-        items::list(self.alloc, &mut self.items, listing)?;
+        self.items.list(self.alloc, listing)?;
         self.clock = moment;
         Ok(())
     }
@@ -123,7 +123,7 @@ impl ListKeep {
     {
         // The one step that can fail comes first.
         bids::place(&mut self.bids, item, placed)?;
-        items::stand(&mut self.items, item, standing);
+        self.items.stand(item, standing);
         self.clock = moment;
         Ok(())
     }
@@ -132,7 +132,7 @@ impl ListKeep {
         requires fits { AreSound self.old → ChangeFits self.old (change.Buy moment item buyer price) }
         ensures { Applies result self.old self.new (change.Buy moment item buyer price) }
     {
-        items::buy(&mut self.items, item, buyer, price, moment);
+        self.items.buy(item, buyer, price, moment);
         self.clock = moment;
         Ok(())
     }
@@ -141,7 +141,7 @@ impl ListKeep {
         requires fits { AreSound self.old → ChangeFits self.old (change.Close moment) }
         ensures { Applies result self.old self.new (change.Close moment) }
     {
-        items::close(&mut self.items, moment);
+        self.items.close(moment);
         self.clock = moment;
         Ok(())
     }
@@ -150,7 +150,7 @@ impl ListKeep {
         requires fits { AreSound self.old → ChangeFits self.old (change.Settle moment item) }
         ensures { Applies result self.old self.new (change.Settle moment item) }
     {
-        items::settle(&mut self.items, item);
+        self.items.settle(item);
         self.clock = moment;
         Ok(())
     }

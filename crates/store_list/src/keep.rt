@@ -3,12 +3,13 @@ ghost use Rattle.std.specs.Prelude.{◌≡◌, [], false, IfOk, IfErr};
 ghost use Rattle.house_rows.specs.Tables.{tables_of};
 ghost use Rattle.house_rows.specs.declared.fault.KeepFault.TheVariants as fault;
 
-use crate::entries::{BidEntry, ItemEntry, WatchEntry};
-use crate::{bids, items, questions, ratings, sales, watches};
+use crate::entries::{BidEntry, WatchEntry};
+use crate::{bids, questions, ratings, sales, watches};
 use house_rows::{
     Category, Change, Counts, Due, Feedback, Item, Keep, KeepFault, Member, OwnBest, OwnBid,
     Question, Ratings, Settings, Terms,
 };
+use list_items::Items;
 use list_people::{Categories, Members};
 use list_rows::{copies_of, found};
 use proxy::Standing;
@@ -24,7 +25,7 @@ pub struct ListKeep {
     pub(crate) clock: u64,
     pub(crate) members: Members,
     pub(crate) categories: Categories,
-    pub(crate) items: Vec<ItemEntry>,
+    pub(crate) items: Items,
     pub(crate) bids: Vec<BidEntry>,
     pub(crate) watches: Vec<WatchEntry>,
     pub(crate) questions: Vec<Question>,
@@ -43,7 +44,7 @@ impl Model for ListKeep {
       clock = k.clock;
       members = k.members;
       categories = k.categories;
-      items = k.items.items;
+      items = k.items;
       bids = k.bids.items;
       watches = k.watches.items;
       questions = k.questions.items;
@@ -55,7 +56,7 @@ impl Model for ListKeep {
       clock = k.clock;
       members = k.members;
       categories = k.categories;
-      items = k.items.items;
+      items = k.items;
       bids = k.bids.items;
       watches = k.watches.items;
       questions = k.questions.items;
@@ -78,7 +79,7 @@ impl ListKeep {
             clock: 0,
             members: Members::new(alloc),
             categories: Categories::new(alloc),
-            items: Vec::new(alloc),
+            items: Items::new(alloc),
             bids: Vec::new(alloc),
             watches: Vec::new(alloc),
             questions: Vec::new(alloc),
@@ -108,7 +109,7 @@ impl Keep for ListKeep {
         Ok(Counts {
             members: self.members.rows().len() as u32,
             categories: self.categories.rows().len() as u32,
-            items: self.items.len() as u32,
+            items: self.items.rows().len() as u32,
         })
     }
 
@@ -129,19 +130,19 @@ impl Keep for ListKeep {
     }
 
     fn item(&mut self, item: u64) -> Result<Option<Item>, KeepFault> {
-        found(self.alloc, items::item(&self.items, item))
+        found(self.alloc, self.items.item(item))
     }
 
     fn terms(&mut self, item: u64) -> Result<Option<Terms>, KeepFault> {
-        Ok(items::terms(&self.items, item))
+        Ok(self.items.terms(item))
     }
 
     fn item_of(&mut self, seller: u64, lot: &str) -> Result<Option<u32>, KeepFault> {
-        Ok(items::number_with_lot(&self.items, seller, lot))
+        Ok(self.items.number_with_lot(seller, lot))
     }
 
     fn standing(&mut self, item: u64) -> Result<Option<Standing>, KeepFault> {
-        Ok(items::standing(&self.items, item))
+        Ok(self.items.standing(item))
     }
 
     fn own_best(&mut self, item: u64, member: u64) -> Result<OwnBest, KeepFault> {
@@ -179,15 +180,15 @@ impl Keep for ListKeep {
     }
 
     fn due(&mut self, moment: u64) -> Result<Due, KeepFault> {
-        Ok(items::due(&self.items, moment))
+        Ok(self.items.due(moment))
     }
 
     fn items_in(&mut self, category: u64, from: u64) -> Result<Vec<Item>, KeepFault> {
-        items::in_category(self.alloc, &self.items, category, from)
+        self.items.in_category(self.alloc, category, from)
     }
 
     fn bids_of(&mut self, member: u64, from: u64) -> Result<Vec<OwnBid>, KeepFault> {
-        bids::own_bids(self.alloc, &self.items, &self.bids, member, from)
+        bids::own_bids(self.alloc, self.items.rows(), &self.bids, member, from)
     }
 
     fn published(&mut self, item: u64, from: u64) -> Result<Vec<Question>, KeepFault> {
@@ -211,7 +212,7 @@ impl Keep for ListKeep {
     }
 
     fn items(&mut self) -> Result<Vec<Item>, KeepFault> {
-        items::all(self.alloc, &self.items)
+        self.items.all(self.alloc)
     }
 
     fn all_published(&mut self) -> Result<Vec<Question>, KeepFault> {
@@ -223,7 +224,7 @@ impl Keep for ListKeep {
     }
 
     fn watches_of(&mut self, member: u64) -> Result<Vec<Item>, KeepFault> {
-        watches::items_watched(self.alloc, &self.items, &self.watches, member)
+        watches::items_watched(self.alloc, self.items.rows(), &self.watches, member)
     }
 
     fn waiting_for(&mut self, member: u64) -> Result<Vec<Question>, KeepFault> {
@@ -231,7 +232,7 @@ impl Keep for ListKeep {
     }
 
     fn sold_of(&mut self, member: u64) -> Result<Vec<Sold>, KeepFault> {
-        sales::sales_to(self.alloc, &self.items, member)
+        sales::sales_to(self.alloc, self.items.rows(), member)
     }
 
     fn apply(&mut self, change: &Change<'_>) -> Result<(), KeepFault> {

@@ -8,7 +8,6 @@
 mod bids;
 mod changes;
 mod entries;
-mod items;
 mod keep;
 mod places;
 mod questions;
@@ -16,5 +15,5 @@ mod ratings;
 mod sales;
 mod watches;
 
-pub use entries::{BidEntry, ItemEntry, WatchEntry};
+pub use entries::{BidEntry, WatchEntry};
 pub use keep::ListKeep;

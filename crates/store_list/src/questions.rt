@@ -10,10 +10,9 @@ ghost use Rattle.house_rows.specs.declared.fault.KeepFault.TheVariants as fault;
 ghost use Rattle.store_list.specs.Kept.{AreApart};
 ghost use Rattle.list_rows.specs.Makes.{Makes};
 
-use crate::entries::ItemEntry;
-use crate::items::is_sold_by;
 use crate::places::put;
 use house_rows::{KeepFault, Question, Text};
+use list_items::Items;
 use list_rows::{MOST_SHOWN, chosen, text_of};
 use std::alloc::Global;
 
@@ -82,7 +81,7 @@ pub(crate) fn asked_by(
 /// The questions that wait for a member's answer.
 pub(crate) fn waiting_for(
     alloc: Global,
-    items: &[ItemEntry],
+    items: &Items,
     rows: &[Question],
     member: u64,
 ) -> Result<Vec<Question>, KeepFault>
@@ -90,7 +89,7 @@ pub(crate) fn waiting_for(
     ensures memory { IfErr result (λ e. e ≡ fault.Memory) }
 {
     chosen(alloc, rows, rows.len(), |row| {
-        row.answer.is_none() && is_sold_by(items, u64::from(row.item), member)
+        row.answer.is_none() && items.is_sold_by(u64::from(row.item), member)
     })
 }
 

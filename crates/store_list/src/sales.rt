@@ -5,10 +5,10 @@ ghost use Rattle.settle.specs.Statement.{is_party};
 ghost use Rattle.house_rows.specs.Found.{sales_to};
 ghost use Rattle.house_rows.specs.Tables.{ItemRow, Tables};
 ghost use Rattle.house_rows.specs.declared.fault.KeepFault.TheVariants as fault;
-ghost use Rattle.store_list.specs.Sales.{sale_if_sold};
+ghost use Rattle.list_items.specs.Sales.{sale_if_sold};
 
-use crate::entries::ItemEntry;
 use house_rows::{KeepFault, State, Terms};
+use list_items::ItemEntry;
 use settle::Sold;
 use std::alloc::{AllocError, Global};
 
@@ -49,7 +49,7 @@ fn sales_with(alloc: Global, rows: &[ItemEntry], member: u64) -> Result<Vec<Sold
     ensures { IfOk result (λ v. v.items ≡ filter (is_party member) (filter_map (λ (row : ItemRow). sale_if_sold row.item.terms) rows.now)) }
 {
     rows.iter()
-        .filter_map(|row| sale(&row.item.terms))
+        .filter_map(|row| sale(&row.item().terms))
         .filter(|sale| u64::from(sale.seller) == member || u64::from(sale.buyer) == member)
         .collect(alloc)
 }

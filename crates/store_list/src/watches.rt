@@ -7,10 +7,11 @@ ghost use Rattle.house_rows.specs.Watches.{is_watch, unwatched, watch_key};
 ghost use Rattle.house_rows.specs.declared.fault.KeepFault.TheVariants as fault;
 ghost use Rattle.list_rows.specs.Makes.{Makes};
 
-use crate::entries::{ItemEntry, WatchEntry};
-use crate::items::chosen_items;
+use crate::entries::WatchEntry;
 use crate::places::put;
 use house_rows::{Item, KeepFault};
+use list_items::ItemEntry;
+use list_rows::push_copy;
 use std::alloc::Global;
 
 /// Whether a member watches an item.
@@ -39,9 +40,14 @@ pub(crate) fn items_watched(
     ensures value { IfOk result (λ v. v.items ≡ filter (λ it. list_any (is_watch member it.terms.item) rows.now) (map (λ (row : ItemRow). row.item) items.now)) }
     ensures memory { IfErr result (λ e. e ≡ fault.Memory) }
 {
-    chosen_items(alloc, items, items.len(), |item| {
-        is_watched(rows, member, u64::from(item.terms.item))
-    })
+    let mut found = Vec::new(alloc);
+    for row in items {
+        let item = row.item();
+        if is_watched(rows, member, u64::from(item.terms.item)) {
+            push_copy(alloc, &mut found, item)?;
+        }
+    }
+    Ok(found)
 }
 
 /// A member watches an item no longer.

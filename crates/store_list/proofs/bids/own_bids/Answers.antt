@@ -1,5 +1,6 @@
 use Rattle.std.proofs.Common.{◌≡◌, ◌≤◌, ◌<◌, List, Bool, length, take, filter, map, sym, ◌∙◌, ap, arith}
 use Rattle.std.specs.Prelude.{◌&&◌, nat_le, nat_lt}
+use Rattle.house_rows.specs.declared.item.Item.{Item}
 use Rattle.house_rows.specs.declared.item.OwnBid.{OwnBid}
 use Rattle.house_rows.specs.Found.{own_bid}
 use Rattle.house_rows.specs.Limits.{most_shown}
@@ -13,7 +14,7 @@ loop-row-preserved c = λ t same.
     let made : ItemRow → OwnBid = λ (row : ItemRow). own_bid t c.args.member row.item in
     let listed : OwnBid → Bool = λ (b : OwnBid). nat_lt 0 b.mine && nat_le c.args.from b.item in
     let so_far = c.loop-row.invariant t same in
-    let here : c.own_bid-bid.result ≡ made c.row-item.result = c.own_bid-bid.ensures t c.row-item.result.item same (sym (ap (λ (row : ItemRow). row.item.terms) c.row.view_is)) in
+    let here : c.own_bid-bid.result ≡ made c.row-item.result = c.own_bid-bid.ensures t c.row-item.result.item same (sym (ap (λ (it : Item). it.terms) c.item.ensures)) in
     let tested : c.is_listed-wanted.result ≡ listed c.own_bid-bid.result = c.is_listed-wanted.ensures in
     elim c.if-wanted.branch [
       | then-wanted+then-room+in_ok-push w ↦ (let room : length c.loop-row.found.items < most_shown = omega (arith, w.if-room.true, c.len-room.ensures, c.loop-row.found.ok.0) in

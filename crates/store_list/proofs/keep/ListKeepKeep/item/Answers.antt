@@ -6,5 +6,5 @@ use Rattle.store_list.proofs.Fitting.{find_fits, ok_fits, some_as}
 use Rattle.store_list.proofs.keep.ListKeepKeep.item.Goals as goal
 
 pub returns-clause-fits : goal.returns-clause-fits
-returns-clause-fits c = ok_fits (λ o. IfSome o ItemFits) c.found.result _ c.found.ensures.value (rw (c.item.ensures, c.deref.ensures.value)
-    (some_as (λ (row : ItemRow). row.item) (ItemRowFits c.self.inside.settings.bands) ItemFits _ (λ row fits. fits.item) (find_fits (ItemRowFits c.self.inside.settings.bands) _ c.self.inside.items.items c.self.invariant.sound.items)))
+returns-clause-fits c = ok_fits (λ o. IfSome o ItemFits) c.found.result _ c.found.ensures.value (rw c.item.ensures
+    (some_as (λ (row : ItemRow). row.item) (ItemRowFits c.self.inside.settings.bands) ItemFits _ (λ row fits. fits.item) (find_fits (ItemRowFits c.self.inside.settings.bands) _ c.self.inside.items c.self.invariant.sound.items)))

@@ -9,12 +9,12 @@ use Rattle.store_list.proofs.Fitting.{filter_fits, items_fit, ok_items, take_fit
 use Rattle.store_list.proofs.keep.ListKeepKeep.items_in.Goals as goal
 
 pub returns-clause-value : goal.returns-clause-value
-returns-clause-value c = λ _. rw (← c.self.view_is) (rw c.deref.ensures.value at c.in_category.ensures.value)
+returns-clause-value c = λ _. rw (← c.self.view_is) c.in_category.ensures.value
 
 pub returns-clause-fits : goal.returns-clause-fits
 returns-clause-fits c =
-    let rows : List Item = map (λ (row : ItemRow). row.item) c.deref.result.now in
-    let fits : AllByRecursion ItemFits rows = rw c.deref.ensures.value (items_fit _ c.self.invariant.sound) in
+    let rows : List Item = map (λ (row : ItemRow). row.item) c.self.inside.items in
+    let fits : AllByRecursion ItemFits rows = items_fit _ c.self.invariant.sound in
     let is_listed : Item → Bool = λ (it : Item). (it.terms.category == c.args.category) && nat_le c.args.from it.terms.item in
     let listed : List Item = filter is_listed rows in
     ok_items (λ xs. AllByRecursion ItemFits xs) c.in_category.result (take most_shown listed) c.in_category.ensures.value (take_fits ItemFits most_shown listed (filter_fits ItemFits is_listed rows fits))

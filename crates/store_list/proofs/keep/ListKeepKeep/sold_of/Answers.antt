@@ -9,13 +9,13 @@ use Rattle.store_list.proofs.Parties.{sales_to_apart, sales_to_few, sales_to_fit
 use Rattle.store_list.proofs.keep.ListKeepKeep.sold_of.Goals as goal
 
 pub returns-clause-fits : goal.returns-clause-fits
-returns-clause-fits c = ok_items (λ xs. All IsSale xs) c.sales_to.result _ (c.sales_to.ensures.value c.args.self.now (rw (← c.self.view_is) (sym c.deref.ensures.value)))
+returns-clause-fits c = ok_items (λ xs. All IsSale xs) c.sales_to.result _ (c.sales_to.ensures.value c.args.self.now (rw (← c.self.view_is) (sym c.rows.ensures)))
     (sales_to_fit c.args.self.now c.args.member (subst AreSound c.self.view_is c.self.invariant.sound))
 
 pub returns-clause-apart : goal.returns-clause-apart
-returns-clause-apart c = ok_items (λ xs. AllPairs (λ (a : Sold) (b : Sold). a.item ≢ b.item) xs) c.sales_to.result _ (c.sales_to.ensures.value c.args.self.now (rw (← c.self.view_is) (sym c.deref.ensures.value)))
+returns-clause-apart c = ok_items (λ xs. AllPairs (λ (a : Sold) (b : Sold). a.item ≢ b.item) xs) c.sales_to.result _ (c.sales_to.ensures.value c.args.self.now (rw (← c.self.view_is) (sym c.rows.ensures)))
     (sales_to_apart c.args.self.now c.args.member (subst AreSound c.self.view_is c.self.invariant.sound))
 
 pub returns-clause-few : goal.returns-clause-few
-returns-clause-few c = ok_items (λ xs. length xs ≤ most_items) c.sales_to.result _ (c.sales_to.ensures.value c.args.self.now (rw (← c.self.view_is) (sym c.deref.ensures.value)))
+returns-clause-few c = ok_items (λ xs. length xs ≤ most_items) c.sales_to.result _ (c.sales_to.ensures.value c.args.self.now (rw (← c.self.view_is) (sym c.rows.ensures)))
     (sales_to_few c.args.self.now c.args.member (subst AreSound c.self.view_is c.self.invariant.sound))

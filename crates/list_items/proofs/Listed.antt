@@ -1,0 +1,52 @@
+-- The indexes after a new item.
+use Rattle.std.proofs.Common.{◌≡◌, ℕ, ◌+◌, List, [], ◌∷◌, ◌++◌, length, Bool, true, false, refl, ◌∙◌, sym, Option, Some, None}
+use Rattle.std.specs.Prelude.{if◌then◌else◌, ◌==◌, ◌&&◌, find, option_map, is_some, cond}
+use Rattle.std.specs.BTreeSet.{BTreeSet}
+use Rattle.std.specs.BTreeSet as set
+use Rattle.std.specs.Ordering.{nat_cmp, ordering_then}
+use Rattle.std.specs.Cmp.Lexicographic.{bytes_decides}
+use Rattle.house_rows.specs.Changed.{new_item}
+use Rattle.house_rows.specs.Tables.{ItemRow}
+use Rattle.house_rows.specs.Text.{same_text}
+use Rattle.list_items.specs.Groups.{has_end}
+use Rattle.list_items.specs.Indexed.{IsIndexed, number_of}
+use Rattle.list_items.proofs.Joined.{is_number}
+use Rattle.list_items.proofs.Known.{ends_added, lot_added, row_added}
+use Rattle.list_items.proofs.ByLot.{has_lot}
+
+none_told : {A B : Type 0} (f : A → B) (o : Option A) → is_some (option_map f o) ≡ false → o ≡ None
+none_told f None none = refl
+none_told f (Some x) none = absurd (let e : true ≡ false = none in cc)
+
+-- a lot that a look-up doesn't find is free
+pub lot_free : (rows now : List ItemRow) (seller : ℕ) (lot : List ℕ) (r : Option ℕ) (b : Bool) → rows ≡ now → r ≡ option_map number_of (find (has_lot seller lot) now) → b ≡ is_some r → b ≡ false → find (has_lot seller lot) rows ≡ None
+lot_free rows now seller lot r b same found some none = none_told number_of (find (has_lot seller lot) rows) (rw same (rw (← found) (sym some ∙ none)))
+
+cond_stays : (b old new : Bool) → new ≡ cond b true old → old ≡ true → new ≡ true
+cond_stays true old new made was = made
+cond_stays false old new made was = made ∙ was
+
+-- what stood among the ends stays there
+pub ends_stay : (old new : BTreeSet (ℕ × ℕ)) (key : ℕ × ℕ) → set.Updates (λ x y. ordering_then (nat_cmp x.0 y.0) (nat_cmp x.1 y.1)) old new key true → (e n : ℕ) → has_end old e n ≡ true → has_end new e n ≡ true
+ends_stay old new key updates e n was = cond_stays _ (has_end old e n) (has_end new e n) (updates.0 (e, n)) was
+
+pub ends_same : (old new : BTreeSet (ℕ × ℕ)) → new.keys ≡ old.keys → (e n : ℕ) → has_end old e n ≡ true → has_end new e n ≡ true
+ends_same old new same e n was = rw same was
+
+own_lot : (s seller : ℕ) (lot : List ℕ) → s ≡ seller → ((s == seller) && same_text lot lot) ≡ true
+own_lot s seller lot is = rw (is_number s seller is, (bytes_decides lot lot).1 refl) refl
+
+pub row_listed : (rows : List ItemRow) (row : ItemRow) (bands : List (ℕ × ℕ)) (number seller category : ℕ) (lot title text : List ℕ) (start : ℕ) (buy_now : Option ℕ) (end' s k : ℕ)
+    (at_lot new_lot : ℕ → List ℕ → Option ℕ) (in_category new_category : ℕ → List ℕ) (ends_at new_ends : ℕ → ℕ → Bool)
+    → row ≡ new_item bands number seller category lot title text start buy_now end' → number ≡ length rows + 1 → s ≡ seller → k ≡ category
+    → find (has_lot s lot) rows ≡ None
+    → ((s' : ℕ) (l : List ℕ) → new_lot s' l ≡ (if (s == s') && same_text lot l then Some number else at_lot s' l))
+    → ((e n : ℕ) → ends_at e n ≡ true → new_ends e n ≡ true) → new_ends end' number ≡ true
+    → ((k' : ℕ) → new_category k' ≡ (if k == k' then in_category k' ++ number ∷ [] else in_category k'))
+    → IsIndexed rows at_lot in_category ends_at → IsIndexed (rows ++ row ∷ []) new_lot new_category new_ends
+row_listed rows row bands number seller category lot title text start buy_now end' s k at_lot new_lot in_category new_category ends_at new_ends is next s_is k_is free lots stays ended made indexed =
+    rw is (row_added rows (new_item bands number seller category lot title text start buy_now end') new_lot in_category new_category new_ends next
+    (lots seller lot ∙ rw (own_lot s seller lot s_is) refl)
+    (λ k'. rw k_is at (made k'))
+    ended
+    (ends_added rows new_lot in_category ends_at new_ends stays (lot_added rows at_lot new_lot in_category ends_at s number lot free lots indexed)))

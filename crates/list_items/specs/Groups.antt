@@ -1,0 +1,26 @@
+-- What the indexes of the item table have.
+use Rattle.std.specs.Prelude.{ℕ, List, [], Bool, Vec, Option, Some, None}
+use Rattle.std.specs.BTreeMap as tree
+use Rattle.std.specs.BTreeMap.{BTreeMap, get_by_text}
+use Rattle.std.specs.Option.{option_map_or}
+use Rattle.std.specs.BTreeSet as set
+use Rattle.std.specs.BTreeSet.{BTreeSet}
+use Rattle.std.specs.Ordering.{nat_cmp, ordering_then}
+use Rattle.std.specs.declared.string.String.{String}
+
+-- the numbers of the items that share a number, as that of their category
+abbrev pub numbers_at : {Z : Type 0} → BTreeMap ℕ (Vec ℕ Z) → ℕ → List ℕ
+numbers_at {Z} groups shared = option_map_or (λ (numbers : Vec ℕ Z). numbers.items) (tree.get nat_cmp groups shared) []
+
+-- the number that stands at a lot, among the lots of a seller
+abbrev pub number_of_lot : {Z : Type 0} → Option (BTreeMap (String Z) ℕ) → List ℕ → Option ℕ
+number_of_lot None lot = None
+number_of_lot (Some lots) lot = get_by_text lots lot
+
+-- the number that stands at a seller's lot
+abbrev pub number_at : {Z : Type 0} → BTreeMap ℕ (BTreeMap (String Z) ℕ) → ℕ → List ℕ → Option ℕ
+number_at {Z} sellers seller lot = number_of_lot {Z = Z} (tree.get nat_cmp sellers seller) lot
+
+-- whether an end and a number stand among the ends
+abbrev pub has_end : BTreeSet (ℕ × ℕ) → ℕ → ℕ → Bool
+has_end ends end number = set.contains (λ x y. ordering_then (nat_cmp x.0 y.0) (nat_cmp x.1 y.1)) ends (end, number)

@@ -1,0 +1,5 @@
+pub mod Groups
+pub mod Rising
+pub mod Indexed
+pub mod Sales
+pub mod Closing

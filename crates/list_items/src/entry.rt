@@ -1,0 +1,105 @@
+//! A row that holds more than what everybody sees.
+ghost use Rattle.std.specs.Prelude.{◌≡◌, ◌==◌, ◌&&◌};
+ghost use Rattle.house_rows.specs.Changed.{with_close, with_purchase, with_settlement, with_standing};
+ghost use Rattle.house_rows.specs.Text.{same_text};
+ghost use Rattle.list_items.specs.Closing.{close_at};
+
+use cents::Cents;
+use house_rows::{Item, State};
+use proxy::Standing;
+use std::marker::Model;
+
+/// An item with the standing of its bids, whose maxima are sealed. Clauses see an `ItemRow`.
+#[derive(Debug, Drop)]
+pub struct ItemEntry {
+    pub(crate) item: Item,
+    pub(crate) standing: Standing,
+}
+
+impl Model for ItemEntry {
+    ghost use Rattle.house_rows.specs.Tables.{ItemRow};
+
+    ghost Value = { ItemRow };
+
+    ghost view = { λ e. record { item = e.item; standing = e.standing } };
+}
+
+impl ItemEntry {
+    /// What everybody sees of it.
+    pub fn item(&self) -> &Item
+        ensures { result.now ≡ self.now.item }
+    {
+        &self.item
+    }
+
+    /// The standing of its bids.
+    pub fn standing(&self) -> Standing
+        ensures { result ≡ self.now.standing }
+    {
+        self.standing
+    }
+
+    /// Whether a seller has it under a lot.
+    pub(crate) fn has_lot(&self, seller: u64, lot: &str) -> bool
+        ensures { result ≡ ((self.now.item.terms.seller == seller) && same_text self.now.item.lot lot.now) }
+    {
+        u64::from(self.item.terms.seller) == seller && self.item.lot.as_str() == lot
+    }
+
+    /// The item of that number stands as its bids now do.
+    pub(crate) fn stand(&mut self, item: u32, standing: Standing)
+        ensures { self.new ≡ with_standing item standing self.old }
+    {
+        if self.item.terms.item == item {
+            self.item.terms.price = standing.price();
+            self.item.terms.leader = standing.leader();
+            self.item.terms.count = standing.count();
+            self.standing = standing;
+        }
+    }
+
+    /// The item of that number is bought at once.
+    pub(crate) fn buy(&mut self, item: u32, buyer: u32, price: Cents, moment: u64)
+        ensures { self.new ≡ with_purchase item buyer price moment self.old }
+    {
+        if self.item.terms.item == item {
+            self.item.terms.state = State::Sold;
+            self.item.terms.closed = Some(moment);
+            self.item.terms.price = price;
+            self.item.terms.leader = Some(buyer);
+        }
+    }
+
+    /// An item that is due is closed at its end.
+    pub(crate) fn close(&mut self, moment: u64)
+        ensures { self.new ≡ with_close moment self.old }
+    {
+        let terms = self.item.terms;
+        if terms.state == State::Open && terms.end <= moment {
+            self.item.terms.state = if terms.leader.is_some() {
+                State::Sold
+            } else {
+                State::Unsold
+            };
+            self.item.terms.closed = Some(terms.end);
+        }
+    }
+
+    /// The item of that number is closed at its end, if it is due.
+    pub(crate) fn close_if(&mut self, item: u32, moment: u64)
+        ensures { self.new ≡ close_at item moment self.old }
+    {
+        if self.item.terms.item == item {
+            self.close(moment);
+        }
+    }
+
+    /// The item of that number is settled.
+    pub(crate) fn settle(&mut self, item: u32)
+        ensures { self.new ≡ with_settlement item self.old }
+    {
+        if self.item.terms.item == item {
+            self.item.terms.state = State::Settled;
+        }
+    }
+}

@@ -1,0 +1,20 @@
+//! The items of the house in memory, with their standings.
+//!
+//! Promised: clauses see an `Items` as the plain list of its rows, and each call answers what a
+//! search of that list would, or leaves what a change of each row would. Inside, calls go by number,
+//! by lot, by category and by end, so that none costs in other members' items; `due` and `all` alone
+//! look at every row. Read `items` first, and then `specs/Indexed.antt`, which says what the indexes
+//! know.
+#![tactic(auto)]
+
+mod ending;
+mod entry;
+mod groups;
+mod items;
+mod listing;
+mod lots;
+mod sale;
+
+pub use entry::ItemEntry;
+pub use items::Items;
+pub use listing::Listing;

@@ -1,7 +1,0 @@
-use Rattle.std.proofs.Common.{◌≡◌, ◌++◌, take, drop, map}
-use Rattle.house_rows.specs.Changed.{with_purchase}
-use Rattle.store_list.proofs.items.buy.Given as goal
-
--- the rows so far are changed, and the others are left
-abbrev pub invariant-loop-row : goal.invariant-loop-row
-invariant-loop-row l = l.row-items ≡ map (with_purchase l.item l.buyer l.price l.moment) (take l.row-index l.initial.row-items) ++ drop l.row-index l.initial.row-items
