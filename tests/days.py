@@ -1,27 +1,28 @@
 #!/usr/bin/env python3
-"""Writes crates/settle/src/tests/day_table.rt: civil days as the C library gives them.
+"""Civil days as the C library gives them, for the script of crates/settle_tests: `days.py asked|told`.
+
+The lines that it writes end that crate's `stdin`, with the word `asked`, or `stdout`, with `told`.
 
 For each of six zone rules 200 moments: the seconds round the first midnights and the last ones,
 round the changes of daylight saving time of three years and the midnights of those days, and
 moments drawn at random (the seed is fixed). The day of a moment comes from localtime(3) under the
 environment variable TZ; `time.localtime` of Python calls it.
-
-Usage: python3 tests/days.py > crates/settle/src/tests/day_table.rt
 """
 import datetime
 import os
 import random
+import sys
 import time
 
 LAST = 4_102_444_800
 COUNT = 200
 RULES = [
-    ("UTC", "UTC0"),
-    ("EAST", "CET-1CEST,M3.5.0,M10.5.0/3"),
-    ("WEST", "EST5EDT,M3.2.0,M11.1.0"),
-    ("HALF_HOUR", "IST-5:30"),
-    ("SOUTH", "NZST-12NZDT,M9.5.0,M4.1.0/3"),
-    ("FAR_WEST", "<-1130>11:30"),
+    "UTC0",
+    "CET-1CEST,M3.5.0,M10.5.0/3",
+    "EST5EDT,M3.2.0,M11.1.0",
+    "IST-5:30",
+    "NZST-12NZDT,M9.5.0,M4.1.0/3",
+    "<-1130>11:30",
 ]
 
 
@@ -82,17 +83,15 @@ def moments(draw):
 
 def main():
     draw = random.Random(1970)
-    print("//! Civil days as the C library gives them: a moment and the number of its day. Made by")
-    print("//! tests/days.py, which says how.")
-    for name, rule in RULES:
+    for rule in RULES:
         os.environ["TZ"] = rule
         time.tzset()
-        print()
-        print(f"/// In the zone `{rule}`.")
-        print(f"pub static {name}: [(u64, i32); {COUNT}] = [")
-        for moment in moments(draw):
-            print(f"    ({moment}, {day_of(moment)}),")
-        print("];")
+        rows = [(moment, day_of(moment)) for moment in moments(draw)]
+        if sys.argv[1] == "asked":
+            lines = [f"zone {rule}"] + [f"at {moment}" for moment, _ in rows]
+        else:
+            lines = ["ok"] + [str(day) if day >= 0 else "-" for _, day in rows]
+        print("\n".join(lines))
 
 
 if __name__ == "__main__":

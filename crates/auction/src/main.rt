@@ -18,8 +18,6 @@ mod page;
 mod program;
 mod reading;
 mod refusal;
-#[cfg(test)]
-mod tests;
 
 use std::alloc::Global;
 use std::io;

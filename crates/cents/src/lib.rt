@@ -10,8 +10,6 @@ mod fault;
 mod laws;
 mod shown;
 mod spelling;
-#[cfg(test)]
-mod tests;
 
 pub use amount::{Cents, LIMIT};
 pub use fault::CentsFault;

@@ -1,244 +1,97 @@
 //! Answers, byte for byte.
-use std::test::Fail;
+use crate::script::{Fault, Stage, first_word, number};
+use crate::spelling::shown;
+use std::alloc::Global;
 use wire::{
     Answer, Methods, Status, WireFault, broken_frame, damaged_row, failed_store, no_memory,
 };
 
-const ROWS: [(Answer<'static>, &str); 13] = [
-    (
-        Answer {
-            status: Status::Created,
-            allow: None,
-            closes: false,
-            body: b"{\"count\":1,\"floor\":550,\"leader\":2,\"price\":500}",
-        },
-        "HTTP/1.1 201 Created\r\ncontent-type: application/json\r\ncontent-length: 46\r\n\r\n{\"count\":1,\"floor\":550,\"leader\":2,\"price\":500}",
-    ),
-    (
-        Answer {
-            status: Status::Success,
-            allow: None,
-            closes: true,
-            body: b"",
-        },
-        "HTTP/1.1 200 OK\r\ncontent-type: application/json\r\ncontent-length: 0\r\nconnection: close\r\n\r\n",
-    ),
-    (
-        Answer {
-            status: Status::BadRequest,
-            allow: None,
-            closes: false,
-            body: b"{\"error\":\"json\"}",
-        },
-        "HTTP/1.1 400 Bad Request\r\ncontent-type: application/json\r\ncontent-length: 16\r\n\r\n{\"error\":\"json\"}",
-    ),
-    (
-        Answer {
-            status: Status::Forbidden,
-            allow: None,
-            closes: false,
-            body: b"{}",
-        },
-        "HTTP/1.1 403 Forbidden\r\ncontent-type: application/json\r\ncontent-length: 2\r\n\r\n{}",
-    ),
-    (
-        Answer {
-            status: Status::NotFound,
-            allow: None,
-            closes: false,
-            body: b"{}",
-        },
-        "HTTP/1.1 404 Not Found\r\ncontent-type: application/json\r\ncontent-length: 2\r\n\r\n{}",
-    ),
-    (
-        Answer {
-            status: Status::MethodNotAllowed,
-            allow: Some(Methods::Get),
-            closes: false,
-            body: b"{}",
-        },
-        "HTTP/1.1 405 Method Not Allowed\r\ncontent-type: application/json\r\ncontent-length: 2\r\nallow: GET\r\n\r\n{}",
-    ),
-    (
-        Answer {
-            status: Status::MethodNotAllowed,
-            allow: Some(Methods::Post),
-            closes: true,
-            body: b"{}",
-        },
-        "HTTP/1.1 405 Method Not Allowed\r\ncontent-type: application/json\r\ncontent-length: 2\r\nallow: POST\r\nconnection: close\r\n\r\n{}",
-    ),
-    (
-        Answer {
-            status: Status::MethodNotAllowed,
-            allow: Some(Methods::GetAndPost),
-            closes: false,
-            body: b"{}",
-        },
-        "HTTP/1.1 405 Method Not Allowed\r\ncontent-type: application/json\r\ncontent-length: 2\r\nallow: GET, POST\r\n\r\n{}",
-    ),
-    (
-        Answer {
-            status: Status::Conflict,
-            allow: None,
-            closes: false,
-            body: b"{\"error\":\"Low\",\"floor\":550,\"number\":9}",
-        },
-        "HTTP/1.1 409 Conflict\r\ncontent-type: application/json\r\ncontent-length: 38\r\n\r\n{\"error\":\"Low\",\"floor\":550,\"number\":9}",
-    ),
-    (
-        Answer {
-            status: Status::ContentTooLarge,
-            allow: None,
-            closes: true,
-            body: b"{}",
-        },
-        "HTTP/1.1 413 Content Too Large\r\ncontent-type: application/json\r\ncontent-length: 2\r\nconnection: close\r\n\r\n{}",
-    ),
-    (
-        Answer {
-            status: Status::InternalServerError,
-            allow: None,
-            closes: false,
-            body: b"{}",
-        },
-        "HTTP/1.1 500 Internal Server Error\r\ncontent-type: application/json\r\ncontent-length: 2\r\n\r\n{}",
-    ),
-    (
-        Answer {
-            status: Status::NotImplemented,
-            allow: None,
-            closes: true,
-            body: b"{}",
-        },
-        "HTTP/1.1 501 Not Implemented\r\ncontent-type: application/json\r\ncontent-length: 2\r\nconnection: close\r\n\r\n{}",
-    ),
-    (
-        Answer {
-            status: Status::ServiceUnavailable,
-            allow: None,
-            closes: false,
-            body: b"{}",
-        },
-        "HTTP/1.1 503 Service Unavailable\r\ncontent-type: application/json\r\ncontent-length: 2\r\n\r\n{}",
-    ),
+/// The answer of a line, which is also written behind those before it.
+pub(crate) fn answer(alloc: Global, stage: &mut Stage, line: &str) -> Result<String, Fault> {
+    let answer = spelled(line, &stage.text)?;
+    answer.write_into(&mut stage.written)?;
+    Ok(shown(alloc, &answer.to_bytes(alloc)?)?)
+}
+
+/// What stands before the body of the answer of a line, and the length of all.
+pub(crate) fn head(alloc: Global, body: &[u8], line: &str) -> Result<String, Fault> {
+    let bytes = spelled(line, body)?.to_bytes(alloc)?;
+    let length = bytes.len();
+    let head = shown(alloc, &bytes[..length.saturating_sub(body.len())])?;
+    Ok(format!(in alloc; "{head}, {length} bytes")?)
+}
+
+// The answer that a line spells, with a body.
+fn spelled<'b>(line: &str, body: &'b [u8]) -> Result<Answer<'b>, Fault> {
+    let (code, line) = first_word(line);
+    let (ends, methods) = first_word(line);
+    Ok(Answer {
+        status: status_of(code)?,
+        allow: METHODS.into_iter().find(|some| some.text() == methods),
+        closes: closes(ends)?,
+        body,
+    })
+}
+
+fn closes(word: &str) -> Result<bool, Fault> {
+    match word {
+        "closes" => Ok(true),
+        "stays" => Ok(false),
+        _ => Err(Fault::Script),
+    }
+}
+
+const METHODS: [Methods; 3] = [Methods::Get, Methods::Post, Methods::GetAndPost];
+
+const STATUSES: [Status; 11] = [
+    Status::Success,
+    Status::Created,
+    Status::BadRequest,
+    Status::Forbidden,
+    Status::NotFound,
+    Status::MethodNotAllowed,
+    Status::Conflict,
+    Status::ContentTooLarge,
+    Status::InternalServerError,
+    Status::NotImplemented,
+    Status::ServiceUnavailable,
 ];
 
-#[test]
-fn each_answer_has_its_text(rt: HostRuntime) -> Result<(), Fail> {
-    let alloc = rt.alloc();
-    for (answer, text) in ROWS {
-        assert_eq!(rt;
-            answer.to_bytes(alloc)?.as_slice(),
-            text.as_bytes(),
-            "{answer:?}"
-        );
-    }
-    Ok(())
+fn status_of(code: &str) -> Result<Status, Fault> {
+    let code: u16 = number(code)?;
+    let found = STATUSES.into_iter().find(|status| status.code() == code);
+    found.ok_or(Fault::Script)
 }
 
-#[test]
-fn answers_are_appended_in_turn(rt: HostRuntime) -> Result<(), Fail> {
-    let alloc = rt.alloc();
-    let mut written = Vec::new(alloc);
-    let mut texts = String::new(alloc);
-    for (answer, text) in ROWS {
-        answer.write_into(&mut written)?;
-        texts.push_str(text)?;
-        assert_eq!(rt; written.as_slice(), texts.as_bytes(), "{answer:?}");
-    }
-    Ok(())
-}
-
-// What a refused growth leaves: run with each allocation refused in turn.
-#[test]
-fn a_refused_answer_leaves_the_buffer(rt: HostRuntime) -> Result<(), Fail> {
-    let mut written = Vec::new(rt.alloc());
-    for (answer, _) in ROWS {
-        let before = written.len();
-        if answer.write_into(&mut written).is_err() {
-            assert_eq!(rt; written.len(), before, "{answer:?}");
-        }
-    }
-    Ok(())
-}
-
-#[test]
-fn the_content_length_is_the_body_s(rt: HostRuntime) -> Result<(), Fail> {
-    let alloc = rt.alloc();
-    let body = vec![in alloc; b'x'; 12345]?;
-    let answer = Answer {
-        status: Status::Success,
-        allow: None,
-        closes: false,
-        body: &body,
+/// An answer that takes no memory.
+pub(crate) fn fixed(alloc: Global, line: &str) -> Result<String, Fault> {
+    let (name, ends) = first_word(line);
+    let closes = closes(ends)?;
+    let bytes = match name {
+        "memory" => no_memory(closes),
+        "store" => failed_store(closes),
+        "damaged" => damaged_row(closes),
+        _ => return Err(Fault::Script),
     };
-    let bytes = answer.to_bytes(alloc)?;
-    let head =
-        b"HTTP/1.1 200 OK\r\ncontent-type: application/json\r\ncontent-length: 12345\r\n\r\n";
-    assert!(rt; bytes.starts_with(head));
-    assert_eq!(rt; bytes.len(), head.len() + 12345);
-    Ok(())
+    Ok(shown(alloc, bytes)?)
 }
 
-#[test]
-fn fixed_answers_are_what_an_answer_writes(rt: HostRuntime) -> Result<(), Fail> {
-    let rows: [(&[u8], &str); 13] = [
-        (
-            no_memory(false),
-            "HTTP/1.1 503 Service Unavailable\r\ncontent-type: application/json\r\ncontent-length: 18\r\n\r\n{\"error\":\"memory\"}",
-        ),
-        (
-            no_memory(true),
-            "HTTP/1.1 503 Service Unavailable\r\ncontent-type: application/json\r\ncontent-length: 18\r\nconnection: close\r\n\r\n{\"error\":\"memory\"}",
-        ),
-        (
-            failed_store(false),
-            "HTTP/1.1 500 Internal Server Error\r\ncontent-type: application/json\r\ncontent-length: 17\r\n\r\n{\"error\":\"store\"}",
-        ),
-        (
-            failed_store(true),
-            "HTTP/1.1 500 Internal Server Error\r\ncontent-type: application/json\r\ncontent-length: 17\r\nconnection: close\r\n\r\n{\"error\":\"store\"}",
-        ),
-        (
-            damaged_row(false),
-            "HTTP/1.1 500 Internal Server Error\r\ncontent-type: application/json\r\ncontent-length: 19\r\n\r\n{\"error\":\"damaged\"}",
-        ),
-        (
-            damaged_row(true),
-            "HTTP/1.1 500 Internal Server Error\r\ncontent-type: application/json\r\ncontent-length: 19\r\nconnection: close\r\n\r\n{\"error\":\"damaged\"}",
-        ),
-        (
-            broken_frame(WireFault::Head),
-            "HTTP/1.1 400 Bad Request\r\ncontent-type: application/json\r\ncontent-length: 16\r\nconnection: close\r\n\r\n{\"error\":\"head\"}",
-        ),
-        (
-            broken_frame(WireFault::Host),
-            "HTTP/1.1 400 Bad Request\r\ncontent-type: application/json\r\ncontent-length: 16\r\nconnection: close\r\n\r\n{\"error\":\"host\"}",
-        ),
-        (
-            broken_frame(WireFault::Transfer),
-            "HTTP/1.1 501 Not Implemented\r\ncontent-type: application/json\r\ncontent-length: 20\r\nconnection: close\r\n\r\n{\"error\":\"transfer\"}",
-        ),
-        (
-            broken_frame(WireFault::Length),
-            "HTTP/1.1 400 Bad Request\r\ncontent-type: application/json\r\ncontent-length: 18\r\nconnection: close\r\n\r\n{\"error\":\"length\"}",
-        ),
-        (
-            broken_frame(WireFault::Size),
-            "HTTP/1.1 413 Content Too Large\r\ncontent-type: application/json\r\ncontent-length: 16\r\nconnection: close\r\n\r\n{\"error\":\"size\"}",
-        ),
-        (
-            broken_frame(WireFault::End),
-            "HTTP/1.1 400 Bad Request\r\ncontent-type: application/json\r\ncontent-length: 15\r\nconnection: close\r\n\r\n{\"error\":\"end\"}",
-        ),
-        (
-            broken_frame(WireFault::Excess),
-            "HTTP/1.1 400 Bad Request\r\ncontent-type: application/json\r\ncontent-length: 18\r\nconnection: close\r\n\r\n{\"error\":\"excess\"}",
-        ),
-    ];
-    for (fixed, text) in rows {
-        assert_eq!(rt; fixed, text.as_bytes());
-    }
-    Ok(())
+const FAULTS: [WireFault; 7] = [
+    WireFault::Head,
+    WireFault::Host,
+    WireFault::Transfer,
+    WireFault::Length,
+    WireFault::Size,
+    WireFault::End,
+    WireFault::Excess,
+];
+
+/// The fault of a number: itself, its status, its word, how it is shown, and its answer.
+pub(crate) fn fault(alloc: Global, word: &str) -> Result<String, Fault> {
+    let wanted: u32 = number(word)?;
+    let found = FAULTS.into_iter().find(|fault| fault.number() == wanted);
+    let fault = found.ok_or(Fault::Script)?;
+    let (status, word) = (fault.status().code(), fault.word());
+    let answer = shown(alloc, broken_frame(fault))?;
+    Ok(format!(in alloc; "{fault:?}, {status}, {word}, {fault}, {answer}")?)
 }

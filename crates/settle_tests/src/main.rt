@@ -1,0 +1,39 @@
+//! Plays a script on amounts, days, zones, fees and statements.
+//!
+//! The stored run is a test that the clauses mean the days, amounts and texts that people write: `stdin` has
+//! the script, `stdout` what has to be answered, written by hand, but for the days of moments, which are the C
+//! library's. Read `script` first, which says what a line may be.
+#![tactic(auto)]
+
+mod amounts;
+mod days;
+mod sales;
+mod script;
+mod statements;
+
+use script::{Fault, Stage};
+use std::alloc::Global;
+use std::io;
+use std::process::ExitCode;
+
+// Plays the lines of the script, and prints what is answered.
+fn play(rt: &(impl Input + Print), alloc: Global) -> Result<(), Fault> {
+    let script = io::read_to_string(alloc, rt.reader()).map_err(|_| Fault::Script)?;
+    let mut stage = Stage::new(alloc)?;
+    for line in script.as_str().lines() {
+        if let Some(answer) = script::play(alloc, &mut stage, line)? {
+            println!(rt; "{answer}").map_err(|_| Fault::Output)?;
+        }
+    }
+    Ok(())
+}
+
+fn main(rt: HostRuntime) -> ExitCode {
+    match play(&rt, rt.alloc()) {
+        Ok(()) => ExitCode::SUCCESS,
+        Err(fault) => {
+            let _ = eprintln!(rt; "settle_tests: {fault}");
+            ExitCode::FAILURE
+        }
+    }
+}

@@ -1,0 +1,139 @@
+#!/usr/bin/env python3
+"""Runs the program over streams that are whole, cut, in pieces or fail: `streams.py PROGRAM`.
+
+Each has to be answered what the house's rules say, worked out by hand, and 400 `head` where it goes on
+with what is no message. Reads are made short, and failed in turn, by short_reads.c, which needs a C
+compiler, `cc`. The last line is 'N streams, M wrong'.
+"""
+import contextlib
+import os
+import pathlib
+import subprocess
+import sys
+import tempfile
+
+HERE = pathlib.Path(__file__).resolve().parent
+
+HEAD = (b"HTTP/1.1 400 Bad Request\r\ncontent-type: application/json\r\ncontent-length: 16\r\n"
+        b'connection: close\r\n\r\n{"error":"head"}')
+
+
+def bid(member, moment, maximum):
+    body = b'{"maximum":%d}' % maximum
+    return (b"POST /items/1/bids HTTP/1.1\r\nhost: h\r\nx-member: %d\r\nx-moment: %d\r\n"
+            b"content-length: %d\r\n\r\n%s" % (member, moment, len(body), body))
+
+
+def read(member):
+    return b"GET /items/1 HTTP/1.1\r\nhost: h\r\nx-member: %d\r\n\r\n" % member
+
+
+def answer(status, body):
+    return (b"HTTP/1.1 %s\r\ncontent-type: application/json\r\ncontent-length: %d\r\n\r\n%s"
+            % (status, len(body), body))
+
+
+def placed(count, floor, leader, price):
+    return answer(b"201 Created", b'{"count":%d,"floor":%d,"leader":%d,"price":%d}'
+                  % (count, floor, leader, price))
+
+
+def page(count):
+    """The page of the item after so many bids of member 2 alone, the first of them 500."""
+    return answer(b"200 OK", b'{"buy_now":null,"category":1,"closed":null,"count":%d,"end":5000,'
+                  b'"floor":550,"item":1,"leader":2,"lot":"A1","price":500,"seller":1,"start":500,'
+                  b'"state":"open","text":"","title":"Atlas"}' % count)
+
+
+FIRST, TOLD = bid(2, 1001, 500), placed(1, 550, 2, 500)
+
+# Texts that are no message, whatever follows them, and where a whole message does.
+NO_MESSAGES = [
+    b"GET /items/2 HTTP/1.1\r\nhost: h\r\nx-member: 2\r\n\r\n",
+    b"GET /items/1 HTTP/1.1\nhost: h\nx-member: 2\n\n",
+    b"GET /items/1 HTTP/1.1\r\nhost: h\r\nx-member: 02\r\n\r\n",
+    b"GET /items/1 HTTP/1.1\r\nhost: h\r\nx-member: 12345678901\r\n\r\n",
+    b"GET /items/1 HTTP/1.1\r\nhost: h\r\nx-member: \r\n\r\n",
+    b"DELETE /items/1 HTTP/1.1\r\nhost: h\r\nx-member: 2\r\n\r\n",
+    b"POST /items/1/bids HTTP/1.1\r\nhost: h\r\nx-member: 2\r\nx-moment: 1001\r\n"
+    b'content-length: 16\r\n\r\n{"maximum":500}',
+    b"POST /items/1/bids HTTP/1.1\r\nhost: h\r\nx-member: 2\r\nx-moment: 1001\r\n"
+    b'content-length: 16\r\n\r\n{"maximum":0500}',
+    b"POST /items/1/bids HTTP/1.1\r\nhost: h\r\nx-member: 2\r\nx-moment: 1001\r\n"
+    b'content-length: 14\r\n\r\n{"maximum":500',
+    b"\r\n",
+]
+
+
+def whole_streams():
+    """Streams and what is answered to them."""
+    yield "nothing", b"", b""
+    for text in NO_MESSAGES:
+        yield f"no message {text}", text + read(2), HEAD
+    # Cut inside the second message, or inside the first.
+    stream = FIRST + bid(3, 1002, 549)
+    for cut in range(1, len(stream)):
+        told = TOLD if cut >= len(FIRST) else b""
+        yield f"cut at {cut}", stream[:cut], told + (b"" if cut == len(FIRST) else HEAD)
+    bids = b"".join(bid(2, 1001, maximum) for maximum in range(500, 10_501))
+    counts = b"".join(placed(count, 550, 2, 500) for count in range(1, 10_001))
+    yield "10001 bids", bids, counts + answer(b"409 Conflict", b'{"error":"Limit","number":19}')
+
+
+def pieces():
+    """A stream of bids and reads that ends inside a head, and what is answered."""
+    stream, told = b"", b""
+    for count in range(1, 101):
+        stream += bid(2, 1001, 499 + count) + read(3)
+        told += placed(count, 550, 2, 500) + page(count)
+    return stream + b"GET", told + HEAD
+
+
+@contextlib.contextmanager
+def built_library():
+    """The library that makes reads short, built into a folder that goes again."""
+    with tempfile.TemporaryDirectory() as folder:
+        library = f"{folder}/short_reads.so"
+        subprocess.run(["cc", "-shared", "-fPIC", "-O1", "-o", library,
+                        str(HERE / "short_reads.c"), "-ldl"], check=True)
+        yield library
+
+
+def cases(library, table):
+    """Each case: its name, more words, the stream, what is set for the run, and how it has to end."""
+    for name, stream, told in whole_streams():
+        yield name, [], stream, {}, (0, told, b"")
+    yield ("a table of one band", ["--bands", table], FIRST + bid(3, 1002, 1000), {},
+           (0, placed(1, 600, 2, 500) + placed(2, 700, 3, 600), b""))
+    stream, told = pieces()
+    for most in (1, 2, 7, 104, 4095, 4096, 4097):
+        yield (f"pieces of {most}", [], stream, {"LD_PRELOAD": library, "READ_MOST": str(most)},
+               (0, told, b""))
+    # The bid comes in so many reads, and one more finds the end.
+    reads = -(-len(FIRST) // 7)
+    for calls in range(reads + 1):
+        told = TOLD if calls >= reads else b""
+        yield (f"{calls} reads", [], FIRST,
+               {"LD_PRELOAD": library, "READ_MOST": "7", "READ_CALLS": str(calls)},
+               (1, told, b"auction: input: Read\n"))
+
+
+def main():
+    program = str(pathlib.Path(sys.argv[1]).resolve())
+    count = wrong = 0
+    with built_library() as library, tempfile.NamedTemporaryFile(suffix=".csv") as table:
+        table.write(b"at,step\n0,100\n")
+        table.flush()
+        for name, words, stream, settings, ending in cases(library, table.name):
+            result = subprocess.run([program, "replay", "--preset", *words], input=stream,
+                                    capture_output=True, env={**os.environ, **settings}, timeout=60)
+            count += 1
+            if (result.returncode, result.stdout, result.stderr) != ending:
+                wrong += 1
+                print(f"{name}: {str(result)[:300]}")
+    print(f"{count} streams, {wrong} wrong")
+    return 1 if wrong else 0
+
+
+if __name__ == "__main__":
+    sys.exit(main())
