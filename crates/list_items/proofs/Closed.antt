@@ -14,13 +14,20 @@ use Rattle.house_rows.proofs.Every.{every_as, every_map}
 use Rattle.house_rows.proofs.Put.{by_test}
 use Rattle.list_items.specs.Closing.{AllAfter, TakesEnd, close_at}
 use Rattle.list_items.specs.Groups.{has_end}
-use Rattle.list_items.specs.Indexed.{IsIndexed, number_of}
+use Rattle.list_items.specs.Indexed.{IsIndexed, IsNoted, number_of}
 use Rattle.list_items.proofs.Alike.{IsLike, like_close, like_same}
 use Rattle.list_items.proofs.Joined.{both_ways, is_number, other_number}
 use Rattle.list_items.proofs.Known.{indexed_changed}
 
 pub like_close_at : (i moment : ℕ) (row : ItemRow) → IsLike row (close_at i moment row)
 like_close_at i moment row = elim (by_test (is_item i row)) [ inl is ↦ rw is (like_close moment row) | inr other ↦ rw other (like_same row) ]
+
+noted_close_at : (bought_by : ℕ → List ℕ) (i moment : ℕ) (row : ItemRow) → IsNoted bought_by row → IsNoted bought_by (close_at i moment row)
+noted_close_at bought_by i moment row noted =
+    elim (by_test (is_item i row)) [
+      | inl is ↦ elim (by_test (is_due moment row.item.terms)) [ inl due ↦ rw (is, due) noted | inr not ↦ rw (is, not) noted ]
+      | inr other ↦ rw other noted
+    ]
 
 pub close_at_apart : (i moment : ℕ) (row : ItemRow) → number_of row ≢ i → close_at i moment row ≡ row
 close_at_apart i moment row apart = rw (other_number (number_of row) i apart) refl
@@ -47,16 +54,16 @@ none_left i moment end' row le opened ends is =
     both_ways (is_open (with_close moment row).item.terms.state) opened' (closed_unopened moment row due)
 
 -- one end is taken out, and its item closed
-pub closing_step : (rows : List ItemRow) (at_lot : ℕ → List ℕ → Option ℕ) (in_category : ℕ → List ℕ) (old new : BTreeSet (ℕ × ℕ)) (number moment : ℕ) → TakesEnd old new number moment
-    → IsIndexed rows at_lot in_category (has_end old) → IsIndexed (map (close_at number moment) rows) at_lot in_category (has_end new)
-closing_step rows at_lot in_category old new number moment taken is =
-    let after : IsIndexed (map (close_at number moment) rows) at_lot in_category (has_end old) = indexed_changed (close_at number moment) rows at_lot in_category (has_end old) (like_close_at number moment) is in
+pub closing_step : (rows : List ItemRow) (at_lot : ℕ → List ℕ → Option ℕ) (in_category sold_by bought_by : ℕ → List ℕ) (old new : BTreeSet (ℕ × ℕ)) (number moment : ℕ) → TakesEnd old new number moment
+    → IsIndexed rows at_lot in_category sold_by bought_by (has_end old) → IsIndexed (map (close_at number moment) rows) at_lot in_category sold_by bought_by (has_end new)
+closing_step rows at_lot in_category sold_by bought_by old new number moment taken is =
+    let after : IsIndexed (map (close_at number moment) rows) at_lot in_category sold_by bought_by (has_end old) = indexed_changed (close_at number moment) rows at_lot in_category sold_by bought_by bought_by (has_end old) (like_close_at number moment) (noted_close_at bought_by number moment) is in
     record {
       in_turn = after.in_turn;
       lots = after.lots;
-      rising = after.rising;
-      within = after.within;
       categories = after.categories;
+      sellers = after.sellers;
+      purchases = after.purchases;
       ends = every_map (close_at number moment) (λ row. is_open row.item.terms.state ≡ true → has_end new row.item.terms.end (number_of row) ≡ true) rows
           (every_as (λ row. is_open row.item.terms.state ≡ true → has_end old row.item.terms.end (number_of row) ≡ true)
           (λ row. is_open (close_at number moment row).item.terms.state ≡ true → has_end new (close_at number moment row).item.terms.end (number_of (close_at number moment row)) ≡ true) rows

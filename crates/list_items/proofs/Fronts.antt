@@ -223,6 +223,13 @@ second_of : (a b : Bool) → (a && b) ≡ true → b ≡ true
 second_of true b is = is
 second_of false b is = absurd (both_ways false is refl)
 
+-- the numbers of a group have every item of the group
+pub group_has : (shared : ItemRow → ℕ) (rows : List ItemRow) (numbers : ℕ → List ℕ) (k : ℕ) → AllByRecursion (λ row. is_among (numbers (shared row)) (number_of row) ≡ true) rows
+    → HasAll number_of (λ row. shared row == k) (numbers k) rows
+group_has shared [] numbers k has = tt
+group_has shared (row ∷ rows) numbers k has =
+    (λ is. (let same : shared row ≡ k = same_number (shared row) k is in rw same at has.0), group_has shared rows numbers k has.1)
+
 -- the numbers of a category, from one on, have every item that its page may show
 pub page_has : (rows : List ItemRow) (in_category : ℕ → List ℕ) (category from : ℕ) → AllByRecursion (λ row. is_among (in_category row.item.terms.category) (number_of row) ≡ true) rows
     → HasAll number_of (λ row. (row.item.terms.category == category) && nat_le from row.item.terms.item) (filter (nat_le from) (in_category category)) rows

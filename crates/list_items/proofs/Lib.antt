@@ -1,8 +1,11 @@
 pub mod Joined
+mod Among
+mod Parties
 mod Placed
 mod Alike
 mod Known
 mod ByLot
-mod Fronts
+pub mod Fronts
 mod Closed
 mod Listed
+mod Due

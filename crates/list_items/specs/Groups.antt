@@ -1,5 +1,5 @@
 -- What the indexes of the item table have.
-use Rattle.std.specs.Prelude.{ℕ, List, [], Bool, Vec, Option, Some, None}
+use Rattle.std.specs.Prelude.{ℕ, List, [], Bool, false, nat_lt, Vec, vec_len, vec_capacity, Option, Some, None}
 use Rattle.std.specs.BTreeMap as tree
 use Rattle.std.specs.BTreeMap.{BTreeMap, get_by_text}
 use Rattle.std.specs.Option.{option_map_or}
@@ -11,6 +11,10 @@ use Rattle.std.specs.declared.string.String.{String}
 -- the numbers of the items that share a number, as that of their category
 abbrev pub numbers_at : {Z : Type 0} → BTreeMap ℕ (Vec ℕ Z) → ℕ → List ℕ
 numbers_at {Z} groups shared = option_map_or (λ (numbers : Vec ℕ Z). numbers.items) (tree.get nat_cmp groups shared) []
+
+-- whether there is room for one more of them
+abbrev pub has_room : {Z : Type 0} → BTreeMap ℕ (Vec ℕ Z) → ℕ → Bool
+has_room {Z} groups shared = option_map_or (λ (numbers : Vec ℕ Z). nat_lt (vec_len numbers) (vec_capacity numbers)) (tree.get nat_cmp groups shared) false
 
 -- the number that stands at a lot, among the lots of a seller
 abbrev pub number_of_lot : {Z : Type 0} → Option (BTreeMap (String Z) ℕ) → List ℕ → Option ℕ

@@ -1,13 +1,15 @@
 //! Items that a close takes.
-ghost use Rattle.std.specs.Prelude.{◌≡◌, ◌&&◌, not, is_some, IfSome, None};
-ghost use Rattle.house_rows.specs.Found.{due_at};
-ghost use Rattle.house_rows.specs.History.{counted};
+ghost use Rattle.std.specs.Prelude.{◌≡◌, ◌≤◌, ℕ, true, map, nat_le, take_while, IfSome, IfOk, IfErr, None};
+ghost use Rattle.std.specs.BTreeSet.{IsOrdered};
+ghost use Rattle.std.specs.Ordering.{nat_cmp, ordering_then};
 ghost use Rattle.house_rows.specs.Items.{is_due};
-ghost use Rattle.house_rows.specs.Tables.{Tables};
+ghost use Rattle.house_rows.specs.declared.fault.KeepFault.TheVariants as fault;
 ghost use Rattle.list_items.specs.Closing.{AllAfter, TakesEnd};
+ghost use Rattle.list_items.specs.Groups.{has_end};
+ghost use Rattle.list_items.specs.Rising.{is_among};
 
-use crate::entry::ItemEntry;
-use house_rows::{Due, State, Terms};
+use house_rows::{KeepFault, State, Terms};
+use std::alloc::{AllocError, Global};
 use std::collections::BTreeSet;
 
 /// Takes out the first end, if it is not after the moment: the number that stands with it.
@@ -23,37 +25,39 @@ pub(crate) fn next_due(ends: &mut BTreeSet<(u64, u32)>, moment: u64) -> Option<u
     Some(number)
 }
 
-// Whether a close at the moment takes an item.
-fn is_due(terms: &Terms, moment: u64) -> bool
+/// Whether a close at the moment takes an item.
+pub(crate) fn is_due(terms: &Terms, moment: u64) -> bool
     ensures { result ≡ is_due moment terms.now }
 {
     terms.state == State::Open && terms.end <= moment
 }
 
-/// How many items a close at the moment would leave sold, and how many unsold.
-pub(crate) fn due_of(rows: &[ItemEntry], moment: u64) -> Due
-    ensures { (t : Tables) → t.items ≡ rows.now → result ≡ due_at t moment }
+/// The numbers that stand with the ends up to the moment.
+pub(crate) fn ended_by(
+    alloc: Global,
+    ends: &BTreeSet<(u64, u32)>,
+    moment: u64,
+) -> Result<Vec<u32>, KeepFault>
+    ensures all { IfOk result (λ v. (e n : ℕ) → has_end ends.now e n ≡ true → e ≤ moment → is_among v.items n ≡ true) }
+    ensures memory { IfErr result (λ e. e ≡ fault.Memory) }
 {
-    Due {
-        sold: due_sold(rows, moment),
-        unsold: due_unsold(rows, moment),
+    match first_ends(alloc, ends, moment) {
+        Ok(numbers) => Ok(numbers),
+        Err(_) => Err(KeepFault::Memory),
     }
 }
 
-// How many of them have a leader.
-fn due_sold(rows: &[ItemEntry], moment: u64) -> u64
-    ensures { result ≡ counted (λ row. is_due moment row.item.terms && is_some row.item.terms.leader) rows.now }
+// The same, in the order of the ends.
+fn first_ends(
+    alloc: Global,
+    ends: &BTreeSet<(u64, u32)>,
+    moment: u64,
+) -> Result<Vec<u32>, AllocError>
+    ensures numbers { IfOk result (λ v. v.items ≡ map (λ (k : ℕ × ℕ). k.1) (take_while (λ k. nat_le k.0 moment) ends.now.keys)) }
+    ensures ordered { IsOrdered (λ x y. ordering_then (nat_cmp x.0 y.0) (nat_cmp x.1 y.1)) ends.now }
 {
-    rows.iter()
-        .filter(|row| is_due(&row.item.terms, moment) && row.item.terms.leader.is_some())
-        .count() as u64
-}
-
-// How many have none.
-fn due_unsold(rows: &[ItemEntry], moment: u64) -> u64
-    ensures { result ≡ counted (λ row. is_due moment row.item.terms && not (is_some row.item.terms.leader)) rows.now }
-{
-    rows.iter()
-        .filter(|row| is_due(&row.item.terms, moment) && row.item.terms.leader.is_none())
-        .count() as u64
+    ends.iter()
+        .take_while(|key| key.0 <= moment)
+        .map(|key| key.1)
+        .collect(alloc)
 }

@@ -32,13 +32,6 @@ impl ItemEntry {
         &self.item
     }
 
-    /// The standing of its bids.
-    pub fn standing(&self) -> Standing
-        ensures { result ≡ self.now.standing }
-    {
-        self.standing
-    }
-
     /// Whether a seller has it under a lot.
     pub(crate) fn has_lot(&self, seller: u64, lot: &str) -> bool
         ensures { result ≡ ((self.now.item.terms.seller == seller) && same_text self.now.item.lot lot.now) }

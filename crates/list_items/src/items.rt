@@ -1,25 +1,29 @@
 //! The table of items, and the calls that read and change it.
-ghost use Rattle.std.specs.Prelude.{◌≡◌, ◌<◌, ◌+◌, ◌++◌, ◌∷◌, [], ◌==◌, ◌&&◌, Bool, ℕ, List, nat_le, filter, find, map, option_map, take, length, None, IfOk, IfErr, OnOk, IfSome, ◌⊎◌};
-ghost use Rattle.std.specs.Option.{option_copied};
+ghost use Rattle.std.specs.Prelude.{◌≡◌, ◌<◌, ◌+◌, ◌++◌, ◌∷◌, [], ◌==◌, ◌&&◌, Bool, true, ⊤, ℕ, List, nat_le, filter, find, map, option_map, take, length, Some, None, false, is_some, IfOk, IfErr, OnOk, OnErr, IfSome, ◌⊎◌};
+ghost use Rattle.std.specs.List.{AllByRecursion};
+ghost use Rattle.std.specs.Option.{option_copied, option_map_or};
 ghost use Rattle.house_rows.specs.Changed.{is_item, new_item, with_close, with_purchase, with_settlement, with_standing};
 ghost use Rattle.house_rows.specs.Found.{due_at, sales_to, sells};
+ghost use Rattle.house_rows.specs.History.{counted};
 ghost use Rattle.house_rows.specs.Limits.{most_items, most_shown};
 ghost use Rattle.house_rows.specs.Tables.{ItemRow, Tables};
 ghost use Rattle.house_rows.specs.Text.{same_text};
+ghost use Rattle.house_rows.specs.Verdict.{was_sold};
 ghost use Rattle.house_rows.specs.declared.item.Item.{Item as TheItem};
 ghost use Rattle.house_rows.specs.declared.fault.KeepFault.TheVariants as fault;
 ghost use Rattle.list_rows.specs.Makes.{Makes};
 ghost use Rattle.house_rows.specs.Keeping.{AreInTurn};
-ghost use Rattle.list_items.specs.Closing.{close_at};
+ghost use Rattle.list_items.specs.Closing.{close_at, is_due_with};
 ghost use Rattle.list_items.specs.Indexed.{number_of};
-ghost use Rattle.list_items.specs.Rising.{HasAll, IsRising};
+ghost use Rattle.list_items.specs.Rising.{HasAll, IsRising, is_among};
 ghost use Rattle.list_items.specs.Sales.{is_sold_with, sale_of_row};
 
-use crate::ending::{due_of, next_due};
+use crate::ending::{ended_by, is_due, next_due};
 use crate::entry::ItemEntry;
-use crate::groups::{add, numbers_of};
+use crate::groups::{add, numbers_of, reserve};
 use crate::listing::{Listing, new_entry};
 use crate::lots::{add_lot, number_at};
+use crate::numbers::{make_rising, merged, numbers_from};
 use crate::sale::sale;
 use cents::Cents;
 use house_rows::{Due, Item, KeepFault, Terms};
@@ -37,8 +41,11 @@ pub struct Items {
     rows: Vec<ItemEntry>,
     // By seller, then by lot.
     lots: BTreeMap<u64, BTreeMap<String, u32>>,
-    // By category. An item's number stands once.
+    // By category, and by seller. An item's number stands once in each.
     categories: BTreeMap<u64, Vec<u32>>,
+    sellers: BTreeMap<u64, Vec<u32>>,
+    // By the buyer of an item that was bought at once, in the order of the purchases.
+    purchases: BTreeMap<u64, Vec<u32>>,
     // The end and the number of every open item, and of some that are open no longer.
     ends: BTreeSet<(u64, u32)>,
 }
@@ -54,7 +61,7 @@ impl Model for Items {
 
     ghost view = { λ t. t.rows.items };
 
-    ghost invariant = { λ t. IsIndexed t.rows.items (number_at t.lots) (numbers_at t.categories) (has_end t.ends) };
+    ghost invariant = { λ t. IsIndexed t.rows.items (number_at t.lots) (numbers_at t.categories) (numbers_at t.sellers) (numbers_at t.purchases) (has_end t.ends) };
 }
 
 impl Items {
@@ -66,6 +73,8 @@ impl Items {
             rows: Vec::new(alloc),
             lots: BTreeMap::new(alloc),
             categories: BTreeMap::new(alloc),
+            sellers: BTreeMap::new(alloc),
+            purchases: BTreeMap::new(alloc),
             ends: BTreeSet::new(alloc),
         }
     }
@@ -137,11 +146,27 @@ impl Items {
         }
     }
 
-    /// How many items a close at the moment would leave sold, and how many unsold.
-    pub fn due(&self, moment: u64) -> Due
-        ensures { (t : Tables) → t.items ≡ self.now → result ≡ due_at t moment }
+    /// The numbers of a member's own items.
+    pub fn sold_by(&self, member: u64) -> &[u32]
+        ensures rising { IsRising result.now }
+        ensures complete { HasAll (λ (row : ItemRow). row.item.terms.item) (λ row. row.item.terms.seller == member) result.now self.now }
     {
-        due_of(&self.rows, moment)
+        numbers_of(&self.sellers, member)
+    }
+
+    /// How many items a close at the moment would leave sold, and how many unsold.
+    ///
+    /// The only error is `KeepFault::Memory`.
+    pub fn due(&self, alloc: Global, moment: u64) -> Result<Due, KeepFault>
+        ensures value { (t : Tables) → t.items ≡ self.now → IfOk result (λ d. d ≡ due_at t moment) }
+        ensures memory { IfErr result (λ e. e ≡ fault.Memory) }
+    {
+        let mut numbers = ended_by(alloc, &self.ends, moment)?;
+        make_rising(&mut numbers);
+        Ok(Due {
+            sold: self.due_count(&numbers, moment, true),
+            unsold: self.due_count(&numbers, moment, false),
+        })
     }
 
     /// All items.
@@ -172,7 +197,7 @@ impl Items {
             → IfOk result (λ v. v.items ≡ take most (filter test (map (λ (row : ItemRow). row.item) self.now))) }
         ensures memory { IfErr result (λ e. e ≡ fault.Memory) }
     {
-        // The rows have their numbers in turn.
+        // For the proof alone: it then sees that the numbers of the rows run in turn.
         let _ = &self.rows;
         let mut found = Vec::new(alloc);
         for number in numbers {
@@ -205,27 +230,24 @@ impl Items {
         })
     }
 
-    /// The sales to which a member is a party, where each has its item's number among the numbers.
-    pub fn sales_among(
+    /// The sales to which a member is a party, by item. What the member leads by its bids has to
+    /// be among the numbers that it has bid on.
+    pub fn sales_of(
         &self,
         alloc: Global,
-        numbers: &[u32],
         member: u64,
+        bid_on: &[u32],
     ) -> Result<Vec<Sold>, KeepFault>
-        requires rising { IsRising numbers.now }
-        requires complete { HasAll (λ (row : ItemRow). row.item.terms.item) (is_sold_with member) numbers.now self.now }
+        requires complete { AllByRecursion (λ row. row.standing.leader ≡ Some member → is_among bid_on.now (number_of row) ≡ true) self.now }
+        // What was sold has a buyer, so that nobody is told of a sale to nobody.
+        requires led { AllByRecursion (λ row. was_sold row.item.terms.state ≡ true → is_some row.item.terms.leader ≡ true) self.now }
         ensures value { (t : Tables) → t.items ≡ self.now → IfOk result (λ v. v.items ≡ sales_to t member) }
         ensures memory { IfErr result (λ e. e ≡ fault.Memory) }
     {
-        // The rows have their numbers in turn.
-        let _ = &self.rows;
-        let mut found = Vec::new(alloc);
-        for number in numbers {
-            if let Some(sale) = self.sale_with(*number, member) {
-                push(&mut found, sale)?;
-            }
-        }
-        Ok(found)
+        let own = numbers_of(&self.sellers, member);
+        let bought = numbers_of(&self.purchases, member);
+        let numbers = merged(alloc, own, bought, bid_on)?;
+        self.sales_among(alloc, &numbers, member)
     }
 
     /// An item comes, with the next number. Its lot is new to its seller.
@@ -243,26 +265,7 @@ impl Items {
         if self.number_with_lot(seller, listing.lot).is_some() {
             return Err(KeepFault::Damaged);
         }
-        let number = self.rows.len() as u32 + 1;
-        let entry = new_entry(alloc, number, listing)?;
-        // With room for the row, its push can't fail, and the category never has a number with no item.
-        let Ok(()) = self.rows.try_reserve(1) else {
-            return Err(KeepFault::Memory);
-        };
-        add_lot(alloc, &mut self.lots, seller, listing.lot, number)?;
-        let Ok(_) = self.ends.insert((listing.end, number)) else {
-            return Err(KeepFault::Memory);
-        };
-        add(
-            alloc,
-            &mut self.categories,
-            u64::from(listing.category),
-            number,
-        )?;
-        let Ok(()) = self.rows.push(entry) else {
-            return Err(KeepFault::Memory);
-        };
-        Ok(())
+        self.append(alloc, listing)
     }
 
     /// The item of that number stands as its bids now do.
@@ -277,14 +280,27 @@ impl Items {
     }
 
     /// The item of that number is bought at once.
-    pub fn buy(&mut self, item: u32, buyer: u32, price: Cents, moment: u64)
-        ensures { self.new ≡ map (with_purchase item buyer price moment) self.old }
+    ///
+    /// The only error is `KeepFault::Memory`.
+    pub fn buy(
+        &mut self,
+        alloc: Global,
+        item: u32,
+        buyer: u32,
+        price: Cents,
+        moment: u64,
+    ) -> Result<(), KeepFault>
+        ensures { Makes result self.old self.new (map (with_purchase item buyer price moment) self.old) ⊤ }
     {
         let Some(place) = place_of(&self.rows, item) else {
-            return;
+            return Ok(());
         };
+        let member = u64::from(buyer);
+        reserve(alloc, &mut self.purchases, member)?;
+        add(&mut self.purchases, member, item);
         let row = &mut self.rows[place];
         row.buy(item, buyer, price, moment);
+        Ok(())
     }
 
     /// The sale of that item is settled.
@@ -305,6 +321,83 @@ impl Items {
         while let Some(number) = next_due(&mut self.ends, moment) {
             close_row(&mut self.rows, number, moment);
         }
+    }
+
+    // An item comes whose lot is new to its seller.
+    fn append(&mut self, alloc: Global, listing: &Listing<'_>) -> Result<(), KeepFault>
+        requires room { length self.old < most_items }
+        requires free { find (λ (row : ItemRow). (row.item.terms.seller == listing.now.seller) && same_text row.item.lot listing.now.lot.now) self.old ≡ None }
+        ensures listed { (bands : List (ℕ × ℕ)) → OnOk result (self.new ≡ self.old ++ new_item bands (length self.old + 1) listing.now.seller listing.now.category
+            listing.now.lot.now listing.now.title.now listing.now.text.now listing.now.start listing.now.buy_now listing.now.end ∷ []) }
+        ensures err { OnErr result (self.new ≡ self.old) }
+        ensures memory { IfErr result (λ e. e ≡ fault.Memory) }
+    {
+        let seller = u64::from(listing.seller);
+        let category = u64::from(listing.category);
+        let number = self.rows.len() as u32 + 1;
+        let entry = new_entry(alloc, number, listing)?;
+        // With room everywhere, no index of numbers ever has one with no item.
+        let Ok(()) = self.rows.try_reserve(1) else {
+            return Err(KeepFault::Memory);
+        };
+        reserve(alloc, &mut self.categories, category)?;
+        reserve(alloc, &mut self.sellers, seller)?;
+        add_lot(alloc, &mut self.lots, seller, listing.lot, number)?;
+        let Ok(_) = self.ends.insert((listing.end, number)) else {
+            return Err(KeepFault::Memory);
+        };
+        add(&mut self.categories, category, number);
+        add(&mut self.sellers, seller, number);
+        let Ok(()) = self.rows.push(entry) else {
+            return Err(KeepFault::Memory);
+        };
+        Ok(())
+    }
+
+    // How many items of these numbers are due with a leader, or with none.
+    fn due_count(&self, numbers: &[u32], moment: u64, led: bool) -> u64
+        ensures { result ≡ counted (λ k. option_map_or (is_due_with moment led) (find (is_item k) self.now) false) numbers.now }
+    {
+        numbers
+            .iter()
+            .filter(|number| self.is_due_with(**number, moment, led))
+            .count() as u64
+    }
+
+    // Whether the item of a number is due with a leader, or with none.
+    fn is_due_with(&self, number: u32, moment: u64, led: bool) -> bool
+        ensures { result ≡ option_map_or (is_due_with moment led) (find (is_item number) self.now) false }
+    {
+        match self.entry(u64::from(number)) {
+            Some(row) => {
+                let terms = row.item.terms;
+                is_due(&terms, moment) && terms.leader.is_some() == led
+            }
+            None => false,
+        }
+    }
+
+    // The sales to which a member is a party, where each has its item's number among the numbers.
+    fn sales_among(
+        &self,
+        alloc: Global,
+        numbers: &[u32],
+        member: u64,
+    ) -> Result<Vec<Sold>, KeepFault>
+        requires rising { IsRising numbers.now }
+        requires complete { HasAll (λ (row : ItemRow). row.item.terms.item) (is_sold_with member) numbers.now self.now }
+        ensures value { (t : Tables) → t.items ≡ self.now → IfOk result (λ v. v.items ≡ sales_to t member) }
+        ensures memory { IfErr result (λ e. e ≡ fault.Memory) }
+    {
+        // For the proof alone: it then sees that the numbers of the rows run in turn.
+        let _ = &self.rows;
+        let mut found = Vec::new(alloc);
+        for number in numbers {
+            if let Some(sale) = self.sale_with(*number, member) {
+                push(&mut found, sale)?;
+            }
+        }
+        Ok(found)
     }
 
     // The sale of an item to which the member is a party.
@@ -341,13 +434,4 @@ fn place_of(rows: &[ItemEntry], item: u32) -> Option<usize>
     } else {
         None
     }
-}
-
-// Those of rising numbers that are not below a number.
-fn numbers_from(numbers: &[u32], from: u64) -> &[u32]
-    requires { IsRising numbers.now }
-    ensures { result.now ≡ filter (nat_le from) numbers.now }
-{
-    let first = numbers.partition_point(|number| u64::from(*number) < from);
-    &numbers[first..]
 }

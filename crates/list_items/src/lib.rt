@@ -2,8 +2,9 @@
 //!
 //! Promised: clauses see an `Items` as the plain list of its rows, and each call answers what a
 //! search of that list would, or leaves what a change of each row would. Inside, calls go by number,
-//! by lot, by category and by end, so that none costs in other members' items; `due` and `all` alone
-//! look at every row. Read `items` first, and then `specs/Indexed.antt`, which says what the indexes
+//! by lot, by category, by seller, by buyer and by end. So they cost in what they answer or change,
+//! and in all items only by the depth of the trees, which grows with the logarithm; `all` alone goes
+//! over every row. Read `items` first, and then `specs/Indexed.antt`, which says what the indexes
 //! know.
 #![tactic(auto)]
 
@@ -13,6 +14,7 @@ mod groups;
 mod items;
 mod listing;
 mod lots;
+mod numbers;
 mod sale;
 
 pub use entry::ItemEntry;

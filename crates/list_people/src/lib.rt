@@ -9,8 +9,6 @@
 mod categories;
 mod members;
 mod names;
-#[cfg(test)]
-mod tests;
 
 pub use categories::Categories;
 pub use members::Members;

@@ -7,12 +7,13 @@ use Rattle.house_rows.specs.Asks.{IsFree}
 use Rattle.house_rows.specs.Changed.{changed}
 use Rattle.house_rows.specs.Tables.{Tables}
 
--- it is made as wanted or not at all; only where the new key is free, and only where it isn't is Damaged answered
+-- it is made as wanted or not at all; only where the new key is free; and where it isn't, and only there, Damaged is answered
 pub record Makes {X : Type 0} (result : Result (Unit {0}) KeepFault) (old new wanted : X) (is_free : Type 0) : Type 0 where
   pub ok : OnOk result (new ≡ wanted)
   pub err : OnErr result (new ≡ old)
   pub free : OnOk result is_free
   pub damaged : IsErrOf result Damaged → ¬ is_free
+  pub taken : ¬ is_free → IsErrOf result Damaged
   pub store : ¬ (IsErrOf result Store)
 
 -- the change of all tables, where its new key is free

@@ -1,8 +1,17 @@
 //! Rows in memory: copies of them, and lists of rows in blocks.
 //!
-//! Read `copies` first, which says how a row that holds texts is copied.
+//! Promised: a table in blocks is the plain list that its blocks are one behind the other, and each
+//! call does to it what it does to that list. Read `copies` first, which says how a row that holds
+//! texts is copied, and then `blocks`.
 #![tactic(auto)]
 
+mod blocks;
 mod copies;
+mod entries;
+mod keyed;
+mod places;
 
+pub use blocks::{Changes, block, cut, put, row, update};
 pub use copies::{Copied, MOST_SHOWN, chosen, copies_of, found, push, push_copy, text_of};
+pub use entries::{BidEntry, WatchEntry};
+pub use keyed::{Keyed, RowKey};

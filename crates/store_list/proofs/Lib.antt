@@ -1,6 +1,8 @@
-pub mod Placing
 pub mod Fitting
-pub mod Apart
+pub mod Waiting
 pub mod Sold
 pub mod Parties
+pub mod Led
 pub mod Changing
+pub mod WatchedItems
+pub mod OwnBids

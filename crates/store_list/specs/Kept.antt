@@ -1,16 +1,15 @@
 -- What is true of the tables that are kept in memory.
-use Rattle.std.specs.Prelude.{◌≡◌, List, [], ◌∷◌, false}
-use Rattle.std.specs.List.{list_any}
-use Rattle.house_rows.specs.declared.talk.Question.{Question}
+use Rattle.std.specs.Prelude.{◌≡◌, List, true, IfSome}
+use Rattle.std.specs.List.{AllByRecursion, list_any}
+use Rattle.house_rows.specs.Bids.{BidRow}
 use Rattle.house_rows.specs.Keeping.{AreSound}
-use Rattle.house_rows.specs.Questions.{is_question}
-use Rattle.house_rows.specs.Tables.{Tables}
+use Rattle.house_rows.specs.Tables.{ItemRow, Tables}
+use Rattle.list_bids.specs.Tallies.{is_own}
 
--- no two questions have the same item, asker and number
-abbrev pub AreApart : List Question → Type 0
-AreApart [] = Unit {0}
-AreApart (q ∷ qs) = (list_any (is_question q.item q.asker q.number) qs ≡ false) × AreApart qs
+-- where a member leads, it has bid on the item
+abbrev pub IsLed : List BidRow → ItemRow → Type 0
+IsLed bids row = IfSome row.standing.leader (λ member. list_any (is_own member row.item.terms.item) bids ≡ true)
 
 pub record IsKept (t : Tables) : Type 0 where
   pub sound : AreSound t
-  pub apart : AreApart t.questions
+  pub led : AllByRecursion (IsLed t.bids) t.items

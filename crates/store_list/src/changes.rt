@@ -6,15 +6,15 @@ ghost use Rattle.store_list.specs.Listed.{listed};
 ghost use Rattle.list_rows.specs.Makes.{Applies};
 
 use crate::keep::ListKeep;
-use crate::{bids, questions, ratings, watches};
 use cents::Cents;
 use house_rows::{Change, KeepFault, Rating};
 use list_items::Listing;
 use proxy::{Bid, Standing};
 
 impl ListKeep {
-    /// Makes a change.
-    pub(crate) fn change(&mut self, change: &Change<'_>) -> Result<(), KeepFault>
+    /// Makes a change, as `apply` of `Keep` does, and tells more of its faults: Damaged comes exactly
+    /// where the new key is taken, whatever else is wanting, and Store never.
+    pub fn change(&mut self, change: &Change<'_>) -> Result<(), KeepFault>
         requires fits { AreSound self.old → ChangeFits self.old change.now }
         ensures { Applies result self.old self.new change.now }
     {
@@ -122,7 +122,7 @@ impl ListKeep {
         ensures { Applies result self.old self.new (change.Bid moment item placed standing) }
     {
         // The one step that can fail comes first.
-        bids::place(&mut self.bids, item, placed)?;
+        self.bids.place(self.alloc, item, placed)?;
         self.items.stand(item, standing);
         self.clock = moment;
         Ok(())
@@ -132,7 +132,7 @@ impl ListKeep {
         requires fits { AreSound self.old → ChangeFits self.old (change.Buy moment item buyer price) }
         ensures { Applies result self.old self.new (change.Buy moment item buyer price) }
     {
-        self.items.buy(item, buyer, price, moment);
+        self.items.buy(self.alloc, item, buyer, price, moment)?;
         self.clock = moment;
         Ok(())
     }
@@ -159,7 +159,7 @@ impl ListKeep {
         requires fits { AreSound self.old → ChangeFits self.old (change.Watch member item) }
         ensures { Applies result self.old self.new (change.Watch member item) }
     {
-        watches::watch(&mut self.watches, member, item)?;
+        self.watches.watch(self.alloc, member, item)?;
         Ok(())
     }
 
@@ -167,7 +167,7 @@ impl ListKeep {
         requires fits { AreSound self.old → ChangeFits self.old (change.Unwatch member item) }
         ensures { Applies result self.old self.new (change.Unwatch member item) }
     {
-        watches::unwatch(&mut self.watches, member, item);
+        self.watches.unwatch(member, item);
         Ok(())
     }
 
@@ -175,8 +175,7 @@ impl ListKeep {
         requires fits { AreSound self.old → ChangeFits self.old (change.Ask item asker number text) }
         ensures { Applies result self.old self.new (change.Ask item asker number text.entry) }
     {
-        questions::ask(self.alloc, &mut self.questions, item, asker, number, text)?;
-        Ok(())
+        self.questions.ask(self.alloc, item, asker, number, text)
     }
 
     fn answer(
@@ -190,7 +189,8 @@ impl ListKeep {
         requires fits { AreSound self.old → ChangeFits self.old (change.Answer moment item asker number text) }
         ensures { Applies result self.old self.new (change.Answer moment item asker number text.entry) }
     {
-        questions::answer(self.alloc, &mut self.questions, item, asker, number, text)?;
+        self.questions
+            .answer(self.alloc, item, asker, number, text)?;
         self.clock = moment;
         Ok(())
     }
@@ -207,7 +207,8 @@ impl ListKeep {
         requires fits { AreSound self.old → ChangeFits self.old (change.Feedback moment item from to rating text) }
         ensures { Applies result self.old self.new (change.Feedback moment item from to rating text.entry) }
     {
-        ratings::give(self.alloc, &mut self.feedback, item, from, to, rating, text)?;
+        self.feedback
+            .give(self.alloc, item, from, to, rating, text)?;
         self.clock = moment;
         Ok(())
     }

@@ -3,15 +3,17 @@ ghost use Rattle.std.specs.Prelude.{◌≡◌, [], false, IfOk, IfErr};
 ghost use Rattle.house_rows.specs.Tables.{tables_of};
 ghost use Rattle.house_rows.specs.declared.fault.KeepFault.TheVariants as fault;
 
-use crate::entries::{BidEntry, WatchEntry};
-use crate::{bids, questions, ratings, sales, watches};
+use crate::{bids, watches};
 use house_rows::{
     Category, Change, Counts, Due, Feedback, Item, Keep, KeepFault, Member, OwnBest, OwnBid,
     Question, Ratings, Settings, Terms,
 };
+use list_bids::Bids;
 use list_items::Items;
 use list_people::{Categories, Members};
 use list_rows::{copies_of, found};
+use list_talk::{FeedbackTable, Questions};
+use list_watches::Watches;
 use proxy::Standing;
 use settle::Sold;
 use std::alloc::Global;
@@ -26,10 +28,10 @@ pub struct ListKeep {
     pub(crate) members: Members,
     pub(crate) categories: Categories,
     pub(crate) items: Items,
-    pub(crate) bids: Vec<BidEntry>,
-    pub(crate) watches: Vec<WatchEntry>,
-    pub(crate) questions: Vec<Question>,
-    pub(crate) feedback: Vec<Feedback>,
+    pub(crate) bids: Bids,
+    pub(crate) watches: Watches,
+    pub(crate) questions: Questions,
+    pub(crate) feedback: FeedbackTable,
 }
 
 impl Model for ListKeep {
@@ -45,10 +47,10 @@ impl Model for ListKeep {
       members = k.members;
       categories = k.categories;
       items = k.items;
-      bids = k.bids.items;
-      watches = k.watches.items;
-      questions = k.questions.items;
-      feedback = k.feedback.items;
+      bids = k.bids;
+      watches = k.watches;
+      questions = k.questions;
+      feedback = k.feedback;
     } };
 
     ghost invariant = { λ k. IsKept (record {
@@ -57,10 +59,10 @@ impl Model for ListKeep {
       members = k.members;
       categories = k.categories;
       items = k.items;
-      bids = k.bids.items;
-      watches = k.watches.items;
-      questions = k.questions.items;
-      feedback = k.feedback.items;
+      bids = k.bids;
+      watches = k.watches;
+      questions = k.questions;
+      feedback = k.feedback;
     }) };
 }
 
@@ -80,10 +82,10 @@ impl ListKeep {
             members: Members::new(alloc),
             categories: Categories::new(alloc),
             items: Items::new(alloc),
-            bids: Vec::new(alloc),
-            watches: Vec::new(alloc),
-            questions: Vec::new(alloc),
-            feedback: Vec::new(alloc),
+            bids: Bids::new(alloc),
+            watches: Watches::new(alloc),
+            questions: Questions::new(alloc),
+            feedback: FeedbackTable::new(alloc),
         })
     }
 }
@@ -146,19 +148,19 @@ impl Keep for ListKeep {
     }
 
     fn own_best(&mut self, item: u64, member: u64) -> Result<OwnBest, KeepFault> {
-        Ok(bids::best(&self.bids, member, item))
+        Ok(self.bids.best(member, item))
     }
 
     fn watched(&mut self, member: u64, item: u64) -> Result<bool, KeepFault> {
-        Ok(watches::is_watched(&self.watches, member, item))
+        Ok(self.watches.is_watched(member, item))
     }
 
     fn watch_count(&mut self, member: u64) -> Result<u64, KeepFault> {
-        Ok(watches::count(&self.watches, member))
+        Ok(self.watches.count(member))
     }
 
     fn ask_count(&mut self, item: u64, asker: u64) -> Result<u64, KeepFault> {
-        Ok(questions::count(&self.questions, asker, item))
+        Ok(self.questions.count(asker, item))
     }
 
     fn question(
@@ -167,20 +169,19 @@ impl Keep for ListKeep {
         asker: u64,
         number: u64,
     ) -> Result<Option<Question>, KeepFault> {
-        let question = questions::question(&self.questions, item, asker, number);
-        found(self.alloc, question)
+        found(self.alloc, self.questions.question(item, asker, number))
     }
 
     fn given(&mut self, item: u64, giver: u64) -> Result<bool, KeepFault> {
-        Ok(ratings::is_given(&self.feedback, item, giver))
+        Ok(self.feedback.is_given(item, giver))
     }
 
     fn ratings(&mut self, member: u64) -> Result<Ratings, KeepFault> {
-        Ok(ratings::ratings(&self.feedback, member))
+        Ok(self.feedback.ratings(member))
     }
 
     fn due(&mut self, moment: u64) -> Result<Due, KeepFault> {
-        Ok(self.items.due(moment))
+        self.items.due(self.alloc, moment)
     }
 
     fn items_in(&mut self, category: u64, from: u64) -> Result<Vec<Item>, KeepFault> {
@@ -188,19 +189,19 @@ impl Keep for ListKeep {
     }
 
     fn bids_of(&mut self, member: u64, from: u64) -> Result<Vec<OwnBid>, KeepFault> {
-        bids::own_bids(self.alloc, self.items.rows(), &self.bids, member, from)
+        bids::own_bids(self.alloc, &self.items, &self.bids, member, from)
     }
 
     fn published(&mut self, item: u64, from: u64) -> Result<Vec<Question>, KeepFault> {
-        questions::published(self.alloc, &self.questions, item, from)
+        self.questions.published(self.alloc, item, from)
     }
 
     fn questions_of(&mut self, member: u64, from: u64) -> Result<Vec<Question>, KeepFault> {
-        questions::asked_by(self.alloc, &self.questions, member, from)
+        self.questions.asked_by(self.alloc, member, from)
     }
 
     fn feedback_for(&mut self, member: u64, from: u64) -> Result<Vec<Feedback>, KeepFault> {
-        ratings::given_to(self.alloc, &self.feedback, member, from)
+        self.feedback.given_to(self.alloc, member, from)
     }
 
     fn categories(&mut self) -> Result<Vec<Category>, KeepFault> {
@@ -216,23 +217,27 @@ impl Keep for ListKeep {
     }
 
     fn all_published(&mut self) -> Result<Vec<Question>, KeepFault> {
-        questions::all_published(self.alloc, &self.questions)
+        self.questions.all_published(self.alloc)
     }
 
     fn all_feedback(&mut self) -> Result<Vec<Feedback>, KeepFault> {
-        copies_of(self.alloc, &self.feedback)
+        self.feedback.all(self.alloc)
     }
 
     fn watches_of(&mut self, member: u64) -> Result<Vec<Item>, KeepFault> {
-        watches::items_watched(self.alloc, self.items.rows(), &self.watches, member)
+        watches::items_watched(self.alloc, &self.items, &self.watches, member)
     }
 
     fn waiting_for(&mut self, member: u64) -> Result<Vec<Question>, KeepFault> {
-        questions::waiting_for(self.alloc, &self.items, &self.questions, member)
+        let items = &self.items;
+        let own = items.sold_by(member);
+        self.questions
+            .waiting_on(self.alloc, own, |item| items.is_sold_by(item, member))
     }
 
     fn sold_of(&mut self, member: u64) -> Result<Vec<Sold>, KeepFault> {
-        sales::sales_to(self.alloc, self.items.rows(), member)
+        let bid_on = bids::bid_on(self.alloc, &self.bids, member)?;
+        self.items.sales_of(self.alloc, member, &bid_on)
     }
 
     fn apply(&mut self, change: &Change<'_>) -> Result<(), KeepFault> {

@@ -7,13 +7,7 @@
 
 mod bids;
 mod changes;
-mod entries;
 mod keep;
-mod places;
-mod questions;
-mod ratings;
-mod sales;
 mod watches;
 
-pub use entries::{BidEntry, WatchEntry};
 pub use keep::ListKeep;

@@ -1,35 +1,38 @@
-use Rattle.std.proofs.Common.{◌≡◌, ◌≤◌, ◌<◌, List, Bool, length, take, filter, map, sym, ◌∙◌, ap, arith}
-use Rattle.std.specs.Prelude.{◌&&◌, nat_le, nat_lt}
-use Rattle.house_rows.specs.declared.item.Item.{Item}
-use Rattle.house_rows.specs.declared.item.OwnBid.{OwnBid}
-use Rattle.house_rows.specs.Found.{own_bid}
+use Rattle.std.proofs.Common.{◌≤◌, ◌<◌, length, take, sym, ◌∙◌, ap, subst, arith}
+use Rattle.std.proofs.lemmas.List.{length-map, take_all}
+use Rattle.house_rows.specs.Keeping.{AreInTurn}
 use Rattle.house_rows.specs.Limits.{most_shown}
-use Rattle.house_rows.specs.Tables.{ItemRow}
-use Rattle.list_rows.proofs.Growing.{made_all, made_full, made_less, made_shown, map_twice}
+use Rattle.list_bids.specs.declared.tally.Tally.{Tally}
+use Rattle.list_bids.specs.Tallies.{numbers_in}
+use Rattle.list_items.specs.Indexed.{number_of}
+use Rattle.list_items.proofs.Fronts.{page_full}
+use Rattle.store_list.proofs.OwnBids.{bid_less, bid_more, bids_all, is_listed, listed_at, shown_from, tally_told, told_by}
 use Rattle.store_list.proofs.bids.own_bids.Goals as goal
-use Rattle.store_list.proofs.bids.own_bids.Goals.{then-wanted+then-room+in_ok-push, else-wanted, else-wanted-via-then-wanted+else-room, else-wanted-via-else-wanted}
+use Rattle.store_list.proofs.bids.own_bids.Goals.{in-Some+in_ok-push, in_default}
 
-pub loop-row-preserved : goal.loop-row-preserved
-loop-row-preserved c = λ t same.
-    let made : ItemRow → OwnBid = λ (row : ItemRow). own_bid t c.args.member row.item in
-    let listed : OwnBid → Bool = λ (b : OwnBid). nat_lt 0 b.mine && nat_le c.args.from b.item in
-    let so_far = c.loop-row.invariant t same in
-    let here : c.own_bid-bid.result ≡ made c.row-item.result = c.own_bid-bid.ensures t c.row-item.result.item same (sym (ap (λ (it : Item). it.terms) c.item.ensures)) in
-    let tested : c.is_listed-wanted.result ≡ listed c.own_bid-bid.result = c.is_listed-wanted.ensures in
-    elim c.if-wanted.branch [
-      | then-wanted+then-room+in_ok-push w ↦ (let room : length c.loop-row.found.items < most_shown = omega (arith, w.if-room.true, c.len-room.ensures, c.loop-row.found.ok.0) in
-          rw (w.found-is, w.in_ok-push.ensures.ok) (made_shown made listed most_shown c.args.items.now c.loop-row.row-index c.row-item.result c.own_bid-bid.result c.loop-row.found.items c.loop-row-test.true c.row-item.is here so_far (sym tested ∙ w.if-wanted.true) room))
-      | else-wanted w ↦ rw w.found-is (elim w.else-wanted.branch [
-        | else-wanted-via-then-wanted+else-room w' ↦ (let full : most_shown ≤ length c.loop-row.found.items = omega (arith, w'.if-room.false, c.len-room.ensures, c.loop-row.found.ok.0) in
-            made_full made listed most_shown c.args.items.now c.loop-row.row-index c.row-item.result c.own_bid-bid.result c.loop-row.found.items c.loop-row-test.true c.row-item.is here so_far (sym tested ∙ w'.if-wanted.true) full)
-        | else-wanted-via-else-wanted w' ↦ made_less made listed most_shown c.args.items.now c.loop-row.row-index c.row-item.result c.own_bid-bid.result c.loop-row.found.items c.loop-row-test.true c.row-item.is here so_far (sym tested ∙ w'.if-wanted.false)
-      ])
+pub loop-tally-preserved : goal.loop-tally-preserved
+loop-tally-preserved c = λ t items bids.
+    let so_far = c.loop-tally.invariant t items bids in
+    let shown = shown_from t c.args.member c.args.from c.tallies_of.result.now c.tallies_from-tallies.result.now (c.tallies_of.ensures t bids) c.tallies_from-tallies.ensures in
+    let best = tally_told t c.args.member c.args.from c.tallies_from-tallies.result.now c.loop-tally.tally-index c.tally-item.result shown c.loop-tally-test.true c.tally-item.is in
+    elim c.match-own_bid.branch [
+      | in-Some+in_ok-push w ↦ (let room : length c.loop-tally.found.items < most_shown = omega (arith, c.if-len-ge-MOST_SHOWN.false, c.len.ensures, c.loop-tally.found.ok.0) in
+          rw (w.found-is, w.in_ok-push.ensures.ok) (bid_more t c.args.member c.args.from c.tallies_from-tallies.result.now c.loop-tally.tally-index c.tally-item.result w.in-Some.bid c.loop-tally.found.items shown c.loop-tally-test.true c.tally-item.is so_far
+          (w.in-Some.ensures t items best) room))
+      | in_default w ↦ rw w.found-is (bid_less t c.args.member c.args.from c.tallies_from-tallies.result.now c.loop-tally.tally-index c.tally-item.result c.loop-tally.found.items shown c.loop-tally-test.true c.tally-item.is so_far (w.in_default.ensures t items best))
     ]
 
+pub returns-then-len-ge-MOST_SHOWN-clause-value : goal.returns-then-len-ge-MOST_SHOWN-clause-value
+returns-then-len-ge-MOST_SHOWN-clause-value c = λ t items bids.
+    let shown = shown_from t c.args.member c.args.from c.tallies_of.result.now c.tallies_from-tallies.result.now (c.tallies_of.ensures t bids) c.tallies_from-tallies.ensures in
+    let full : most_shown ≤ length c.loop-tally.found.items = omega (arith, c.if-len-ge-MOST_SHOWN.true, c.len.ensures, c.loop-tally.found.ok.0) in
+    page_full (told_by t c.args.member) (is_listed c.args.from) number_of t.items (numbers_in c.tallies_from-tallies.result.now) c.loop-tally.tally-index most_shown c.loop-tally.found.items (c.loop-tally.invariant t items bids) full
+    ∙ bids_all t c.args.member c.args.from c.tallies_from-tallies.result.now shown (subst (λ rows. AreInTurn number_of 1 rows) (sym items) c.requires.in_turn)
+
 pub returns-clause-value : goal.returns-clause-value
-returns-clause-value c = λ t items same.
-    let made : ItemRow → OwnBid = λ (row : ItemRow). own_bid t c.args.member row.item in
-    let listed : OwnBid → Bool = λ (b : OwnBid). nat_lt 0 b.mine && nat_le c.args.from b.item in
-    let every : map made c.args.items.now ≡ map (own_bid t c.args.member) (map (λ (row : ItemRow). row.item) t.items) = rw (← items) (map_twice (own_bid t c.args.member) (λ (row : ItemRow). row.item) t.items) in
-    c.loop-row.invariant t same
-    ∙ ap (λ (bids : List OwnBid). take most_shown (filter listed bids)) (made_all made c.args.items.now c.loop-row.row-index c.loop-row-test.false ∙ every)
+returns-clause-value c = λ t items bids.
+    let shown = shown_from t c.args.member c.args.from c.tallies_of.result.now c.tallies_from-tallies.result.now (c.tallies_of.ensures t bids) c.tallies_from-tallies.ensures in
+    let past : length (numbers_in c.tallies_from-tallies.result.now) ≤ c.loop-tally.tally-index = rw (length-map c.tallies_from-tallies.result.now (λ (tally : Tally). tally.item)) c.loop-tally-test.false in
+    c.loop-tally.invariant t items bids
+    ∙ ap (λ ks. take most_shown (listed_at t c.args.member c.args.from ks)) (take_all c.loop-tally.tally-index (numbers_in c.tallies_from-tallies.result.now) past)
+    ∙ bids_all t c.args.member c.args.from c.tallies_from-tallies.result.now shown (subst (λ rows. AreInTurn number_of 1 rows) (sym items) c.requires.in_turn)

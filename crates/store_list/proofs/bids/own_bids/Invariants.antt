@@ -1,11 +1,11 @@
-use Rattle.std.proofs.Common.{◌≡◌, take, filter, map}
-use Rattle.std.specs.Prelude.{◌&&◌, nat_le, nat_lt}
-use Rattle.house_rows.specs.Found.{own_bid}
+use Rattle.std.proofs.Common.{◌≡◌, take}
 use Rattle.house_rows.specs.Limits.{most_shown}
-use Rattle.house_rows.specs.Tables.{ItemRow, Tables}
+use Rattle.house_rows.specs.Tables.{Tables}
+use Rattle.list_bids.specs.Tallies.{numbers_in}
+use Rattle.store_list.proofs.OwnBids.{listed_at}
 use Rattle.store_list.proofs.bids.own_bids.Given as goal
 
--- those of the items so far that the member has bid on are listed
-abbrev pub invariant-loop-row : goal.invariant-loop-row
-invariant-loop-row l = (t : Tables) → t.bids ≡ l.rows
-    → l.found.items ≡ take most_shown (filter (λ b. nat_lt 0 b.mine && nat_le l.from b.item) (take l.row-index (map (λ (row : ItemRow). own_bid t l.member row.item) l.items)))
+-- what the tallies so far tell is listed
+abbrev pub invariant-loop-tally : goal.invariant-loop-tally
+invariant-loop-tally l = (t : Tables) → t.items ≡ l.items → t.bids ≡ l.bids
+    → l.found.items ≡ take most_shown (listed_at t l.member l.from (take l.tally-index (numbers_in l.tallies)))

@@ -8,7 +8,7 @@ use Rattle.list_items.proofs.items.Items.close.Goals as goal
 pub loop-number-preserved : goal.loop-number-preserved
 loop-number-preserved c =
     rw c.close_row.ensures (
-      closing_step c.loop-number.self-inside.rows.items (number_at c.loop-number.self-inside.lots) (numbers_at c.loop-number.self-inside.categories) c.loop-number.self-inside.ends c.next_due.new.ends c.in-Some.number c.args.moment c.in-Some.ensures.taken c.loop-number.invariant.0,
+      closing_step c.loop-number.self-inside.rows.items (number_at c.loop-number.self-inside.lots) (numbers_at c.loop-number.self-inside.categories) (numbers_at c.loop-number.self-inside.sellers) (numbers_at c.loop-number.self-inside.purchases) c.loop-number.self-inside.ends c.next_due.new.ends c.in-Some.number c.args.moment c.in-Some.ensures.taken c.loop-number.invariant.0,
       closed_before c.in-Some.number c.args.moment c.loop-number.self-inside.rows.items ∙ c.loop-number.invariant.1,
     )
 

@@ -8,12 +8,12 @@ use Rattle.store_list.proofs.Fitting.{filter_fits, ok_items, take_fits}
 use Rattle.store_list.proofs.keep.ListKeepKeep.feedback_for.Goals as goal
 
 pub returns-clause-value : goal.returns-clause-value
-returns-clause-value c = λ _. rw (← c.self.view_is) (rw c.deref.ensures.value at c.given_to.ensures.value)
+returns-clause-value c = λ _. rw (← c.self.view_is) c.given_to.ensures.value
 
 pub returns-clause-fits : goal.returns-clause-fits
 returns-clause-fits c =
-    let rows : List Feedback = c.deref.result.now in
-    let fits : AllByRecursion FeedbackFits rows = rw c.deref.ensures.value c.self.invariant.sound.feedback in
+    let rows : List Feedback = c.self.inside.feedback in
+    let fits : AllByRecursion FeedbackFits rows = c.self.invariant.sound.feedback in
     let is_listed : Feedback → Bool = λ (f : Feedback). (f.to == c.args.member) && nat_le c.args.from f.item in
     let listed : List Feedback = filter is_listed rows in
     ok_items (λ xs. AllByRecursion FeedbackFits xs) c.given_to.result (take most_shown listed) c.given_to.ensures.value (take_fits FeedbackFits most_shown listed (filter_fits FeedbackFits is_listed rows fits))

@@ -8,12 +8,12 @@ use Rattle.store_list.proofs.Fitting.{filter_fits, ok_items, take_fits}
 use Rattle.store_list.proofs.keep.ListKeepKeep.published.Goals as goal
 
 pub returns-clause-value : goal.returns-clause-value
-returns-clause-value c = λ _. rw (← c.self.view_is) (rw c.deref.ensures.value at c.published.ensures.value)
+returns-clause-value c = λ _. rw (← c.self.view_is) c.published.ensures.value
 
 pub returns-clause-fits : goal.returns-clause-fits
 returns-clause-fits c =
-    let rows : List Question = c.deref.result.now in
-    let fits : AllByRecursion QuestionFits rows = rw c.deref.ensures.value c.self.invariant.sound.questions in
+    let rows : List Question = c.self.inside.questions in
+    let fits : AllByRecursion QuestionFits rows = c.self.invariant.sound.questions in
     let is_answered : Question → Bool = λ (q : Question). is_some q.answer in
     let answered : List Question = filter is_answered rows in
     let is_listed : Question → Bool = λ (q : Question). (q.item == c.args.item) && nat_le c.args.from q.asker in

@@ -1,7 +1,23 @@
+use Rattle.std.proofs.Common.{ℕ, Bool, rules, tests}
+use Rattle.std.specs.Prelude.{find}
 use Rattle.std.specs.List.{AllByRecursion}
+use Rattle.house_rows.specs.Changed.{is_item}
 use Rattle.house_rows.specs.Fits.{QuestionFits}
+use Rattle.house_rows.specs.Found.{sells}
 use Rattle.store_list.proofs.Fitting.{filter_fits, ok_items}
+use Rattle.store_list.proofs.Waiting.{own_complete, risen}
 use Rattle.store_list.proofs.keep.ListKeepKeep.waiting_for.Goals as goal
 
+pub waiting_on-requires-clause-rising : goal.waiting_on-requires-clause-rising
+waiting_on-requires-clause-rising c = risen c.sold_by-own.result.now c.sold_by-own.ensures.rising
+
+pub returns-clause-value : goal.returns-clause-value
+returns-clause-value c = λ _. rw (← c.self.view_is) (c.waiting_on.ensures.value (λ item. sells (find (is_item item) c.self.inside.items) c.args.member) (λ item answer given. search (rules, tests))
+    (own_complete c.args.member c.sold_by-own.result.now c.self.inside.items c.self.inside.questions c.sold_by-own.ensures.complete))
+
 pub returns-clause-fits : goal.returns-clause-fits
-returns-clause-fits c = ok_items (λ xs. AllByRecursion QuestionFits xs) c.waiting_for.result _ c.waiting_for.ensures.value (rw c.deref.ensures.value (filter_fits QuestionFits _ _ c.self.invariant.sound.questions))
+returns-clause-fits c =
+    let is_own : ℕ → Bool = λ item. sells (find (is_item item) c.self.inside.items) c.args.member in
+    ok_items (λ xs. AllByRecursion QuestionFits xs) c.waiting_on.result _ (c.waiting_on.ensures.value is_own (λ item answer given. search (rules, tests))
+    (own_complete c.args.member c.sold_by-own.result.now c.self.inside.items c.self.inside.questions c.sold_by-own.ensures.complete))
+    (filter_fits QuestionFits _ _ c.self.invariant.sound.questions)

@@ -4,4 +4,4 @@ use Rattle.store_list.proofs.Fitting.{filter_fits, items_fit, ok_items}
 use Rattle.store_list.proofs.keep.ListKeepKeep.watches_of.Goals as goal
 
 pub returns-clause-fits : goal.returns-clause-fits
-returns-clause-fits c = ok_items (λ xs. AllByRecursion ItemFits xs) c.items_watched.result _ c.items_watched.ensures.value (rw (c.rows.ensures, c.deref.ensures.value) (filter_fits ItemFits _ _ (items_fit _ c.self.invariant.sound)))
+returns-clause-fits c = ok_items (λ xs. AllByRecursion ItemFits xs) c.items_watched.result _ c.items_watched.ensures.value (filter_fits ItemFits _ _ (items_fit _ c.self.invariant.sound))

@@ -1,0 +1,12 @@
+//! Bids in memory, and what each member has bid on each item.
+//!
+//! Promised: a `Bids` is the plain list of all bids, by item and number; what a member has bid is
+//! told without a look at others' bids; a bid is placed whole or not at all. Read `bids`.
+#![tactic(auto)]
+
+mod bids;
+mod places;
+mod tally;
+
+pub use bids::Bids;
+pub use tally::Tally;

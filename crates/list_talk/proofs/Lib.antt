@@ -1,0 +1,6 @@
+pub mod Gathered
+mod Noting
+mod Rates
+mod Askers
+mod Asked
+mod Waiting

@@ -1,0 +1,4 @@
+pub mod Index
+pub mod Rated
+pub mod Sorted
+pub mod Asking
