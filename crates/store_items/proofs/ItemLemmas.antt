@@ -1,0 +1,402 @@
+-- What the statements on items find and write.
+use Rattle.std.proofs.Common.{◌≡◌, ◌==◌, ◌≤◌, ◌<◌, ◌^◌, ℕ, pos, Bool, true, false, ◌&&◌, cond, List, [], ◌∷◌, ◌++◌, map, filter, find, slice_get, option_map, drop, Ok, Option, Some, None, is_some, eqb, refl, sym, ap, subst, ◌∙◌, arith, IsTrue, true≢false, IsUtf8}
+use Rattle.std.specs.List.{AllByRecursion}
+use Rattle.std.proofs.lemmas.List.Elements.{recursion_from_All}
+use Rattle.sqlite_value.specs.declared.value.Value.TheVariants.{Null, Int, Text}
+use Rattle.sqlite_value.specs.Order.{Row, column}
+use Rattle.sqlite_schema.specs.Rules.{are_typed, has_computed}
+use Rattle.sqlite_schema.specs.declared.schema.Constraint.TheVariants.{Datatype, NotNull}
+use Rattle.sqlite_schema.specs.declared.schema.Kind.TheVariants as kind
+use Rattle.sqlite_catalog.specs.Listing.{IsSound}
+use Rattle.sqlite_sql.specs.Program.{overlay}
+use Rattle.sqlite_trees.specs.Tree.{rowid}
+use Rattle.sqlite_trees.specs.View.{is_int}
+use Rattle.sqlite_trees.proofs.TreeLemmas.{IsShaped-put_row}
+use Rattle.sqlite_rules.specs.Cast.{cast, cast_row}
+use Rattle.sqlite_rules.proofs.TableLemmas.{int_is}
+use Rattle.sqlite_keyed.proofs.ListLemmas.{all_both, all_unmap, all_weaker}
+use Rattle.sqlite_keyed.proofs.RuleLemmas.{first_of_both}
+use Rattle.sqlite.specs.Effect.{Database}
+use Rattle.sqlite.specs.State.{State, Shown, Executes}
+use Rattle.sqlite.proofs.Callers.{reads_as}
+use Rattle.proxy.specs.Bids.{standing_of, price, leader, second}
+use Rattle.proxy.specs.Kept.{Kept}
+use Rattle.house_rows.specs.Changed.{is_item, new_item, with_standing, with_purchase, with_settlement}
+use Rattle.house_rows.specs.Limits.{most_cents}
+use Rattle.house_rows.specs.Tables.{ItemRow}
+use Rattle.house_rows.specs.Text.{same_text}
+use Rattle.store_rows.specs.Schema.{house_schema, item_table, item_layout}
+use Rattle.store_rows.specs.Rows.{number_in, maybe_number_in}
+use Rattle.store_rows.specs.ItemRows.{is_state, item_of, terms_of, kept_of, kept_from, item_row_in, items_in}
+use Rattle.store_rows.specs.House.{IsHouse}
+use Rattle.store_items.specs.Items.{AddsItem, OfItem, SetsStanding, SetsBought, SetsClosed, SetsSettled, with_end}
+use Rattle.store_rows.proofs.RowLemmas.{is_text, int_if, text_if, equals_number, equals_text, first_part, alone, row_key}
+use Rattle.store_rows.proofs.TextLemmas.{text_back}
+use Rattle.store_rows.proofs.ColumnLemmas.{Holds, holds_all}
+use Rattle.store_items.proofs.MaybeLemmas.{stored_maybe, cast_maybe, maybe_back, present_number}
+use Rattle.store_rows.proofs.Select.{listed, in_order, typed_part, by_rowid, equals}
+use Rattle.store_rows.proofs.Wrote.{still_house, map_more}
+use Rattle.store_rows.proofs.Insert.{puts, put_over, cast_int, cast_null}
+use Rattle.store_rows.proofs.Update.{updates, typed_set_on, stays_all, IsStrict}
+use Rattle.store_items.proofs.ItemMeaning.{item_at_text, terms_at_text, standing_at_text, with_lot_text, all_items_text, item_shown, terms_shown, standing_shown, by_lot, item_at_is, terms_at_is, standing_at_is, with_lot_is, all_items_is, items_in_category_text, items_in_category_is, items_of_seller_text, items_of_seller_is, put_item_text, set_standing_text, set_bought_text, set_closed_text, set_settled_text, put_terms, standing_set, bought_set, closed_set, settled_set, put_item_is, set_standing_is, set_bought_is, set_closed_is, set_settled_is}
+
+-- ---- what the columns hold
+
+abbrev IsTyped : Row → Type 0
+IsTyped r = are_typed (Some 0) 0 item_table.columns (drop 1 r) ≡ true
+
+-- the numbers and the lot by which rows are found, and the end
+pub record IsRow (r : Row) : Type 0 where
+  pub number : is_int (rowid r) ≡ true
+  pub seller : is_int (column r 2) ≡ true
+  pub category : is_int (column r 3) ≡ true
+  pub lot : is_text (column r 4) ≡ true
+  pub ending : is_int (column r 9) ≡ true
+
+all_strict : AllByRecursion IsStrict item_table.columns
+all_strict = (
+  (refl, tt),
+  (
+    (refl, tt),
+    (
+      (refl, tt),
+      (
+        (refl, tt),
+        (
+          (refl, tt),
+          (
+            (refl, tt),
+            (
+              (refl, tt),
+              (
+                (refl, tt),
+                ((refl, tt), ((refl, tt), ((refl, tt), ((refl, tt), ((refl, tt), ((refl, tt), ((refl, tt), ((refl, tt), tt)))))))),
+              ),
+            ),
+          ),
+        ),
+      ),
+    ),
+  ),
+)
+
+are_typed_rows : (db : Database) → IsHouse db → AllByRecursion IsTyped (db.trees 6)
+are_typed_rows db house =
+    let sound = subst (λ h. IsSound h db.trees) house.schema house.sound in
+    all_weaker _ IsTyped (λ r. first_of_both (are_typed (Some 0) 0 item_table.columns (drop 1 r)) (has_computed item_table r)) (db.trees 6) (sound.obeys.rules Datatype).1.1.1.1.0
+
+are_rows : (db : Database) → IsHouse db → AllByRecursion IsRow (db.trees 6)
+are_rows db house =
+    let sound = subst (λ h. IsSound h db.trees) house.schema house.sound in
+    let held = all_both IsTyped _ (Holds (Some 0) 0 item_table.columns) (λ r typed present. holds_all (Some 0) item_table.columns r all_strict typed present) (db.trees 6) (are_typed_rows db house) (sound.obeys.rules NotNull).1.1.1.1.0 in
+    all_both (λ r. IsTrue (is_int (rowid r))) (Holds (Some 0) 0 item_table.columns) IsRow one (db.trees 6) house.shaped.1.1.1.1.0.1 held
+  where
+    one : (r : Row) → IsTrue (is_int (rowid r)) → Holds (Some 0) 0 item_table.columns r → IsRow r
+    one r int h =
+        let seller = h.1.0 refl refl in
+        let category = h.1.1.0 refl refl in
+        let lot = h.1.1.1.0 refl refl in
+        let ending = h.1.1.1.1.1.1.1.1.0 refl refl in
+        record { number = int; seller = int_if (column r 2) seller.0 seller.1; category = int_if (column r 3) category.0 category.1; lot = text_if (column r 4) lot.0 lot.1; ending = int_if (column r 9) ending.0 ending.1 }
+
+-- ---- what is found
+
+two : (a b : Bool) → (a && (b && true)) ≡ (a && b)
+two a b = ap (λ c. a && c) (alone b)
+
+module _ (old new : State) (answer : List Row) (house : IsHouse old.now) where
+  abbrev rows : List Row
+  rows = old.now.trees 6
+
+  pub first_item : (n : ℕ) → n < 2 ^ 64 → Shown item_at_text (Int (pos n) ∷ []) old new answer → option_map item_of (slice_get answer 0) ≡ option_map (λ (row : ItemRow). row.item) (find (is_item n) (items_in old.now.trees))
+  first_item n low h =
+      let params = Int (pos n) ∷ [] in
+      let read = reads_as item_at_text params old new house_schema house.schema _ item_at_is.0 item_at_is.2 item_at_is.1 answer h in
+      let order = in_order (equals 0 ∷ []) item_shown params rows answer house.shaped.1.1.1.1.0.0 (listed 6 (equals 0 ∷ []) item_shown by_rowid (overlay old.now.trees []) params answer (read.answer Null)) in
+      first_part item_of (λ (row : ItemRow). row.item) (is_item n) answer (items_in old.now.trees)
+      (typed_part item_of item_row_in (λ (row : ItemRow). row.item) (is_item n) IsRow (equals 0 ∷ []) item_shown params rows answer (λ r. refl) (λ r is. rw (equals_number (rowid r) n is.number low) (alone _)) (are_rows old.now house) order)
+
+  pub first_terms : (n : ℕ) → n < 2 ^ 64 → Shown terms_at_text (Int (pos n) ∷ []) old new answer → option_map terms_of (slice_get answer 0) ≡ option_map (λ (row : ItemRow). row.item.terms) (find (is_item n) (items_in old.now.trees))
+  first_terms n low h =
+      let params = Int (pos n) ∷ [] in
+      let read = reads_as terms_at_text params old new house_schema house.schema _ terms_at_is.0 terms_at_is.2 terms_at_is.1 answer h in
+      let order = in_order (equals 0 ∷ []) terms_shown params rows answer house.shaped.1.1.1.1.0.0 (listed 6 (equals 0 ∷ []) terms_shown by_rowid (overlay old.now.trees []) params answer (read.answer Null)) in
+      first_part terms_of (λ (row : ItemRow). row.item.terms) (is_item n) answer (items_in old.now.trees)
+      (typed_part terms_of item_row_in (λ (row : ItemRow). row.item.terms) (is_item n) IsRow (equals 0 ∷ []) terms_shown params rows answer (λ r. refl) (λ r is. rw (equals_number (rowid r) n is.number low) (alone _)) (are_rows old.now house) order)
+
+  pub first_standing : (n : ℕ) → n < 2 ^ 64 → Shown standing_at_text (Int (pos n) ∷ []) old new answer → option_map kept_of (slice_get answer 0) ≡ option_map (λ (row : ItemRow). row.standing) (find (is_item n) (items_in old.now.trees))
+  first_standing n low h =
+      let params = Int (pos n) ∷ [] in
+      let read = reads_as standing_at_text params old new house_schema house.schema _ standing_at_is.0 standing_at_is.2 standing_at_is.1 answer h in
+      let order = in_order (equals 0 ∷ []) standing_shown params rows answer house.shaped.1.1.1.1.0.0 (listed 6 (equals 0 ∷ []) standing_shown by_rowid (overlay old.now.trees []) params answer (read.answer Null)) in
+      first_part kept_of (λ (row : ItemRow). row.standing) (is_item n) answer (items_in old.now.trees)
+      (typed_part kept_of item_row_in (λ (row : ItemRow). row.standing) (is_item n) IsRow (equals 0 ∷ []) standing_shown params rows answer (λ r. refl) (λ r is. rw (equals_number (rowid r) n is.number low) (alone _)) (are_rows old.now house) order)
+
+  pub first_with_lot : (seller : ℕ) (lot : List ℕ) → IsUtf8 lot → seller < 2 ^ 64 → Shown with_lot_text (Int (pos seller) ∷ Text lot ∷ []) old new answer
+      → option_map (λ r. number_in (column r 0)) (slice_get answer 0) ≡ option_map (λ (row : ItemRow). row.item.terms.item) (find (λ row. (row.item.terms.seller == seller) && same_text row.item.lot lot) (items_in old.now.trees))
+  first_with_lot seller lot u low h =
+      let params = Int (pos seller) ∷ Text lot ∷ [] in
+      let keep : ItemRow → Bool = λ row. (row.item.terms.seller == seller) && same_text row.item.lot lot in
+      let read = reads_as with_lot_text params old new house_schema house.schema _ with_lot_is.0 with_lot_is.2 with_lot_is.1 answer h in
+      let order = in_order by_lot (Rattle.sqlite.specs.Term.col 1 0 ∷ []) params rows answer house.shaped.1.1.1.1.0.0 (listed 6 by_lot (Rattle.sqlite.specs.Term.col 1 0 ∷ []) by_rowid (overlay old.now.trees []) params answer (read.answer Null)) in
+      first_part (λ r. number_in (column r 0)) (λ (row : ItemRow). row.item.terms.item) keep answer (items_in old.now.trees)
+      (typed_part (λ r. number_in (column r 0)) item_row_in (λ (row : ItemRow). row.item.terms.item) keep IsRow by_lot (Rattle.sqlite.specs.Term.col 1 0 ∷ []) params rows answer (λ r. refl)
+      (λ r is. rw (equals_number (column r 2) seller is.seller low, equals_text (column r 4) lot u is.lot) (two _ _)) (are_rows old.now house) order)
+
+  pub items_in_category_answer : (n : ℕ) → n < 2 ^ 64 → Shown items_in_category_text (Int (pos n) ∷ []) old new answer
+      → map item_of answer ≡ map (λ (row : ItemRow). row.item) (filter (λ row. row.item.terms.category == n) (items_in old.now.trees))
+  items_in_category_answer n low h =
+      let params = Int (pos n) ∷ [] in
+      let read = reads_as items_in_category_text params old new house_schema house.schema _ items_in_category_is.0 items_in_category_is.2 items_in_category_is.1 answer h in
+      let order = in_order (equals 3 ∷ []) item_shown params rows answer house.shaped.1.1.1.1.0.0 (listed 6 (equals 3 ∷ []) item_shown by_rowid (overlay old.now.trees []) params answer (read.answer Null)) in
+      typed_part item_of item_row_in (λ (row : ItemRow). row.item) (λ row. row.item.terms.category == n) IsRow (equals 3 ∷ []) item_shown params rows answer (λ r. refl)
+      (λ r is. rw (equals_number (column r 3) n is.category low) (alone _)) (are_rows old.now house) order
+
+  pub items_of_seller_answer : (n : ℕ) → n < 2 ^ 64 → Shown items_of_seller_text (Int (pos n) ∷ []) old new answer
+      → map item_of answer ≡ map (λ (row : ItemRow). row.item) (filter (λ row. row.item.terms.seller == n) (items_in old.now.trees))
+  items_of_seller_answer n low h =
+      let params = Int (pos n) ∷ [] in
+      let read = reads_as items_of_seller_text params old new house_schema house.schema _ items_of_seller_is.0 items_of_seller_is.2 items_of_seller_is.1 answer h in
+      let order = in_order (equals 2 ∷ []) item_shown params rows answer house.shaped.1.1.1.1.0.0 (listed 6 (equals 2 ∷ []) item_shown by_rowid (overlay old.now.trees []) params answer (read.answer Null)) in
+      typed_part item_of item_row_in (λ (row : ItemRow). row.item) (λ row. row.item.terms.seller == n) IsRow (equals 2 ∷ []) item_shown params rows answer (λ r. refl)
+      (λ r is. rw (equals_number (column r 2) n is.seller low) (alone _)) (are_rows old.now house) order
+
+  pub items_answer : Shown all_items_text [] old new answer → map item_of answer ≡ map (λ (row : ItemRow). row.item) (items_in old.now.trees)
+  items_answer h =
+      let read = reads_as all_items_text [] old new house_schema house.schema _ all_items_is.0 all_items_is.2 all_items_is.1 answer h in
+      let order = in_order [] item_shown [] rows answer house.shaped.1.1.1.1.0.0 (listed 6 [] item_shown by_rowid (overlay old.now.trees []) [] answer (read.answer Null)) in
+      typed_part item_of item_row_in (λ (row : ItemRow). row.item) (λ _. true) IsRow [] item_shown [] rows answer (λ r. refl) (λ r is. refl) (are_rows old.now house) order
+      ∙ ap (map (λ (row : ItemRow). row.item)) (every (items_in old.now.trees))
+    where
+      every : {X : Type 0} (xs : List X) → filter (λ _. true) xs ≡ xs
+      every [] = refl
+      every (x ∷ xs) = ap (λ l. x ∷ l) (every xs)
+
+-- ---- a new item
+
+-- the standing of no bids
+pub no_bids : (bands : List (ℕ × ℕ)) (start : ℕ) → record { start = start; price = start; leader = None; top = None; second = None; count = 0 } ≡ standing_of bands start []
+unfolding price leader second
+no_bids bands start = refl
+
+pub adds_item : (old new : State) (number seller category : ℕ) (lot title text : List ℕ) (start : ℕ) (buy_now : Option ℕ) (end count : ℕ) (bands : List (ℕ × ℕ)) → IsUtf8 lot → IsUtf8 title → IsUtf8 text → IsHouse old.now
+    → Executes put_item_text (Int (pos number) ∷ Int (pos seller) ∷ Int (pos category) ∷ Text lot ∷ Text title ∷ Text text ∷ Int (pos start) ∷ stored_maybe buy_now ∷ Int (pos end) ∷ []) old new (Ok count)
+    → AddsItem (new_item bands number seller category lot title text start buy_now end) old.now new.now
+adds_item old new number seller category lot title text start buy_now end count bands lot_utf8 title_utf8 text_utf8 house h =
+    let params = Int (pos number) ∷ Int (pos seller) ∷ Int (pos category) ∷ Text lot ∷ Text title ∷ Text text ∷ Int (pos start) ∷ stored_maybe buy_now ∷ Int (pos end) ∷ [] in
+    let rows = old.now.trees 6 in
+    let given : Row =
+    Int (pos number) ∷ Null ∷ Int (pos seller) ∷ Int (pos category) ∷ Text lot ∷ Text title ∷ Text text ∷ Int (pos start) ∷ stored_maybe buy_now ∷ Int (pos end)
+    ∷ Int (pos 0) ∷ Null ∷ Int (pos start) ∷ Null ∷ Null ∷ Null ∷ Int (pos 0) ∷ [] in
+    let shaped = house.shaped.1.1.1.1.0 in
+    let w = rw (cast_int (pos number), cast_null, cast_int (pos seller), cast_int (pos category), cast_int (pos start), cast_maybe buy_now, cast_int (pos end), cast_int (pos 0)) at
+    (puts put_item_text 4 item_layout put_terms 17 params given refl put_item_is.0 put_item_is.1 refl old new count house.schema h) in
+    let back : item_row_in given ≡ new_item bands number seller category lot title text start buy_now end = rw (maybe_back buy_now, sym (no_bids bands start), text_back lot lot_utf8, text_back title title_utf8, text_back text text_utf8) refl in
+    record {
+      house = still_house 6 _ old.now new.now house w (IsShaped-put_row given rows refl shaped);
+      others = w.others;
+      items = λ over. ap (map item_row_in) (w.rows_are ∙ put_over item_row_in (λ (r : ItemRow). r.item.terms.item) (λ r. refl) given number rows shaped refl over) ∙ map_more item_row_in rows given
+          ∙ ap (λ x. map item_row_in rows ++ x ∷ []) back;
+    }
+
+-- ---- a row that is set
+
+-- each row with the number has the fact
+of_item : (item : ℕ) (P : ItemRow → Type 0) (db : Database) → OfItem item P db → AllByRecursion (λ r. is_item item (item_row_in r) ≡ true → P (item_row_in r)) (db.trees 6)
+of_item item P db all = all_unmap (λ row. is_item item row ≡ true → P row) item_row_in (db.trees 6) (recursion_from_All (λ row. is_item item row ≡ true → P row) (items_in db.trees) all)
+
+-- the columns that a cast leaves alone
+pub record Leaves (r : Row) : Type 0 where
+  pub id : cast kind.Integer (column r 0) ≡ column r 0
+  pub seller : cast kind.Integer (column r 2) ≡ column r 2
+  pub category : cast kind.Integer (column r 3) ≡ column r 3
+  pub lot : cast kind.Text (column r 4) ≡ column r 4
+  pub title : cast kind.Text (column r 5) ≡ column r 5
+  pub body : cast kind.Text (column r 6) ≡ column r 6
+  pub start : cast kind.Integer (column r 7) ≡ column r 7
+  pub buy_now : cast kind.Integer (column r 8) ≡ column r 8
+  pub ending : cast kind.Integer (column r 9) ≡ column r 9
+  pub state : cast kind.Integer (column r 10) ≡ column r 10
+  pub closed : cast kind.Integer (column r 11) ≡ column r 11
+  pub at_price : cast kind.Integer (column r 12) ≡ column r 12
+  pub led : cast kind.Integer (column r 13) ≡ column r 13
+  pub top : cast kind.Integer (column r 14) ≡ column r 14
+  pub next : cast kind.Integer (column r 15) ≡ column r 15
+  pub count : cast kind.Integer (column r 16) ≡ column r 16
+
+leaves : (r : Row) → IsTyped r → IsTrue (is_int (rowid r)) → Leaves r
+leaves r typed int =
+    let kept = stays_all (Some 0) item_table.columns r all_strict typed in
+    record {
+      id = rw (int_is (rowid r) int) (cast_int (row_key r));
+      seller = kept.1.0;
+      category = kept.1.1.0;
+      lot = kept.1.1.1.0;
+      title = kept.1.1.1.1.0;
+      body = kept.1.1.1.1.1.0;
+      start = kept.1.1.1.1.1.1.0;
+      buy_now = kept.1.1.1.1.1.1.1.0;
+      ending = kept.1.1.1.1.1.1.1.1.0;
+      state = kept.1.1.1.1.1.1.1.1.1.0;
+      closed = kept.1.1.1.1.1.1.1.1.1.1.0;
+      at_price = kept.1.1.1.1.1.1.1.1.1.1.1.0;
+      led = kept.1.1.1.1.1.1.1.1.1.1.1.1.0;
+      top = kept.1.1.1.1.1.1.1.1.1.1.1.1.1.0;
+      next = kept.1.1.1.1.1.1.1.1.1.1.1.1.1.1.0;
+      count = kept.1.1.1.1.1.1.1.1.1.1.1.1.1.1.1.0;
+    }
+
+-- the start of a standing is the one that is stored
+kept_start : (start at : ℕ) (led top next : Option ℕ) (count : ℕ) → (kept_from start at led top next count).start ≡ start
+kept_start start at None top next count = refl
+kept_start start at (Some l) None next count = refl
+kept_start start at (Some l) (Some t) next count = refl
+
+-- a standing whose leader has a top is stored as it is
+told : (start at : ℕ) (led top next : Option ℕ) (count : ℕ) → is_some top ≡ is_some led → kept_from start at led top next count ≡ record { start = start; price = at; leader = led; top = top; second = next; count = count }
+told start at None top next count h = refl
+told start at (Some l) None next count h = absurd (true≢false (sym h))
+told start at (Some l) (Some t) next count h = refl
+
+-- the state of a row that fits is one
+fits_state : (b : Bool) (start : ℕ) → cond b start (2 ^ 64) ≤ most_cents → b ≡ true
+fits_state true start h = refl
+fits_state false start h = absurd (omega (arith, h))
+
+-- a purchase leaves the standing of no bids
+bought : (start at : ℕ) (led top next : Option ℕ) (count at_now buyer : ℕ) → (kept_from start at led top next count).price ≡ (kept_from start at led top next count).start
+    → (kept_from start at led top next count).leader ≡ None → (kept_from start at led top next count).top ≡ None → kept_from start at_now (Some buyer) top next count ≡ kept_from start at led top next count
+bought start at None None next count at_now buyer same none no_top = rw same refl
+bought start at None (Some t) next count at_now buyer same none no_top = absurd (let e = no_top in cc)
+bought start at (Some l) None next count at_now buyer same none no_top = refl
+bought start at (Some l) (Some t) next count at_now buyer same none no_top = absurd (let e = none in cc)
+
+-- ---- the standing
+
+abbrev stood : Kept → Row → Row
+stood k r =
+    column r 0 ∷ Null ∷ column r 2 ∷ column r 3 ∷ column r 4 ∷ column r 5 ∷ column r 6 ∷ column r 7 ∷ column r 8 ∷ column r 9 ∷ column r 10 ∷ column r 11
+    ∷ Int (pos k.price) ∷ stored_maybe k.leader ∷ stored_maybe k.top ∷ stored_maybe k.second ∷ Int (pos k.count) ∷ []
+
+stood_stays : (k : Kept) (r : Row) → IsTyped r → IsTrue (is_int (rowid r)) → cast_row item_table (stood k r) ≡ stood k r
+stood_stays k r typed int =
+    let l = leaves r typed int in
+    rw (l.id, cast_null, l.seller, l.category, l.lot, l.title, l.body, l.start, l.buy_now, l.ending, l.state, l.closed, cast_int (pos k.price), cast_maybe k.leader, cast_maybe k.top, cast_maybe k.second, cast_int (pos k.count)) refl
+
+pub sets_standing : (old new : State) (item : ℕ) (k : Kept) (count : ℕ) → IsHouse old.now → item < 2 ^ 64
+    → Executes set_standing_text (Int (pos item) ∷ Int (pos k.price) ∷ stored_maybe k.leader ∷ stored_maybe k.top ∷ stored_maybe k.second ∷ Int (pos k.count) ∷ []) old new (Ok count) → SetsStanding item k old.now new.now
+sets_standing old new item k count house low h =
+    let rows = old.now.trees 6 in
+    let w = updates set_standing_text 4 item_layout standing_set item (Int (pos k.price) ∷ stored_maybe k.leader ∷ stored_maybe k.top ∷ stored_maybe k.second ∷ Int (pos k.count) ∷ []) low refl (λ db. refl)
+    set_standing_is.0 set_standing_is.1 (stood k) (λ r. refl) (λ r. refl) IsTyped (stood_stays k) old new count house.schema house.shaped.1.1.1.1.0 (are_typed_rows old.now house) h in
+    record {
+      house = still_house 6 _ old.now new.now house w.0 w.1;
+      others = w.0.others;
+      items = λ led start. ap (map item_row_in) w.0.rows_are ∙ typed_set_on item_row_in (with_standing item k) item (stood k) (λ r. is_item item (item_row_in r) ≡ true → (item_row_in r).standing.start ≡ k.start) rows house.shaped.1.1.1.1.0.1
+          (of_item item (λ row. row.standing.start ≡ k.start) old.now start) (here led) (λ r e. rw e refl);
+    }
+  where
+    here : is_some k.top ≡ is_some k.leader → (r : Row) → (is_item item (item_row_in r) ≡ true → (item_row_in r).standing.start ≡ k.start) → eqb (number_in (rowid r)) item ≡ true → item_row_in (stood k r) ≡ with_standing item k (item_row_in r)
+    here led r start e =
+        let same : number_in (column r 7) ≡ k.start = sym (kept_start (number_in (column r 7)) (number_in (column r 12)) (maybe_number_in (column r 13)) (maybe_number_in (column r 14)) (maybe_number_in (column r 15)) (number_in (column r 16))) ∙ start e in
+        let standing : kept_from (number_in (column r 7)) k.price k.leader k.top k.second k.count ≡ k = told (number_in (column r 7)) k.price k.leader k.top k.second k.count led ∙ ap (λ s. record k { start = s }) same in
+        rw (e, maybe_back k.leader, maybe_back k.top, maybe_back k.second, standing) refl
+
+-- ---- the purchase
+
+abbrev sold_at_once : ℕ → ℕ → ℕ → Row → Row
+sold_at_once buyer at moment r =
+    column r 0 ∷ Null ∷ column r 2 ∷ column r 3 ∷ column r 4 ∷ column r 5 ∷ column r 6 ∷ column r 7 ∷ column r 8 ∷ column r 9 ∷ Int (pos 1) ∷ Int (pos moment)
+    ∷ Int (pos at) ∷ Int (pos buyer) ∷ column r 14 ∷ column r 15 ∷ column r 16 ∷ []
+
+sold_stays : (buyer at moment : ℕ) (r : Row) → IsTyped r → IsTrue (is_int (rowid r)) → cast_row item_table (sold_at_once buyer at moment r) ≡ sold_at_once buyer at moment r
+sold_stays buyer at moment r typed int =
+    let l = leaves r typed int in
+    rw (l.id, cast_null, l.seller, l.category, l.lot, l.title, l.body, l.start, l.buy_now, l.ending, cast_int (pos 1), cast_int (pos moment), cast_int (pos at), cast_int (pos buyer), l.top, l.next, l.count) refl
+
+abbrev IsUnsold : ItemRow → Type 0
+IsUnsold row = (row.item.terms.start ≤ most_cents) × (row.standing.price ≡ row.standing.start) × (row.standing.leader ≡ None) × (row.standing.top ≡ None)
+
+pub sets_bought : (old new : State) (item buyer at moment count : ℕ) → IsHouse old.now → item < 2 ^ 64
+    → Executes set_bought_text (Int (pos item) ∷ Int (pos moment) ∷ Int (pos at) ∷ Int (pos buyer) ∷ []) old new (Ok count) → SetsBought item buyer at moment old.now new.now
+sets_bought old new item buyer at moment count house low h =
+    let rows = old.now.trees 6 in
+    let w = updates set_bought_text 4 item_layout bought_set item (Int (pos moment) ∷ Int (pos at) ∷ Int (pos buyer) ∷ []) low refl (λ db. refl)
+    set_bought_is.0 set_bought_is.1 (sold_at_once buyer at moment) (λ r. refl) (λ r. refl) IsTyped (sold_stays buyer at moment) old new count house.schema house.shaped.1.1.1.1.0 (are_typed_rows old.now house) h in
+    record {
+      house = still_house 6 _ old.now new.now house w.0 w.1;
+      others = w.0.others;
+      items = λ fits. ap (map item_row_in) w.0.rows_are ∙ typed_set_on item_row_in (with_purchase item buyer at moment) item (sold_at_once buyer at moment) (λ r. is_item item (item_row_in r) ≡ true → IsUnsold (item_row_in r)) rows house.shaped.1.1.1.1.0.1
+          (of_item item IsUnsold old.now fits) here (λ r e. rw e refl);
+    }
+  where
+    here : (r : Row) → (is_item item (item_row_in r) ≡ true → IsUnsold (item_row_in r)) → eqb (number_in (rowid r)) item ≡ true → item_row_in (sold_at_once buyer at moment r) ≡ with_purchase item buyer at moment (item_row_in r)
+    here r fits e =
+        let fit = fits e in
+        let state = fits_state (is_state (column r 10)) (number_in (column r 7)) fit.0 in
+        let standing = bought (number_in (column r 7)) (number_in (column r 12)) (maybe_number_in (column r 13)) (maybe_number_in (column r 14)) (maybe_number_in (column r 15)) (number_in (column r 16)) at buyer fit.1 fit.2 fit.3 in
+        rw (e, state, standing) refl
+
+-- ---- the close
+
+abbrev ended : ℕ → Row → Row
+ended state r =
+    column r 0 ∷ Null ∷ column r 2 ∷ column r 3 ∷ column r 4 ∷ column r 5 ∷ column r 6 ∷ column r 7 ∷ column r 8 ∷ column r 9 ∷ Int (pos state) ∷ column r 9
+    ∷ column r 12 ∷ column r 13 ∷ column r 14 ∷ column r 15 ∷ column r 16 ∷ []
+
+ended_stays : (state : ℕ) (r : Row) → IsTyped r → IsTrue (is_int (rowid r)) → cast_row item_table (ended state r) ≡ ended state r
+ended_stays state r typed int =
+    let l = leaves r typed int in
+    rw (l.id, cast_null, l.seller, l.category, l.lot, l.title, l.body, l.start, l.buy_now, l.ending, cast_int (pos state), l.at_price, l.led, l.top, l.next, l.count) refl
+
+abbrev IsOurs : ItemRow → Type 0
+IsOurs row = row.item.terms.start ≤ most_cents
+
+-- sold is stored as 1, unsold as 2
+abbrev pub closed_state : Bool → ℕ
+closed_state is_sold = cond is_sold 1 2
+
+pub sets_closed : (old new : State) (item : ℕ) (is_sold : Bool) (count : ℕ) → IsHouse old.now → item < 2 ^ 64
+    → Executes set_closed_text (Int (pos item) ∷ Int (pos (closed_state is_sold)) ∷ []) old new (Ok count) → SetsClosed item is_sold old.now new.now
+sets_closed old new item is_sold count house low h =
+    let rows = old.now.trees 6 in
+    let w = updates set_closed_text 4 item_layout closed_set item (Int (pos (closed_state is_sold)) ∷ []) low refl (λ db. refl)
+    set_closed_is.0 set_closed_is.1 (ended (closed_state is_sold)) (λ r. refl) (λ r. refl) IsTyped (ended_stays (closed_state is_sold)) old new count house.schema house.shaped.1.1.1.1.0 (are_typed_rows old.now house) h in
+    record {
+      house = still_house 6 _ old.now new.now house w.0 w.1;
+      others = w.0.others;
+      items = λ fits. ap (map item_row_in) w.0.rows_are ∙ typed_set_on item_row_in (with_end item is_sold) item (ended (closed_state is_sold)) Both rows house.shaped.1.1.1.1.0.1
+          (all_both (λ r. is_item item (item_row_in r) ≡ true → IsOurs (item_row_in r)) IsRow Both (λ r ours is. (ours, is.ending)) rows (of_item item IsOurs old.now fits) (are_rows old.now house)) (here is_sold) (λ r e. rw e refl);
+    }
+  where
+    Both : Row → Type 0
+    Both r = (is_item item (item_row_in r) ≡ true → IsOurs (item_row_in r)) × (is_int (column r 9) ≡ true)
+
+    here : (is_sold : Bool) (r : Row) → (is_item item (item_row_in r) ≡ true → IsOurs (item_row_in r)) × (is_int (column r 9) ≡ true) → eqb (number_in (rowid r)) item ≡ true
+        → item_row_in (ended (closed_state is_sold) r) ≡ with_end item is_sold (item_row_in r)
+    here true r both e = rw (e, fits_state (is_state (column r 10)) (number_in (column r 7)) (both.0 e), present_number (column r 9) both.1) refl
+    here false r both e = rw (e, fits_state (is_state (column r 10)) (number_in (column r 7)) (both.0 e), present_number (column r 9) both.1) refl
+
+-- ---- the settlement
+
+abbrev settled : Row → Row
+settled r =
+    column r 0 ∷ Null ∷ column r 2 ∷ column r 3 ∷ column r 4 ∷ column r 5 ∷ column r 6 ∷ column r 7 ∷ column r 8 ∷ column r 9 ∷ Int (pos 3) ∷ column r 11
+    ∷ column r 12 ∷ column r 13 ∷ column r 14 ∷ column r 15 ∷ column r 16 ∷ []
+
+settled_stays : (r : Row) → IsTyped r → IsTrue (is_int (rowid r)) → cast_row item_table (settled r) ≡ settled r
+settled_stays r typed int =
+    let l = leaves r typed int in
+    rw (l.id, cast_null, l.seller, l.category, l.lot, l.title, l.body, l.start, l.buy_now, l.ending, cast_int (pos 3), l.closed, l.at_price, l.led, l.top, l.next, l.count) refl
+
+pub sets_settled : (old new : State) (item count : ℕ) → IsHouse old.now → item < 2 ^ 64 → Executes set_settled_text (Int (pos item) ∷ []) old new (Ok count) → SetsSettled item old.now new.now
+sets_settled old new item count house low h =
+    let rows = old.now.trees 6 in
+    let w = updates set_settled_text 4 item_layout settled_set item [] low refl (λ db. refl)
+    set_settled_is.0 set_settled_is.1 settled (λ r. refl) (λ r. refl) IsTyped settled_stays old new count house.schema house.shaped.1.1.1.1.0 (are_typed_rows old.now house) h in
+    record {
+      house = still_house 6 _ old.now new.now house w.0 w.1;
+      others = w.0.others;
+      items = λ fits. ap (map item_row_in) w.0.rows_are ∙ typed_set_on item_row_in (with_settlement item) item settled (λ r. is_item item (item_row_in r) ≡ true → IsOurs (item_row_in r)) rows house.shaped.1.1.1.1.0.1
+          (of_item item IsOurs old.now fits) (λ r fits e. rw (e, fits_state (is_state (column r 10)) (number_in (column r 7)) (fits e)) refl) (λ r e. rw e refl);
+    }

@@ -1,0 +1,4 @@
+pub mod MaybeLemmas
+pub mod ItemMeaning
+pub mod ItemLemmas
+pub mod FitLemmas

@@ -1,0 +1,31 @@
+use Rattle.std.proofs.Common.{subst, IsUtf8}
+use Rattle.store_rows.proofs.StateLemmas.{ok_then}
+use Rattle.store_items.proofs.MaybeLemmas.{bound_maybe}
+use Rattle.store_items.proofs.ItemLemmas.{adds_item}
+use Rattle.store_items.proofs.item.put_item.Goals as goal
+
+pub returns-clause-ok : goal.returns-clause-ok
+returns-clause-ok g c clean bands =
+    let house = c.run.ensures.house clean in
+    let offer = c.args.offer.now in
+    let lot = subst IsUtf8 c.stored_text-lot.ensures c.stored_text-lot.utf8 in
+    let title = subst IsUtf8 c.stored_text-title.ensures c.stored_text-title.utf8 in
+    let text = subst IsUtf8 c.stored_text-text.ensures c.stored_text-text.utf8 in
+    ok_then c.run.result (rw (
+      c.params-to_sql.ensures,
+      c.params-to_sql-2.ensures,
+      c.params-to_sql-3.ensures,
+      c.params-to_sql-4.ensures,
+      c.params-to_sql-5.ensures,
+      c.params-to_sql-6.ensures,
+      c.params-to_sql-7.ensures,
+      c.params-to_sql-8.ensures,
+      c.params-to_sql-9.ensures,
+      c.stored_text-lot.ensures,
+      c.stored_text-title.ensures,
+      c.stored_text-text.ensures,
+      c.stored-start.ensures,
+      c.stored_maybe-buy_now.ensures,
+      bound_maybe offer.buy_now,
+    ) at (c.run.ensures.ran clean))
+    (λ _ ran. adds_item _ _ c.args.number offer.seller offer.category offer.lot.now offer.title.now offer.text.now offer.start offer.buy_now offer.end ran.0 bands lot title text house ran.1)

@@ -1,0 +1,194 @@
+//! The table of items: what is written.
+ghost use Rattle.std.specs.Prelude.{◌≡◌, ℕ, List, if◌then◌else◌, OnOk, OnErr, IsErrOf, IsTrue};
+ghost use Rattle.sqlite.specs.State.{HasCleanDisk, Survives};
+ghost use Rattle.sqlite.specs.Held.{state};
+ghost use Rattle.house_rows.specs.Changed.{new_item};
+ghost use Rattle.house_rows.specs.declared.fault.KeepFault.TheVariants.{Damaged};
+ghost use Rattle.store_rows.specs.House.{Serves, IsInside, KeepsCommitted};
+ghost use Rattle.store_items.specs.Items.{AddsItem, SetsBought, SetsClosed, SetsSettled, SetsStanding};
+
+use cents::Cents;
+use house_rows::KeepFault;
+use proxy::Standing;
+use sqlite::{Alter, Transaction, params};
+use store_rows::run;
+
+/// What a seller says of a new item. Its end is in seconds since 1970-01-01T00:00:00Z.
+#[derive(Clone, Copy, Debug)]
+pub struct Offer<'a> {
+    /// The number of the member that sells it.
+    pub seller: u32,
+    /// The number of its category.
+    pub category: u32,
+    /// The seller's own code for it.
+    pub lot: &'a str,
+    /// The title.
+    pub title: &'a str,
+    /// The description.
+    pub text: &'a str,
+    /// The price that bidding begins with.
+    pub start: Cents,
+    /// The price for which it may be bought at once.
+    pub buy_now: Option<Cents>,
+    /// When it ends.
+    pub end: u32,
+}
+
+// An amount as a parameter.
+fn stored(amount: Cents) -> u32
+    ensures { result ≡ amount }
+{
+    amount.value() as u32
+}
+
+// An amount that may be missing.
+fn stored_maybe(amount: Option<Cents>) -> Option<u32>
+    ensures { result ≡ amount }
+{
+    match amount {
+        Some(amount) => Some(stored(amount)),
+        None => None,
+    }
+}
+
+// A text as a parameter.
+fn stored_text(text: &str) -> &str
+    ensures { result.now ≡ text.now }
+{
+    text
+}
+
+/// Adds an item with a number, open and with no bid, within a transaction.
+pub fn put_item<S: Alter>(
+    tx: &mut Transaction<'_, S>,
+    number: u32,
+    offer: &Offer<'_>,
+) -> Result<(), KeepFault>
+    requires serves { Serves (state S.Store tx.old.conn.now) }
+    requires begun { HasCleanDisk (state S.Store tx.old.conn.now) → IsTrue tx.old.conn.now.in_transaction }
+    ensures same_reference { tx.new.conn.ghost_name ≡ tx.old.conn.ghost_name }
+    ensures ok { HasCleanDisk (state S.Store tx.new.conn.now) → (bands : List (ℕ × ℕ)) → OnOk result (AddsItem (new_item bands number offer.now.seller offer.now.category
+        offer.now.lot.now offer.now.title.now offer.now.text.now offer.now.start offer.now.buy_now offer.now.end) (state S.Store tx.old.conn.now).now (state S.Store tx.new.conn.now).now) }
+    ensures sound { ¬ (IsErrOf result Damaged) }
+    ensures inside { HasCleanDisk (state S.Store tx.new.conn.now) → OnOk result (IsInside (state S.Store tx.old.conn.now) (state S.Store tx.new.conn.now)) }
+    ensures err { HasCleanDisk (state S.Store tx.new.conn.now) → OnErr result (KeepsCommitted (state S.Store tx.old.conn.now) (state S.Store tx.new.conn.now)) }
+    ensures crash { Survives (state S.Store tx.old.conn.now) (state S.Store tx.new.conn.now) (λ _. ⊥) }
+{
+    let lot = stored_text(offer.lot);
+    let title = stored_text(offer.title);
+    let text = stored_text(offer.text);
+    let start = stored(offer.start);
+    let buy_now = stored_maybe(offer.buy_now);
+    run(
+        tx,
+        "INSERT INTO item (id, seller, category, lot, title, body, start, buy_now, ending, state, closed, price, leader, top, second, count) VALUES (?1, ?2, ?3, ?4, ?5, ?6, ?7, ?8, ?9, 0, NULL, ?7, NULL, NULL, NULL, 0)",
+        params![
+            number,
+            offer.seller,
+            offer.category,
+            lot,
+            title,
+            text,
+            start,
+            buy_now,
+            offer.end,
+        ],
+    )
+}
+
+/// Sets the standing of the bids on an item within a transaction.
+pub fn set_standing<S: Alter>(
+    tx: &mut Transaction<'_, S>,
+    item: u32,
+    standing: &Standing,
+) -> Result<(), KeepFault>
+    requires serves { Serves (state S.Store tx.old.conn.now) }
+    requires begun { HasCleanDisk (state S.Store tx.old.conn.now) → IsTrue tx.old.conn.now.in_transaction }
+    ensures same_reference { tx.new.conn.ghost_name ≡ tx.old.conn.ghost_name }
+    ensures ok { HasCleanDisk (state S.Store tx.new.conn.now) → OnOk result (SetsStanding item standing.now (state S.Store tx.old.conn.now).now (state S.Store tx.new.conn.now).now) }
+    ensures sound { ¬ (IsErrOf result Damaged) }
+    ensures inside { HasCleanDisk (state S.Store tx.new.conn.now) → OnOk result (IsInside (state S.Store tx.old.conn.now) (state S.Store tx.new.conn.now)) }
+    ensures err { HasCleanDisk (state S.Store tx.new.conn.now) → OnErr result (KeepsCommitted (state S.Store tx.old.conn.now) (state S.Store tx.new.conn.now)) }
+    ensures crash { Survives (state S.Store tx.old.conn.now) (state S.Store tx.new.conn.now) (λ _. ⊥) }
+{
+    let price = stored(standing.price());
+    let leader = standing.leader();
+    let top = stored_maybe(standing.top());
+    let second = stored_maybe(standing.second());
+    let count = standing.count();
+    run(
+        tx,
+        "UPDATE item SET price = ?2, leader = ?3, top = ?4, second = ?5, count = ?6 WHERE id = ?1",
+        params![item, price, leader, top, second, count],
+    )
+}
+
+/// Sells an item at once, within a transaction. The moment is in seconds since
+/// 1970-01-01T00:00:00Z.
+pub fn set_bought<S: Alter>(
+    tx: &mut Transaction<'_, S>,
+    item: u32,
+    buyer: u32,
+    price: Cents,
+    moment: u32,
+) -> Result<(), KeepFault>
+    requires serves { Serves (state S.Store tx.old.conn.now) }
+    requires begun { HasCleanDisk (state S.Store tx.old.conn.now) → IsTrue tx.old.conn.now.in_transaction }
+    ensures same_reference { tx.new.conn.ghost_name ≡ tx.old.conn.ghost_name }
+    ensures ok { HasCleanDisk (state S.Store tx.new.conn.now) → OnOk result (SetsBought item buyer price moment (state S.Store tx.old.conn.now).now (state S.Store tx.new.conn.now).now) }
+    ensures sound { ¬ (IsErrOf result Damaged) }
+    ensures inside { HasCleanDisk (state S.Store tx.new.conn.now) → OnOk result (IsInside (state S.Store tx.old.conn.now) (state S.Store tx.new.conn.now)) }
+    ensures err { HasCleanDisk (state S.Store tx.new.conn.now) → OnErr result (KeepsCommitted (state S.Store tx.old.conn.now) (state S.Store tx.new.conn.now)) }
+    ensures crash { Survives (state S.Store tx.old.conn.now) (state S.Store tx.new.conn.now) (λ _. ⊥) }
+{
+    let price = stored(price);
+    run(
+        tx,
+        "UPDATE item SET state = 1, closed = ?2, price = ?3, leader = ?4 WHERE id = ?1",
+        params![item, moment, price, buyer],
+    )
+}
+
+// A closed state as it is stored.
+fn closed_state(is_sold: bool) -> u32
+    ensures { result ≡ if is_sold then 1 else 2 }
+{
+    if is_sold { 1 } else { 2 }
+}
+
+/// Closes an item at its end within a transaction, as sold or unsold.
+pub fn set_closed<S: Alter>(
+    tx: &mut Transaction<'_, S>,
+    item: u32,
+    is_sold: bool,
+) -> Result<(), KeepFault>
+    requires serves { Serves (state S.Store tx.old.conn.now) }
+    requires begun { HasCleanDisk (state S.Store tx.old.conn.now) → IsTrue tx.old.conn.now.in_transaction }
+    ensures same_reference { tx.new.conn.ghost_name ≡ tx.old.conn.ghost_name }
+    ensures ok { HasCleanDisk (state S.Store tx.new.conn.now) → OnOk result (SetsClosed item is_sold (state S.Store tx.old.conn.now).now (state S.Store tx.new.conn.now).now) }
+    ensures sound { ¬ (IsErrOf result Damaged) }
+    ensures inside { HasCleanDisk (state S.Store tx.new.conn.now) → OnOk result (IsInside (state S.Store tx.old.conn.now) (state S.Store tx.new.conn.now)) }
+    ensures err { HasCleanDisk (state S.Store tx.new.conn.now) → OnErr result (KeepsCommitted (state S.Store tx.old.conn.now) (state S.Store tx.new.conn.now)) }
+    ensures crash { Survives (state S.Store tx.old.conn.now) (state S.Store tx.new.conn.now) (λ _. ⊥) }
+{
+    let state = closed_state(is_sold);
+    run(
+        tx,
+        "UPDATE item SET state = ?2, closed = ending WHERE id = ?1",
+        params![item, state],
+    )
+}
+
+/// Settles the sale of an item within a transaction.
+pub fn set_settled<S: Alter>(tx: &mut Transaction<'_, S>, item: u32) -> Result<(), KeepFault>
+    requires serves { Serves (state S.Store tx.old.conn.now) }
+    requires begun { HasCleanDisk (state S.Store tx.old.conn.now) → IsTrue tx.old.conn.now.in_transaction }
+    ensures same_reference { tx.new.conn.ghost_name ≡ tx.old.conn.ghost_name }
+    ensures ok { HasCleanDisk (state S.Store tx.new.conn.now) → OnOk result (SetsSettled item (state S.Store tx.old.conn.now).now (state S.Store tx.new.conn.now).now) }
+    ensures sound { ¬ (IsErrOf result Damaged) }
+    ensures inside { HasCleanDisk (state S.Store tx.new.conn.now) → OnOk result (IsInside (state S.Store tx.old.conn.now) (state S.Store tx.new.conn.now)) }
+    ensures err { HasCleanDisk (state S.Store tx.new.conn.now) → OnErr result (KeepsCommitted (state S.Store tx.old.conn.now) (state S.Store tx.new.conn.now)) }
+    ensures crash { Survives (state S.Store tx.old.conn.now) (state S.Store tx.new.conn.now) (λ _. ⊥) }
+{
+    run(tx, "UPDATE item SET state = 3 WHERE id = ?1", params![item])
+}

@@ -1,0 +1,169 @@
+//! Look-ups in the table of items.
+ghost use Rattle.std.specs.Prelude.{◌≡◌, ◌==◌, ◌&&◌, false, filter, find, map, option_map, IfOk, IfSome, IsErrOf, OnOk, OnErr};
+ghost use Rattle.sqlite.specs.State.{HasCleanDisk, IsUnchanged, Survives};
+ghost use Rattle.sqlite.specs.Held.{state};
+ghost use Rattle.house_rows.specs.Changed.{is_item};
+ghost use Rattle.house_rows.specs.Tables.{ItemRow};
+ghost use Rattle.house_rows.specs.Text.{same_text};
+ghost use Rattle.std.specs.List.{AllByRecursion};
+ghost use Rattle.house_rows.specs.Fits.{ItemFits, StandingFits, TermsFit};
+ghost use Rattle.house_rows.specs.declared.fault.KeepFault.TheVariants.{Damaged};
+ghost use Rattle.store_rows.specs.House.{Serves, KeepsCommitted};
+ghost use Rattle.store_rows.specs.ItemRows.{items_in};
+
+use crate::standing::first_standing;
+use house_rows::{Item, KeepFault, Terms};
+use proxy::Standing;
+use sqlite::{Alter, Connection, params};
+use std::alloc::Global;
+use steps::Bands;
+use store_rows::{all_of, first_of, rows_shown};
+
+/// The item with a number.
+pub fn item_at<S: Alter>(conn: &mut Connection<S>, number: u32) -> Result<Option<Item>, KeepFault>
+    requires { Serves (state S.Store conn.old) }
+    ensures found { HasCleanDisk (state S.Store conn.new) → IfOk result (λ found. found ≡ option_map (λ (row : ItemRow). row.item) (find (is_item number) (items_in (state S.Store conn.old).now.trees))) }
+    ensures fits { IfOk result (λ found. IfSome found ItemFits) }
+    ensures damaged { HasCleanDisk (state S.Store conn.new) → AllByRecursion (λ (row : ItemRow). ItemFits row.item) (items_in (state S.Store conn.old).now.trees) → ¬ (IsErrOf result Damaged) }
+    ensures same { HasCleanDisk (state S.Store conn.new) → OnOk result (IsUnchanged (state S.Store conn.old) (state S.Store conn.new)) }
+    ensures err { HasCleanDisk (state S.Store conn.new) → OnErr result (KeepsCommitted (state S.Store conn.old) (state S.Store conn.new)) }
+    ensures mode { conn.old.in_transaction ≡ false → conn.new.in_transaction ≡ false }
+    ensures crash { Survives (state S.Store conn.old) (state S.Store conn.new) (λ _. ⊥) }
+{
+    let rows = rows_shown(
+        conn,
+        "SELECT id, seller, category, start, buy_now, ending, state, closed, price, leader, count, lot, title, body FROM item WHERE id = ?1 ORDER BY id",
+        params![number],
+    )?;
+    first_of(&rows)
+}
+
+/// The item with a number, without its texts.
+pub fn terms_at<S: Alter>(conn: &mut Connection<S>, number: u32) -> Result<Option<Terms>, KeepFault>
+    requires { Serves (state S.Store conn.old) }
+    ensures found { HasCleanDisk (state S.Store conn.new) → IfOk result (λ found. found ≡ option_map (λ (row : ItemRow). row.item.terms) (find (is_item number) (items_in (state S.Store conn.old).now.trees))) }
+    ensures fits { IfOk result (λ found. IfSome found TermsFit) }
+    ensures damaged { HasCleanDisk (state S.Store conn.new) → AllByRecursion (λ (row : ItemRow). ItemFits row.item) (items_in (state S.Store conn.old).now.trees) → ¬ (IsErrOf result Damaged) }
+    ensures same { HasCleanDisk (state S.Store conn.new) → OnOk result (IsUnchanged (state S.Store conn.old) (state S.Store conn.new)) }
+    ensures err { HasCleanDisk (state S.Store conn.new) → OnErr result (KeepsCommitted (state S.Store conn.old) (state S.Store conn.new)) }
+    ensures mode { conn.old.in_transaction ≡ false → conn.new.in_transaction ≡ false }
+    ensures crash { Survives (state S.Store conn.old) (state S.Store conn.new) (λ _. ⊥) }
+{
+    let rows = rows_shown(
+        conn,
+        "SELECT id, seller, category, start, buy_now, ending, state, closed, price, leader, count FROM item WHERE id = ?1 ORDER BY id",
+        params![number],
+    )?;
+    first_of(&rows)
+}
+
+/// The standing of the bids on an item; of a bought item that of none. A row that is no standing by
+/// these bands is an error.
+pub fn standing_at<S: Alter>(
+    conn: &mut Connection<S>,
+    bands: &Bands,
+    number: u32,
+) -> Result<Option<Standing>, KeepFault>
+    requires { Serves (state S.Store conn.old) }
+    ensures found { HasCleanDisk (state S.Store conn.new) → IfOk result (λ found. found ≡ option_map (λ (row : ItemRow). row.standing) (find (is_item number) (items_in (state S.Store conn.old).now.trees))) }
+    ensures fits { IfOk result (λ found. IfSome found StandingFits) }
+    ensures same { HasCleanDisk (state S.Store conn.new) → OnOk result (IsUnchanged (state S.Store conn.old) (state S.Store conn.new)) }
+    ensures err { HasCleanDisk (state S.Store conn.new) → OnErr result (KeepsCommitted (state S.Store conn.old) (state S.Store conn.new)) }
+    ensures mode { conn.old.in_transaction ≡ false → conn.new.in_transaction ≡ false }
+    ensures crash { Survives (state S.Store conn.old) (state S.Store conn.new) (λ _. ⊥) }
+{
+    let rows = rows_shown(
+        conn,
+        "SELECT start, price, leader, top, second, count FROM item WHERE id = ?1 ORDER BY id",
+        params![number],
+    )?;
+    first_standing(bands, &rows)
+}
+
+/// The number of a seller's item with a lot.
+pub fn item_with_lot<S: Alter>(
+    conn: &mut Connection<S>,
+    seller: u32,
+    lot: &str,
+) -> Result<Option<u32>, KeepFault>
+    requires { Serves (state S.Store conn.old) }
+    ensures found { HasCleanDisk (state S.Store conn.new) → IfOk result (λ found. found ≡ option_map (λ (row : ItemRow). row.item.terms.item)
+        (find (λ row. (row.item.terms.seller == seller) && same_text row.item.lot lot.now) (items_in (state S.Store conn.old).now.trees))) }
+    ensures damaged { HasCleanDisk (state S.Store conn.new) → AllByRecursion (λ (row : ItemRow). ItemFits row.item) (items_in (state S.Store conn.old).now.trees) → ¬ (IsErrOf result Damaged) }
+    ensures same { HasCleanDisk (state S.Store conn.new) → OnOk result (IsUnchanged (state S.Store conn.old) (state S.Store conn.new)) }
+    ensures err { HasCleanDisk (state S.Store conn.new) → OnErr result (KeepsCommitted (state S.Store conn.old) (state S.Store conn.new)) }
+    ensures mode { conn.old.in_transaction ≡ false → conn.new.in_transaction ≡ false }
+    ensures crash { Survives (state S.Store conn.old) (state S.Store conn.new) (λ _. ⊥) }
+{
+    let rows = rows_shown(
+        conn,
+        "SELECT id FROM item WHERE seller = ?1 AND lot = ?2 ORDER BY id",
+        params![seller, lot],
+    )?;
+    first_of(&rows)
+}
+
+/// All items, by number.
+pub fn all_items<S: Alter>(alloc: Global, conn: &mut Connection<S>) -> Result<Vec<Item>, KeepFault>
+    requires { Serves (state S.Store conn.old) }
+    ensures items { HasCleanDisk (state S.Store conn.new) → IfOk result (λ items. items.items ≡ map (λ (row : ItemRow). row.item) (items_in (state S.Store conn.old).now.trees)) }
+    ensures fits { IfOk result (λ items. AllByRecursion ItemFits items.items) }
+    ensures damaged { HasCleanDisk (state S.Store conn.new) → AllByRecursion (λ (row : ItemRow). ItemFits row.item) (items_in (state S.Store conn.old).now.trees) → ¬ (IsErrOf result Damaged) }
+    ensures same { HasCleanDisk (state S.Store conn.new) → OnOk result (IsUnchanged (state S.Store conn.old) (state S.Store conn.new)) }
+    ensures err { HasCleanDisk (state S.Store conn.new) → OnErr result (KeepsCommitted (state S.Store conn.old) (state S.Store conn.new)) }
+    ensures mode { conn.old.in_transaction ≡ false → conn.new.in_transaction ≡ false }
+    ensures crash { Survives (state S.Store conn.old) (state S.Store conn.new) (λ _. ⊥) }
+{
+    let rows = rows_shown(
+        conn,
+        "SELECT id, seller, category, start, buy_now, ending, state, closed, price, leader, count, lot, title, body FROM item ORDER BY id",
+        &[],
+    )?;
+    all_of(alloc, &rows)
+}
+
+/// The items of a category, by number.
+pub fn items_in_category<S: Alter>(
+    alloc: Global,
+    conn: &mut Connection<S>,
+    category: u32,
+) -> Result<Vec<Item>, KeepFault>
+    requires { Serves (state S.Store conn.old) }
+    ensures items { HasCleanDisk (state S.Store conn.new) → IfOk result (λ items. items.items ≡ map (λ (row : ItemRow). row.item) (filter (λ row. row.item.terms.category == category) (items_in (state S.Store conn.old).now.trees))) }
+    ensures fits { IfOk result (λ items. AllByRecursion ItemFits items.items) }
+    ensures damaged { HasCleanDisk (state S.Store conn.new) → AllByRecursion (λ (row : ItemRow). ItemFits row.item) (items_in (state S.Store conn.old).now.trees) → ¬ (IsErrOf result Damaged) }
+    ensures same { HasCleanDisk (state S.Store conn.new) → OnOk result (IsUnchanged (state S.Store conn.old) (state S.Store conn.new)) }
+    ensures err { HasCleanDisk (state S.Store conn.new) → OnErr result (KeepsCommitted (state S.Store conn.old) (state S.Store conn.new)) }
+    ensures mode { conn.old.in_transaction ≡ false → conn.new.in_transaction ≡ false }
+    ensures crash { Survives (state S.Store conn.old) (state S.Store conn.new) (λ _. ⊥) }
+{
+    let rows = rows_shown(
+        conn,
+        "SELECT id, seller, category, start, buy_now, ending, state, closed, price, leader, count, lot, title, body FROM item WHERE category = ?1 ORDER BY id",
+        params![category],
+    )?;
+    all_of(alloc, &rows)
+}
+
+/// The items that a member sells, by number.
+pub fn items_of_seller<S: Alter>(
+    alloc: Global,
+    conn: &mut Connection<S>,
+    seller: u32,
+) -> Result<Vec<Item>, KeepFault>
+    requires { Serves (state S.Store conn.old) }
+    ensures items { HasCleanDisk (state S.Store conn.new) → IfOk result (λ items. items.items ≡ map (λ (row : ItemRow). row.item) (filter (λ row. row.item.terms.seller == seller) (items_in (state S.Store conn.old).now.trees))) }
+    ensures fits { IfOk result (λ items. AllByRecursion ItemFits items.items) }
+    ensures damaged { HasCleanDisk (state S.Store conn.new) → AllByRecursion (λ (row : ItemRow). ItemFits row.item) (items_in (state S.Store conn.old).now.trees) → ¬ (IsErrOf result Damaged) }
+    ensures same { HasCleanDisk (state S.Store conn.new) → OnOk result (IsUnchanged (state S.Store conn.old) (state S.Store conn.new)) }
+    ensures err { HasCleanDisk (state S.Store conn.new) → OnErr result (KeepsCommitted (state S.Store conn.old) (state S.Store conn.new)) }
+    ensures mode { conn.old.in_transaction ≡ false → conn.new.in_transaction ≡ false }
+    ensures crash { Survives (state S.Store conn.old) (state S.Store conn.new) (λ _. ⊥) }
+{
+    let rows = rows_shown(
+        conn,
+        "SELECT id, seller, category, start, buy_now, ending, state, closed, price, leader, count, lot, title, body FROM item WHERE seller = ?1 ORDER BY id",
+        params![seller],
+    )?;
+    all_of(alloc, &rows)
+}

@@ -1,0 +1,21 @@
+//! The table of items in SQLite: one function for each statement, over typed rows.
+//!
+//! Promised: a look-up finds exactly the item of the typed table, each column in its range, and a
+//! write leaves the typed table as its record says, wherever the disk was honest; a failure leaves
+//! what was committed. Read `store_rows/specs/ItemRows.antt` first, which says what item a stored row is, then
+//! `specs/Items.antt`, which says what each write makes.
+//!
+//! A look-up that is `Damaged` has met an item that does not fit. Of `standing_at` that is not said.
+//!
+//! Not here yet: lists by leader or end, or with a limit.
+#![tactic(auto)]
+
+mod fits;
+mod item;
+mod item_reads;
+mod standing;
+
+pub use item::{Offer, put_item, set_bought, set_closed, set_settled, set_standing};
+pub use item_reads::{
+    all_items, item_at, item_with_lot, items_in_category, items_of_seller, standing_at, terms_at,
+};

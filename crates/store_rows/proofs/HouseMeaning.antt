@@ -1,0 +1,45 @@
+-- What the statements on the house and the bands mean.
+use Rattle.std.proofs.Common.{◌≡◌, refl, List, [], ◌∷◌, ℕ, codes, false}
+use Rattle.sqlite_value.specs.declared.value.Value.TheVariants.{Null}
+use Rattle.sqlite.specs.Term.{Term, lit, col}
+use Rattle.sqlite.specs.Command.TheVariants.{Select, Update}
+use Rattle.sqlite.specs.Listing.{understood, reads_listing}
+use Rattle.sqlite.proofs.Callers.{IsPlain, command_of}
+use Rattle.sqlite_tied.specs.Compute.{everything}
+use Rattle.store_rows.specs.Schema.{house_schema}
+use Rattle.store_rows.specs.Plain.{plain_query}
+use Rattle.store_rows.proofs.Select.{by_rowid, equals}
+
+abbrev pub house_text : List ℕ
+house_text = codes "SELECT id, version, clock, rate, zone FROM house WHERE id = ?1 ORDER BY id"
+
+abbrev pub set_clock_text : List ℕ
+set_clock_text = codes "UPDATE house SET clock = ?2 WHERE id = ?1"
+
+abbrev pub bands_text : List ℕ
+bands_text = codes "SELECT at, step FROM band ORDER BY at"
+
+abbrev pub house_shown : List Term
+house_shown = col 1 0 ∷ col 1 2 ∷ col 1 3 ∷ col 1 4 ∷ col 1 5 ∷ []
+
+abbrev pub bands_shown : List Term
+bands_shown = col 1 0 ∷ col 1 2 ∷ []
+
+-- the whole new row
+abbrev pub clock_set : List Term
+clock_set = col 1 0 ∷ lit Null ∷ col 1 2 ∷ col 0 1 ∷ col 1 4 ∷ col 1 5 ∷ []
+
+pub house_is : (command_of (understood house_schema house_text)
+    ≡ Select (record { lets = []; body = plain_query 0 (equals 0 ∷ []) house_shown by_rowid }) (codes "id" ∷ codes "version" ∷ codes "clock" ∷ codes "rate" ∷ codes "zone" ∷ []))
+    × (reads_listing house_schema house_text ≡ false) × IsPlain (understood house_schema house_text)
+unfolding understood everything
+house_is = (refl, refl, (refl, refl))
+
+pub set_clock_is : (command_of (understood house_schema set_clock_text) ≡ Update 0 (record { lets = []; body = plain_query 0 (equals 0 ∷ []) (col 1 0 ∷ clock_set) [] })) × IsPlain (understood house_schema set_clock_text)
+unfolding understood everything
+set_clock_is = (refl, (refl, refl))
+
+pub bands_are : (command_of (understood house_schema bands_text) ≡ Select (record { lets = []; body = plain_query 1 [] bands_shown by_rowid }) (codes "at" ∷ codes "step" ∷ []))
+    × (reads_listing house_schema bands_text ≡ false) × IsPlain (understood house_schema bands_text)
+unfolding understood everything
+bands_are = (refl, refl, (refl, refl))

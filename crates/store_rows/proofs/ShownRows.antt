@@ -1,0 +1,42 @@
+-- What a table whose rows fit shows, fits.
+use Rattle.std.proofs.Common.{◌≡◌, Bool, true, false, cond, List, [], ◌∷◌, map, filter, find, option_map, slice_get, Some, IfSome, sym, subst, ℕ, suc, zero, ◌<◌, length, get_or, arith}
+use Rattle.std.specs.List.{AllByRecursion}
+use Rattle.sqlite_value.specs.Order.{Row}
+use Rattle.sqlite_keyed.proofs.ListLemmas.{all-filter}
+
+module _ {T : Type 0} (told : Row → T) (Fits : T → Type 0) where
+  pub found_fits : (p : T → Bool) (table : List T) → AllByRecursion Fits table → IfSome (find p table) Fits
+  found_fits p [] all = search
+  found_fits p (x ∷ table) all = go (p x) (found_fits p table all.1)
+    where
+      go : (b : Bool) → IfSome (find p table) Fits → IfSome (cond b (Some x) (find p table)) Fits
+      go true later = all.0
+      go false later = later
+
+  -- the first row, of a look-up
+  pub first_fits : (rows : List Row) (p : T → Bool) (table : List T) → option_map told (slice_get rows 0) ≡ find p table → AllByRecursion Fits table → IfSome (option_map told (slice_get rows 0)) Fits
+  first_fits rows p table same all = subst (λ o. IfSome o Fits) (sym same) (found_fits p table all)
+
+  -- each row, of a list
+  pub rows_fit : (rows : List Row) (keep : T → Bool) (table : List T) → map told rows ≡ filter keep table → AllByRecursion Fits table → AllByRecursion Fits (map told rows)
+  rows_fit rows keep table same all = subst (AllByRecursion Fits) (sym same) (all-filter Fits keep table all)
+
+-- a row of those that fit
+pub row_fits : {T : Type 0} (told : Row → T) (Fits : T → Type 0) (rows : List Row) (i : ℕ) (r : Row) → i < length rows → AllByRecursion Fits (map told rows) → Fits (told (get_or rows i r))
+row_fits told Fits [] i r low all = absurd (omega (arith, low))
+row_fits told Fits (x ∷ rows) zero r low all = all.0
+row_fits told Fits (x ∷ rows) (suc i) r low all = row_fits told Fits rows i r (omega (arith, low)) all.1
+
+-- and so does a part of each
+pub parts_fit : {T U : Type 0} (P : T → Type 0) (Q : U → Type 0) (part : T → U) → ((x : T) → P x → Q (part x)) → (xs : List T) → AllByRecursion P xs → AllByRecursion Q (map part xs)
+parts_fit P Q part each [] all = tt
+parts_fit P Q part each (x ∷ xs) all = (each x all.0, parts_fit P Q part each xs all.1)
+
+-- a part of what is found in a table whose rows fit
+pub part_fits : {T U : Type 0} (part : T → U) (P : T → Type 0) (Fits : U → Type 0) → ((x : T) → P x → Fits (part x)) → (p : T → Bool) (table : List T) → AllByRecursion P table → IfSome (option_map part (find p table)) Fits
+part_fits part P Fits each p [] all = search
+part_fits part P Fits each p (x ∷ table) all = go (p x) (part_fits part P Fits each p table all.1)
+  where
+    go : (b : Bool) → IfSome (option_map part (find p table)) Fits → IfSome (option_map part (cond b (Some x) (find p table))) Fits
+    go true later = each x all.0
+    go false later = later

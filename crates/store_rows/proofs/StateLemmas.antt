@@ -1,0 +1,50 @@
+-- What a plain statement leaves.
+use Rattle.std.proofs.Common.{◌≡◌, ◌∙◌, ◌⊎◌, inl, inr, List, ℕ, Ok, subst, Result, arith, Err, IfOk, IfErr, IsTrue}
+use Rattle.sqlite_value.specs.Order.{Row}
+use Rattle.sqlite.specs.declared.error.Error.{Error}
+use Rattle.sqlite.specs.Clock.{timed}
+use Rattle.sqlite.specs.State.{State, HasCleanDisk, IsUnchanged, IsRolledBack, KeepsCommit, Fails, FailsToQuery, FailsToShow, IsNotRun, Shown, ShowsRows, Survives, CommitsShowing}
+use Rattle.sqlite.specs.Listing.{understood}
+use Rattle.sqlite.proofs.StateLemmas.{survives_weaker}
+use Rattle.sqlite.proofs.Callers.{IsPlain, never_commits}
+
+module _ (sql : List ℕ) (params : Row) (old new : State) (plain : IsPlain (understood old.now.schema sql)) where
+  pub shown_same : (rows : List Row) → Shown sql params old new rows → IsUnchanged old new
+  unfolding Shown
+  shown_same rows h =
+      let none = (subst IsPlain h.1.is plain).0 in
+      let it = subst (ShowsRows old new sql h.0 (timed params h.0.formats h.1.now) rows) none h.2 in
+      it.3
+
+  -- a query that fails has left all as it was, or the store failed
+  pub query_failed : (e : Error) → FailsToQuery sql params old new e → IsUnchanged old new ⊎ Fails old new ⊥ e
+  unfolding FailsToQuery IsNotRun
+  query_failed e (inl (inl refused)) = inl refused.1
+  query_failed e (inl (inr failed)) = inr failed
+  query_failed e (inr h) =
+      let none = (subst IsPlain h.1.is plain).0 in
+      let it = subst (FailsToShow old new sql h.0 (timed params h.0.formats h.1.now) e) none h.2 in
+      inl it.3
+
+pub only_reads : (sql : List ℕ) (params : Row) (old new : State) → (HasCleanDisk old → IsPlain (understood old.now.schema sql)) → Survives old new (CommitsShowing sql params old) → Survives old new (λ _. ⊥)
+only_reads sql params old new plain s = survives_weaker old new _ _ (λ clean db. never_commits sql params old db (plain (before s clean))) s
+  where
+    before : Survives old new (CommitsShowing sql params old) → HasCleanDisk new → HasCleanDisk old
+    before s clean = omega (arith, s.clean)
+
+pub ok_then : {T E : Type 0} {P Q : T → Type 0} (r : Result T E) → IfOk r P → ((x : T) → P x → Q x) → IfOk r Q
+ok_then (Ok x) h f = f x h
+ok_then (Err e) h f = h
+
+pub err_then : {T E : Type 0} {P Q : E → Type 0} (r : Result T E) → IfErr r P → ((e : E) → P e → Q e) → IfErr r Q
+err_then (Ok x) h f = h
+err_then (Err e) h f = f e h
+
+-- a query that fails leaves what was committed
+pub query_ended : (sql : List ℕ) (params : Row) (old new : State) → IsPlain (understood old.now.schema sql) → (e : Error) → FailsToQuery sql params old new e → IsUnchanged old new ⊎ IsRolledBack old new
+query_ended sql params old new plain e h = elim (query_failed sql params old new plain e h) [ inl same ↦ inl same | inr failed ↦ inr failed.3 ]
+
+-- an error after steps that committed nothing has committed nothing
+pub still_committed : (old now new : State) → IsTrue old.is_open → now.committed ≡ old.committed → IsUnchanged now new ⊎ IsRolledBack now new → KeepsCommit old new
+still_committed old now new was_open same (inl kept) = record { was_open = λ _. was_open; committed = λ _. kept.0.committed_is ∙ same }
+still_committed old now new was_open same (inr undone) = record { was_open = λ _. was_open; committed = λ is_open. (undone.undone is_open).1 ∙ same }

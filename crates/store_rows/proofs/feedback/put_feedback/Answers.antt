@@ -1,0 +1,23 @@
+use Rattle.std.proofs.Common.{◌≡◌, rules, refl, subst, IsUtf8}
+use mir.Val.{to_z, of_z}
+use mir.Syntax.{w64}
+use Rattle.house_rows.specs.declared.rating.Rating.{Rating}
+use Rattle.house_rows.specs.declared.rating.Rating.TheVariants.{Minus, Zero, Plus}
+use Rattle.store_rows.specs.Rows.{stored_rating}
+use Rattle.store_rows.proofs.StateLemmas.{ok_then}
+use Rattle.store_rows.proofs.TalkLemmas.{adds_feedback}
+use Rattle.store_rows.proofs.feedback.put_feedback.Goals as goal
+
+-- a stored rating fits the parameter
+kept : (r : Rating) → to_z w64 (of_z w64 (stored_rating r)) ≡ stored_rating r
+kept Minus = refl
+kept Zero = refl
+kept Plus = refl
+
+pub returns-clause-ok : goal.returns-clause-ok
+returns-clause-ok g c clean =
+    let house = c.run.ensures.house clean in
+    let text : c.as_str.result.now ≡ c.args.given.now.text = search rules in
+    let rating : c.stored-rating.result ≡ stored_rating c.args.given.now.rating = search rules in
+    ok_then c.run.result (rw (c.params-to_sql.ensures, c.params-to_sql-2.ensures, c.params-to_sql-3.ensures, c.params-to_sql-4.ensures, c.params-to_sql-5.ensures, text, rating, kept c.args.given.now.rating) at (c.run.ensures.ran clean))
+    (λ _ ran. adds_feedback _ _ c.args.given.now ran.0 (subst IsUtf8 text c.as_str.utf8) house ran.1)

@@ -1,0 +1,12 @@
+pub mod Schema
+pub mod Texts
+pub mod Rows
+pub mod House
+pub mod Making
+pub mod Plain
+pub mod Answers
+pub mod Counts
+pub mod Fitting
+pub mod ItemRows
+pub mod Columns
+pub mod ItemFitting

@@ -1,0 +1,54 @@
+//! The band table.
+ghost use Rattle.std.specs.Prelude.{◌≡◌, false, IfOk, OnOk, OnErr, IsErrOf};
+ghost use Rattle.std.specs.List.{AllByRecursion};
+ghost use Rattle.sqlite.specs.State.{HasCleanDisk, IsUnchanged, Survives};
+ghost use Rattle.sqlite.specs.Held.{state};
+ghost use Rattle.house_rows.specs.declared.fault.KeepFault.TheVariants.{Damaged};
+ghost use Rattle.store_rows.specs.Fitting.{BandRowFits};
+ghost use Rattle.store_rows.specs.House.{Serves, KeepsCommitted};
+ghost use Rattle.store_rows.specs.Rows.{band_of, bands_in};
+
+use crate::columns::wide_number_at;
+use crate::statement::rows_shown;
+use crate::stored::{Stored, all_of};
+use house_rows::KeepFault;
+use sqlite::{Alter, Connection, Row};
+use std::alloc::Global;
+
+/// A row of the band table, in cents.
+#[derive(Clone, Copy, Debug, PartialEq, Eq)]
+pub struct BandRow {
+    /// The price from which the step holds.
+    pub from: u64,
+    /// The step.
+    pub step: u64,
+}
+
+impl Stored for BandRow {
+    ghost told = { band_of };
+
+    ghost fits = { BandRowFits };
+
+    fn read(row: &Row) -> Result<BandRow, KeepFault> {
+        let from = wide_number_at(row, 0)?;
+        let step = wide_number_at(row, 1)?;
+        Ok(BandRow { from, step })
+    }
+}
+
+/// The rows of the band table, in the order of their prices.
+pub fn all_bands<S: Alter>(
+    alloc: Global,
+    conn: &mut Connection<S>,
+) -> Result<Vec<BandRow>, KeepFault>
+    requires { Serves (state S.Store conn.old) }
+    ensures bands { HasCleanDisk (state S.Store conn.new) → IfOk result (λ bands. bands.items ≡ bands_in (state S.Store conn.old).now.trees) }
+    ensures damaged { HasCleanDisk (state S.Store conn.new) → AllByRecursion BandRowFits (bands_in (state S.Store conn.old).now.trees) → ¬ (IsErrOf result Damaged) }
+    ensures same { HasCleanDisk (state S.Store conn.new) → OnOk result (IsUnchanged (state S.Store conn.old) (state S.Store conn.new)) }
+    ensures err { HasCleanDisk (state S.Store conn.new) → OnErr result (KeepsCommitted (state S.Store conn.old) (state S.Store conn.new)) }
+    ensures mode { conn.old.in_transaction ≡ false → conn.new.in_transaction ≡ false }
+    ensures crash { Survives (state S.Store conn.old) (state S.Store conn.new) (λ _. ⊥) }
+{
+    let rows = rows_shown(conn, "SELECT at, step FROM band ORDER BY at", &[])?;
+    all_of(alloc, &rows)
+}

@@ -1,0 +1,114 @@
+//! The values of a shown row, each as its type. A value is damaged only where it is none of its type.
+ghost use Rattle.std.specs.Prelude.{◌≡◌, ◌≢◌, ◌≤◌, ◌<◌, ◌^◌, IfOk, IfSome, IsErrOf, length, option_map, string_bytes};
+ghost use Rattle.sqlite_value.specs.Order.{column};
+ghost use Rattle.house_rows.specs.Limits.{most_cents};
+ghost use Rattle.house_rows.specs.declared.fault.KeepFault.TheVariants.{Damaged};
+ghost use Rattle.store_rows.specs.Rows.{maybe_number_in, maybe_text_in, no_text, number_in, text_in};
+
+use cents::Cents;
+use house_rows::{KeepFault, Text};
+use sqlite::types::FromSql;
+use sqlite::{Error, ErrorCode, Row};
+
+/// The value of a column.
+pub fn value_at<T: FromSql>(row: &Row, at: usize) -> Result<T, KeepFault>
+    ensures value { IfOk result (λ x. T.FromSql.reads_as (column row.now at) x) }
+    ensures damaged { at < length row.now → T.FromSql.is_readable (column row.now at) → ¬ (IsErrOf result Damaged) }
+{
+    match row.get(at) {
+        Ok(value) => Ok(value),
+        Err(Error::SqliteFailure(ErrorCode::OutOfMemory)) => Err(KeepFault::Memory),
+        Err(_) => Err(KeepFault::Damaged),
+    }
+}
+
+/// A number.
+pub fn number_at(row: &Row, at: usize) -> Result<u32, KeepFault>
+    ensures value { IfOk result (λ n. n ≡ number_in (column row.now at)) }
+    ensures damaged { number_in (column row.now at) < 2 ^ 32 → ¬ (IsErrOf result Damaged) }
+{
+    value_at(row, at)
+}
+
+/// A number of 64 bits.
+pub fn wide_number_at(row: &Row, at: usize) -> Result<u64, KeepFault>
+    ensures value { IfOk result (λ n. n ≡ number_in (column row.now at)) }
+    ensures damaged { number_in (column row.now at) < 2 ^ 64 → ¬ (IsErrOf result Damaged) }
+{
+    value_at(row, at)
+}
+
+/// A number that may be missing.
+pub fn maybe_number_at(row: &Row, at: usize) -> Result<Option<u32>, KeepFault>
+    ensures value { IfOk result (λ n. n ≡ maybe_number_in (column row.now at)) }
+    ensures damaged { at < length row.now → IfSome (maybe_number_in (column row.now at)) (λ n. n < 2 ^ 32) → ¬ (IsErrOf result Damaged) }
+{
+    value_at(row, at)
+}
+
+/// A number of 64 bits that may be missing.
+pub fn maybe_wide_number_at(row: &Row, at: usize) -> Result<Option<u64>, KeepFault>
+    ensures value { IfOk result (λ n. n ≡ maybe_number_in (column row.now at)) }
+    ensures damaged { at < length row.now → IfSome (maybe_number_in (column row.now at)) (λ n. n < 2 ^ 64) → ¬ (IsErrOf result Damaged) }
+{
+    value_at(row, at)
+}
+
+/// An amount.
+pub fn cents_at(row: &Row, at: usize) -> Result<Cents, KeepFault>
+    ensures value { IfOk result (λ n. n ≡ number_in (column row.now at)) }
+    ensures damaged { number_in (column row.now at) ≤ most_cents → ¬ (IsErrOf result Damaged) }
+{
+    let amount = wide_number_at(row, at)?;
+    match Cents::new(amount) {
+        Some(cents) => Ok(cents),
+        None => Err(KeepFault::Damaged),
+    }
+}
+
+/// An amount that may be missing.
+pub fn maybe_cents_at(row: &Row, at: usize) -> Result<Option<Cents>, KeepFault>
+    ensures value { IfOk result (λ n. n ≡ maybe_number_in (column row.now at)) }
+    ensures damaged { at < length row.now → IfSome (maybe_number_in (column row.now at)) (λ n. n ≤ most_cents) → ¬ (IsErrOf result Damaged) }
+{
+    match maybe_wide_number_at(row, at) {
+        Ok(None) => Ok(None),
+        Ok(Some(amount)) => match Cents::new(amount) {
+            Some(cents) => Ok(Some(cents)),
+            None => Err(KeepFault::Damaged),
+        },
+        Err(fault) => Err(fault),
+    }
+}
+
+/// A text.
+pub fn text_at(row: &Row, at: usize) -> Result<Text, KeepFault>
+    ensures value { IfOk result (λ t. t ≡ text_in (column row.now at)) }
+    ensures damaged { text_in (column row.now at) ≢ no_text → ¬ (IsErrOf result Damaged) }
+{
+    match value_at(row, at) {
+        Ok(text) => Ok(Text::new(text)),
+        Err(fault) => Err(fault),
+    }
+}
+
+/// A text that may be missing.
+pub fn maybe_text_at(row: &Row, at: usize) -> Result<Option<Text>, KeepFault>
+    ensures value { IfOk result (λ t. t ≡ maybe_text_in (column row.now at)) }
+    ensures damaged { at < length row.now → IfSome (maybe_text_in (column row.now at)) (λ t. t ≢ no_text) → ¬ (IsErrOf result Damaged) }
+{
+    match value_at(row, at) {
+        Ok(text) => Ok(text_of(text)),
+        Err(fault) => Err(fault),
+    }
+}
+
+// A text of the house, if there is one.
+fn text_of(text: Option<String>) -> Option<Text>
+    ensures { result ≡ option_map string_bytes text }
+{
+    match text {
+        None => None,
+        Some(text) => Some(Text::new(text)),
+    }
+}

@@ -1,0 +1,113 @@
+//! The tests of what is handed out.
+ghost use Rattle.std.specs.Prelude.{◌≡◌};
+ghost use Rattle.house_rows.specs.Text.{has_length, is_text};
+ghost use Rattle.store_rows.specs.Fitting.{bid_fits, category_fits, feedback_fits, house_fits, is_none_or_text, is_within, member_fits, question_fits};
+
+use crate::house::HouseRow;
+use cents::LIMIT;
+use house_rows::{Category, Feedback, Member, Question, Text};
+use proxy::{Bid, MOST_BIDS};
+
+// The limits of the house.
+const MOST_MEMBERS: u32 = 100_000;
+
+const MOST_ITEMS: u32 = 1_000_000;
+
+const MOST_CATEGORIES: u32 = 1000;
+
+const MOST_QUESTIONS: u32 = 20;
+
+// The version of the tables.
+const VERSION: u32 = 1;
+
+// In ten-thousandths.
+const MOST_RATE: u64 = 2000;
+
+// 2100-01-01T00:00:00Z, in seconds.
+const LAST_MOMENT: u64 = 4_102_444_800;
+
+// Whether a number is within a range.
+fn is_within(least: u32, most: u32, number: u32) -> bool
+    ensures { result ≡ is_within least most number }
+{
+    least <= number && number <= most
+}
+
+// Whether a text has so many bytes and no control characters.
+pub(crate) fn is_text(least: usize, most: usize, text: &Text) -> bool
+    ensures { result ≡ is_text least most text.now }
+{
+    has_length(least, most, text) && text.is_plain()
+}
+
+// Whether it has so many bytes.
+pub(crate) fn has_length(least: usize, most: usize, text: &Text) -> bool
+    ensures { result ≡ has_length least most text.now }
+{
+    least <= text.len() && text.len() <= most
+}
+
+// Whether the numbers of a question and its texts fit.
+pub(crate) fn question_fits(question: &Question) -> bool
+    ensures { result ≡ question_fits question.now }
+{
+    is_within(1, MOST_ITEMS, question.item)
+        && is_within(1, MOST_MEMBERS, question.asker)
+        && is_within(1, MOST_QUESTIONS, question.number)
+        && is_text(1, 500, &question.text)
+        && answer_fits(question)
+}
+
+// Whether its answer fits, where it has one.
+fn answer_fits(question: &Question) -> bool
+    ensures { result ≡ is_none_or_text 1 500 question.now.answer }
+{
+    match &question.answer {
+        None => true,
+        Some(answer) => is_text(1, 500, answer),
+    }
+}
+
+// Whether the numbers of a feedback and its text fit.
+pub(crate) fn feedback_fits(feedback: &Feedback) -> bool
+    ensures { result ≡ feedback_fits feedback.now }
+{
+    is_within(1, MOST_ITEMS, feedback.item)
+        && is_within(1, MOST_MEMBERS, feedback.from)
+        && is_within(1, MOST_MEMBERS, feedback.to)
+        && is_text(0, 200, &feedback.text)
+}
+
+// Whether a member's number and name fit.
+pub(crate) fn member_fits(member: &Member) -> bool
+    ensures { result ≡ member_fits member.now }
+{
+    is_within(1, MOST_MEMBERS, member.member) && is_text(1, 40, &member.name)
+}
+
+// Whether a category's number and name fit.
+pub(crate) fn category_fits(category: &Category) -> bool
+    ensures { result ≡ category_fits category.now }
+{
+    is_within(1, MOST_CATEGORIES, category.category) && is_text(1, 40, &category.name)
+}
+
+// Whether the numbers of a bid fit.
+pub(crate) fn bid_fits(bid: &Bid) -> bool
+    ensures { result ≡ bid_fits bid.now }
+{
+    is_within(1, MOST_MEMBERS, bid.member)
+        && is_within(1, MOST_BIDS, bid.no)
+        && bid.maximum.value() <= LIMIT
+}
+
+// Whether the row of the house is the only one, of this version, and its clock, rate and zone fit.
+pub(crate) fn house_fits(house: &HouseRow) -> bool
+    ensures { result ≡ house_fits house.now }
+{
+    house.id == 1
+        && house.version == VERSION
+        && house.clock <= LAST_MOMENT
+        && house.rate <= MOST_RATE
+        && house.zone.is_plain()
+}

@@ -1,0 +1,105 @@
+//! The table of the house itself, which has one row.
+ghost use Rattle.std.specs.Prelude.{◌≡◌, ◌==◌, false, find, slice_get, option_map, IfOk, OnOk, OnErr, IsTrue, IsErrOf, IfSome};
+ghost use Rattle.std.specs.List.{AllByRecursion};
+ghost use Rattle.sqlite.specs.State.{HasCleanDisk, IsUnchanged, Survives};
+ghost use Rattle.sqlite.specs.Held.{state};
+ghost use Rattle.house_rows.specs.declared.fault.KeepFault.TheVariants.{Damaged};
+ghost use Rattle.store_rows.specs.Fitting.{HouseRowFits};
+ghost use Rattle.store_rows.specs.House.{Serves, IsInside, KeepsCommitted, SetsClock};
+ghost use Rattle.store_rows.specs.Rows.{house_of, houses_in};
+
+use crate::columns::{number_at, text_at, wide_number_at};
+use crate::fits::house_fits;
+use crate::statement::{rows_shown, run};
+use crate::stored::{Stored, first_of};
+use house_rows::{KeepFault, Text};
+use sqlite::{Alter, Connection, Row, Transaction, params};
+
+// The number of the row of the house.
+const ONLY_ROW: u32 = 1;
+
+/// What the house keeps once.
+#[derive(Debug, Drop)]
+pub struct HouseRow {
+    /// Always 1.
+    pub id: u32,
+    /// The version of the tables.
+    pub version: u32,
+    /// The clock, in seconds since 1970-01-01T00:00:00Z.
+    pub clock: u64,
+    /// The rate of the fee, in ten-thousandths.
+    pub rate: u64,
+    /// The rule of the zone by which days are counted.
+    pub zone: Text,
+}
+
+// The columns as they stand.
+fn told_house(row: &Row) -> Result<HouseRow, KeepFault>
+    ensures value { IfOk result (λ h. h ≡ house_of row.now) }
+    ensures damaged { HouseRowFits (house_of row.now) → ¬ (IsErrOf result Damaged) }
+{
+    let id = number_at(row, 0)?;
+    let version = number_at(row, 1)?;
+    let clock = wide_number_at(row, 2)?;
+    let rate = wide_number_at(row, 3)?;
+    let zone = text_at(row, 4)?;
+    Ok(HouseRow {
+        id,
+        version,
+        clock,
+        rate,
+        zone,
+    })
+}
+
+impl Stored for HouseRow {
+    ghost told = { house_of };
+
+    ghost fits = { HouseRowFits };
+
+    fn read(row: &Row) -> Result<HouseRow, KeepFault> {
+        let told = told_house(row)?;
+        if house_fits(&told) {
+            Ok(told)
+        } else {
+            Err(KeepFault::Damaged)
+        }
+    }
+}
+
+/// The row of the house.
+pub fn house_row<S: Alter>(conn: &mut Connection<S>) -> Result<Option<HouseRow>, KeepFault>
+    requires { Serves (state S.Store conn.old) }
+    ensures found { HasCleanDisk (state S.Store conn.new) → IfOk result (λ found. found ≡ find (λ h. h.id == 1) (houses_in (state S.Store conn.old).now.trees)) }
+    ensures fits { IfOk result (λ found. IfSome found HouseRowFits) }
+    ensures damaged { HasCleanDisk (state S.Store conn.new) → AllByRecursion HouseRowFits (houses_in (state S.Store conn.old).now.trees) → ¬ (IsErrOf result Damaged) }
+    ensures same { HasCleanDisk (state S.Store conn.new) → OnOk result (IsUnchanged (state S.Store conn.old) (state S.Store conn.new)) }
+    ensures err { HasCleanDisk (state S.Store conn.new) → OnErr result (KeepsCommitted (state S.Store conn.old) (state S.Store conn.new)) }
+    ensures mode { conn.old.in_transaction ≡ false → conn.new.in_transaction ≡ false }
+    ensures crash { Survives (state S.Store conn.old) (state S.Store conn.new) (λ _. ⊥) }
+{
+    let rows = rows_shown(
+        conn,
+        "SELECT id, version, clock, rate, zone FROM house WHERE id = ?1 ORDER BY id",
+        params![ONLY_ROW],
+    )?;
+    first_of(&rows)
+}
+
+/// Sets the clock within a transaction, in seconds since 1970-01-01T00:00:00Z.
+pub fn set_clock<S: Alter>(tx: &mut Transaction<'_, S>, moment: u32) -> Result<(), KeepFault>
+    requires serves { Serves (state S.Store tx.old.conn.now) }
+    requires begun { HasCleanDisk (state S.Store tx.old.conn.now) → IsTrue tx.old.conn.now.in_transaction }
+    ensures same_reference { tx.new.conn.ghost_name ≡ tx.old.conn.ghost_name }
+    ensures ok { HasCleanDisk (state S.Store tx.new.conn.now) → OnOk result (SetsClock moment (state S.Store tx.old.conn.now).now (state S.Store tx.new.conn.now).now) }
+    ensures sound { ¬ (IsErrOf result Damaged) }
+    ensures inside { HasCleanDisk (state S.Store tx.new.conn.now) → OnOk result (IsInside (state S.Store tx.old.conn.now) (state S.Store tx.new.conn.now)) }
+    ensures err { HasCleanDisk (state S.Store tx.new.conn.now) → OnErr result (KeepsCommitted (state S.Store tx.old.conn.now) (state S.Store tx.new.conn.now)) }
+    ensures crash { Survives (state S.Store tx.old.conn.now) (state S.Store tx.new.conn.now) (λ _. ⊥) }
+{
+    run(
+        tx,
+        "UPDATE house SET clock = ?2 WHERE id = ?1",
+        params![ONLY_ROW, moment],
+    )
+}

@@ -1,0 +1,106 @@
+//! An item as its columns tell it.
+ghost use Rattle.std.specs.Prelude.{◌≡◌, IfOk, IsErrOf, true};
+ghost use Rattle.sqlite_value.specs.Order.{column};
+ghost use Rattle.house_rows.specs.Fits.{ItemFits, TermsFit};
+ghost use Rattle.house_rows.specs.declared.fault.KeepFault.TheVariants.{Damaged};
+ghost use Rattle.store_rows.specs.Columns.{AreTerms, HasTexts};
+ghost use Rattle.store_rows.specs.ItemRows.{is_state, item_of, state_in, terms_of};
+
+use crate::columns::{
+    cents_at, maybe_cents_at, maybe_number_at, maybe_wide_number_at, number_at, text_at,
+    wide_number_at,
+};
+use crate::item_fits::{item_fits, terms_fit};
+use crate::stored::Stored;
+use house_rows::{Item, KeepFault, State, Terms};
+use sqlite::Row;
+
+// A state, which is stored as its number.
+fn state_at(row: &Row, at: usize) -> Result<State, KeepFault>
+    ensures state { IfOk result (λ s. s ≡ state_in (column row.now at)) }
+    ensures stored { IfOk result (λ s. is_state (column row.now at) ≡ true) }
+    ensures damaged { is_state (column row.now at) ≡ true → ¬ (IsErrOf result Damaged) }
+{
+    let number = number_at(row, at)?;
+    match number {
+        0 => Ok(State::Open),
+        1 => Ok(State::Sold),
+        2 => Ok(State::Unsold),
+        3 => Ok(State::Settled),
+        _ => Err(KeepFault::Damaged),
+    }
+}
+
+// The columns of the terms, as they stand.
+fn told_terms(row: &Row) -> Result<Terms, KeepFault>
+    ensures value { IfOk result (λ t. t ≡ terms_of row.now) }
+    ensures damaged { AreTerms row.now → ¬ (IsErrOf result Damaged) }
+{
+    Ok(Terms {
+        item: number_at(row, 0)?,
+        seller: number_at(row, 1)?,
+        category: number_at(row, 2)?,
+        start: cents_at(row, 3)?,
+        buy_now: maybe_cents_at(row, 4)?,
+        end: wide_number_at(row, 5)?,
+        state: state_at(row, 6)?,
+        closed: maybe_wide_number_at(row, 7)?,
+        price: cents_at(row, 8)?,
+        leader: maybe_number_at(row, 9)?,
+        count: number_at(row, 10)?,
+    })
+}
+
+// All but the texts, from the first eleven columns.
+impl Stored for Terms {
+    ghost told = { terms_of };
+
+    ghost fits = { TermsFit };
+
+    fn read(row: &Row) -> Result<Terms, KeepFault> {
+        let told = match told_terms(row) {
+            Ok(told) => told,
+            Err(fault) => return Err(fault),
+        };
+        if terms_fit(&told) {
+            Ok(told)
+        } else {
+            Err(KeepFault::Damaged)
+        }
+    }
+}
+
+// The texts after them, as they stand.
+fn told_item(row: &Row) -> Result<Item, KeepFault>
+    ensures value { IfOk result (λ i. i ≡ item_of row.now) }
+    ensures damaged { AreTerms row.now → HasTexts row.now → ¬ (IsErrOf result Damaged) }
+{
+    let terms = told_terms(row)?;
+    let lot = text_at(row, 11)?;
+    let title = text_at(row, 12)?;
+    let text = text_at(row, 13)?;
+    Ok(Item {
+        terms,
+        lot,
+        title,
+        text,
+    })
+}
+
+impl Stored for Item {
+    ghost told = { item_of };
+
+    ghost fits = { ItemFits };
+
+    fn read(row: &Row) -> Result<Item, KeepFault> {
+        let told = match told_item(row) {
+            Ok(told) => told,
+            Err(fault) => return Err(fault),
+        };
+        if item_fits(&told) {
+            Ok(told)
+        } else {
+            Err(KeepFault::Damaged)
+        }
+    }
+}

@@ -1,0 +1,127 @@
+//! The table of members.
+ghost use Rattle.std.specs.Prelude.{◌≡◌, ◌==◌, false, map, find, slice_get, option_map, IfOk, OnOk, OnErr, IsTrue, IfSome, IsErrOf};
+ghost use Rattle.std.specs.List.{AllByRecursion};
+ghost use Rattle.sqlite.specs.State.{HasCleanDisk, IsUnchanged, Survives};
+ghost use Rattle.sqlite.specs.Held.{state};
+ghost use Rattle.house_rows.specs.Fits.{MemberFits};
+ghost use Rattle.house_rows.specs.Text.{same_text};
+ghost use Rattle.house_rows.specs.declared.fault.KeepFault.TheVariants.{Damaged};
+ghost use Rattle.store_rows.specs.House.{Serves, IsInside, KeepsCommitted, AddsMember};
+ghost use Rattle.store_rows.specs.Rows.{member_of, members_in};
+
+use crate::columns::{number_at, text_at};
+use crate::fits::member_fits;
+use crate::statement::{rows_shown, run};
+use crate::stored::{Stored, all_of, first_of};
+use house_rows::{KeepFault, Member, Text};
+use sqlite::{Alter, Connection, Row, Transaction, params};
+use std::alloc::Global;
+
+// The columns as they stand.
+fn told_member(row: &Row) -> Result<Member, KeepFault>
+    ensures value { IfOk result (λ m. m ≡ member_of row.now) }
+    ensures damaged { MemberFits (member_of row.now) → ¬ (IsErrOf result Damaged) }
+{
+    let member = number_at(row, 0)?;
+    let name = text_at(row, 1)?;
+    Ok(Member { member, name })
+}
+
+impl Stored for Member {
+    ghost told = { member_of };
+
+    ghost fits = { MemberFits };
+
+    fn read(row: &Row) -> Result<Member, KeepFault> {
+        let told = told_member(row)?;
+        if member_fits(&told) {
+            Ok(told)
+        } else {
+            Err(KeepFault::Damaged)
+        }
+    }
+}
+
+/// Adds a member within a transaction.
+pub fn put_member<S: Alter>(
+    tx: &mut Transaction<'_, S>,
+    number: u32,
+    name: &Text,
+) -> Result<(), KeepFault>
+    requires serves { Serves (state S.Store tx.old.conn.now) }
+    requires begun { HasCleanDisk (state S.Store tx.old.conn.now) → IsTrue tx.old.conn.now.in_transaction }
+    ensures same_reference { tx.new.conn.ghost_name ≡ tx.old.conn.ghost_name }
+    ensures ok { HasCleanDisk (state S.Store tx.new.conn.now) → OnOk result (AddsMember number name.now (state S.Store tx.old.conn.now).now (state S.Store tx.new.conn.now).now) }
+    ensures sound { ¬ (IsErrOf result Damaged) }
+    ensures inside { HasCleanDisk (state S.Store tx.new.conn.now) → OnOk result (IsInside (state S.Store tx.old.conn.now) (state S.Store tx.new.conn.now)) }
+    ensures err { HasCleanDisk (state S.Store tx.new.conn.now) → OnErr result (KeepsCommitted (state S.Store tx.old.conn.now) (state S.Store tx.new.conn.now)) }
+    ensures crash { Survives (state S.Store tx.old.conn.now) (state S.Store tx.new.conn.now) (λ _. ⊥) }
+{
+    run(
+        tx,
+        "INSERT INTO member (id, name) VALUES (?1, ?2)",
+        params![number, name.as_str()],
+    )
+}
+
+/// The member with a number.
+pub fn member_at<S: Alter>(
+    conn: &mut Connection<S>,
+    number: u32,
+) -> Result<Option<Member>, KeepFault>
+    requires { Serves (state S.Store conn.old) }
+    ensures found { HasCleanDisk (state S.Store conn.new) → IfOk result (λ found. found ≡ find (λ m. m.member == number) (members_in (state S.Store conn.old).now.trees)) }
+    ensures fits { IfOk result (λ found. IfSome found MemberFits) }
+    ensures damaged { HasCleanDisk (state S.Store conn.new) → AllByRecursion MemberFits (members_in (state S.Store conn.old).now.trees) → ¬ (IsErrOf result Damaged) }
+    ensures same { HasCleanDisk (state S.Store conn.new) → OnOk result (IsUnchanged (state S.Store conn.old) (state S.Store conn.new)) }
+    ensures err { HasCleanDisk (state S.Store conn.new) → OnErr result (KeepsCommitted (state S.Store conn.old) (state S.Store conn.new)) }
+    ensures mode { conn.old.in_transaction ≡ false → conn.new.in_transaction ≡ false }
+    ensures crash { Survives (state S.Store conn.old) (state S.Store conn.new) (λ _. ⊥) }
+{
+    let rows = rows_shown(
+        conn,
+        "SELECT id, name FROM member WHERE id = ?1 ORDER BY id",
+        params![number],
+    )?;
+    first_of(&rows)
+}
+
+/// The member with a name.
+pub fn member_named<S: Alter>(
+    conn: &mut Connection<S>,
+    name: &Text,
+) -> Result<Option<Member>, KeepFault>
+    requires { Serves (state S.Store conn.old) }
+    ensures found { HasCleanDisk (state S.Store conn.new) → IfOk result (λ found. found ≡ find (λ m. same_text m.name name.now) (members_in (state S.Store conn.old).now.trees)) }
+    ensures fits { IfOk result (λ found. IfSome found MemberFits) }
+    ensures damaged { HasCleanDisk (state S.Store conn.new) → AllByRecursion MemberFits (members_in (state S.Store conn.old).now.trees) → ¬ (IsErrOf result Damaged) }
+    ensures same { HasCleanDisk (state S.Store conn.new) → OnOk result (IsUnchanged (state S.Store conn.old) (state S.Store conn.new)) }
+    ensures err { HasCleanDisk (state S.Store conn.new) → OnErr result (KeepsCommitted (state S.Store conn.old) (state S.Store conn.new)) }
+    ensures mode { conn.old.in_transaction ≡ false → conn.new.in_transaction ≡ false }
+    ensures crash { Survives (state S.Store conn.old) (state S.Store conn.new) (λ _. ⊥) }
+{
+    let rows = rows_shown(
+        conn,
+        "SELECT id, name FROM member WHERE name = ?1 ORDER BY id",
+        params![name.as_str()],
+    )?;
+    first_of(&rows)
+}
+
+/// All members, by number.
+pub fn all_members<S: Alter>(
+    alloc: Global,
+    conn: &mut Connection<S>,
+) -> Result<Vec<Member>, KeepFault>
+    requires { Serves (state S.Store conn.old) }
+    ensures members { HasCleanDisk (state S.Store conn.new) → IfOk result (λ members. members.items ≡ members_in (state S.Store conn.old).now.trees) }
+    ensures fits { IfOk result (λ all. AllByRecursion MemberFits all.items) }
+    ensures damaged { HasCleanDisk (state S.Store conn.new) → AllByRecursion MemberFits (members_in (state S.Store conn.old).now.trees) → ¬ (IsErrOf result Damaged) }
+    ensures same { HasCleanDisk (state S.Store conn.new) → OnOk result (IsUnchanged (state S.Store conn.old) (state S.Store conn.new)) }
+    ensures err { HasCleanDisk (state S.Store conn.new) → OnErr result (KeepsCommitted (state S.Store conn.old) (state S.Store conn.new)) }
+    ensures mode { conn.old.in_transaction ≡ false → conn.new.in_transaction ≡ false }
+    ensures crash { Survives (state S.Store conn.old) (state S.Store conn.new) (λ _. ⊥) }
+{
+    let rows = rows_shown(conn, "SELECT id, name FROM member ORDER BY id", &[])?;
+    all_of(alloc, &rows)
+}

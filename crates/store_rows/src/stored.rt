@@ -1,0 +1,79 @@
+//! Typed rows, read from what a query shows.
+ghost use Rattle.std.specs.Prelude.{◌≡◌, ◌<◌, ◌^◌, IfOk, IfSome, IsErrOf, map, option_map, slice_get};
+ghost use Rattle.std.specs.List.{AllByRecursion};
+ghost use Rattle.sqlite_value.specs.Order.{Row as Columns, column};
+ghost use Rattle.house_rows.specs.declared.fault.KeepFault.TheVariants.{Damaged};
+ghost use Rattle.store_rows.specs.Rows.{number_in};
+
+use crate::columns::{number_at, wide_number_at};
+use house_rows::KeepFault;
+use sqlite::Row;
+use std::alloc::Global;
+
+/// A typed row, which is read from the columns that a query shows.
+pub trait Stored: Sized + Drop {
+    /// What the columns tell.
+    ghost told: { Columns → Self };
+
+    /// Which typed rows fit.
+    ghost fits: { Self → Type 0 };
+
+    /// Reads the columns. They are damaged only where they don't fit; memory is the other cause.
+    fn read(row: &Row) -> Result<Self, KeepFault>
+        ensures value { IfOk result (λ it. it ≡ told row.now) }
+        ensures fits { IfOk result fits }
+        ensures damaged { fits (told row.now) → ¬ (IsErrOf result Damaged) };
+}
+
+// A number that is shown alone.
+impl Stored for u32 {
+    ghost told = { λ r. number_in (column r 0) };
+
+    ghost fits = { λ n. n < 2 ^ 32 };
+
+    fn read(row: &Row) -> Result<u32, KeepFault> {
+        number_at(row, 0)
+    }
+}
+
+// One of 64 bits.
+impl Stored for u64 {
+    ghost told = { λ r. number_in (column r 0) };
+
+    ghost fits = { λ n. n < 2 ^ 64 };
+
+    fn read(row: &Row) -> Result<u64, KeepFault> {
+        wide_number_at(row, 0)
+    }
+}
+
+/// The first of the rows.
+pub fn first_of<T: Stored>(rows: &[Row]) -> Result<Option<T>, KeepFault>
+    ensures value { IfOk result (λ found. found ≡ option_map T.told (slice_get rows.now 0)) }
+    ensures fits { IfOk result (λ found. IfSome found T.fits) }
+    ensures damaged { IfSome (option_map T.told (slice_get rows.now 0)) T.fits → ¬ (IsErrOf result Damaged) }
+{
+    match rows.first() {
+        None => Ok(None),
+        Some(row) => Ok(Some(T::read(row)?)),
+    }
+}
+
+/// All of the rows.
+pub fn all_of<T: Stored>(alloc: Global, rows: &[Row]) -> Result<Vec<T>, KeepFault>
+    ensures value { IfOk result (λ all. all.items ≡ map T.told rows.now) }
+    ensures fits { IfOk result (λ all. AllByRecursion T.fits all.items) }
+    ensures damaged { AllByRecursion T.fits (map T.told rows.now) → ¬ (IsErrOf result Damaged) }
+{
+    let mut all = Vec::new(alloc);
+    for row in rows {
+        let it = match T::read(row) {
+            Ok(it) => it,
+            Err(fault) => return Err(fault),
+        };
+        let Ok(()) = all.push(it) else {
+            return Err(KeepFault::Memory);
+        };
+    }
+    Ok(all)
+}

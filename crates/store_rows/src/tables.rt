@@ -1,0 +1,87 @@
+//! The statements that make the tables and their indexes, in an empty database.
+ghost use Rattle.std.specs.Prelude.{◌≡◌, ◌<◌, ◌+◌, OnOk, OnErr, IsErrOf, IsTrue};
+ghost use Rattle.sqlite.specs.State.{HasCleanDisk, KeepsCommit, Survives};
+ghost use Rattle.sqlite.specs.Held.{state};
+ghost use Rattle.house_rows.specs.declared.fault.KeepFault.TheVariants.{Damaged};
+ghost use Rattle.store_rows.specs.House.{IsInside, KeepsCommitted};
+ghost use Rattle.store_rows.specs.Making.{IsBlank, IsEmptyHouse, IsMade, making_at};
+
+use crate::statement::fault_of;
+use house_rows::KeepFault;
+use sqlite::{Alter, Transaction};
+
+// How many statements there are.
+const STEPS: usize = 16;
+
+// The text of a step: the tables first, in the order of their references, then the indexes.
+fn step_text(step: usize) -> &'static str
+    requires { step < STEPS }
+    ensures { result.now ≡ making_at step }
+{
+    match step {
+        0 =>
+            "CREATE TABLE house (id INTEGER PRIMARY KEY, version INTEGER NOT NULL, clock INTEGER NOT NULL, rate INTEGER NOT NULL, zone TEXT NOT NULL) STRICT",
+        1 => "CREATE TABLE band (at INTEGER PRIMARY KEY, step INTEGER NOT NULL) STRICT",
+        2 =>
+            "CREATE TABLE member (id INTEGER PRIMARY KEY, name TEXT NOT NULL, UNIQUE (name)) STRICT",
+        3 =>
+            "CREATE TABLE category (id INTEGER PRIMARY KEY, name TEXT NOT NULL, UNIQUE (name)) STRICT",
+        4 =>
+            "CREATE TABLE item (id INTEGER PRIMARY KEY, seller INTEGER NOT NULL REFERENCES member (id), category INTEGER NOT NULL REFERENCES category (id), lot TEXT NOT NULL, title TEXT NOT NULL, body TEXT NOT NULL, start INTEGER NOT NULL, buy_now INTEGER, ending INTEGER NOT NULL, state INTEGER NOT NULL, closed INTEGER, price INTEGER NOT NULL, leader INTEGER REFERENCES member (id), top INTEGER, second INTEGER, count INTEGER NOT NULL, UNIQUE (seller, lot)) STRICT",
+        5 =>
+            "CREATE TABLE bid (item INTEGER NOT NULL REFERENCES item (id), no INTEGER NOT NULL, member INTEGER NOT NULL REFERENCES member (id), maximum INTEGER NOT NULL, PRIMARY KEY (item, no)) STRICT",
+        6 =>
+            "CREATE TABLE watch (member INTEGER NOT NULL REFERENCES member (id), item INTEGER NOT NULL REFERENCES item (id), PRIMARY KEY (member, item)) STRICT",
+        7 =>
+            "CREATE TABLE question (item INTEGER NOT NULL REFERENCES item (id), asker INTEGER NOT NULL REFERENCES member (id), n INTEGER NOT NULL, body TEXT NOT NULL, answer TEXT, PRIMARY KEY (item, asker, n)) STRICT",
+        8 =>
+            "CREATE TABLE feedback (item INTEGER NOT NULL REFERENCES item (id), giver INTEGER NOT NULL REFERENCES member (id), receiver INTEGER NOT NULL REFERENCES member (id), rating INTEGER NOT NULL, body TEXT NOT NULL, PRIMARY KEY (item, giver)) STRICT",
+        9 => "CREATE INDEX item_by_category ON item (category, id)",
+        10 => "CREATE INDEX item_by_seller ON item (seller, id)",
+        11 => "CREATE INDEX item_by_leader ON item (leader, id)",
+        12 => "CREATE INDEX item_by_end ON item (state, ending)",
+        13 => "CREATE INDEX bid_by_member ON bid (member, item)",
+        14 => "CREATE INDEX question_by_asker ON question (asker, item, n)",
+        _ => "CREATE INDEX feedback_by_receiver ON feedback (receiver, item, giver)",
+    }
+}
+
+// Runs one step.
+fn make_step<S: Alter>(tx: &mut Transaction<'_, S>, step: usize) -> Result<(), KeepFault>
+    requires step { step < STEPS }
+    requires before { HasCleanDisk (state S.Store tx.old.conn.now) → IsTrue (state S.Store tx.old.conn.now).is_open × IsMade step (state S.Store tx.old.conn.now).now }
+    requires begun { HasCleanDisk (state S.Store tx.old.conn.now) → IsTrue tx.old.conn.now.in_transaction }
+    ensures same_reference { tx.new.conn.ghost_name ≡ tx.old.conn.ghost_name }
+    ensures ok { HasCleanDisk (state S.Store tx.new.conn.now) → OnOk result (IsMade (step + 1) (state S.Store tx.new.conn.now).now) }
+    ensures sound { ¬ (IsErrOf result Damaged) }
+    ensures inside { HasCleanDisk (state S.Store tx.new.conn.now) → OnOk result (IsInside (state S.Store tx.old.conn.now) (state S.Store tx.new.conn.now)) }
+    ensures err { HasCleanDisk (state S.Store tx.new.conn.now) → OnErr result (KeepsCommitted (state S.Store tx.old.conn.now) (state S.Store tx.new.conn.now)) }
+    ensures crash { Survives (state S.Store tx.old.conn.now) (state S.Store tx.new.conn.now) (λ _. ⊥) }
+{
+    match tx.execute(step_text(step), &[]) {
+        Ok(_) => Ok(()),
+        Err(error) => Err(fault_of(error)),
+    }
+}
+
+/// Makes the tables and their indexes within a transaction, in a database that has none. After an
+/// error nothing is committed: the transaction is to be dropped.
+#[tactic(auto, using(crate::proofs::MakeLemmas::blank_made, crate::proofs::MakeLemmas::made_house))]
+pub fn make_tables<S: Alter>(tx: &mut Transaction<'_, S>) -> Result<(), KeepFault>
+    requires blank { IsBlank (state S.Store tx.old.conn.now) }
+    requires begun { HasCleanDisk (state S.Store tx.old.conn.now) → IsTrue tx.old.conn.now.in_transaction }
+    ensures same_reference { tx.new.conn.ghost_name ≡ tx.old.conn.ghost_name }
+    ensures ok { HasCleanDisk (state S.Store tx.new.conn.now) → OnOk result (IsEmptyHouse (state S.Store tx.new.conn.now).now) }
+    ensures sound { ¬ (IsErrOf result Damaged) }
+    ensures inside { HasCleanDisk (state S.Store tx.new.conn.now) → OnOk result (IsInside (state S.Store tx.old.conn.now) (state S.Store tx.new.conn.now)) }
+    ensures err { HasCleanDisk (state S.Store tx.new.conn.now) → OnErr result (KeepsCommit (state S.Store tx.old.conn.now) (state S.Store tx.new.conn.now)) }
+    ensures crash { Survives (state S.Store tx.old.conn.now) (state S.Store tx.new.conn.now) (λ _. ⊥) }
+{
+    for step in 0..STEPS {
+        match make_step(tx, step) {
+            Ok(()) => {}
+            Err(fault) => return Err(fault),
+        }
+    }
+    Ok(())
+}
