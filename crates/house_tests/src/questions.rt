@@ -32,11 +32,13 @@ pub(crate) fn answer(alloc: Global, house: &mut House, words: &mut Words<'_>) ->
         "watched" => watched(alloc, house, words),
         "watches" => watches(alloc, house, words),
         "watch_count" => watch_count(alloc, house, words),
+        "ask_count" => ask_count(alloc, house, words),
         "question" => question(alloc, house, words),
         "questions" => questions(alloc, house, words),
         "published" => published(alloc, house, words),
         "all_published" => all_published(alloc, house),
         "waiting" => waiting(alloc, house, words),
+        "given" => given(alloc, house, words),
         "ratings" => ratings(alloc, house, words),
         "feedback" => feedback(alloc, house, words),
         "all_feedback" => all_feedback(alloc, house),
@@ -98,8 +100,10 @@ fn categories(alloc: Global, house: &mut House) -> Told {
 }
 
 fn item(alloc: Global, house: &mut House, words: &mut Words<'_>) -> Told {
-    let item = house.keep.item(words.number()?)?.ok_or(Fault::Script)?;
-    Ok(shown::item(alloc, &item)?)
+    match house.keep.item(words.number()?)? {
+        Some(item) => Ok(shown::item(alloc, &item)?),
+        None => Ok(format!(in alloc; "-")?),
+    }
 }
 
 fn item_of(alloc: Global, house: &mut House, words: &mut Words<'_>) -> Told {
@@ -114,7 +118,9 @@ fn items_in(alloc: Global, house: &mut House, words: &mut Words<'_>) -> Told {
 }
 
 fn state(alloc: Global, house: &mut House, words: &mut Words<'_>) -> Told {
-    let terms = house.keep.terms(words.number()?)?.ok_or(Fault::Script)?;
+    let Some(terms) = house.keep.terms(words.number()?)? else {
+        return Ok(format!(in alloc; "-")?);
+    };
     let (state, price, count) = (terms.state.name(), terms.price.value(), terms.count);
     let (leader, closed) = (OrDash(terms.leader), OrDash(terms.closed));
     Ok(format!(in alloc;
@@ -123,7 +129,9 @@ fn state(alloc: Global, house: &mut House, words: &mut Words<'_>) -> Told {
 }
 
 fn standing(alloc: Global, house: &mut House, words: &mut Words<'_>) -> Told {
-    let standing = house.keep.standing(words.number()?)?.ok_or(Fault::Script)?;
+    let Some(standing) = house.keep.standing(words.number()?)? else {
+        return Ok(format!(in alloc; "-")?);
+    };
     let floor = standing.floor(&house.keep.settings()?.bands);
     let (price, count) = (standing.price().value(), standing.count());
     let (top, second) = (amount(standing.top()), amount(standing.second()));
@@ -159,6 +167,11 @@ fn watches(alloc: Global, house: &mut House, words: &mut Words<'_>) -> Told {
 
 fn watch_count(alloc: Global, house: &mut House, words: &mut Words<'_>) -> Told {
     let count = house.keep.watch_count(words.number()?)?;
+    Ok(format!(in alloc; "{count}")?)
+}
+
+fn ask_count(alloc: Global, house: &mut House, words: &mut Words<'_>) -> Told {
+    let count = house.keep.ask_count(words.number()?, words.number()?)?;
     Ok(format!(in alloc; "{count}")?)
 }
 
@@ -200,6 +213,11 @@ fn waiting(alloc: Global, house: &mut House, words: &mut Words<'_>) -> Told {
         rows.add(shown::question(alloc, question)?.as_str())?;
     }
     Ok(rows.line()?)
+}
+
+fn given(alloc: Global, house: &mut House, words: &mut Words<'_>) -> Told {
+    let given = house.keep.given(words.number()?, words.number()?)?;
+    Ok(format!(in alloc; "{given}")?)
 }
 
 fn ratings(alloc: Global, house: &mut House, words: &mut Words<'_>) -> Told {

@@ -2,20 +2,28 @@
 //!
 //! A command is `MOMENT CALLER NAME WORD..`, and its answer `ok`, or the refusal's name, for `Low` with the
 //! floor. `times N` before it gives it N times, until it is refused, `#` in it being the number of the time,
-//! from 1; the answer is the refusal, or `ok`. `new` begins with an empty house. A question is `? NAME WORD..`.
-//! An empty line, and one that begins with `--`, has no answer.
+//! from 1; the answer is the refusal, or `ok`. A question is `? NAME WORD..`, and its answer `-` where there is
+//! no such row. Where memory is wanted the answer is `Memory`, and nothing is changed.
+//!
+//! `new` begins with an empty house. So does `record`, and from then on `fill` goes on with a house that is
+//! filled with the changes so far; its answer is `ok`. An empty line, and one that begins with `--`, has no answer.
+use crate::filling::Order;
 use crate::played::House;
 use crate::questions;
 use crate::words::Words;
 use house_rows::{Command, KeepFault, Refusal};
 use std::alloc::{AllocError, Global};
+use std::fmt;
 use std::fmt::Write;
 use thiserror::Error;
 
 /// Why a script isn't played on.
 #[derive(Clone, Copy, Debug, PartialEq, Eq, Error)]
 pub(crate) enum Fault {
-    /// A line is neither a command nor a question, or the script isn't text.
+    /// The script isn't text, or can't be read.
+    #[error("the script can't be read")]
+    Unread,
+    /// A line is neither a command nor a question.
     #[error("a line is no part of a script")]
     Script,
     /// Memory was wanted.
@@ -44,8 +52,28 @@ impl From<KeepFault> for Fault {
     }
 }
 
+/// What is answered to a line.
+#[derive(Drop)]
+pub(crate) enum Answer {
+    /// To a command, its refusal, if it is refused. It takes no memory, since the change is made.
+    Ordered(Option<Refusal>),
+    /// To a question.
+    Told(String),
+}
+
+impl fmt::Display for Answer {
+    fn fmt<W: Write>(&self, f: &mut fmt::Formatter<W>) -> fmt::Result {
+        match self {
+            Answer::Ordered(None) => write!(f, "ok"),
+            Answer::Ordered(Some(Refusal::Low { floor })) => write!(f, "Low {floor}"),
+            Answer::Ordered(Some(refusal)) => write!(f, "{}", refusal.name()),
+            Answer::Told(text) => write!(f, "{text}"),
+        }
+    }
+}
+
 /// Plays a line, and tells what is answered to it, if anything is.
-pub(crate) fn play(alloc: Global, house: &mut House, line: &str) -> Result<Option<String>, Fault> {
+pub(crate) fn play(alloc: Global, house: &mut House, line: &str) -> Result<Option<Answer>, Fault> {
     let mut words = Words::new(alloc, line);
     let refusal = match words.next() {
         None | Some("--") => return Ok(None),
@@ -53,20 +81,22 @@ pub(crate) fn play(alloc: Global, house: &mut House, line: &str) -> Result<Optio
             *house = House::new(alloc)?;
             return Ok(None);
         }
-        Some("?") => return Ok(Some(questions::answer(alloc, house, &mut words)?)),
+        Some("record") => {
+            *house = House::recording(alloc)?;
+            return Ok(None);
+        }
+        Some("fill") => {
+            house.refill(alloc)?;
+            None
+        }
+        Some("?") => {
+            let text = questions::answer(alloc, house, &mut words)?;
+            return Ok(Some(Answer::Told(text)));
+        }
         Some("times") => repeat(alloc, house, line)?,
         Some(_) => order(alloc, house, line)?,
     };
-    Ok(Some(told(alloc, refusal)?))
-}
-
-// What is answered to a command.
-fn told(alloc: Global, refusal: Option<Refusal>) -> Result<String, AllocError> {
-    match refusal {
-        None => format!(in alloc; "ok"),
-        Some(Refusal::Low { floor }) => format!(in alloc; "Low {floor}"),
-        Some(refusal) => format!(in alloc; "{}", refusal.name()),
-    }
+    Ok(Some(Answer::Ordered(refusal)))
 }
 
 // Gives the command of a line that begins with `times`, until it is refused.
@@ -103,7 +133,11 @@ fn order(alloc: Global, house: &mut House, line: &str) -> Result<Option<Refusal>
     let (moment, caller) = (words.number()?, words.number()?);
     let command = command(&mut words)?;
     words.end()?;
-    house.order(moment, caller, &command)
+    house.order(Order {
+        moment,
+        caller,
+        command,
+    })
 }
 
 // The command that words spell.

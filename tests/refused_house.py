@@ -1,0 +1,100 @@
+#!/usr/bin/env python3
+"""Refuses each allocation of a house's run in turn: `refused_house.py PROGRAM`.
+
+The program is that of the crate `house_tests`. Its script has every command and every question. With
+a refusal one line is answered `Memory`, and every other line as in the run without that line: the
+refused command has changed nothing. Or the run ends before the first line, with status 1; or all lines
+are answered as ever, where the memory was not needed. It needs a C compiler, `cc`. The last line is
+'N runs, M wrong'.
+"""
+import pathlib
+import sys
+
+from refusal import built_library, ended, refused_runs, run, told
+
+SCRIPT = """\
+record
+1000 0 register Ana
+1000 0 register Ben
+1000 0 register Cid
+1000 0 add_category Books
+1000 1 list 1 A1 Atlas An_atlas_of_1952 500 - 5000
+1000 1 list 1 B2 Globe - 500 900 6000
+1000 1 list 1 C3 Chart - 500 - 5000
+1001 2 bid 1 500
+1001 3 bid 1 1000
+1001 3 bid 3 400
+1001 2 buy 2
+1001 2 watch 1
+1001 2 watch 2
+1001 2 unwatch 2
+1001 2 ask 1 How_old?
+1001 3 ask 1 Is_it_signed?
+1002 1 answer 1 2 1 Old
+5000 0 close
+5000 0 settle 1
+5000 3 feedback 1 1 Good
+5000 1 feedback 1 0 -
+fill
+? clock
+? counts
+? member 1
+? member_named Ben
+? category 1
+? category_named Books
+? members
+? categories
+? item 1
+? item_of 1 B2
+? items
+? items_in 1 0
+? state 1
+? standing 1
+? own 1 3
+? bids 3 0
+? watched 2 1
+? watches 2
+? watch_count 2
+? ask_count 1 2
+? question 1 2 1
+? questions 2 0
+? published 1 0
+? all_published
+? waiting 1
+? given 1 3
+? ratings 1
+? feedback 1 0
+? all_feedback
+? due 9000
+? sales 1
+""".splitlines()
+BEFORE = [(1, b"", b"house_tests: the script can't be read\n"),
+          (1, b"", b"house_tests: memory is wanted\n")]
+
+
+def played(program, lines):
+    return run([program], "\n".join(lines).encode())
+
+
+def without(program, place):
+    """How a run ends in which the line at a place is answered `Memory` and does nothing."""
+    status, answers, fault = ended(played(program, SCRIPT[:place] + SCRIPT[place + 1:]))
+    lines = answers.splitlines(keepends=True)
+    before = len([line for line in SCRIPT[:place] if line != "record"])
+    return status, b"".join([*lines[:before], b"Memory\n", *lines[before:]]), fault
+
+
+def main():
+    program = str(pathlib.Path(sys.argv[1]).resolve())
+    refusals = {without(program, place): line for place, line in enumerate(SCRIPT)}
+    allowed = [*refusals, *BEFORE, ended(played(program, SCRIPT))]
+    with built_library() as library:
+        refused = list(refused_runs([program], library, "\n".join(SCRIPT).encode()))
+    lines = {refusals[ended(result)] for _, result in refused if ended(result) in refusals}
+    wrong = [(number, result) for number, result in refused if ended(result) not in allowed]
+    print(f"{len(lines)} of {len(SCRIPT)} lines were answered Memory")
+    return told(len(refused), wrong) or len(lines) < 40
+
+
+if __name__ == "__main__":
+    sys.exit(main())
