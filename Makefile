@@ -4,16 +4,17 @@
 CASES ?= ../shared/conformance
 SUITES = first-path money
 
-.PHONY: help demo test auction program cases memory statement wrong
+.PHONY: help demo test auction program cases memory statement random wrong
 
 help:
 	@echo "make demo      answers examples/first-bid.http, without waiting for the proofs"
 	@echo "make test      proves everything from nothing, runs all tests and wrong bodies (rt ci)"
 	@echo "make auction   proves and builds the program, as bin/auction"
-	@echo "make program   checks the exit statuses and lines of the program that make test has left"
+	@echo "make program   runs the program that make test has left on words, tables and streams (needs cc)"
 	@echo "make cases     runs the conformance cases on the program that make test has left"
-	@echo "make memory    refuses each allocation of that program, a statement and an inbox (needs cc)"
+	@echo "make memory    refuses each allocation of that program, a statement, an inbox and a house (needs cc)"
 	@echo "make statement compares statements with those that Python makes"
+	@echo "make random    compares a house with plain lists on random commands"
 	@echo "make wrong     tries the wrong bodies that make test leaves out"
 
 demo:
@@ -29,6 +30,7 @@ auction:
 
 program:
 	python3 tests/program.py crates/auction/out/auction
+	python3 tests/streams.py crates/auction/out/auction
 
 cases:
 	for suite in $(SUITES); do \
@@ -39,9 +41,13 @@ memory:
 	python3 tests/refused_memory.py crates/auction/out/auction
 	python3 tests/refused_statement.py crates/settle_bench/out/settle_bench
 	python3 tests/refused_inbox.py crates/wire_bench/out/wire_bench
+	python3 tests/refused_house.py crates/house_tests/out/house_tests
 
 statement:
 	python3 tests/compared_statements.py crates/settle_bench/out/settle_bench
+
+random:
+	python3 tests/random_house.py crates/house_tests/out/house_tests
 
 wrong:
 	python3 tests/wrong.py

@@ -1,0 +1,208 @@
+"""How long the house in memory takes for a command, a look-up and a list at several sizes, and its memory.
+
+`house.py PROGRAM` plays scripts by the program `house_tests`. A house of so many items is made, with as
+many members, up to the most that there may be; then come many lines of one kind, at items and members
+that lie far apart, and the program tells its processor time before and after. Shown are nanoseconds a
+line at each size, medians of a few runs, less those of `? clock`, which any line takes to be read and
+answered; then the time at the greatest size over that at the least. Memory is the growth of the most
+that the program held, by member, item and bid.
+"""
+import os
+import random
+import statistics
+import subprocess
+import sys
+
+RUNS = 5
+SIZES = [1_000, 10_000, 100_000, 1_000_000]
+MOST_MEMBERS, MOST_CATEGORIES = 100_000, 1_000
+MOMENT, END = 1_000, 4_000_000_000
+# Busy members are those from 1 on; each has done a little more than a list shows.
+BUSY, MANY = 10, 60
+LINES, LISTS = 20_000, 1_000
+
+
+class House:
+    """The numbers of a house. Item n is sold by member (n - 1) mod the members + 1."""
+
+    def __init__(self, items):
+        self.items = items
+        self.members = min(items, MOST_MEMBERS)
+        # At least fifty items in each, so that a list of a category is full.
+        self.categories = min(items // 50, MOST_CATEGORIES)
+        self.random = random.Random(items)
+        self.lots = 0
+
+    def item(self):
+        return self.random.randint(1, self.items)
+
+    def member(self):
+        return self.random.randint(1, self.members)
+
+    def busy(self):
+        return self.random.randint(1, BUSY)
+
+    def seller(self, item):
+        return (item - 1) % self.members + 1
+
+    def other(self, item):
+        """A member that neither sells the item nor is busy."""
+        while True:
+            member = self.random.randint(BUSY + 1, self.members)
+            if member != self.seller(item):
+                return member
+
+    def quiet(self):
+        """Items that no busy member sells, each once."""
+        numbers = list(range(1, self.items + 1))
+        self.random.shuffle(numbers)
+        return [item for item in numbers if self.seller(item) > BUSY]
+
+    def made(self):
+        """The lines that make it."""
+        for member in range(1, self.members + 1):
+            yield f"{MOMENT} 0 register M{member}"
+        for category in range(1, self.categories + 1):
+            yield f"{MOMENT} 0 add_category C{category}"
+        for item in range(1, self.items + 1):
+            category = (item - 1) % self.categories + 1
+            yield f"{MOMENT} {self.seller(item)} list {category} L{item} Title Text*20 500 900000 {END}"
+        quiet = self.quiet()
+        for busy in range(1, BUSY + 1):
+            for item in quiet[:MANY]:
+                yield f"{MOMENT} {busy} bid {item} {500 + 100 * busy}"
+                yield f"{MOMENT} {busy} watch {item}"
+                yield f"{MOMENT} {busy} ask {item} Question"
+        yield from self.sales(quiet[MANY:])
+        yield from self.questions()
+
+    def sales(self, quiet):
+        """Each busy member buys some items, and is rated for each."""
+        for busy in range(1, BUSY + 1):
+            for item in quiet[(busy - 1) * MANY:busy * MANY]:
+                yield f"{MOMENT} {busy} buy {item}"
+                yield f"{MOMENT} {self.seller(item)} feedback {item} 1 Good"
+
+    def questions(self):
+        """Many ask on the first item of each busy member, which answers half of them."""
+        for busy in range(1, BUSY + 1):
+            for asker in range(BUSY + 1, BUSY + 1 + 2 * MANY):
+                yield f"{MOMENT} {asker} ask {busy} Question"
+                if asker % 2 == 0:
+                    yield f"{MOMENT} {busy} answer {busy} {asker} 1 Answer"
+
+
+def bid(house):
+    item = house.item()
+    return f"{MOMENT} {house.other(item)} bid {item} {house.random.randint(10**6, 10**9)}"
+
+
+def ask(house):
+    item = house.item()
+    return f"{MOMENT} {house.other(item)} ask {item} Question"
+
+
+def own(house):
+    item = house.item()
+    return f"? own {item} {house.other(item)}"
+
+
+def listing(house):
+    house.lots += 1
+    category = house.random.randint(1, house.categories)
+    return f"{MOMENT} {house.member()} list {category} N{house.lots} Title Text*20 500 900000 {END}"
+
+
+KINDS = {
+    "clock": (LINES, lambda house: "? clock"),
+    "member": (LINES, lambda house: f"? member {house.member()}"),
+    "member of a name": (LINES, lambda house: f"? member_named M{house.member()}"),
+    "category": (LINES, lambda house: f"? category {house.random.randint(1, house.categories)}"),
+    "item": (LINES, lambda house: f"? item {house.item()}"),
+    "terms": (LINES, lambda house: f"? state {house.item()}"),
+    "standing": (LINES, lambda house: f"? standing {house.item()}"),
+    "item of a lot": (LINES, lambda house: f"? item_of {house.member()} L{house.item()}"),
+    "own best": (LINES, own),
+    "watched": (LINES, lambda house: f"? watched {house.member()} {house.item()}"),
+    "watches counted": (LINES, lambda house: f"? watch_count {house.member()}"),
+    "question": (LINES, lambda house: f"? question {house.item()} {house.member()} 1"),
+    "ratings": (LINES, lambda house: f"? ratings {house.member()}"),
+    "nothing due": (LINES, lambda house: f"? due {MOMENT}"),
+    "items of a category": (LISTS, lambda house: f"? items_in {house.random.randint(1, house.categories)} 0"),
+    "own bids": (LISTS, lambda house: f"? bids {house.busy()} 0"),
+    "watched items": (LISTS, lambda house: f"? watches {house.busy()}"),
+    "own questions": (LISTS, lambda house: f"? questions {house.busy()} 0"),
+    "published questions": (LISTS, lambda house: f"? published {house.busy()} 0"),
+    "waiting questions": (LISTS, lambda house: f"? waiting {house.busy()}"),
+    "feedback": (LISTS, lambda house: f"? feedback {house.busy()} 0"),
+    "sales": (LISTS, lambda house: f"? sales {house.busy()}"),
+    "bid": (LINES, bid),
+    "watch": (LINES, lambda house: f"{MOMENT} {house.member()} watch {house.item()}"),
+    "unwatch": (LINES, lambda house: f"{MOMENT} {house.member()} unwatch {house.item()}"),
+    "ask": (LINES, ask),
+    "empty close": (LINES, lambda house: f"{MOMENT} 0 close"),
+}
+
+
+def played(program, lines):
+    """What the program answers to a script, line by line."""
+    script = "\n".join(lines) + "\n"
+    ran = subprocess.run([program], input=script, text=True, check=True, capture_output=True)
+    return ran.stdout.splitlines()
+
+
+def measure(program, items):
+    """The nanoseconds of a line of each kind."""
+    house = House(items)
+    lines = list(house.made())
+    for count, line in KINDS.values():
+        lines += ["time", *(line(house) for _ in range(count)), "time"]
+    answers = played(program, lines)
+    if len(answers) != len(lines):
+        sys.exit("house.py: a line has no answer")
+    times, at = {}, len(lines)
+    for kind, (count, _) in reversed(KINDS.items()):
+        times[kind] = (int(answers[at - 1]) - int(answers[at - count - 2])) / count
+        at -= count + 2
+    return times
+
+
+def most_held(program, lines):
+    """The most memory that the program holds while it plays a script, in bytes."""
+    reader, writer = os.pipe()
+    process = subprocess.Popen([program], stdin=reader, stdout=subprocess.DEVNULL)
+    os.close(reader)
+    with os.fdopen(writer, "w") as script:
+        script.write("\n".join(lines) + "\n")
+    _, status, usage = os.wait4(process.pid, 0)
+    if status != 0:
+        sys.exit("house.py: a run failed")
+    return usage.ru_maxrss * 1024
+
+
+def memory(program):
+    """Bytes by member, item and bid."""
+    members = [f"times {MOST_MEMBERS} {MOMENT} 0 register M#", f"{MOMENT} 0 add_category Books"]
+    turns = SIZES[-1] // MOST_MEMBERS
+    items = [f"times {MOST_MEMBERS} {MOMENT} # list 1 L{turn} Title Text*20 500 - {END}"
+             for turn in range(turns)]
+    bids = [f"times 10000 {MOMENT} {item + 1} bid {item} #000" for item in range(1, 101)]
+    held = [most_held(program, lines) for lines in
+            ([], members, members + items, members + items + bids)]
+    counts = [MOST_MEMBERS, SIZES[-1], 10_000 * len(bids)]
+    return [(after - before) / count for before, after, count in zip(held, held[1:], counts)]
+
+
+def main(program):
+    runs = {items: [measure(program, items) for _ in range(RUNS)] for items in SIZES}
+    print(f"{'nanoseconds a line':22}" + "".join(f"{items:>12,}" for items in SIZES) + f"{'ratio':>8}")
+    for kind in KINDS:
+        times = [statistics.median(run[kind] - (run["clock"] if kind != "clock" else 0) for run in runs[items])
+                 for items in SIZES]
+        print(f"{kind:22}" + "".join(f"{time:12,.0f}" for time in times) + f"{times[-1] / times[0]:8.2f}")
+    member, item, bid = memory(program)
+    print(f"bytes: {member:.0f} a member, {item:.0f} an item with a text of 80 bytes, {bid:.0f} a bid")
+
+
+if __name__ == "__main__":
+    main(sys.argv[1])
