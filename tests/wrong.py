@@ -1,9 +1,9 @@
 #!/usr/bin/env python3
 """Tries the wrong bodies that the gate leaves out, those of crates/NAME/wrong: `wrong.py [NAME..]`.
 
-They say what one in must-fail says, or turn a function of a line; so they are tried on demand. On a copy
-of the checkout they take the place of must-fail, and `rt must-fail` has to find each refused. It
-needs the kit, with its `rt` on the path.
+They stand apart for the gate's time alone, and are tried on demand. On a copy of the checkout they take
+the place of must-fail, and `rt must-fail` has to find each refused. It needs the kit, with its `rt` on
+the path.
 """
 import pathlib
 import shutil
