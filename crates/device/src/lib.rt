@@ -14,8 +14,6 @@ mod reading;
 mod room;
 mod sink;
 mod source;
-#[cfg(test)]
-mod tests;
 mod writing;
 
 pub use failure::Failure;

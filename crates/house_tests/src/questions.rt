@@ -10,42 +10,93 @@ use std::alloc::Global;
 // What is answered to a question.
 type Told = Result<String, Fault>;
 
+// What is answered to a question, if its name is one of some.
+type Maybe = Result<Option<String>, Fault>;
+
 /// The answer to a question.
+///
+/// Names are looked for by subject, since a match of all in one is slow to prove.
 pub(crate) fn answer(alloc: Global, house: &mut House, words: &mut Words<'_>) -> Told {
-    match words.word()? {
-        "clock" => clock(alloc, house),
-        "counts" => counts(alloc, house),
-        "member" => member(alloc, house, words),
-        "member_named" => member_named(alloc, house, words),
-        "category" => category(alloc, house, words),
-        "category_named" => category_named(alloc, house, words),
-        "members" => members(alloc, house),
-        "categories" => categories(alloc, house),
-        "item" => item(alloc, house, words),
-        "item_of" => item_of(alloc, house, words),
-        "items" => Ok(shown::numbers(alloc, &house.keep.items()?)?),
-        "items_in" => items_in(alloc, house, words),
-        "state" => state(alloc, house, words),
-        "standing" => standing(alloc, house, words),
-        "own" => own(alloc, house, words),
-        "bids" => bids(alloc, house, words),
-        "watched" => watched(alloc, house, words),
-        "watches" => watches(alloc, house, words),
-        "watch_count" => watch_count(alloc, house, words),
-        "ask_count" => ask_count(alloc, house, words),
-        "question" => question(alloc, house, words),
-        "questions" => questions(alloc, house, words),
-        "published" => published(alloc, house, words),
-        "all_published" => all_published(alloc, house),
-        "waiting" => waiting(alloc, house, words),
-        "given" => given(alloc, house, words),
-        "ratings" => ratings(alloc, house, words),
-        "feedback" => feedback(alloc, house, words),
-        "all_feedback" => all_feedback(alloc, house),
-        "due" => due(alloc, house, words),
-        "sales" => sales(alloc, house, words),
-        _ => Err(Fault::Script),
+    let name = words.word()?;
+    if let Some(told) = on_people(alloc, house, words, name)? {
+        return Ok(told);
     }
+    if let Some(told) = on_items(alloc, house, words, name)? {
+        return Ok(told);
+    }
+    if let Some(told) = on_bids_and_watches(alloc, house, words, name)? {
+        return Ok(told);
+    }
+    if let Some(told) = on_questions(alloc, house, words, name)? {
+        return Ok(told);
+    }
+    on_feedback(alloc, house, words, name)?.ok_or(Fault::Script)
+}
+
+fn on_people(alloc: Global, house: &mut House, words: &mut Words<'_>, name: &str) -> Maybe {
+    Ok(Some(match name {
+        "clock" => clock(alloc, house)?,
+        "counts" => counts(alloc, house)?,
+        "member" => member(alloc, house, words)?,
+        "member_named" => member_named(alloc, house, words)?,
+        "category" => category(alloc, house, words)?,
+        "category_named" => category_named(alloc, house, words)?,
+        "members" => members(alloc, house)?,
+        "categories" => categories(alloc, house)?,
+        _ => return Ok(None),
+    }))
+}
+
+fn on_items(alloc: Global, house: &mut House, words: &mut Words<'_>, name: &str) -> Maybe {
+    Ok(Some(match name {
+        "item" => item(alloc, house, words)?,
+        "item_of" => item_of(alloc, house, words)?,
+        "items" => shown::numbers(alloc, &house.keep.items()?)?,
+        "items_in" => items_in(alloc, house, words)?,
+        "state" => state(alloc, house, words)?,
+        "standing" => standing(alloc, house, words)?,
+        "due" => due(alloc, house, words)?,
+        "sales" => sales(alloc, house, words)?,
+        _ => return Ok(None),
+    }))
+}
+
+fn on_bids_and_watches(
+    alloc: Global,
+    house: &mut House,
+    words: &mut Words<'_>,
+    name: &str,
+) -> Maybe {
+    Ok(Some(match name {
+        "own" => own(alloc, house, words)?,
+        "bids" => bids(alloc, house, words)?,
+        "watched" => watched(alloc, house, words)?,
+        "watches" => watches(alloc, house, words)?,
+        "watch_count" => watch_count(alloc, house, words)?,
+        _ => return Ok(None),
+    }))
+}
+
+fn on_questions(alloc: Global, house: &mut House, words: &mut Words<'_>, name: &str) -> Maybe {
+    Ok(Some(match name {
+        "ask_count" => ask_count(alloc, house, words)?,
+        "question" => question(alloc, house, words)?,
+        "questions" => questions(alloc, house, words)?,
+        "published" => published(alloc, house, words)?,
+        "all_published" => all_published(alloc, house)?,
+        "waiting" => waiting(alloc, house, words)?,
+        _ => return Ok(None),
+    }))
+}
+
+fn on_feedback(alloc: Global, house: &mut House, words: &mut Words<'_>, name: &str) -> Maybe {
+    Ok(Some(match name {
+        "given" => given(alloc, house, words)?,
+        "ratings" => ratings(alloc, house, words)?,
+        "feedback" => feedback(alloc, house, words)?,
+        "all_feedback" => all_feedback(alloc, house)?,
+        _ => return Ok(None),
+    }))
 }
 
 fn clock(alloc: Global, house: &mut House) -> Told {

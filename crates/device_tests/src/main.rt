@@ -1,0 +1,38 @@
+//! Plays a script on sources and sinks: in memory, and over readers and writers of std.
+//!
+//! The stored run is a test of what no clause says: that calls succeed, what comes of readers and writers that
+//! fail, and how often a writer is called. `stdin` has the script, `stdout` what has to be answered, worked out
+//! by hand. Read `script` first, which says what a line may be.
+#![tactic(auto)]
+
+mod readers;
+mod script;
+mod sinks;
+mod writers;
+
+use script::{Fault, Stage};
+use std::alloc::Global;
+use std::io;
+use std::process::ExitCode;
+
+// Plays the lines of the script, and prints what is answered.
+fn play(rt: &(impl Input + Print), alloc: Global) -> Result<(), Fault> {
+    let script = io::read_to_string(alloc, rt.reader()).map_err(|_| Fault::Script)?;
+    let mut stage = Stage::new(alloc)?;
+    for line in script.as_str().lines() {
+        if let Some(answer) = script::play(alloc, &mut stage, line)? {
+            println!(rt; "{answer}").map_err(|_| Fault::Output)?;
+        }
+    }
+    Ok(())
+}
+
+fn main(rt: HostRuntime) -> ExitCode {
+    match play(&rt, rt.alloc()) {
+        Ok(()) => ExitCode::SUCCESS,
+        Err(fault) => {
+            let _ = eprintln!(rt; "device_tests: {fault}");
+            ExitCode::FAILURE
+        }
+    }
+}
