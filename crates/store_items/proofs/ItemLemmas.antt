@@ -30,10 +30,10 @@ use Rattle.store_rows.specs.Rows.{number_in, maybe_number_in}
 use Rattle.store_rows.specs.ItemRows.{is_state, item_of, terms_of, kept_of, kept_from, item_row_in, items_in}
 use Rattle.store_rows.specs.House.{IsHouse}
 use Rattle.store_items.specs.Items.{AddsItem, OfItem, SetsStanding, SetsBought, SetsClosed, SetsSettled, with_end}
-use Rattle.store_rows.proofs.RowLemmas.{is_text, int_if, text_if, equals_number, equals_text, first_part, alone, row_key}
+use Rattle.store_rows.proofs.RowLemmas.{is_text, int_if, text_if, equals_number, equals_text, first_part, alone, row_key, small}
 use Rattle.store_rows.proofs.TextLemmas.{text_back}
 use Rattle.store_rows.proofs.ColumnLemmas.{Holds, holds_all}
-use Rattle.store_items.proofs.MaybeLemmas.{stored_maybe, cast_maybe, maybe_back, present_number}
+use Rattle.store_items.proofs.MaybeLemmas.{IsSmall, stored_maybe, cast_maybe, maybe_back, present_number}
 use Rattle.store_rows.proofs.Select.{listed, in_order, typed_part, by_rowid, equals}
 use Rattle.store_rows.proofs.Wrote.{still_house, map_more}
 use Rattle.store_rows.proofs.Insert.{puts, put_over, cast_int, cast_null}
@@ -85,7 +85,7 @@ are_typed_rows db house =
     let sound = subst (λ h. IsSound h db.trees) house.schema house.sound in
     all_weaker _ IsTyped (λ r. first_of_both (are_typed (Some 0) 0 item_table.columns (drop 1 r)) (has_computed item_table r)) (db.trees 6) (sound.obeys.rules Datatype).1.1.1.1.0
 
-are_rows : (db : Database) → IsHouse db → AllByRecursion IsRow (db.trees 6)
+pub are_rows : (db : Database) → IsHouse db → AllByRecursion IsRow (db.trees 6)
 are_rows db house =
     let sound = subst (λ h. IsSound h db.trees) house.schema house.sound in
     let held = all_both IsTyped _ (Holds (Some 0) 0 item_table.columns) (λ r typed present. holds_all (Some 0) item_table.columns r all_strict typed present) (db.trees 6) (are_typed_rows db house) (sound.obeys.rules NotNull).1.1.1.1.0 in
@@ -108,7 +108,7 @@ module _ (old new : State) (answer : List Row) (house : IsHouse old.now) where
   abbrev rows : List Row
   rows = old.now.trees 6
 
-  pub first_item : (n : ℕ) → n < 2 ^ 64 → Shown item_at_text (Int (pos n) ∷ []) old new answer → option_map item_of (slice_get answer 0) ≡ option_map (λ (row : ItemRow). row.item) (find (is_item n) (items_in old.now.trees))
+  pub first_item : (n : ℕ) → n < 2 ^ 32 → Shown item_at_text (Int (pos n) ∷ []) old new answer → option_map item_of (slice_get answer 0) ≡ option_map (λ (row : ItemRow). row.item) (find (is_item n) (items_in old.now.trees))
   first_item n low h =
       let params = Int (pos n) ∷ [] in
       let read = reads_as item_at_text params old new house_schema house.schema _ item_at_is.0 item_at_is.2 item_at_is.1 answer h in
@@ -116,7 +116,7 @@ module _ (old new : State) (answer : List Row) (house : IsHouse old.now) where
       first_part item_of (λ (row : ItemRow). row.item) (is_item n) answer (items_in old.now.trees)
       (typed_part item_of item_row_in (λ (row : ItemRow). row.item) (is_item n) IsRow (equals 0 ∷ []) item_shown params rows answer (λ r. refl) (λ r is. rw (equals_number (rowid r) n is.number low) (alone _)) (are_rows old.now house) order)
 
-  pub first_terms : (n : ℕ) → n < 2 ^ 64 → Shown terms_at_text (Int (pos n) ∷ []) old new answer → option_map terms_of (slice_get answer 0) ≡ option_map (λ (row : ItemRow). row.item.terms) (find (is_item n) (items_in old.now.trees))
+  pub first_terms : (n : ℕ) → n < 2 ^ 32 → Shown terms_at_text (Int (pos n) ∷ []) old new answer → option_map terms_of (slice_get answer 0) ≡ option_map (λ (row : ItemRow). row.item.terms) (find (is_item n) (items_in old.now.trees))
   first_terms n low h =
       let params = Int (pos n) ∷ [] in
       let read = reads_as terms_at_text params old new house_schema house.schema _ terms_at_is.0 terms_at_is.2 terms_at_is.1 answer h in
@@ -124,7 +124,7 @@ module _ (old new : State) (answer : List Row) (house : IsHouse old.now) where
       first_part terms_of (λ (row : ItemRow). row.item.terms) (is_item n) answer (items_in old.now.trees)
       (typed_part terms_of item_row_in (λ (row : ItemRow). row.item.terms) (is_item n) IsRow (equals 0 ∷ []) terms_shown params rows answer (λ r. refl) (λ r is. rw (equals_number (rowid r) n is.number low) (alone _)) (are_rows old.now house) order)
 
-  pub first_standing : (n : ℕ) → n < 2 ^ 64 → Shown standing_at_text (Int (pos n) ∷ []) old new answer → option_map kept_of (slice_get answer 0) ≡ option_map (λ (row : ItemRow). row.standing) (find (is_item n) (items_in old.now.trees))
+  pub first_standing : (n : ℕ) → n < 2 ^ 32 → Shown standing_at_text (Int (pos n) ∷ []) old new answer → option_map kept_of (slice_get answer 0) ≡ option_map (λ (row : ItemRow). row.standing) (find (is_item n) (items_in old.now.trees))
   first_standing n low h =
       let params = Int (pos n) ∷ [] in
       let read = reads_as standing_at_text params old new house_schema house.schema _ standing_at_is.0 standing_at_is.2 standing_at_is.1 answer h in
@@ -132,7 +132,7 @@ module _ (old new : State) (answer : List Row) (house : IsHouse old.now) where
       first_part kept_of (λ (row : ItemRow). row.standing) (is_item n) answer (items_in old.now.trees)
       (typed_part kept_of item_row_in (λ (row : ItemRow). row.standing) (is_item n) IsRow (equals 0 ∷ []) standing_shown params rows answer (λ r. refl) (λ r is. rw (equals_number (rowid r) n is.number low) (alone _)) (are_rows old.now house) order)
 
-  pub first_with_lot : (seller : ℕ) (lot : List ℕ) → IsUtf8 lot → seller < 2 ^ 64 → Shown with_lot_text (Int (pos seller) ∷ Text lot ∷ []) old new answer
+  pub first_with_lot : (seller : ℕ) (lot : List ℕ) → IsUtf8 lot → seller < 2 ^ 32 → Shown with_lot_text (Int (pos seller) ∷ Text lot ∷ []) old new answer
       → option_map (λ r. number_in (column r 0)) (slice_get answer 0) ≡ option_map (λ (row : ItemRow). row.item.terms.item) (find (λ row. (row.item.terms.seller == seller) && same_text row.item.lot lot) (items_in old.now.trees))
   first_with_lot seller lot u low h =
       let params = Int (pos seller) ∷ Text lot ∷ [] in
@@ -143,7 +143,7 @@ module _ (old new : State) (answer : List Row) (house : IsHouse old.now) where
       (typed_part (λ r. number_in (column r 0)) item_row_in (λ (row : ItemRow). row.item.terms.item) keep IsRow by_lot (Rattle.sqlite.specs.Term.col 1 0 ∷ []) params rows answer (λ r. refl)
       (λ r is. rw (equals_number (column r 2) seller is.seller low, equals_text (column r 4) lot u is.lot) (two _ _)) (are_rows old.now house) order)
 
-  pub items_in_category_answer : (n : ℕ) → n < 2 ^ 64 → Shown items_in_category_text (Int (pos n) ∷ []) old new answer
+  pub items_in_category_answer : (n : ℕ) → n < 2 ^ 32 → Shown items_in_category_text (Int (pos n) ∷ []) old new answer
       → map item_of answer ≡ map (λ (row : ItemRow). row.item) (filter (λ row. row.item.terms.category == n) (items_in old.now.trees))
   items_in_category_answer n low h =
       let params = Int (pos n) ∷ [] in
@@ -152,7 +152,7 @@ module _ (old new : State) (answer : List Row) (house : IsHouse old.now) where
       typed_part item_of item_row_in (λ (row : ItemRow). row.item) (λ row. row.item.terms.category == n) IsRow (equals 3 ∷ []) item_shown params rows answer (λ r. refl)
       (λ r is. rw (equals_number (column r 3) n is.category low) (alone _)) (are_rows old.now house) order
 
-  pub items_of_seller_answer : (n : ℕ) → n < 2 ^ 64 → Shown items_of_seller_text (Int (pos n) ∷ []) old new answer
+  pub items_of_seller_answer : (n : ℕ) → n < 2 ^ 32 → Shown items_of_seller_text (Int (pos n) ∷ []) old new answer
       → map item_of answer ≡ map (λ (row : ItemRow). row.item) (filter (λ row. row.item.terms.seller == n) (items_in old.now.trees))
   items_of_seller_answer n low h =
       let params = Int (pos n) ∷ [] in
@@ -179,10 +179,19 @@ pub no_bids : (bands : List (ℕ × ℕ)) (start : ℕ) → record { start = sta
 unfolding price leader second
 no_bids bands start = refl
 
-pub adds_item : (old new : State) (number seller category : ℕ) (lot title text : List ℕ) (start : ℕ) (buy_now : Option ℕ) (end count : ℕ) (bands : List (ℕ × ℕ)) → IsUtf8 lot → IsUtf8 title → IsUtf8 text → IsHouse old.now
+-- each number of an offer has 32 bits
+pub record IsOffer (number seller category start : ℕ) (buy_now : Option ℕ) (end : ℕ) : Type 0 where
+  pub number_low : number < 2 ^ 32
+  pub seller_low : seller < 2 ^ 32
+  pub category_low : category < 2 ^ 32
+  pub start_low : start < 2 ^ 32
+  pub buy_now_low : IsSmall buy_now
+  pub end_low : end < 2 ^ 32
+
+pub adds_item : (old new : State) (number seller category : ℕ) (lot title text : List ℕ) (start : ℕ) (buy_now : Option ℕ) (end count : ℕ) (bands : List (ℕ × ℕ)) → IsOffer number seller category start buy_now end → IsUtf8 lot → IsUtf8 title → IsUtf8 text → IsHouse old.now
     → Executes put_item_text (Int (pos number) ∷ Int (pos seller) ∷ Int (pos category) ∷ Text lot ∷ Text title ∷ Text text ∷ Int (pos start) ∷ stored_maybe buy_now ∷ Int (pos end) ∷ []) old new (Ok count)
     → AddsItem (new_item bands number seller category lot title text start buy_now end) old.now new.now
-adds_item old new number seller category lot title text start buy_now end count bands lot_utf8 title_utf8 text_utf8 house h =
+adds_item old new number seller category lot title text start buy_now end count bands low lot_utf8 title_utf8 text_utf8 house h =
     let params = Int (pos number) ∷ Int (pos seller) ∷ Int (pos category) ∷ Text lot ∷ Text title ∷ Text text ∷ Int (pos start) ∷ stored_maybe buy_now ∷ Int (pos end) ∷ [] in
     let rows = old.now.trees 6 in
     let given : Row =
@@ -191,11 +200,11 @@ adds_item old new number seller category lot title text start buy_now end count 
     let shaped = house.shaped.1.1.1.1.0 in
     let w = rw (cast_int (pos number), cast_null, cast_int (pos seller), cast_int (pos category), cast_int (pos start), cast_maybe buy_now, cast_int (pos end), cast_int (pos 0)) at
     (puts put_item_text 4 item_layout put_terms 17 params given refl put_item_is.0 put_item_is.1 refl old new count house.schema h) in
-    let back : item_row_in given ≡ new_item bands number seller category lot title text start buy_now end = rw (maybe_back buy_now, sym (no_bids bands start), text_back lot lot_utf8, text_back title title_utf8, text_back text text_utf8) refl in
+    let back : item_row_in given ≡ new_item bands number seller category lot title text start buy_now end = rw (small number low.number_low, small seller low.seller_low, small category low.category_low, small start low.start_low, small end low.end_low, maybe_back buy_now low.buy_now_low, sym (no_bids bands start), text_back lot lot_utf8, text_back title title_utf8, text_back text text_utf8) refl in
     record {
       house = still_house 6 _ old.now new.now house w (IsShaped-put_row given rows refl shaped);
       others = w.others;
-      items = λ over. ap (map item_row_in) (w.rows_are ∙ put_over item_row_in (λ (r : ItemRow). r.item.terms.item) (λ r. refl) given number rows shaped refl over) ∙ map_more item_row_in rows given
+      items = λ over. ap (map item_row_in) (w.rows_are ∙ put_over item_row_in (λ (r : ItemRow). r.item.terms.item) (λ r. refl) given number rows shaped refl low.number_low over) ∙ map_more item_row_in rows given
           ∙ ap (λ x. map item_row_in rows ++ x ∷ []) back;
     }
 
@@ -247,7 +256,7 @@ leaves r typed int =
     }
 
 -- the start of a standing is the one that is stored
-kept_start : (start at : ℕ) (led top next : Option ℕ) (count : ℕ) → (kept_from start at led top next count).start ≡ start
+pub kept_start : (start at : ℕ) (led top next : Option ℕ) (count : ℕ) → (kept_from start at led top next count).start ≡ start
 kept_start start at None top next count = refl
 kept_start start at (Some l) None next count = refl
 kept_start start at (Some l) (Some t) next count = refl
@@ -283,9 +292,17 @@ stood_stays k r typed int =
     let l = leaves r typed int in
     rw (l.id, cast_null, l.seller, l.category, l.lot, l.title, l.body, l.start, l.buy_now, l.ending, l.state, l.closed, cast_int (pos k.price), cast_maybe k.leader, cast_maybe k.top, cast_maybe k.second, cast_int (pos k.count)) refl
 
-pub sets_standing : (old new : State) (item : ℕ) (k : Kept) (count : ℕ) → IsHouse old.now → item < 2 ^ 64
+-- each number that is kept of bids has 32 bits
+pub record IsSmallKept (k : Kept) : Type 0 where
+  pub price_low : k.price < 2 ^ 32
+  pub leader_low : IsSmall k.leader
+  pub top_low : IsSmall k.top
+  pub second_low : IsSmall k.second
+  pub count_low : k.count < 2 ^ 32
+
+pub sets_standing : (old new : State) (item : ℕ) (k : Kept) (count : ℕ) → IsHouse old.now → item < 2 ^ 32 → IsSmallKept k
     → Executes set_standing_text (Int (pos item) ∷ Int (pos k.price) ∷ stored_maybe k.leader ∷ stored_maybe k.top ∷ stored_maybe k.second ∷ Int (pos k.count) ∷ []) old new (Ok count) → SetsStanding item k old.now new.now
-sets_standing old new item k count house low h =
+sets_standing old new item k count house low kept_low h =
     let rows = old.now.trees 6 in
     let w = updates set_standing_text 4 item_layout standing_set item (Int (pos k.price) ∷ stored_maybe k.leader ∷ stored_maybe k.top ∷ stored_maybe k.second ∷ Int (pos k.count) ∷ []) low refl (λ db. refl)
     set_standing_is.0 set_standing_is.1 (stood k) (λ r. refl) (λ r. refl) IsTyped (stood_stays k) old new count house.schema house.shaped.1.1.1.1.0 (are_typed_rows old.now house) h in
@@ -300,7 +317,7 @@ sets_standing old new item k count house low h =
     here led r start e =
         let same : number_in (column r 7) ≡ k.start = sym (kept_start (number_in (column r 7)) (number_in (column r 12)) (maybe_number_in (column r 13)) (maybe_number_in (column r 14)) (maybe_number_in (column r 15)) (number_in (column r 16))) ∙ start e in
         let standing : kept_from (number_in (column r 7)) k.price k.leader k.top k.second k.count ≡ k = told (number_in (column r 7)) k.price k.leader k.top k.second k.count led ∙ ap (λ s. record k { start = s }) same in
-        rw (e, maybe_back k.leader, maybe_back k.top, maybe_back k.second, standing) refl
+        rw (e, small k.price kept_low.price_low, small k.count kept_low.count_low, maybe_back k.leader kept_low.leader_low, maybe_back k.top kept_low.top_low, maybe_back k.second kept_low.second_low, standing) refl
 
 -- ---- the purchase
 
@@ -317,9 +334,9 @@ sold_stays buyer at moment r typed int =
 abbrev IsUnsold : ItemRow → Type 0
 IsUnsold row = (row.item.terms.start ≤ most_cents) × (row.standing.price ≡ row.standing.start) × (row.standing.leader ≡ None) × (row.standing.top ≡ None)
 
-pub sets_bought : (old new : State) (item buyer at moment count : ℕ) → IsHouse old.now → item < 2 ^ 64
+pub sets_bought : (old new : State) (item buyer at moment count : ℕ) → IsHouse old.now → item < 2 ^ 32 → buyer < 2 ^ 32 → at < 2 ^ 32 → moment < 2 ^ 32
     → Executes set_bought_text (Int (pos item) ∷ Int (pos moment) ∷ Int (pos at) ∷ Int (pos buyer) ∷ []) old new (Ok count) → SetsBought item buyer at moment old.now new.now
-sets_bought old new item buyer at moment count house low h =
+sets_bought old new item buyer at moment count house low buyer_low at_low moment_low h =
     let rows = old.now.trees 6 in
     let w = updates set_bought_text 4 item_layout bought_set item (Int (pos moment) ∷ Int (pos at) ∷ Int (pos buyer) ∷ []) low refl (λ db. refl)
     set_bought_is.0 set_bought_is.1 (sold_at_once buyer at moment) (λ r. refl) (λ r. refl) IsTyped (sold_stays buyer at moment) old new count house.schema house.shaped.1.1.1.1.0 (are_typed_rows old.now house) h in
@@ -335,7 +352,7 @@ sets_bought old new item buyer at moment count house low h =
         let fit = fits e in
         let state = fits_state (is_state (column r 10)) (number_in (column r 7)) fit.0 in
         let standing = bought (number_in (column r 7)) (number_in (column r 12)) (maybe_number_in (column r 13)) (maybe_number_in (column r 14)) (maybe_number_in (column r 15)) (number_in (column r 16)) at buyer fit.1 fit.2 fit.3 in
-        rw (e, state, standing) refl
+        rw (e, small buyer buyer_low, small at at_low, small moment moment_low, state, standing) refl
 
 -- ---- the close
 
@@ -356,7 +373,7 @@ IsOurs row = row.item.terms.start ≤ most_cents
 abbrev pub closed_state : Bool → ℕ
 closed_state is_sold = cond is_sold 1 2
 
-pub sets_closed : (old new : State) (item : ℕ) (is_sold : Bool) (count : ℕ) → IsHouse old.now → item < 2 ^ 64
+pub sets_closed : (old new : State) (item : ℕ) (is_sold : Bool) (count : ℕ) → IsHouse old.now → item < 2 ^ 32
     → Executes set_closed_text (Int (pos item) ∷ Int (pos (closed_state is_sold)) ∷ []) old new (Ok count) → SetsClosed item is_sold old.now new.now
 sets_closed old new item is_sold count house low h =
     let rows = old.now.trees 6 in
@@ -389,7 +406,7 @@ settled_stays r typed int =
     let l = leaves r typed int in
     rw (l.id, cast_null, l.seller, l.category, l.lot, l.title, l.body, l.start, l.buy_now, l.ending, cast_int (pos 3), l.closed, l.at_price, l.led, l.top, l.next, l.count) refl
 
-pub sets_settled : (old new : State) (item count : ℕ) → IsHouse old.now → item < 2 ^ 64 → Executes set_settled_text (Int (pos item) ∷ []) old new (Ok count) → SetsSettled item old.now new.now
+pub sets_settled : (old new : State) (item count : ℕ) → IsHouse old.now → item < 2 ^ 32 → Executes set_settled_text (Int (pos item) ∷ []) old new (Ok count) → SetsSettled item old.now new.now
 sets_settled old new item count house low h =
     let rows = old.now.trees 6 in
     let w = updates set_settled_text 4 item_layout settled_set item [] low refl (λ db. refl)

@@ -2,3 +2,5 @@ pub mod MaybeLemmas
 pub mod ItemMeaning
 pub mod ItemLemmas
 pub mod FitLemmas
+pub mod StandingLemmas
+pub mod Small

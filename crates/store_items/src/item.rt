@@ -1,5 +1,5 @@
 //! The table of items: what is written.
-ghost use Rattle.std.specs.Prelude.{◌≡◌, ℕ, List, if◌then◌else◌, OnOk, OnErr, IsErrOf, IsTrue};
+ghost use Rattle.std.specs.Prelude.{◌≡◌, ◌<◌, ◌^◌, IfSome, ℕ, List, if◌then◌else◌, OnOk, OnErr, IsErrOf, IsTrue};
 ghost use Rattle.sqlite.specs.State.{HasCleanDisk, Survives};
 ghost use Rattle.sqlite.specs.Held.{state};
 ghost use Rattle.house_rows.specs.Changed.{new_item};
@@ -36,19 +36,37 @@ pub struct Offer<'a> {
 
 // An amount as a parameter.
 fn stored(amount: Cents) -> u32
-    ensures { result ≡ amount }
+    ensures value { result ≡ amount }
+    ensures small { amount < 2 ^ 32 }
 {
     amount.value() as u32
 }
 
 // An amount that may be missing.
 fn stored_maybe(amount: Option<Cents>) -> Option<u32>
-    ensures { result ≡ amount }
+    ensures value { result ≡ amount }
+    ensures small { IfSome amount (λ n. n < 2 ^ 32) }
 {
     match amount {
         Some(amount) => Some(stored(amount)),
         None => None,
     }
+}
+
+// A number as a parameter.
+fn stored_number(number: u32) -> u32
+    ensures value { result ≡ number }
+    ensures small { number < 2 ^ 32 }
+{
+    number
+}
+
+// A number that may be missing.
+fn stored_maybe_number(number: Option<u32>) -> Option<u32>
+    ensures value { result ≡ number }
+    ensures small { IfSome number (λ n. n < 2 ^ 32) }
+{
+    number
 }
 
 // A text as a parameter.
@@ -74,24 +92,19 @@ pub fn put_item<S: Alter>(
     ensures err { HasCleanDisk (state S.Store tx.new.conn.now) → OnErr result (KeepsCommitted (state S.Store tx.old.conn.now) (state S.Store tx.new.conn.now)) }
     ensures crash { Survives (state S.Store tx.old.conn.now) (state S.Store tx.new.conn.now) (λ _. ⊥) }
 {
+    let seller = stored_number(offer.seller);
+    let category = stored_number(offer.category);
     let lot = stored_text(offer.lot);
     let title = stored_text(offer.title);
     let text = stored_text(offer.text);
     let start = stored(offer.start);
     let buy_now = stored_maybe(offer.buy_now);
+    let end = stored_number(offer.end);
     run(
         tx,
         "INSERT INTO item (id, seller, category, lot, title, body, start, buy_now, ending, state, closed, price, leader, top, second, count) VALUES (?1, ?2, ?3, ?4, ?5, ?6, ?7, ?8, ?9, 0, NULL, ?7, NULL, NULL, NULL, 0)",
         params![
-            number,
-            offer.seller,
-            offer.category,
-            lot,
-            title,
-            text,
-            start,
-            buy_now,
-            offer.end,
+            number, seller, category, lot, title, text, start, buy_now, end,
         ],
     )
 }
@@ -112,10 +125,10 @@ pub fn set_standing<S: Alter>(
     ensures crash { Survives (state S.Store tx.old.conn.now) (state S.Store tx.new.conn.now) (λ _. ⊥) }
 {
     let price = stored(standing.price());
-    let leader = standing.leader();
+    let leader = stored_maybe_number(standing.leader());
     let top = stored_maybe(standing.top());
     let second = stored_maybe(standing.second());
-    let count = standing.count();
+    let count = stored_number(standing.count());
     run(
         tx,
         "UPDATE item SET price = ?2, leader = ?3, top = ?4, second = ?5, count = ?6 WHERE id = ?1",

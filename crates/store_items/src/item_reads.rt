@@ -7,6 +7,7 @@ ghost use Rattle.house_rows.specs.Tables.{ItemRow};
 ghost use Rattle.house_rows.specs.Text.{same_text};
 ghost use Rattle.std.specs.List.{AllByRecursion};
 ghost use Rattle.house_rows.specs.Fits.{ItemFits, StandingFits, TermsFit};
+ghost use Rattle.house_rows.specs.Keeping.{ItemRowFits};
 ghost use Rattle.house_rows.specs.declared.fault.KeepFault.TheVariants.{Damaged};
 ghost use Rattle.store_rows.specs.House.{Serves, KeepsCommitted};
 ghost use Rattle.store_rows.specs.ItemRows.{items_in};
@@ -58,7 +59,7 @@ pub fn terms_at<S: Alter>(conn: &mut Connection<S>, number: u32) -> Result<Optio
 }
 
 /// The standing of the bids on an item; of a bought item that of none. A row that is no standing by
-/// these bands is an error.
+/// these bands is damaged.
 pub fn standing_at<S: Alter>(
     conn: &mut Connection<S>,
     bands: &Bands,
@@ -67,6 +68,7 @@ pub fn standing_at<S: Alter>(
     requires { Serves (state S.Store conn.old) }
     ensures found { HasCleanDisk (state S.Store conn.new) → IfOk result (λ found. found ≡ option_map (λ (row : ItemRow). row.standing) (find (is_item number) (items_in (state S.Store conn.old).now.trees))) }
     ensures fits { IfOk result (λ found. IfSome found StandingFits) }
+    ensures damaged { HasCleanDisk (state S.Store conn.new) → AllByRecursion (ItemRowFits bands.now) (items_in (state S.Store conn.old).now.trees) → ¬ (IsErrOf result Damaged) }
     ensures same { HasCleanDisk (state S.Store conn.new) → OnOk result (IsUnchanged (state S.Store conn.old) (state S.Store conn.new)) }
     ensures err { HasCleanDisk (state S.Store conn.new) → OnErr result (KeepsCommitted (state S.Store conn.old) (state S.Store conn.new)) }
     ensures mode { conn.old.in_transaction ≡ false → conn.new.in_transaction ≡ false }

@@ -5,7 +5,7 @@
 //! what was committed. Read `store_rows/specs/ItemRows.antt` first, which says what item a stored row is, then
 //! `specs/Items.antt`, which says what each write makes.
 //!
-//! A look-up that is `Damaged` has met an item that does not fit. Of `standing_at` that is not said.
+//! A look-up that is `Damaged` has met an item that does not fit.
 //!
 //! Not here yet: lists by leader or end, or with a limit.
 #![tactic(auto)]

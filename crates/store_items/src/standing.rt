@@ -1,7 +1,10 @@
 //! The standing of an item's bids as its columns tell it.
-ghost use Rattle.std.specs.Prelude.{◌≡◌, None, IfOk, IfSome, option_map, slice_get};
+ghost use Rattle.std.specs.Prelude.{◌≡◌, ◌==◌, ◌&&◌, None, is_none, is_some, IfOk, IfSome, IsErrOf, option_map, slice_get};
+ghost use Rattle.proxy.specs.Rows.{is_standing};
 ghost use Rattle.house_rows.specs.Fits.{StandingFits};
-ghost use Rattle.store_rows.specs.ItemRows.{kept_of};
+ghost use Rattle.house_rows.specs.declared.fault.KeepFault.TheVariants.{Damaged};
+ghost use Rattle.store_rows.specs.ItemRows.{kept_from, kept_of};
+ghost use Rattle.store_items.specs.Columns.{AreStanding};
 
 use crate::fits::standing_fits;
 use cents::Cents;
@@ -13,7 +16,8 @@ use store_rows::{cents_at, maybe_cents_at, maybe_number_at, number_at};
 
 // The standing of no bids, where a row tells of none.
 fn no_bids(start: Cents, second: Option<Cents>, count: u32) -> Option<Standing>
-    ensures { IfSome result (λ s. s ≡ record { start = start; price = start; leader = None; top = None; second = second; count = count }) }
+    ensures fits { is_some result ≡ (is_none second && (count == 0)) }
+    ensures value { IfSome result (λ s. s ≡ record { start = start; price = start; leader = None; top = None; second = second; count = count }) }
 {
     if second.is_none() && count == 0 {
         Some(Standing::open(start))
@@ -22,9 +26,31 @@ fn no_bids(start: Cents, second: Option<Cents>, count: u32) -> Option<Standing>
     }
 }
 
-// The standing of its bids, as it stands; of a bought item that of none.
+// The standing that the values of a row tell, if they fit together; of a bought item that of none.
+fn standing_from(
+    bands: &Bands,
+    start: Cents,
+    price: Cents,
+    leader: Option<u32>,
+    top: Option<Cents>,
+    second: Option<Cents>,
+    count: u32,
+) -> Option<Standing>
+    ensures fits { is_some result ≡ is_standing bands.now (kept_from start price leader top second count) }
+    ensures value { IfSome result (λ s. s ≡ kept_from start price leader top second count) }
+{
+    let is_bought = leader.is_some() && top.is_none();
+    if is_bought {
+        no_bids(start, second, count)
+    } else {
+        Standing::of_row(start, bands, price, leader, top, second, count)
+    }
+}
+
+// The standing that the columns tell.
 fn told_standing(bands: &Bands, row: &Row) -> Result<Standing, KeepFault>
-    ensures { IfOk result (λ s. s ≡ kept_of row.now) }
+    ensures value { IfOk result (λ s. s ≡ kept_of row.now) }
+    ensures damaged { AreStanding bands.now row.now → ¬ (IsErrOf result Damaged) }
 {
     let start = cents_at(row, 0)?;
     let price = cents_at(row, 1)?;
@@ -32,23 +58,18 @@ fn told_standing(bands: &Bands, row: &Row) -> Result<Standing, KeepFault>
     let top = maybe_cents_at(row, 3)?;
     let second = maybe_cents_at(row, 4)?;
     let count = number_at(row, 5)?;
-    let is_bought = leader.is_some() && top.is_none();
-    let read = if is_bought {
-        no_bids(start, second, count)
-    } else {
-        Standing::of_row(start, bands, price, leader, top, second, count)
-    };
-    match read {
+    match standing_from(bands, start, price, leader, top, second, count) {
         Some(standing) => Ok(standing),
         None => Err(KeepFault::Damaged),
     }
 }
 
 // A standing, which fits.
-#[tactic(auto, using(crate::proofs::FitLemmas::fit_standing))]
+#[tactic(auto, using(crate::proofs::FitLemmas::fit_standing, crate::proofs::FitLemmas::standing_passes))]
 fn read_standing(bands: &Bands, row: &Row) -> Result<Standing, KeepFault>
     ensures value { IfOk result (λ s. s ≡ kept_of row.now) }
     ensures fits { IfOk result StandingFits }
+    ensures damaged { AreStanding bands.now row.now → ¬ (IsErrOf result Damaged) }
 {
     let standing = told_standing(bands, row)?;
     if standing_fits(&standing) {
@@ -62,6 +83,7 @@ fn read_standing(bands: &Bands, row: &Row) -> Result<Standing, KeepFault>
 pub(crate) fn first_standing(bands: &Bands, rows: &[Row]) -> Result<Option<Standing>, KeepFault>
     ensures value { IfOk result (λ found. found ≡ option_map kept_of (slice_get rows.now 0)) }
     ensures fits { IfOk result (λ found. IfSome found StandingFits) }
+    ensures damaged { IfSome (slice_get rows.now 0) (AreStanding bands.now) → ¬ (IsErrOf result Damaged) }
 {
     match rows.first() {
         None => Ok(None),

@@ -40,7 +40,7 @@ use Rattle.store_rows.specs.Rows.{number_in, question_in}
 use Rattle.store_rows.specs.Schema.{house_schema, question_table, question_layout}
 use Rattle.store_rows.specs.House.{IsHouse}
 use Rattle.store_rows.specs.Answers.{SetsAnswer}
-use Rattle.store_rows.proofs.RowLemmas.{row_key, keyed, equals_number}
+use Rattle.store_rows.proofs.RowLemmas.{row_key, keyed, equals_number, told_equal}
 use Rattle.store_rows.proofs.TextLemmas.{text_back}
 use Rattle.store_rows.proofs.Insert.{cast_int}
 use Rattle.store_rows.proofs.Update.{stays_all}
@@ -66,12 +66,12 @@ truth_back : (b : Bool) → is_true (from_truth (Some b)) ≡ b
 truth_back true = refl
 truth_back false = refl
 
-both_true : (a b : Bool) → a ≡ true → b ≡ true → (a && b) ≡ true
+pub both_true : (a b : Bool) → a ≡ true → b ≡ true → (a && b) ≡ true
 both_true true b e f = f
 both_true false b e f = absurd (true≢false (sym e))
 
 -- rowids that rise differ
-differs : (v w : Value) → is_int v ≡ true → is_int w ≡ true → id_in v <ℤ id_in w → differ v w ≡ true
+pub differs : (v w : Value) → is_int v ≡ true → is_int w ≡ true → id_in v <ℤ id_in w → differ v w ≡ true
 unfolding binary
 differs (Int a) (Int b) p q less = truth_back _ ∙ ap (λ o. test Ne o) (value_cmp-Int a b ∙ Less-from_lt a b less)
 differs (Int a) Null p q less = absurd (true≢false (sym q))
@@ -87,8 +87,8 @@ same_number : (m n : ℕ) → eqb m n ≡ true → m ≡ n
 same_number m n h = grind arith
 
 -- a column with this number is the number
-is_number : (v : Value) (n : ℕ) → is_int v ≡ true → n < 2 ^ 64 → eqb (number_in v) n ≡ true → v ≡ Int (pos n)
-is_number (Int (pos m)) n is low h = ap (λ k. Int (pos k)) (same_number m n h)
+is_number : (v : Value) (n : ℕ) → is_int v ≡ true → n < 2 ^ 32 → eqb (number_in v) n ≡ true → v ≡ Int (pos n)
+is_number (Int (pos m)) n is low h = ap (λ k. Int (pos k)) (same_number m n (sym (told_equal m n low) ∙ h))
 is_number (Int (negsuc m)) n is low h = let e = same_number (2 ^ 64) n h in absurd (omega (arith, low, e))
 is_number Null n is low h = absurd (true≢false (sym is))
 is_number (Real x) n is low h = absurd (true≢false (sym is))
@@ -96,24 +96,24 @@ is_number (Text x) n is low h = absurd (true≢false (sym is))
 is_number (Blob x) n is low h = absurd (true≢false (sym is))
 
 -- a number equals itself
-self_equal : (n : ℕ) → n < 2 ^ 64 → is_true (binary (Compare Eq Binary) (Int (pos n)) (Int (pos n))) ≡ true
-self_equal n low = equals_number (Int (pos n)) n refl low ∙ grind arith
+pub self_equal : (n : ℕ) → n < 2 ^ 32 → is_true (binary (Compare Eq Binary) (Int (pos n)) (Int (pos n))) ≡ true
+self_equal n low = equals_number (Int (pos n)) n refl low ∙ told_equal n n low ∙ grind arith
 
 abbrev key : List ℕ
 key = 1 ∷ 2 ∷ 3 ∷ []
 
-agree_at : (r s : Row) (a b d : ℕ) → a < 2 ^ 64 → b < 2 ^ 64 → d < 2 ^ 64 → column r 1 ≡ Int (pos a) → column r 2 ≡ Int (pos b) → column r 3 ≡ Int (pos d)
+pub agree_at : (r s : Row) (a b d : ℕ) → a < 2 ^ 32 → b < 2 ^ 32 → d < 2 ^ 32 → column r 1 ≡ Int (pos a) → column r 2 ≡ Int (pos b) → column r 3 ≡ Int (pos d)
     → column s 1 ≡ Int (pos a) → column s 2 ≡ Int (pos b) → column s 3 ≡ Int (pos d) → agree keys.plain key r key s ≡ true
 unfolding first_key
 agree_at r s a b d low small less r1 r2 r3 s1 s2 s3 = rw (r1, r2, r3, s1, s2, s3, self_equal a low, self_equal b small, self_equal d less) refl
 
 -- ---- one question at most
 
-module _ (item asker number : ℕ) (more : Row) (low : item < 2 ^ 64) (small : asker < 2 ^ 64) (less : number < 2 ^ 64) where
+module _ (item asker number : ℕ) (more : Row) (low : item < 2 ^ 32) (small : asker < 2 ^ 32) (less : number < 2 ^ 32) where
   abbrev params : Row
   params = Int (pos item) ∷ Int (pos asker) ∷ Int (pos number) ∷ more
 
-  same_test : (r : Row) → IsTalk r → passes by_question params r ≡ is_question item asker number (question_in r)
+  pub same_test : (r : Row) → IsTalk r → passes by_question params r ≡ is_question item asker number (question_in r)
   same_test r is = rw (equals_number (column r 1) item is.first low, equals_number (column r 2) asker is.second small, equals_number (column r 3) number is.third less) (three (eqb (number_in (column r 1)) item) (eqb (number_in (column r 2)) asker) (eqb (number_in (column r 3)) number))
 
   pub record HasKey (r : Row) : Type 0 where
@@ -152,7 +152,7 @@ module _ (item asker number : ℕ) (more : Row) (low : item < 2 ^ 64) (small : a
         let none = all_has (λ x. not (clashes keys.plain key rows x) ≡ true) rows s apart has_s in
         true≢false (sym (sym (ap not some) ∙ none))
 
-    one_question : length (filter (passes by_question params) rows) ≤ 1
+    pub one_question : length (filter (passes by_question params) rows) ≤ 1
     one_question = at_most_one_of (passes by_question params) rows (keyed rows house.shaped.1.1.1.1.1.1.1.0.0 house.shaped.1.1.1.1.1.1.1.0.1) clash
 
 -- ---- the answer
@@ -173,7 +173,7 @@ casts text r typed int =
     let body : cast kind.Text (column r 4) ≡ column r 4 = kept.1.1.1.0 in
     rw (id, item, asker, number, body) refl
 
-pub sets_answer : (old new : State) (item asker number : ℕ) (text : List ℕ) (count : ℕ) → IsUtf8 text → IsHouse old.now → item < 2 ^ 64 → asker < 2 ^ 64 → number < 2 ^ 64
+pub sets_answer : (old new : State) (item asker number : ℕ) (text : List ℕ) (count : ℕ) → IsUtf8 text → IsHouse old.now → item < 2 ^ 32 → asker < 2 ^ 32 → number < 2 ^ 32
     → Executes answer_text (Int (pos item) ∷ Int (pos asker) ∷ Int (pos number) ∷ Text text ∷ []) old new (Ok count) → SetsAnswer item asker number text old.now new.now
 sets_answer old new item asker number text count u house low small less h =
     let params = Int (pos item) ∷ Int (pos asker) ∷ Int (pos number) ∷ Text text ∷ [] in

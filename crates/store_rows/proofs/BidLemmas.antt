@@ -1,5 +1,5 @@
 -- What the statements on bids and watches find and write.
-use Rattle.std.proofs.Common.{◌≡◌, ◌==◌, ℕ, ◌^◌, ◌<◌, pos, Bool, true, not, ◌&&◌, List, [], ◌∷◌, map, filter, drop, Ok, None, refl, sym, ap, subst, ◌∙◌, true≢false}
+use Rattle.std.proofs.Common.{◌≡◌, ◌==◌, ℕ, ◌^◌, ◌<◌, pos, Bool, true, not, ◌&&◌, List, [], ◌∷◌, ◌++◌, map, filter, drop, Ok, None, refl, sym, ap, subst, ◌∙◌, true≢false}
 use Rattle.std.specs.List.{AllByRecursion}
 use Rattle.sqlite_value.specs.declared.value.Value.TheVariants.{Null, Int}
 use Rattle.sqlite_value.specs.Order.{Row, column}
@@ -20,7 +20,7 @@ use Rattle.house_rows.specs.Watches.{WatchRow}
 use Rattle.store_rows.specs.Schema.{house_schema, bid_table, bid_layout, watch_table, watch_layout}
 use Rattle.store_rows.specs.Rows.{number_in, bid_of, bid_in, bids_in, watch_in, watches_in}
 use Rattle.store_rows.specs.House.{IsHouse, AddsBid, AddsWatch, RemovesWatch}
-use Rattle.store_rows.proofs.RowLemmas.{int_if, equals_number, alone}
+use Rattle.store_rows.proofs.RowLemmas.{int_if, equals_number, alone, small}
 use Rattle.store_rows.proofs.Select.{listed, in_order, typed_where, typed_part, by_rowid, equals}
 use Rattle.store_rows.specs.Plain.{passes}
 use Rattle.sqlite_keyed.proofs.ListLemmas.{filter-map}
@@ -33,10 +33,10 @@ use Rattle.store_rows.proofs.BidMeaning.{put_bid_text, bids_by_text, put_watch_t
 
 -- ---- the numbers in the rows are numbers
 
-abbrev IsBid : Row → Type 0
+abbrev pub IsBid : Row → Type 0
 IsBid r = (is_int (column r 1) ≡ true) × (is_int (column r 3) ≡ true)
 
-are_bids : (db : Database) → IsHouse db → AllByRecursion IsBid (db.trees 8)
+pub are_bids : (db : Database) → IsHouse db → AllByRecursion IsBid (db.trees 8)
 are_bids db house =
     let sound = subst (λ h. IsSound h db.trees) house.schema house.sound in
     all_both _ _ IsBid one (db.trees 8) (sound.obeys.rules Datatype).1.1.1.1.1.0 (sound.obeys.rules NotNull).1.1.1.1.1.0
@@ -52,10 +52,10 @@ are_bids db house =
           int_if v (first_of_both _ _ (second_of_both _ _ (second_of_both _ _ typed))) (first_of_both _ _ (second_of_both _ _ (second_of_both _ _ p))),
         )
 
-abbrev IsWatch : Row → Type 0
+abbrev pub IsWatch : Row → Type 0
 IsWatch r = (is_int (column r 1) ≡ true) × (is_int (column r 2) ≡ true)
 
-are_watches : (db : Database) → IsHouse db → AllByRecursion IsWatch (db.trees 10)
+pub are_watches : (db : Database) → IsHouse db → AllByRecursion IsWatch (db.trees 10)
 are_watches db house =
     let sound = subst (λ h. IsSound h db.trees) house.schema house.sound in
     all_both _ _ IsWatch one (db.trees 10) (sound.obeys.rules Datatype).1.1.1.1.1.1.0 (sound.obeys.rules NotNull).1.1.1.1.1.1.0
@@ -73,7 +73,7 @@ two : (a b : Bool) → (a && (b && true)) ≡ (a && b)
 two a b = ap (λ c. a && c) (alone b)
 
 module _ (old new : State) (answer : List Row) (house : IsHouse old.now) where
-  pub bids_answer : (member item : ℕ) → member < 2 ^ 64 → item < 2 ^ 64 → Shown bids_by_text (Int (pos member) ∷ Int (pos item) ∷ []) old new answer
+  pub bids_answer : (member item : ℕ) → member < 2 ^ 32 → item < 2 ^ 32 → Shown bids_by_text (Int (pos member) ∷ Int (pos item) ∷ []) old new answer
       → map bid_of answer ≡ filter (λ b. (b.bid.member == member) && (b.item == item)) (bids_in old.now.trees)
   bids_answer member item low small h =
       let params = Int (pos member) ∷ Int (pos item) ∷ [] in
@@ -83,7 +83,7 @@ module _ (old new : State) (answer : List Row) (house : IsHouse old.now) where
       typed_where bid_of bid_in (λ b. (b.bid.member == member) && (b.item == item)) IsBid by_member_on_item bid_shown params table answer (λ r. refl)
       (λ r is. rw (equals_number (column r 3) member is.1 low, equals_number (column r 1) item is.0 small) (two _ _)) (are_bids old.now house) order
 
-  pub watched_answer : (member : ℕ) → member < 2 ^ 64 → Shown watched_text (Int (pos member) ∷ []) old new answer
+  pub watched_answer : (member : ℕ) → member < 2 ^ 32 → Shown watched_text (Int (pos member) ∷ []) old new answer
       → map (λ r. number_in (column r 0)) answer ≡ map (λ (w : WatchRow). w.item) (filter (λ w. w.member == member) (watches_in old.now.trees))
   watched_answer member low h =
       let params = Int (pos member) ∷ [] in
@@ -95,35 +95,44 @@ module _ (old new : State) (answer : List Row) (house : IsHouse old.now) where
 
 -- ---- what is written
 
-pub adds_bid : (old new : State) (row : BidRow) (count : ℕ) → IsHouse old.now
+-- each number of a bid has 32 bits
+pub record IsSmall (row : BidRow) : Type 0 where
+  pub item : row.item < 2 ^ 32
+  pub number : row.bid.no < 2 ^ 32
+  pub member : row.bid.member < 2 ^ 32
+  pub maximum : row.bid.maximum < 2 ^ 32
+
+pub adds_bid : (old new : State) (row : BidRow) (count : ℕ) → IsSmall row → IsHouse old.now
     → Executes put_bid_text (Int (pos row.item) ∷ Int (pos row.bid.no) ∷ Int (pos row.bid.member) ∷ Int (pos row.bid.maximum) ∷ []) old new (Ok count) → AddsBid row old.now new.now
-adds_bid old new row count house h =
+adds_bid old new row count low house h =
     let params = Int (pos row.item) ∷ Int (pos row.bid.no) ∷ Int (pos row.bid.member) ∷ Int (pos row.bid.maximum) ∷ [] in
     let rows = old.now.trees 8 in
     let given : Row = Int (next_rowid rows) ∷ Int (pos row.item) ∷ Int (pos row.bid.no) ∷ Int (pos row.bid.member) ∷ Int (pos row.bid.maximum) ∷ [] in
     let shaped = house.shaped.1.1.1.1.1.0 in
     let w = rw (cast_null, cast_int (pos row.item), cast_int (pos row.bid.no), cast_int (pos row.bid.member), cast_int (pos row.bid.maximum)) at
     (puts put_bid_text 5 bid_layout bid_terms 5 params (Null ∷ params) refl put_bid_is.0 put_bid_is.1 refl old new count house.schema h) in
+    let back : bid_in given ≡ row = rw (small row.item low.item, small row.bid.no low.number, small row.bid.member low.member, small row.bid.maximum low.maximum) refl in
     record {
       house = still_house 8 _ old.now new.now house w (IsShaped-put_row given rows refl shaped);
       others = w.others;
-      bids = ap (map bid_in) (w.rows_are ∙ put_last given rows shaped refl) ∙ map_more bid_in rows given;
+      bids = ap (map bid_in) (w.rows_are ∙ put_last given rows shaped refl) ∙ map_more bid_in rows given ∙ ap (λ b. map bid_in rows ++ b ∷ []) back;
     }
 
-pub adds_watch : (old new : State) (row : WatchRow) (count : ℕ) → IsHouse old.now → Executes put_watch_text (Int (pos row.member) ∷ Int (pos row.item) ∷ []) old new (Ok count) → AddsWatch row old.now new.now
-adds_watch old new row count house h =
+pub adds_watch : (old new : State) (row : WatchRow) (count : ℕ) → row.member < 2 ^ 32 → row.item < 2 ^ 32 → IsHouse old.now → Executes put_watch_text (Int (pos row.member) ∷ Int (pos row.item) ∷ []) old new (Ok count) → AddsWatch row old.now new.now
+adds_watch old new row count member_low item_low house h =
     let params = Int (pos row.member) ∷ Int (pos row.item) ∷ [] in
     let rows = old.now.trees 10 in
     let given : Row = Int (next_rowid rows) ∷ Int (pos row.member) ∷ Int (pos row.item) ∷ [] in
     let shaped = house.shaped.1.1.1.1.1.1.0 in
     let w = rw (cast_null, cast_int (pos row.member), cast_int (pos row.item)) at (puts put_watch_text 6 watch_layout watch_terms 3 params (Null ∷ params) refl put_watch_is.0 put_watch_is.1 refl old new count house.schema h) in
+    let back : watch_in given ≡ row = rw (small row.member member_low, small row.item item_low) refl in
     record {
       house = still_house 10 _ old.now new.now house w (IsShaped-put_row given rows refl shaped);
       others = w.others;
-      watches = ap (map watch_in) (w.rows_are ∙ put_last given rows shaped refl) ∙ map_more watch_in rows given;
+      watches = ap (map watch_in) (w.rows_are ∙ put_last given rows shaped refl) ∙ map_more watch_in rows given ∙ ap (λ w. map watch_in rows ++ w ∷ []) back;
     }
 
-pub removes_watch : (old new : State) (member item : ℕ) (count : ℕ) → IsHouse old.now → member < 2 ^ 64 → item < 2 ^ 64 → Executes cut_watch_text (Int (pos member) ∷ Int (pos item) ∷ []) old new (Ok count)
+pub removes_watch : (old new : State) (member item : ℕ) (count : ℕ) → IsHouse old.now → member < 2 ^ 32 → item < 2 ^ 32 → Executes cut_watch_text (Int (pos member) ∷ Int (pos item) ∷ []) old new (Ok count)
     → RemovesWatch member item old.now new.now
 removes_watch old new member item count house low small h =
     let params = Int (pos member) ∷ Int (pos item) ∷ [] in

@@ -1,11 +1,12 @@
 -- Which columns read as a text.
-use Rattle.std.proofs.Common.{◌≡◌, ◌≢◌, ◌⊎◌, inl, inr, ℕ, suc, zero, ◌<◌, ◌≤◌, Bool, true, false, nat_lt, List, [], ◌∷◌, length, IfSome, refl, sym, ap, ◌∙◌, arith, IsUtf8, Option, Some, None, option_map, MatchOption, String, string_bytes}
+use Rattle.std.proofs.Common.{◌≡◌, ◌≢◌, ◌⊎◌, inl, inr, ℕ, suc, zero, ◌<◌, ◌≤◌, ◌^◌, pos, negsuc, cond, Bool, true, false, nat_lt, List, [], ◌∷◌, length, IfSome, refl, sym, ap, ◌∙◌, arith, IsUtf8, Option, Some, None, option_map, MatchOption, String, string_bytes}
 use Rattle.std.proofs.lemmas.Str.{IsUtf8-from_is_utf8, IsUtf8-string_bytes}
 use Rattle.std.specs.Str.{is_utf8}
 use Rattle.sqlite_value.specs.declared.value.Value.{Value}
 use Rattle.sqlite_value.specs.declared.value.Value.TheVariants.{Null, Int, Real, Text, Blob}
 use Rattle.sqlite_value.specs.Order.{Row, column}
-use Rattle.store_rows.specs.Rows.{maybe_text_in, no_text, text_in}
+use Rattle.store_rows.specs.Rows.{maybe_number_in, maybe_text_in, no_text, number_in, text_in}
+use Rattle.store_rows.proofs.RowLemmas.{small}
 use Rattle.store_rows.proofs.TextLemmas.{text_back}
 
 -- past the end there is nothing
@@ -56,3 +57,40 @@ maybe_text_there (Blob b) there = absurd (there refl)
 pub maybe_told : {Z : Type 0} (v : Value) (o : Option (String Z)) → MatchOption o (v ≡ Null) (λ s. (v ≢ Null) × (v ≡ Text (string_bytes s))) → option_map string_bytes o ≡ maybe_text_in v
 maybe_told v None h = sym (ap maybe_text_in h)
 maybe_told v (Some s) h = sym (ap maybe_text_in h.1 ∙ ap Some (text_back _ (IsUtf8-string_bytes s)))
+
+-- ---- numbers
+
+abbrev pub IsNumber : Value → Type 0
+IsNumber v = (n : ℕ) × (v ≡ Int (pos n)) × (n < 2 ^ 32)
+
+-- a number is told as it is read
+pub number_told : (v : Value) (n : ℕ) → v ≡ Int (pos n) → n < 2 ^ 32 → n ≡ number_in v
+number_told v n is low = sym (ap number_in is ∙ small n low)
+
+-- what is told as a number of 32 bits is one
+pub is_number : (v : Value) → number_in v < 2 ^ 32 → IsNumber v
+is_number (Int (pos n)) low = (n, refl, go (nat_lt n (2 ^ 32)) refl low)
+  where
+    go : (b : Bool) → nat_lt n (2 ^ 32) ≡ b → cond b n (2 ^ 64) < 2 ^ 32 → n < 2 ^ 32
+    go true e h = h
+    go false e h = absurd (omega (arith, h))
+is_number (Int (negsuc n)) low = absurd (omega (arith, low))
+is_number Null low = absurd (omega (arith, low))
+is_number (Real x) low = absurd (omega (arith, low))
+is_number (Text x) low = absurd (omega (arith, low))
+is_number (Blob x) low = absurd (omega (arith, low))
+
+pub number_there : (r : Row) (at : ℕ) → number_in (column r at) < 2 ^ 32 → (at < length r) × IsNumber (column r at)
+number_there r at low = (within r at (λ none. let e = ap number_in none in absurd (omega (arith, e, low))), is_number (column r at) low)
+
+pub maybe_number_there : (v : Value) → IfSome (maybe_number_in v) (λ n. n < 2 ^ 32) → (v ≡ Null) ⊎ IsNumber v
+maybe_number_there Null low = inl refl
+maybe_number_there (Int n) low = inr (is_number (Int n) low)
+maybe_number_there (Real x) low = inr (is_number (Real x) low)
+maybe_number_there (Text t) low = inr (is_number (Text t) low)
+maybe_number_there (Blob b) low = inr (is_number (Blob b) low)
+
+-- what is read from a column that may be NULL
+pub maybe_number_told : (v : Value) (o : Option ℕ) → IfSome o (λ n. n < 2 ^ 32) → MatchOption o (v ≡ Null) (λ n. (v ≢ Null) × (v ≡ Int (pos n))) → o ≡ maybe_number_in v
+maybe_number_told v None low h = sym (ap maybe_number_in h)
+maybe_number_told v (Some n) low h = sym (ap maybe_number_in h.1 ∙ ap Some (small n low))

@@ -19,7 +19,7 @@ use Rattle.store_rows.specs.declared.house.HouseRow.{HouseRow}
 use Rattle.store_rows.specs.Schema.{house_schema, house_table, house_layout}
 use Rattle.store_rows.specs.Rows.{house_of, house_in, houses_in, band_of, band_in, bands_in}
 use Rattle.store_rows.specs.House.{IsHouse, SetsClock, with_clock}
-use Rattle.store_rows.proofs.RowLemmas.{equals_number, first_is, alone, row_key}
+use Rattle.store_rows.proofs.RowLemmas.{equals_number, first_is, alone, row_key, small}
 use Rattle.store_rows.proofs.Select.{listed, in_order, typed_where, typed_all, by_rowid, equals}
 use Rattle.store_rows.proofs.Wrote.{still_house}
 use Rattle.store_rows.proofs.Insert.{cast_int, cast_null}
@@ -33,7 +33,7 @@ module _ (old new : State) (answer : List Row) (house : IsHouse old.now) where
       let table = old.now.trees 0 in
       let read = reads_as house_text params old new house_schema house.schema _ house_is.0 house_is.2 house_is.1 answer h in
       let order = in_order (equals 0 ∷ []) house_shown params table answer house.shaped.0.0 (listed 0 (equals 0 ∷ []) house_shown by_rowid (overlay old.now.trees []) params answer (read.answer Null)) in
-      let low : 1 < 2 ^ 64 = omega arith in
+      let low : 1 < 2 ^ 32 = omega arith in
       typed_where house_of house_in (λ h. h.id == 1) (λ r. IsTrue (is_int (rowid r))) (equals 0 ∷ []) house_shown params table answer (λ r. refl) (λ r is. rw (equals_number (rowid r) 1 is low) (alone _)) house.shaped.0.1 order
 
   pub first_house : Shown house_text (Int (pos 1) ∷ []) old new answer → option_map house_of (slice_get answer 0) ≡ find (λ h. h.id == 1) (houses_in old.now.trees)
@@ -62,8 +62,8 @@ casts moment r typed int =
     let zone : cast kind.Text (column r 5) ≡ column r 5 = kept.1.1.1.1.0 in
     rw (id, cast_null, version, cast_int (pos moment), rate, zone) refl
 
-pub sets_clock : (old new : State) (moment count : ℕ) → IsHouse old.now → Executes set_clock_text (Int (pos 1) ∷ Int (pos moment) ∷ []) old new (Ok count) → SetsClock moment old.now new.now
-sets_clock old new moment count house h =
+pub sets_clock : (old new : State) (moment count : ℕ) → moment < 2 ^ 32 → IsHouse old.now → Executes set_clock_text (Int (pos 1) ∷ Int (pos moment) ∷ []) old new (Ok count) → SetsClock moment old.now new.now
+sets_clock old new moment count low house h =
     let rows = old.now.trees 0 in
     let sound = subst (λ s. IsSound s old.now.trees) house.schema house.sound in
     let typed = all_weaker _ IsTyped (λ r. first_of_both (are_typed (Some 0) 0 house_table.columns (drop 1 r)) (has_computed house_table r)) rows (sound.obeys.rules Datatype).0 in
@@ -72,5 +72,5 @@ sets_clock old new moment count house h =
     record {
       house = still_house 0 _ old.now new.now house w.0 w.1;
       others = w.0.others;
-      houses = ap (map house_in) w.0.rows_are ∙ typed_set house_in (with_clock moment) 1 (clocked moment) rows house.shaped.0.1 (λ r e. rw e refl) (λ r e. rw e refl);
+      houses = ap (map house_in) w.0.rows_are ∙ typed_set house_in (with_clock moment) 1 (clocked moment) rows house.shaped.0.1 (λ r e. rw (e, small moment low) refl) (λ r e. rw e refl);
     }

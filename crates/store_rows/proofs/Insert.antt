@@ -1,5 +1,5 @@
 -- What the INSERT of one row makes of its table.
-use Rattle.std.proofs.Common.{◌≡◌, ℕ, ◌/◌, ◌<◌, ℤ, pos, ◌+ℤ◌, ◌<ℤ◌, Bool, true, false, cond, List, [], ◌∷◌, ◌++◌, map, fold, length, slice_get, Ok, Some, None, refl, sym, ap, subst, ◌∙◌, arith, IsTrue, Less, All}
+use Rattle.std.proofs.Common.{◌≡◌, ℕ, ◌/◌, ◌<◌, ◌^◌, ℤ, pos, ◌+ℤ◌, ◌<ℤ◌, Bool, true, false, cond, List, [], ◌∷◌, ◌++◌, map, fold, length, slice_get, Ok, Some, None, refl, sym, ap, subst, ◌∙◌, arith, IsTrue, Less, All}
 use Rattle.std.specs.List.{AllByRecursion}
 use Rattle.std.proofs.lemmas.Int.{ints}
 use Rattle.std.proofs.lemmas.List.Elements.{recursion_from_All}
@@ -75,12 +75,12 @@ unfolding next_from
 put_last new rows shaped id = put_above new (next_rowid rows) rows id shaped.1 (below_next (pos 1) rows (keyed rows shaped.0 shaped.1))
 
 -- a row with a number over the number of each other
-pub put_over : {T : Type 0} (inside : Row → T) (number : T → ℕ) → ((r : Row) → number (inside r) ≡ number_in (rowid r)) → (new : Row) (n : ℕ) (rows : List Row) → IsShaped Table rows → rowid new ≡ Int (pos n)
+pub put_over : {T : Type 0} (inside : Row → T) (number : T → ℕ) → ((r : Row) → number (inside r) ≡ number_in (rowid r)) → (new : Row) (n : ℕ) (rows : List Row) → IsShaped Table rows → rowid new ≡ Int (pos n) → n < 2 ^ 32
     → All (λ t. number t < n) (map inside rows) → put_row new rows ≡ rows ++ new ∷ []
-put_over inside number is new n rows shaped id over =
+put_over inside number is new n rows shaped id small over =
     let low = all_unmap (λ t. number t < n) inside rows (recursion_from_All (λ t. number t < n) (map inside rows) over) in
     put_above new (pos n) rows id shaped.1
-    (all_both (λ r. IsTrue (is_int (rowid r))) (λ r. number (inside r) < n) (λ r. row_key r <ℤ pos n) (λ r int less. id_below (rowid r) n int (subst (λ k. k < n) (is r) less)) rows shaped.1 low)
+    (all_both (λ r. IsTrue (is_int (rowid r))) (λ r. number (inside r) < n) (λ r. row_key r <ℤ pos n) (λ r int less. id_below (rowid r) n int small (subst (λ k. k < n) (is r) less)) rows shaped.1 low)
 
 -- ---- the statement
 

@@ -9,12 +9,12 @@ use Rattle.store_rows.proofs.TextLemmas.{is_some_lot, is_some_text}
 use Rattle.store_rows.specs.Columns.{AreTerms, HasTexts}
 use Rattle.store_rows.specs.ItemRows.{is_state, item_of, terms_of}
 
-weaker : (P Q : ℕ → Type 0) (o : Option ℕ) → ((n : ℕ) → P n → Q n) → IfSome o P → IfSome o Q
+pub weaker : (P Q : ℕ → Type 0) (o : Option ℕ) → ((n : ℕ) → P n → Q n) → IfSome o P → IfSome o Q
 weaker P Q None f h = h
 weaker P Q (Some n) f h = f n h
 
-pub in_cents : (o : Option ℕ) → IfSome o (λ n. n ≤ most_cents) → IfSome o (λ n. n < 2 ^ 64)
-in_cents o h = weaker (λ n. n ≤ most_cents) (λ n. n < 2 ^ 64) o (λ n low. omega (arith, low)) h
+pub in_cents : (o : Option ℕ) → IfSome o (λ n. n ≤ most_cents) → IfSome o (λ n. n < 2 ^ 32)
+in_cents o h = weaker (λ n. n ≤ most_cents) (λ n. n < 2 ^ 32) o (λ n low. omega (arith, low)) h
 
 -- the start is told only with a state
 started : (b : Bool) (n : ℕ) → cond b n (2 ^ 64) ≤ most_cents → (b ≡ true) × (n ≤ most_cents)
@@ -33,7 +33,7 @@ are_terms r h =
       buy_now = weaker (IsWithin _ most_cents) (λ n. n ≤ most_cents) (maybe_number_in (column r 4)) (λ n low. low.1) h.buy_now;
       end = omega (arith, h.end);
       state = begins.0;
-      closed = weaker (λ n. n ≤ last_moment) (λ n. n < 2 ^ 64) (maybe_number_in (column r 7)) (λ n low. omega (arith, low)) h.closed;
+      closed = weaker (λ n. n ≤ last_moment) (λ n. n < 2 ^ 32) (maybe_number_in (column r 7)) (λ n low. omega (arith, low)) h.closed;
       price = h.price;
       leader = weaker (IsWithin 1 most_members) (λ n. n < 2 ^ 32) (maybe_number_in (column r 9)) (λ n low. omega (arith, low.1)) h.leader;
       count = omega (arith, h.count);

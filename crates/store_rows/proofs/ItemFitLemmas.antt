@@ -84,17 +84,17 @@ fit_item it h =
 
 -- ---- and what fits passes
 
-both : (a b : Bool) → a ≡ true → b ≡ true → (a && b) ≡ true
+pub both : (a b : Bool) → a ≡ true → b ≡ true → (a && b) ≡ true
 both true b e f = f
 both false b e f = absurd (true≢false (sym e))
 
-below : (a b : ℕ) → a ≤ b → nat_le a b ≡ true
+pub below : (a b : ℕ) → a ≤ b → nat_le a b ≡ true
 below a b h = grind arith
 
 is_inside : (least most n : ℕ) → IsWithin least most n → is_within least most n ≡ true
 is_inside least most n h = both _ _ (below least n h.0) (below n most h.1)
 
-is_none_or_inside : (least most : ℕ) (o : Option ℕ) → IfSome o (IsWithin least most) → is_none_or_within least most o ≡ true
+pub is_none_or_inside : (least most : ℕ) (o : Option ℕ) → IfSome o (IsWithin least most) → is_none_or_within least most o ≡ true
 is_none_or_inside least most None h = refl
 is_none_or_inside least most (Some n) h = is_inside least most n h
 

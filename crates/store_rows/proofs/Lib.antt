@@ -29,3 +29,4 @@ pub mod ColumnReads
 pub mod ShownRows
 pub mod ItemFitLemmas
 pub mod ItemColumns
+pub mod Small

@@ -20,7 +20,7 @@ use Rattle.house_rows.specs.declared.people.Member.{Member}
 use Rattle.store_rows.specs.Schema.{house_schema, member_table, member_layout}
 use Rattle.store_rows.specs.Rows.{member_of, member_in, members_in}
 use Rattle.store_rows.specs.House.{IsHouse, AddsMember}
-use Rattle.store_rows.proofs.RowLemmas.{is_text, text_if, equals_number, equals_text, first_is, alone}
+use Rattle.store_rows.proofs.RowLemmas.{is_text, text_if, equals_number, equals_text, first_is, alone, small}
 use Rattle.store_rows.proofs.TextLemmas.{text_back}
 use Rattle.store_rows.proofs.Select.{listed, in_order, typed_where, typed_all, by_rowid, equals}
 use Rattle.store_rows.proofs.Wrote.{still_house, map_more}
@@ -44,7 +44,7 @@ are_rows db house =
     one (id ∷ k ∷ v ∷ more) t p = text_if v (first_of_both _ _ (second_of_both _ _ (first_of_both _ _ t))) (first_of_both _ _ p)
 
 module _ (old new : State) (answer : List Row) (house : IsHouse old.now) where
-  pub at_answer : (n : ℕ) → n < 2 ^ 64 → Shown member_at_text (Int (pos n) ∷ []) old new answer → map member_of answer ≡ filter (λ m. m.member == n) (members_in old.now.trees)
+  pub at_answer : (n : ℕ) → n < 2 ^ 32 → Shown member_at_text (Int (pos n) ∷ []) old new answer → map member_of answer ≡ filter (λ m. m.member == n) (members_in old.now.trees)
   at_answer n low h =
       let params = Int (pos n) ∷ [] in
       let table = old.now.trees 2 in
@@ -67,21 +67,22 @@ module _ (old new : State) (answer : List Row) (house : IsHouse old.now) where
       typed_all member_of member_in shown [] table answer (λ r. refl)
       (in_order [] shown [] table answer house.shaped.1.1.0.0 (listed 2 [] shown by_rowid (overlay old.now.trees []) [] answer (read.answer Null)))
 
-  pub first_at : (n : ℕ) → n < 2 ^ 64 → Shown member_at_text (Int (pos n) ∷ []) old new answer → option_map member_of (slice_get answer 0) ≡ find (λ m. m.member == n) (members_in old.now.trees)
+  pub first_at : (n : ℕ) → n < 2 ^ 32 → Shown member_at_text (Int (pos n) ∷ []) old new answer → option_map member_of (slice_get answer 0) ≡ find (λ m. m.member == n) (members_in old.now.trees)
   first_at n low h = first_is member_of (λ (m : Member). m.member == n) answer (members_in old.now.trees) (at_answer n low h)
 
   pub first_named : (name : List ℕ) → IsUtf8 name → Shown member_named_text (Text name ∷ []) old new answer → option_map member_of (slice_get answer 0) ≡ find (λ m. same_text m.name name) (members_in old.now.trees)
   first_named name u h = first_is member_of (λ (m : Member). same_text m.name name) answer (members_in old.now.trees) (named_answer name u h)
 
-pub adds : (old new : State) (number : ℕ) (name : List ℕ) (count : ℕ) → IsUtf8 name → IsHouse old.now → Executes put_member_text (Int (pos number) ∷ Text name ∷ []) old new (Ok count) → AddsMember number name old.now new.now
-adds old new number name count u house h =
+pub adds : (old new : State) (number : ℕ) (name : List ℕ) (count : ℕ) → number < 2 ^ 32 → IsUtf8 name → IsHouse old.now → Executes put_member_text (Int (pos number) ∷ Text name ∷ []) old new (Ok count) → AddsMember number name old.now new.now
+adds old new number name count low u house h =
     let params = Int (pos number) ∷ Text name ∷ [] in
     let rows = old.now.trees 2 in
     let given : Row = Int (pos number) ∷ Null ∷ Text name ∷ [] in
     let w = rw (cast_int (pos number), cast_null) at (puts put_member_text 2 member_layout put_terms 3 params given refl put_is.0 put_is.1 refl old new count house.schema h) in
+    let back : member_in given ≡ record { member = number; name = name } = rw (small number low, text_back name u) refl in
     record {
       house = still_house 2 _ old.now new.now house w (IsShaped-put_row given rows refl house.shaped.1.1.0);
       others = w.others;
-      members = λ over. ap (map member_in) (w.rows_are ∙ put_over member_in (λ (m : Member). m.member) (λ r. refl) given number rows house.shaped.1.1.0 refl over) ∙ map_more member_in rows given
-          ∙ ap (λ n. map member_in rows ++ record { member = number; name = n } ∷ []) (text_back name u);
+      members = λ over. ap (map member_in) (w.rows_are ∙ put_over member_in (λ (m : Member). m.member) (λ r. refl) given number rows house.shaped.1.1.0 refl low over) ∙ map_more member_in rows given
+          ∙ ap (λ m. map member_in rows ++ m ∷ []) back;
     }

@@ -1,5 +1,5 @@
 -- From SQL's comparisons and keys to numbers.
-use Rattle.std.proofs.Common.{◌≡◌, ℕ, ◌^◌, ◌<◌, ◌≤◌, ℤ, pos, negsuc, Bool, true, false, not, ◌&&◌, cond, nat_eq, eqb, List, [], ◌∷◌, ◌++◌, length, map, filter, refl, sym, ap, subst, ◌∙◌, IsPermutation, arith, Less, is_eq, int_cmp, IsTrue, true≢false, IsUtf8}
+use Rattle.std.proofs.Common.{◌≡◌, ℕ, ◌^◌, ◌<◌, ◌≤◌, ℤ, pos, negsuc, Bool, true, false, not, ◌&&◌, cond, nat_eq, nat_lt, eqb, List, [], ◌∷◌, ◌++◌, length, map, filter, refl, sym, ap, subst, ◌∙◌, IsPermutation, arith, Less, is_eq, int_cmp, IsTrue, true≢false, IsUtf8}
 use Rattle.std.specs.List.{AllByRecursion}
 use Rattle.std.proofs.lemmas.Int.{ints}
 use Rattle.std.proofs.lemmas.Grind.{common_steps}
@@ -34,10 +34,36 @@ truth_back : (b : Bool) → is_true (from_truth (Rattle.std.proofs.Common.Some b
 truth_back true = refl
 truth_back false = refl
 
-pub equals_number : (v : Value) (n : ℕ) → is_int v ≡ true → n < 2 ^ 64 → is_true (binary (Compare Eq Binary) v (Int (pos n))) ≡ eqb (number_in v) n
+-- a number of 32 bits is told as it is
+pub small : (n : ℕ) → n < 2 ^ 32 → number_in (Int (pos n)) ≡ n
+small n low = rw (under n low) refl
+  where
+    under : (n : ℕ) → n < 2 ^ 32 → nat_lt n (2 ^ 32) ≡ true
+    under n low = grind arith
+
+-- and one that is told below such a number is below it
+told_below : (m n : ℕ) → n < 2 ^ 32 → number_in (Int (pos m)) < n → m < n
+told_below m n low less = go (nat_lt m (2 ^ 32)) refl less
+  where
+    go : (b : Bool) → nat_lt m (2 ^ 32) ≡ b → cond b m (2 ^ 64) < n → m < n
+    go true e h = h
+    go false e h = absurd (omega (arith, h, low))
+
+-- the test of what is told is the test of the number
+pub told_equal : (m n : ℕ) → n < 2 ^ 32 → eqb (number_in (Int (pos m))) n ≡ eqb m n
+told_equal m n low = go (nat_lt m (2 ^ 32)) refl
+  where
+    go : (b : Bool) → nat_lt m (2 ^ 32) ≡ b → eqb (cond b m (2 ^ 64)) n ≡ eqb m n
+    go true e = refl
+    go false e = grind arith
+
+pub equals_number : (v : Value) (n : ℕ) → is_int v ≡ true → n < 2 ^ 32 → is_true (binary (Compare Eq Binary) v (Int (pos n))) ≡ eqb (number_in v) n
 unfolding binary
 equals_number Null n is low = absurd (true≢false (sym is))
-equals_number (Int (pos m)) n is low = truth_back _ ∙ ap is_eq (value_cmp-Int (pos m) (pos n)) ∙ grind (arith, ints, common_steps)
+equals_number (Int (pos m)) n is low = truth_back _ ∙ ap is_eq (value_cmp-Int (pos m) (pos n)) ∙ same_as m n ∙ sym (told_equal m n low)
+  where
+    same_as : (m n : ℕ) → is_eq (int_cmp (pos m) (pos n)) ≡ eqb m n
+    same_as m n = grind (arith, ints, common_steps)
 equals_number (Int (negsuc m)) n is low = truth_back _ ∙ ap is_eq (value_cmp-Int (negsuc m) (pos n)) ∙ grind (arith, ints, common_steps)
 equals_number (Real x) n is low = absurd (true≢false (sym is))
 equals_number (Text t) n is low = absurd (true≢false (sym is))
@@ -70,36 +96,42 @@ keyed (r ∷ rows) up all = (above r rows all.0 up.0 all.1, keyed rows up.1 all.
     above r [] i up all = tt
     above r (s ∷ rows) i up all = (lower (rowid r) (rowid s) i all.0 up.0, above r rows i up.1 all.1)
 
-pub key_of_number : (v : Value) (n : ℕ) → is_int v ≡ true → n < 2 ^ 64 → eqb (number_in v) n ≡ true → Rattle.std.specs.Ordering.int_eq (id_in v) (pos n) ≡ true
+pub key_of_number : (v : Value) (n : ℕ) → is_int v ≡ true → n < 2 ^ 32 → eqb (number_in v) n ≡ true → Rattle.std.specs.Ordering.int_eq (id_in v) (pos n) ≡ true
 key_of_number Null n is low h = absurd (true≢false (sym is))
-key_of_number (Int (pos m)) n is low h = grind (arith, ints, common_steps)
+key_of_number (Int (pos m)) n is low h = go m n (sym (told_equal m n low) ∙ h)
+  where
+    go : (m n : ℕ) → eqb m n ≡ true → Rattle.std.specs.Ordering.int_eq (pos m) (pos n) ≡ true
+    go m n h = grind (arith, ints, common_steps)
 key_of_number (Int (negsuc m)) n is low h = grind (arith, ints, common_steps)
 key_of_number (Real x) n is low h = absurd (true≢false (sym is))
 key_of_number (Text t) n is low h = absurd (true≢false (sym is))
 key_of_number (Blob b) n is low h = absurd (true≢false (sym is))
 
 -- one row at most has a rowid
-pub one_row : (rows : List Row) (n : ℕ) → IsShaped Table rows → n < 2 ^ 64 → length (filter (λ r. is_int (rowid r) && eqb (number_in (rowid r)) n) rows) ≤ 1
+pub one_row : (rows : List Row) (n : ℕ) → IsShaped Table rows → n < 2 ^ 32 → length (filter (λ r. is_int (rowid r) && eqb (number_in (rowid r)) n) rows) ≤ 1
 one_row rows n shaped low =
     at_most_one row_key (pos n) (λ r. is_int (rowid r) && eqb (number_in (rowid r)) n) (λ r h. key_of_number (rowid r) n (Rattle.sqlite_keyed.proofs.RuleLemmas.first_of_both _ _ h) low (Rattle.sqlite_keyed.proofs.RuleLemmas.second_of_both _ _ h))
     rows (keyed rows shaped.0 shaped.1)
 
-pub other_key : (v : Value) (n : ℕ) → is_int v ≡ true → n < 2 ^ 64 → eqb (number_in v) n ≡ false → Rattle.std.specs.Ordering.int_eq (id_in v) (pos n) ≡ false
+pub other_key : (v : Value) (n : ℕ) → is_int v ≡ true → n < 2 ^ 32 → eqb (number_in v) n ≡ false → Rattle.std.specs.Ordering.int_eq (id_in v) (pos n) ≡ false
 other_key Null n is low h = absurd (true≢false (sym is))
-other_key (Int (pos m)) n is low h = grind (arith, ints, common_steps)
+other_key (Int (pos m)) n is low h = go m n (sym (told_equal m n low) ∙ h)
+  where
+    go : (m n : ℕ) → eqb m n ≡ false → Rattle.std.specs.Ordering.int_eq (pos m) (pos n) ≡ false
+    go m n h = grind (arith, ints, common_steps)
 other_key (Int (negsuc m)) n is low h = grind (arith, ints, common_steps)
 other_key (Real x) n is low h = absurd (true≢false (sym is))
 other_key (Text t) n is low h = absurd (true≢false (sym is))
 other_key (Blob b) n is low h = absurd (true≢false (sym is))
 
 -- a row's number is below n
-pub id_below : (v : Value) (n : ℕ) → is_int v ≡ true → number_in v < n → Rattle.std.specs.Prelude.◌<ℤ◌ (id_in v) (pos n)
-id_below Null n is low = absurd (true≢false (sym is))
-id_below (Int (pos m)) n is low = omega (arith, ints, low)
-id_below (Int (negsuc m)) n is low = omega (arith, ints)
-id_below (Real x) n is low = absurd (true≢false (sym is))
-id_below (Text t) n is low = absurd (true≢false (sym is))
-id_below (Blob b) n is low = absurd (true≢false (sym is))
+pub id_below : (v : Value) (n : ℕ) → is_int v ≡ true → n < 2 ^ 32 → number_in v < n → Rattle.std.specs.Prelude.◌<ℤ◌ (id_in v) (pos n)
+id_below Null n is small low = absurd (true≢false (sym is))
+id_below (Int (pos m)) n is small low = omega (arith, ints, told_below m n small low)
+id_below (Int (negsuc m)) n is small low = omega (arith, ints)
+id_below (Real x) n is small low = absurd (true≢false (sym is))
+id_below (Text t) n is small low = absurd (true≢false (sym is))
+id_below (Blob b) n is small low = absurd (true≢false (sym is))
 
 same_bytes : (s t : List ℕ) → Rattle.std.specs.Ordering.is_eq (Rattle.std.specs.Cmp.Lexicographic.slice_cmp Rattle.std.specs.Ordering.nat_cmp s t) ≡ same_text s t
 same_bytes s t = sym (texts_ties s t)

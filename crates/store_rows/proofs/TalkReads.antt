@@ -73,7 +73,7 @@ module _ (old new : State) (answer : List Row) (house : IsHouse old.now) where
       typed_all feedback_of one_feedback_in talk_shown [] given answer (λ r. refl)
       (in_order [] talk_shown [] given answer house.shaped.1.1.1.1.1.1.1.1.0.0 (listed 14 [] talk_shown by_rowid (overlay old.now.trees []) [] answer (read.answer Null)))
 
-  pub feedback_to_answer : (member : ℕ) → member < 2 ^ 64 → Shown feedback_to_text (Int (pos member) ∷ []) old new answer → map feedback_of answer ≡ filter (λ f. f.to == member) (feedback_in old.now.trees)
+  pub feedback_to_answer : (member : ℕ) → member < 2 ^ 32 → Shown feedback_to_text (Int (pos member) ∷ []) old new answer → map feedback_of answer ≡ filter (λ f. f.to == member) (feedback_in old.now.trees)
   feedback_to_answer member low h =
       let params = Int (pos member) ∷ [] in
       let read = reads_as feedback_to_text params old new house_schema house.schema _ feedback_to_is.0 feedback_to_is.2 feedback_to_is.1 answer h in
@@ -87,7 +87,7 @@ module _ (old new : State) (answer : List Row) (house : IsHouse old.now) where
       typed_all question_of question_in question_shown [] asked answer (λ r. refl)
       (in_order [] question_shown [] asked answer house.shaped.1.1.1.1.1.1.1.0.0 (listed 12 [] question_shown by_rowid (overlay old.now.trees []) [] answer (read.answer Null)))
 
-  pub questions_on_answer : (item : ℕ) → item < 2 ^ 64 → Shown questions_on_text (Int (pos item) ∷ []) old new answer → map question_of answer ≡ filter (λ q. q.item == item) (questions_in old.now.trees)
+  pub questions_on_answer : (item : ℕ) → item < 2 ^ 32 → Shown questions_on_text (Int (pos item) ∷ []) old new answer → map question_of answer ≡ filter (λ q. q.item == item) (questions_in old.now.trees)
   questions_on_answer item low h =
       let params = Int (pos item) ∷ [] in
       let read = reads_as questions_on_text params old new house_schema house.schema _ questions_on_is.0 questions_on_is.2 questions_on_is.1 answer h in
@@ -95,7 +95,7 @@ module _ (old new : State) (answer : List Row) (house : IsHouse old.now) where
       typed_where question_of question_in (λ q. q.item == item) IsTalk (equals 1 ∷ []) question_shown params asked answer (λ r. refl)
       (λ r is. rw (equals_number (column r 1) item is.first low) (alone _)) (are_questions old.now house) order
 
-  pub questions_by_answer : (asker : ℕ) → asker < 2 ^ 64 → Shown questions_by_text (Int (pos asker) ∷ []) old new answer → map question_of answer ≡ filter (λ q. q.asker == asker) (questions_in old.now.trees)
+  pub questions_by_answer : (asker : ℕ) → asker < 2 ^ 32 → Shown questions_by_text (Int (pos asker) ∷ []) old new answer → map question_of answer ≡ filter (λ q. q.asker == asker) (questions_in old.now.trees)
   questions_by_answer asker low h =
       let params = Int (pos asker) ∷ [] in
       let read = reads_as questions_by_text params old new house_schema house.schema _ questions_by_is.0 questions_by_is.2 questions_by_is.1 answer h in
@@ -103,7 +103,7 @@ module _ (old new : State) (answer : List Row) (house : IsHouse old.now) where
       typed_where question_of question_in (λ q. q.asker == asker) IsTalk (equals 2 ∷ []) question_shown params asked answer (λ r. refl)
       (λ r is. rw (equals_number (column r 2) asker is.second low) (alone _)) (are_questions old.now house) order
 
-  pub first_question : (item asker number : ℕ) → item < 2 ^ 64 → asker < 2 ^ 64 → number < 2 ^ 64 → Shown question_at_text (Int (pos item) ∷ Int (pos asker) ∷ Int (pos number) ∷ []) old new answer
+  pub first_question : (item asker number : ℕ) → item < 2 ^ 32 → asker < 2 ^ 32 → number < 2 ^ 32 → Shown question_at_text (Int (pos item) ∷ Int (pos asker) ∷ Int (pos number) ∷ []) old new answer
       → option_map question_of (slice_get answer 0) ≡ find (is_question item asker number) (questions_in old.now.trees)
   first_question item asker number low small less h =
       let params = Int (pos item) ∷ Int (pos asker) ∷ Int (pos number) ∷ [] in

@@ -141,7 +141,7 @@ pub length_mapped : {X Y : Type 0} (f : X → Y) (xs : List X) → length (map f
 length_mapped f [] = refl
 length_mapped f (x ∷ xs) = omega (arith, length_mapped f xs)
 
-pub by_number : (rows : List Row) (n : ℕ) (more : Row) → IsShaped Table rows → n < 2 ^ 64 → filter (passes (equals 0 ∷ []) (Int (pos n) ∷ more)) rows ≡ filter (λ r. is_int (rowid r) && eqb (number_in (rowid r)) n) rows
+pub by_number : (rows : List Row) (n : ℕ) (more : Row) → IsShaped Table rows → n < 2 ^ 32 → filter (passes (equals 0 ∷ []) (Int (pos n) ∷ more)) rows ≡ filter (λ r. is_int (rowid r) && eqb (number_in (rowid r)) n) rows
 by_number rows n more shaped low =
     filter_same_on (λ r. IsTrue (is_int (rowid r))) (passes (equals 0 ∷ []) (Int (pos n) ∷ more)) (λ r. is_int (rowid r) && eqb (number_in (rowid r)) n)
     (λ r is. rw (equals_number (rowid r) n is low, is) (both _)) rows shaped.1
@@ -267,7 +267,7 @@ typed_set_on {T} inside f n set Q (r ∷ rows) int all here other = rw int.0 (go
     go more true e = Rattle.std.proofs.Common.ap₂ ◌∷◌ (here r all.0 e) more
     go more false e = Rattle.std.proofs.Common.ap₂ ◌∷◌ (other r e) more
 
-module _ (layout : Layout) (n : ℕ) (low : n < 2 ^ 64) (set : Row → Row) (same_id : (r : Row) → rowid (set r) ≡ rowid r) (P : Row → Type 0)
+module _ (layout : Layout) (n : ℕ) (low : n < 2 ^ 32) (set : Row → Row) (same_id : (r : Row) → rowid (set r) ≡ rowid r) (P : Row → Type 0)
     (casts : (r : Row) → P r → IsTrue (is_int (rowid r)) → cast_row (table_of layout) (set r) ≡ set r) (db : Trees) (shaped : IsShaped Table (db layout.tree)) (all : AllByRecursion P (db layout.tree)) where
   abbrev rows : List Row
   rows = db layout.tree
@@ -327,7 +327,7 @@ module _ (layout : Layout) (n : ℕ) (low : n < 2 ^ 64) (set : Row → Row) (sam
       ∙ Rattle.sqlite_keyed.proofs.ListLemmas.map_same _ (λ r. rowid r ∷ set r) (λ r. ap (λ l. rowid r ∷ l) (sets r)) _ ∙ ap (map (λ r. rowid r ∷ set r)) kept in
       subst (λ found. IsSet (edited db (edit_with found))) (sym shown) (set_in (filter (is_numbered n) rows) refl (one_row rows n shaped low))
 
-module _ (sql : List ℕ) (at : ℕ) (layout : Layout) (terms : List Term) (n : ℕ) (more : Row) (low : n < 2 ^ 64)
+module _ (sql : List ℕ) (at : ℕ) (layout : Layout) (terms : List Term) (n : ℕ) (more : Row) (low : n < 2 ^ 32)
     (found : slice_get house_schema.tables at ≡ Some (table_of layout)) (alone : (db : Trees) → overlay db [] layout.tree ≡ db layout.tree)
     (is : command_of (understood house_schema sql) ≡ Update at (record { lets = []; body = plain_query layout.tree (equals 0 ∷ []) (col 1 0 ∷ terms) [] }))
     (plain : IsPlain (understood house_schema sql))

@@ -13,9 +13,9 @@ pub record AreTerms (r : Row) : Type 0 where
   pub category : number_in (column r 2) < 2 ^ 32
   pub start : number_in (column r 3) ≤ most_cents
   pub buy_now : IfSome (maybe_number_in (column r 4)) (λ n. n ≤ most_cents)
-  pub end : number_in (column r 5) < 2 ^ 64
+  pub end : number_in (column r 5) < 2 ^ 32
   pub state : is_state (column r 6) ≡ true
-  pub closed : IfSome (maybe_number_in (column r 7)) (λ n. n < 2 ^ 64)
+  pub closed : IfSome (maybe_number_in (column r 7)) (λ n. n < 2 ^ 32)
   pub price : number_in (column r 8) ≤ most_cents
   pub leader : IfSome (maybe_number_in (column r 9)) (λ n. n < 2 ^ 32)
   pub count : number_in (column r 10) < 2 ^ 32

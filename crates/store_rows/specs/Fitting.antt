@@ -46,8 +46,8 @@ pub record BidFits (b : Bid) : Type 0 where
   pub number : IsWithin 1 most_bids b.no
 
 pub record BandRowFits (b : BandRow) : Type 0 where
-  pub from : b.from < 2 ^ 64
-  pub step : b.step < 2 ^ 64
+  pub from : b.from < 2 ^ 32
+  pub step : b.step < 2 ^ 32
 
 -- the only row of the house, of version 1 of the tables
 pub record HouseRowFits (h : HouseRow) : Type 0 where

@@ -1,5 +1,5 @@
 -- The typed rows that the trees hold. A row that does not fit is one with a value outside its type.
-use Rattle.std.specs.Prelude.{ℕ, ◌^◌, ℤ, pos, negsuc, Bool, false, ◌||◌, if◌then◌else◌, List, [], ◌∷◌, map, Option, Some, None}
+use Rattle.std.specs.Prelude.{ℕ, ◌^◌, nat_lt, ℤ, pos, negsuc, Bool, false, ◌||◌, if◌then◌else◌, List, [], ◌∷◌, map, Option, Some, None}
 use Rattle.std.specs.Ordering.{int_eq}
 use Rattle.std.specs.Str.{is_utf8}
 use Rattle.sqlite_value.specs.declared.value.Value.{Value}
@@ -17,9 +17,9 @@ use Rattle.house_rows.specs.declared.talk.Feedback.{Feedback}
 use Rattle.house_rows.specs.Bids.{BidRow}
 use Rattle.house_rows.specs.Watches.{WatchRow}
 
--- a number; what is none is one that no type of ours holds
+-- a number, which has 32 bits; what is none is one that no type of ours holds
 abbrev pub number_in : Value → ℕ
-number_in (Int (pos n)) = n
+number_in (Int (pos n)) = if nat_lt n (2 ^ 32) then n else 2 ^ 64
 number_in _ = 2 ^ 64
 
 -- bytes that are no UTF-8, and fit no field

@@ -8,7 +8,7 @@ ghost use Rattle.store_rows.specs.Fitting.{BandRowFits};
 ghost use Rattle.store_rows.specs.House.{Serves, KeepsCommitted};
 ghost use Rattle.store_rows.specs.Rows.{band_of, bands_in};
 
-use crate::columns::wide_number_at;
+use crate::columns::number_at;
 use crate::statement::rows_shown;
 use crate::stored::{Stored, all_of};
 use house_rows::KeepFault;
@@ -30,9 +30,12 @@ impl Stored for BandRow {
     ghost fits = { BandRowFits };
 
     fn read(row: &Row) -> Result<BandRow, KeepFault> {
-        let from = wide_number_at(row, 0)?;
-        let step = wide_number_at(row, 1)?;
-        Ok(BandRow { from, step })
+        let from = number_at(row, 0)?;
+        let step = number_at(row, 1)?;
+        Ok(BandRow {
+            from: u64::from(from),
+            step: u64::from(step),
+        })
     }
 }
 

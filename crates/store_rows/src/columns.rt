@@ -3,6 +3,7 @@ ghost use Rattle.std.specs.Prelude.{◌≡◌, ◌≢◌, ◌≤◌, ◌<◌, �
 ghost use Rattle.sqlite_value.specs.Order.{column};
 ghost use Rattle.house_rows.specs.Limits.{most_cents};
 ghost use Rattle.house_rows.specs.declared.fault.KeepFault.TheVariants.{Damaged};
+ghost use Rattle.store_rows.specs.Counts.{count_in};
 ghost use Rattle.store_rows.specs.Rows.{maybe_number_in, maybe_text_in, no_text, number_in, text_in};
 
 use cents::Cents;
@@ -30,10 +31,10 @@ pub fn number_at(row: &Row, at: usize) -> Result<u32, KeepFault>
     value_at(row, at)
 }
 
-/// A number of 64 bits.
-pub fn wide_number_at(row: &Row, at: usize) -> Result<u64, KeepFault>
-    ensures value { IfOk result (λ n. n ≡ number_in (column row.now at)) }
-    ensures damaged { number_in (column row.now at) < 2 ^ 64 → ¬ (IsErrOf result Damaged) }
+/// A count.
+pub fn count_at(row: &Row, at: usize) -> Result<u64, KeepFault>
+    ensures value { IfOk result (λ n. n ≡ count_in (column row.now at)) }
+    ensures damaged { count_in (column row.now at) < 2 ^ 64 → ¬ (IsErrOf result Damaged) }
 {
     value_at(row, at)
 }
@@ -46,21 +47,13 @@ pub fn maybe_number_at(row: &Row, at: usize) -> Result<Option<u32>, KeepFault>
     value_at(row, at)
 }
 
-/// A number of 64 bits that may be missing.
-pub fn maybe_wide_number_at(row: &Row, at: usize) -> Result<Option<u64>, KeepFault>
-    ensures value { IfOk result (λ n. n ≡ maybe_number_in (column row.now at)) }
-    ensures damaged { at < length row.now → IfSome (maybe_number_in (column row.now at)) (λ n. n < 2 ^ 64) → ¬ (IsErrOf result Damaged) }
-{
-    value_at(row, at)
-}
-
 /// An amount.
 pub fn cents_at(row: &Row, at: usize) -> Result<Cents, KeepFault>
     ensures value { IfOk result (λ n. n ≡ number_in (column row.now at)) }
     ensures damaged { number_in (column row.now at) ≤ most_cents → ¬ (IsErrOf result Damaged) }
 {
-    let amount = wide_number_at(row, at)?;
-    match Cents::new(amount) {
+    let amount = number_at(row, at)?;
+    match Cents::new(u64::from(amount)) {
         Some(cents) => Ok(cents),
         None => Err(KeepFault::Damaged),
     }
@@ -71,9 +64,9 @@ pub fn maybe_cents_at(row: &Row, at: usize) -> Result<Option<Cents>, KeepFault>
     ensures value { IfOk result (λ n. n ≡ maybe_number_in (column row.now at)) }
     ensures damaged { at < length row.now → IfSome (maybe_number_in (column row.now at)) (λ n. n ≤ most_cents) → ¬ (IsErrOf result Damaged) }
 {
-    match maybe_wide_number_at(row, at) {
+    match maybe_number_at(row, at) {
         Ok(None) => Ok(None),
-        Ok(Some(amount)) => match Cents::new(amount) {
+        Ok(Some(amount)) => match Cents::new(u64::from(amount)) {
             Some(cents) => Ok(Some(cents)),
             None => Err(KeepFault::Damaged),
         },

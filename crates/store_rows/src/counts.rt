@@ -7,18 +7,18 @@ ghost use Rattle.store_rows.specs.House.{Serves, KeepsCommitted};
 ghost use Rattle.store_rows.specs.Rows.{categories_in, members_in};
 ghost use Rattle.store_rows.specs.Counts.{first_number, most_counted};
 
+use crate::columns::count_at;
 use crate::statement::rows_shown;
-use crate::stored::first_of;
 use house_rows::KeepFault;
 use sqlite::{Alter, Connection, Row};
 
-// The number in the only row of a count.
-fn read_count(rows: &[Row]) -> Result<u64, KeepFault>
+/// The number in the only row of a count.
+pub fn read_count(rows: &[Row]) -> Result<u64, KeepFault>
     ensures value { IfOk result (λ n. first_number rows.now ≡ Some n) }
     ensures damaged { (n : ℕ) → first_number rows.now ≡ Some n → n < 2 ^ 64 → ¬ (IsErrOf result Damaged) }
 {
-    match first_of(rows)? {
-        Some(number) => Ok(number),
+    match rows.first() {
+        Some(row) => count_at(row, 0),
         None => Err(KeepFault::Damaged),
     }
 }

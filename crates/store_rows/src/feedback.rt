@@ -28,31 +28,29 @@ fn stored(rating: Rating) -> i64
     }
 }
 
-/// Adds a feedback within a transaction.
+/// Adds a feedback on an item within a transaction.
 pub fn put_feedback<S: Alter>(
     tx: &mut Transaction<'_, S>,
-    given: &Feedback,
+    item: u32,
+    from: u32,
+    to: u32,
+    rating: Rating,
+    text: &str,
 ) -> Result<(), KeepFault>
     requires serves { Serves (state S.Store tx.old.conn.now) }
     requires begun { HasCleanDisk (state S.Store tx.old.conn.now) → IsTrue tx.old.conn.now.in_transaction }
     ensures same_reference { tx.new.conn.ghost_name ≡ tx.old.conn.ghost_name }
-    ensures ok { HasCleanDisk (state S.Store tx.new.conn.now) → OnOk result (AddsFeedback given.now (state S.Store tx.old.conn.now).now (state S.Store tx.new.conn.now).now) }
+    ensures ok { HasCleanDisk (state S.Store tx.new.conn.now) → OnOk result (AddsFeedback (record { item = item; from = from; to = to; rating = rating; text = text.now }) (state S.Store tx.old.conn.now).now (state S.Store tx.new.conn.now).now) }
     ensures sound { ¬ (IsErrOf result Damaged) }
     ensures inside { HasCleanDisk (state S.Store tx.new.conn.now) → OnOk result (IsInside (state S.Store tx.old.conn.now) (state S.Store tx.new.conn.now)) }
     ensures err { HasCleanDisk (state S.Store tx.new.conn.now) → OnErr result (KeepsCommitted (state S.Store tx.old.conn.now) (state S.Store tx.new.conn.now)) }
     ensures crash { Survives (state S.Store tx.old.conn.now) (state S.Store tx.new.conn.now) (λ _. ⊥) }
 {
-    let rating = stored(given.rating);
+    let number = stored(rating);
     run(
         tx,
         "INSERT INTO feedback (item, giver, receiver, rating, body) VALUES (?1, ?2, ?3, ?4, ?5)",
-        params![
-            given.item,
-            given.from,
-            given.to,
-            rating,
-            given.text.as_str()
-        ],
+        params![item, from, to, number, text],
     )
 }
 

@@ -8,7 +8,7 @@ ghost use Rattle.store_rows.specs.Fitting.{HouseRowFits};
 ghost use Rattle.store_rows.specs.House.{Serves, IsInside, KeepsCommitted, SetsClock};
 ghost use Rattle.store_rows.specs.Rows.{house_of, houses_in};
 
-use crate::columns::{number_at, text_at, wide_number_at};
+use crate::columns::{number_at, text_at};
 use crate::fits::house_fits;
 use crate::statement::{rows_shown, run};
 use crate::stored::{Stored, first_of};
@@ -40,14 +40,14 @@ fn told_house(row: &Row) -> Result<HouseRow, KeepFault>
 {
     let id = number_at(row, 0)?;
     let version = number_at(row, 1)?;
-    let clock = wide_number_at(row, 2)?;
-    let rate = wide_number_at(row, 3)?;
+    let clock = number_at(row, 2)?;
+    let rate = number_at(row, 3)?;
     let zone = text_at(row, 4)?;
     Ok(HouseRow {
         id,
         version,
-        clock,
-        rate,
+        clock: u64::from(clock),
+        rate: u64::from(rate),
         zone,
     })
 }

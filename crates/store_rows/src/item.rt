@@ -6,11 +6,8 @@ ghost use Rattle.house_rows.specs.declared.fault.KeepFault.TheVariants.{Damaged}
 ghost use Rattle.store_rows.specs.Columns.{AreTerms, HasTexts};
 ghost use Rattle.store_rows.specs.ItemRows.{is_state, item_of, state_in, terms_of};
 
-use crate::columns::{
-    cents_at, maybe_cents_at, maybe_number_at, maybe_wide_number_at, number_at, text_at,
-    wide_number_at,
-};
-use crate::item_fits::{item_fits, terms_fit};
+use crate::columns::{cents_at, maybe_cents_at, maybe_number_at, number_at, text_at};
+use crate::item_fits::{item_fits, terms_fit, widened};
 use crate::stored::Stored;
 use house_rows::{Item, KeepFault, State, Terms};
 use sqlite::Row;
@@ -42,9 +39,9 @@ fn told_terms(row: &Row) -> Result<Terms, KeepFault>
         category: number_at(row, 2)?,
         start: cents_at(row, 3)?,
         buy_now: maybe_cents_at(row, 4)?,
-        end: wide_number_at(row, 5)?,
+        end: u64::from(number_at(row, 5)?),
         state: state_at(row, 6)?,
-        closed: maybe_wide_number_at(row, 7)?,
+        closed: widened(maybe_number_at(row, 7)?),
         price: cents_at(row, 8)?,
         leader: maybe_number_at(row, 9)?,
         count: number_at(row, 10)?,

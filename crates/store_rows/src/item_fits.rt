@@ -54,7 +54,7 @@ fn is_apart(leader: Option<u32>, seller: u32) -> bool
 }
 
 // A number that may be missing, wider.
-fn widened(number: Option<u32>) -> Option<u64>
+pub(crate) fn widened(number: Option<u32>) -> Option<u64>
     ensures { result ≡ number }
 {
     match number {

@@ -33,10 +33,10 @@ pub use band::{BandRow, all_bands};
 pub use bid::{bids_by, put_bid};
 pub use category::{all_categories, category_at, category_named, put_category};
 pub use columns::{
-    cents_at, maybe_cents_at, maybe_number_at, maybe_text_at, maybe_wide_number_at, number_at,
-    text_at, value_at, wide_number_at,
+    cents_at, count_at, maybe_cents_at, maybe_number_at, maybe_text_at, number_at, text_at,
+    value_at,
 };
-pub use counts::{count_categories, count_items, count_members};
+pub use counts::{count_categories, count_items, count_members, read_count};
 pub use feedback::{all_feedback, feedback_to, put_feedback};
 pub use house::{HouseRow, house_row, set_clock};
 pub use member::{all_members, member_at, member_named, put_member};

@@ -13,7 +13,7 @@ use crate::columns::{number_at, text_at};
 use crate::fits::member_fits;
 use crate::statement::{rows_shown, run};
 use crate::stored::{Stored, all_of, first_of};
-use house_rows::{KeepFault, Member, Text};
+use house_rows::{KeepFault, Member};
 use sqlite::{Alter, Connection, Row, Transaction, params};
 use std::alloc::Global;
 
@@ -46,7 +46,7 @@ impl Stored for Member {
 pub fn put_member<S: Alter>(
     tx: &mut Transaction<'_, S>,
     number: u32,
-    name: &Text,
+    name: &str,
 ) -> Result<(), KeepFault>
     requires serves { Serves (state S.Store tx.old.conn.now) }
     requires begun { HasCleanDisk (state S.Store tx.old.conn.now) → IsTrue tx.old.conn.now.in_transaction }
@@ -60,7 +60,7 @@ pub fn put_member<S: Alter>(
     run(
         tx,
         "INSERT INTO member (id, name) VALUES (?1, ?2)",
-        params![number, name.as_str()],
+        params![number, name],
     )
 }
 
@@ -89,7 +89,7 @@ pub fn member_at<S: Alter>(
 /// The member with a name.
 pub fn member_named<S: Alter>(
     conn: &mut Connection<S>,
-    name: &Text,
+    name: &str,
 ) -> Result<Option<Member>, KeepFault>
     requires { Serves (state S.Store conn.old) }
     ensures found { HasCleanDisk (state S.Store conn.new) → IfOk result (λ found. found ≡ find (λ m. same_text m.name name.now) (members_in (state S.Store conn.old).now.trees)) }
@@ -103,7 +103,7 @@ pub fn member_named<S: Alter>(
     let rows = rows_shown(
         conn,
         "SELECT id, name FROM member WHERE name = ?1 ORDER BY id",
-        params![name.as_str()],
+        params![name],
     )?;
     first_of(&rows)
 }

@@ -14,7 +14,7 @@ use crate::columns::{maybe_text_at, number_at, text_at};
 use crate::fits::question_fits;
 use crate::statement::{rows_shown, run};
 use crate::stored::{Stored, all_of, first_of};
-use house_rows::{KeepFault, Question, Text};
+use house_rows::{KeepFault, Question};
 use sqlite::{Alter, Connection, Row, Transaction, params};
 use std::alloc::Global;
 
@@ -24,7 +24,7 @@ pub fn put_question<S: Alter>(
     item: u32,
     asker: u32,
     number: u32,
-    text: &Text,
+    text: &str,
 ) -> Result<(), KeepFault>
     requires serves { Serves (state S.Store tx.old.conn.now) }
     requires begun { HasCleanDisk (state S.Store tx.old.conn.now) → IsTrue tx.old.conn.now.in_transaction }
@@ -38,7 +38,7 @@ pub fn put_question<S: Alter>(
     run(
         tx,
         "INSERT INTO question (item, asker, n, body, answer) VALUES (?1, ?2, ?3, ?4, NULL)",
-        params![item, asker, number, text.as_str()],
+        params![item, asker, number, text],
     )
 }
 

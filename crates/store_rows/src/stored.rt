@@ -5,7 +5,7 @@ ghost use Rattle.sqlite_value.specs.Order.{Row as Columns, column};
 ghost use Rattle.house_rows.specs.declared.fault.KeepFault.TheVariants.{Damaged};
 ghost use Rattle.store_rows.specs.Rows.{number_in};
 
-use crate::columns::{number_at, wide_number_at};
+use crate::columns::number_at;
 use house_rows::KeepFault;
 use sqlite::Row;
 use std::alloc::Global;
@@ -33,17 +33,6 @@ impl Stored for u32 {
 
     fn read(row: &Row) -> Result<u32, KeepFault> {
         number_at(row, 0)
-    }
-}
-
-// One of 64 bits.
-impl Stored for u64 {
-    ghost told = { λ r. number_in (column r 0) };
-
-    ghost fits = { λ n. n < 2 ^ 64 };
-
-    fn read(row: &Row) -> Result<u64, KeepFault> {
-        wide_number_at(row, 0)
     }
 }
 

@@ -1,7 +1,7 @@
-use Rattle.std.proofs.Common.{subst, IsUtf8}
+use Rattle.std.proofs.Common.{subst, IsUtf8, arith}
 use Rattle.store_rows.proofs.StateLemmas.{ok_then}
 use Rattle.store_items.proofs.MaybeLemmas.{bound_maybe}
-use Rattle.store_items.proofs.ItemLemmas.{adds_item}
+use Rattle.store_items.proofs.ItemLemmas.{IsOffer, adds_item}
 use Rattle.store_items.proofs.item.put_item.Goals as goal
 
 pub returns-clause-ok : goal.returns-clause-ok
@@ -11,6 +11,14 @@ returns-clause-ok g c clean bands =
     let lot = subst IsUtf8 c.stored_text-lot.ensures c.stored_text-lot.utf8 in
     let title = subst IsUtf8 c.stored_text-title.ensures c.stored_text-title.utf8 in
     let text = subst IsUtf8 c.stored_text-text.ensures c.stored_text-text.utf8 in
+    let low : IsOffer c.args.number offer.seller offer.category offer.start offer.buy_now offer.end = record {
+      number_low = omega (arith, c.ranges.number);
+      seller_low = c.stored_number-seller.ensures.small;
+      category_low = c.stored_number-category.ensures.small;
+      start_low = c.stored-start.ensures.small;
+      buy_now_low = c.stored_maybe-buy_now.ensures.small;
+      end_low = c.stored_number-end.ensures.small;
+    } in
     ok_then c.run.result (rw (
       c.params-to_sql.ensures,
       c.params-to_sql-2.ensures,
@@ -24,8 +32,11 @@ returns-clause-ok g c clean bands =
       c.stored_text-lot.ensures,
       c.stored_text-title.ensures,
       c.stored_text-text.ensures,
-      c.stored-start.ensures,
-      c.stored_maybe-buy_now.ensures,
+      c.stored_number-seller.ensures.value,
+      c.stored_number-category.ensures.value,
+      c.stored_number-end.ensures.value,
+      c.stored-start.ensures.value,
+      c.stored_maybe-buy_now.ensures.value,
       bound_maybe offer.buy_now,
     ) at (c.run.ensures.ran clean))
-    (λ _ ran. adds_item _ _ c.args.number offer.seller offer.category offer.lot.now offer.title.now offer.text.now offer.start offer.buy_now offer.end ran.0 bands lot title text house ran.1)
+    (λ _ ran. adds_item _ _ c.args.number offer.seller offer.category offer.lot.now offer.title.now offer.text.now offer.start offer.buy_now offer.end ran.0 bands low lot title text house ran.1)

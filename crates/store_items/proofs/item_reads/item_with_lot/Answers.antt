@@ -15,7 +15,7 @@ rows_shown-requires-clause-plain g c = with_lot_is.2
 
 pub returns-clause-found : goal.returns-clause-found
 returns-clause-found g c clean =
-    let low : c.args.seller < 2 ^ 64 = omega (arith, c.ranges.seller) in
+    let low : c.args.seller < 2 ^ 32 = omega (arith, c.ranges.seller) in
     let shown = rw (c.params-to_sql.ensures, c.params-to_sql-2.ensures) at (c.in_ok-rows.ensures.rows clean) in
     let same : c.deref.result.now ≡ c.in_ok-rows.rows.items = search rules in
     let found = first_with_lot (state g.S.Store c.args.conn.now) (state g.S.Store c.rows_shown.new.conn) c.in_ok-rows.rows.items (c.rows_shown.ensures.house clean) c.args.seller c.args.lot.now c.utf8.lot low shown in
@@ -26,7 +26,7 @@ small row h = omega (arith, h.terms.item.1)
 
 pub returns-clause-damaged : goal.returns-clause-damaged
 returns-clause-damaged g c clean fits =
-    let low : c.args.seller < 2 ^ 64 = omega (arith, c.ranges.seller) in
+    let low : c.args.seller < 2 ^ 32 = omega (arith, c.ranges.seller) in
     let shown = rw (c.params-to_sql.ensures, c.params-to_sql-2.ensures) at (c.in_ok-rows.ensures.rows clean) in
     let same : c.deref.result.now ≡ c.in_ok-rows.rows.items = search rules in
     let found = first_with_lot (state g.S.Store c.args.conn.now) (state g.S.Store c.rows_shown.new.conn) c.in_ok-rows.rows.items (c.rows_shown.ensures.house clean) c.args.seller c.args.lot.now c.utf8.lot low shown in

@@ -16,7 +16,7 @@ rows_shown-requires-clause-plain g c = items_in_category_is.2
 
 pub returns-clause-items : goal.returns-clause-items
 returns-clause-items g c clean =
-    let low : c.args.category < 2 ^ 64 = omega (arith, c.ranges.category) in
+    let low : c.args.category < 2 ^ 32 = omega (arith, c.ranges.category) in
     let shown = rw c.params-to_sql.ensures at (c.in_ok-rows.ensures.rows clean) in
     let same : c.deref.result.now ≡ c.in_ok-rows.rows.items = search rules in
     let found = items_in_category_answer (state g.S.Store c.args.conn.now) (state g.S.Store c.rows_shown.new.conn) c.in_ok-rows.rows.items (c.rows_shown.ensures.house clean) c.args.category low shown in
@@ -24,7 +24,7 @@ returns-clause-items g c clean =
 
 pub returns-clause-damaged : goal.returns-clause-damaged
 returns-clause-damaged g c clean fits =
-    let low : c.args.category < 2 ^ 64 = omega (arith, c.ranges.category) in
+    let low : c.args.category < 2 ^ 32 = omega (arith, c.ranges.category) in
     let shown = rw c.params-to_sql.ensures at (c.in_ok-rows.ensures.rows clean) in
     let same : c.deref.result.now ≡ c.in_ok-rows.rows.items = search rules in
     let found = items_in_category_answer (state g.S.Store c.args.conn.now) (state g.S.Store c.rows_shown.new.conn) c.in_ok-rows.rows.items (c.rows_shown.ensures.house clean) c.args.category low shown in

@@ -1,9 +1,11 @@
-use Rattle.std.proofs.Common.{◌≡◌, ◌<◌, ◌^◌, ◌∙◌, ap, arith, rules, slice_get, option_map}
+use Rattle.std.proofs.Common.{◌≡◌, ◌<◌, ◌^◌, ◌∙◌, ap, arith, rules, slice_get, option_map, subst, sym, IfSome}
 use Rattle.sqlite.specs.Held.{state}
 use Rattle.store_rows.specs.ItemRows.{kept_of}
 use Rattle.store_rows.proofs.StateLemmas.{ok_then}
 use Rattle.store_items.proofs.ItemMeaning.{standing_at_is}
+use Rattle.store_items.specs.Columns.{AreStanding}
 use Rattle.store_items.proofs.ItemLemmas.{first_standing}
+use Rattle.store_items.proofs.StandingLemmas.{standing_fits}
 use Rattle.store_items.proofs.item_reads.standing_at.Goals as goal
 
 pub rows_shown-requires-clause-plain : goal.rows_shown-requires-clause-plain
@@ -11,8 +13,15 @@ rows_shown-requires-clause-plain g c = standing_at_is.2
 
 pub returns-clause-found : goal.returns-clause-found
 returns-clause-found g c clean =
-    let low : c.args.number < 2 ^ 64 = omega (arith, c.ranges.number) in
+    let low : c.args.number < 2 ^ 32 = omega (arith, c.ranges.number) in
     let shown = rw c.params-to_sql.ensures at (c.in_ok-rows.ensures.rows clean) in
     let same : c.deref.result.now ≡ c.in_ok-rows.rows.items = search rules in
     let found = first_standing (state g.S.Store c.args.conn.now) (state g.S.Store c.rows_shown.new.conn) c.in_ok-rows.rows.items (c.rows_shown.ensures.house clean) c.args.number low shown in
     ok_then c.first_standing.result c.first_standing.ensures.value (λ _ e. e ∙ ap (λ l. option_map kept_of (slice_get l 0)) same ∙ found)
+
+pub returns-clause-damaged : goal.returns-clause-damaged
+returns-clause-damaged g c clean fits =
+    let shown = rw c.params-to_sql.ensures at (c.in_ok-rows.ensures.rows clean) in
+    let same : c.deref.result.now ≡ c.in_ok-rows.rows.items = search rules in
+    let fit = standing_fits (state g.S.Store c.args.conn.now) (state g.S.Store c.rows_shown.new.conn) c.in_ok-rows.rows.items (c.rows_shown.ensures.house clean) c.args.number c.args.bands.now shown fits in
+    c.first_standing.ensures.damaged (subst (λ l. IfSome (slice_get l 0) (AreStanding c.args.bands.now)) (sym same) fit)

@@ -17,8 +17,8 @@ rows_shown-requires-clause-plain g c = bids_by_is.2
 
 pub returns-clause-bids : goal.returns-clause-bids
 returns-clause-bids g c clean =
-    let low : c.args.member < 2 ^ 64 = omega (arith, c.ranges.member) in
-    let small : c.args.item < 2 ^ 64 = omega (arith, c.ranges.item) in
+    let low : c.args.member < 2 ^ 32 = omega (arith, c.ranges.member) in
+    let small : c.args.item < 2 ^ 32 = omega (arith, c.ranges.item) in
     let items = c.in_ok-rows.rows.items in
     let shown = rw (c.params-to_sql.ensures, c.params-to_sql-2.ensures) at (c.in_ok-rows.ensures.rows clean) in
     let same : c.deref.result.now ≡ items = search rules in
@@ -30,8 +30,8 @@ fits_alone b h = record { member = h.member; maximum = h.maximum; number = h.num
 
 pub returns-clause-damaged : goal.returns-clause-damaged
 returns-clause-damaged g c clean fits =
-    let low : c.args.member < 2 ^ 64 = omega (arith, c.ranges.member) in
-    let small : c.args.item < 2 ^ 64 = omega (arith, c.ranges.item) in
+    let low : c.args.member < 2 ^ 32 = omega (arith, c.ranges.member) in
+    let small : c.args.item < 2 ^ 32 = omega (arith, c.ranges.item) in
     let items = c.in_ok-rows.rows.items in
     let shown = rw (c.params-to_sql.ensures, c.params-to_sql-2.ensures) at (c.in_ok-rows.ensures.rows clean) in
     let same : c.deref.result.now ≡ items = search rules in

@@ -1,4 +1,4 @@
-use Rattle.std.proofs.Common.{◌≡◌, rules, refl, subst, IsUtf8}
+use Rattle.std.proofs.Common.{◌≡◌, rules, refl, arith}
 use mir.Val.{to_z, of_z}
 use mir.Syntax.{w64}
 use Rattle.house_rows.specs.declared.rating.Rating.{Rating}
@@ -17,7 +17,6 @@ kept Plus = refl
 pub returns-clause-ok : goal.returns-clause-ok
 returns-clause-ok g c clean =
     let house = c.run.ensures.house clean in
-    let text : c.as_str.result.now ≡ c.args.given.now.text = search rules in
-    let rating : c.stored-rating.result ≡ stored_rating c.args.given.now.rating = search rules in
-    ok_then c.run.result (rw (c.params-to_sql.ensures, c.params-to_sql-2.ensures, c.params-to_sql-3.ensures, c.params-to_sql-4.ensures, c.params-to_sql-5.ensures, text, rating, kept c.args.given.now.rating) at (c.run.ensures.ran clean))
-    (λ _ ran. adds_feedback _ _ c.args.given.now ran.0 (subst IsUtf8 text c.as_str.utf8) house ran.1)
+    let rating : c.stored-number.result ≡ stored_rating c.args.rating = search rules in
+    ok_then c.run.result (rw (c.params-to_sql.ensures, c.params-to_sql-2.ensures, c.params-to_sql-3.ensures, c.params-to_sql-4.ensures, c.params-to_sql-5.ensures, rating, kept c.args.rating) at (c.run.ensures.ran clean))
+    (λ _ ran. adds_feedback _ _ (record { item = c.args.item; from = c.args.from; to = c.args.to; rating = c.args.rating; text = c.args.text.now }) ran.0 (omega (arith, c.ranges.item)) (omega (arith, c.ranges.from)) (omega (arith, c.ranges.to)) c.utf8.text house ran.1)

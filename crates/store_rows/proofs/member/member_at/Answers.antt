@@ -13,7 +13,7 @@ rows_shown-requires-clause-plain g c = at_is.2
 
 pub returns-clause-found : goal.returns-clause-found
 returns-clause-found g c clean =
-    let low : c.args.number < 2 ^ 64 = omega (arith, c.ranges.number) in
+    let low : c.args.number < 2 ^ 32 = omega (arith, c.ranges.number) in
     let shown = rw c.params-to_sql.ensures at (c.in_ok-rows.ensures.rows clean) in
     let same : c.deref.result.now ≡ c.in_ok-rows.rows.items = search rules in
     let found = first_at (state g.S.Store c.args.conn.now) (state g.S.Store c.rows_shown.new.conn) c.in_ok-rows.rows.items (c.rows_shown.ensures.house clean) c.args.number low shown in
@@ -21,7 +21,7 @@ returns-clause-found g c clean =
 
 pub returns-clause-damaged : goal.returns-clause-damaged
 returns-clause-damaged g c clean fits =
-    let low : c.args.number < 2 ^ 64 = omega (arith, c.ranges.number) in
+    let low : c.args.number < 2 ^ 32 = omega (arith, c.ranges.number) in
     let shown = rw c.params-to_sql.ensures at (c.in_ok-rows.ensures.rows clean) in
     let same : c.deref.result.now ≡ c.in_ok-rows.rows.items = search rules in
     let found = first_at (state g.S.Store c.args.conn.now) (state g.S.Store c.rows_shown.new.conn) c.in_ok-rows.rows.items (c.rows_shown.ensures.house clean) c.args.number low shown in

@@ -1,4 +1,4 @@
-use Rattle.std.proofs.Common.{subst, IsUtf8}
+use Rattle.std.proofs.Common.{arith}
 use Rattle.store_rows.proofs.StateLemmas.{ok_then}
 use Rattle.store_rows.proofs.TalkLemmas.{adds_question}
 use Rattle.store_rows.proofs.question.put_question.Goals as goal
@@ -6,5 +6,5 @@ use Rattle.store_rows.proofs.question.put_question.Goals as goal
 pub returns-clause-ok : goal.returns-clause-ok
 returns-clause-ok g c clean =
     let house = c.run.ensures.house clean in
-    ok_then c.run.result (rw (c.params-to_sql.ensures, c.params-to_sql-2.ensures, c.params-to_sql-3.ensures, c.params-to_sql-4.ensures, c.as_str.ensures) at (c.run.ensures.ran clean))
-    (λ _ ran. adds_question _ _ c.args.item c.args.asker c.args.number c.args.text.now ran.0 (subst IsUtf8 c.as_str.ensures c.as_str.utf8) house ran.1)
+    ok_then c.run.result (rw (c.params-to_sql.ensures, c.params-to_sql-2.ensures, c.params-to_sql-3.ensures, c.params-to_sql-4.ensures) at (c.run.ensures.ran clean))
+    (λ _ ran. adds_question _ _ c.args.item c.args.asker c.args.number c.args.text.now ran.0 (omega (arith, c.ranges.item)) (omega (arith, c.ranges.asker)) (omega (arith, c.ranges.number)) c.utf8.text house ran.1)

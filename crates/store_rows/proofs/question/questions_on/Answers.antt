@@ -13,14 +13,14 @@ rows_shown-requires-clause-plain g c = questions_on_is.2
 
 pub returns-clause-asked : goal.returns-clause-asked
 returns-clause-asked g c clean =
-    let low : c.args.item < 2 ^ 64 = omega (arith, c.ranges.item) in
+    let low : c.args.item < 2 ^ 32 = omega (arith, c.ranges.item) in
     let same : c.deref.result.now ≡ c.in_ok-rows.rows.items = search rules in
     let found = questions_on_answer (state g.S.Store c.args.conn.now) (state g.S.Store c.rows_shown.new.conn) c.in_ok-rows.rows.items (c.rows_shown.ensures.house clean) c.args.item low (rw c.params-to_sql.ensures at (c.in_ok-rows.ensures.rows clean)) in
     ok_then c.all_of.result c.all_of.ensures.value (λ _ e. e ∙ ap (map question_of) same ∙ found)
 
 pub returns-clause-damaged : goal.returns-clause-damaged
 returns-clause-damaged g c clean fits =
-    let low : c.args.item < 2 ^ 64 = omega (arith, c.ranges.item) in
+    let low : c.args.item < 2 ^ 32 = omega (arith, c.ranges.item) in
     let same : c.deref.result.now ≡ c.in_ok-rows.rows.items = search rules in
     let found = questions_on_answer (state g.S.Store c.args.conn.now) (state g.S.Store c.rows_shown.new.conn) c.in_ok-rows.rows.items (c.rows_shown.ensures.house clean) c.args.item low (rw c.params-to_sql.ensures at (c.in_ok-rows.ensures.rows clean)) in
     c.all_of.ensures.damaged (rows_fit question_of QuestionFits c.deref.result.now _ _ (ap (map question_of) same ∙ found) fits)

@@ -17,7 +17,7 @@ rows_shown-requires-clause-plain g c = watched_is.2
 
 pub returns-clause-items : goal.returns-clause-items
 returns-clause-items g c clean =
-    let low : c.args.member < 2 ^ 64 = omega (arith, c.ranges.member) in
+    let low : c.args.member < 2 ^ 32 = omega (arith, c.ranges.member) in
     let items = c.in_ok-rows.rows.items in
     let shown = rw c.params-to_sql.ensures at (c.in_ok-rows.ensures.rows clean) in
     let same : c.deref.result.now ≡ items = search rules in
@@ -29,7 +29,7 @@ small w h = omega (arith, h.item.1)
 
 pub returns-clause-damaged : goal.returns-clause-damaged
 returns-clause-damaged g c clean fits =
-    let low : c.args.member < 2 ^ 64 = omega (arith, c.ranges.member) in
+    let low : c.args.member < 2 ^ 32 = omega (arith, c.ranges.member) in
     let items = c.in_ok-rows.rows.items in
     let shown = rw c.params-to_sql.ensures at (c.in_ok-rows.ensures.rows clean) in
     let same : c.deref.result.now ≡ items = search rules in

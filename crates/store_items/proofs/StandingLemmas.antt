@@ -1,0 +1,94 @@
+-- What the columns of an item whose row fits tell of its standing.
+use Rattle.std.proofs.Common.{◌≡◌, ◌≤◌, ◌<◌, ◌^◌, ◌∙◌, ℕ, pos, true, nat_le, List, [], ◌∷◌, filter, slice_get, Option, Some, None, IfSome, refl, sym, ap, subst, arith, true≢false}
+use Rattle.std.specs.List.{AllByRecursion}
+use Rattle.sqlite_value.specs.declared.value.Value.TheVariants.{Null, Int}
+use Rattle.sqlite_value.specs.Order.{Row, column}
+use Rattle.sqlite_sql.specs.Program.{overlay}
+use Rattle.sqlite_keyed.proofs.ListLemmas.{all-filter, all_map, all_unmap, all_weaker}
+use Rattle.sqlite_keyed.proofs.RuleLemmas.{first_of_both, second_of_both}
+use Rattle.sqlite.specs.State.{State, Shown}
+use Rattle.sqlite.proofs.Callers.{reads_as}
+use Rattle.proxy.specs.Rows.{is_standing}
+use Rattle.proxy.proofs.Shapes.{accepted_shape}
+use Rattle.house_rows.specs.Fits.{IsWithin}
+use Rattle.house_rows.specs.Keeping.{ItemRowFits}
+use Rattle.house_rows.specs.Limits.{most_bids, most_cents, most_members}
+use Rattle.store_rows.specs.Schema.{house_schema}
+use Rattle.store_rows.specs.Rows.{maybe_number_in, number_in}
+use Rattle.store_rows.specs.ItemRows.{item_row_in, items_in, kept_columns, kept_from}
+use Rattle.store_rows.specs.House.{IsHouse}
+use Rattle.store_rows.specs.Plain.{passes, shown_by}
+use Rattle.store_rows.proofs.ItemColumns.{weaker}
+use Rattle.store_rows.proofs.ItemFitLemmas.{at_most}
+use Rattle.store_rows.proofs.Select.{by_rowid, equals, in_order, listed}
+use Rattle.store_items.specs.Columns.{AreStanding}
+use Rattle.store_items.proofs.ItemMeaning.{standing_at_is, standing_at_text, standing_shown}
+use Rattle.store_items.proofs.ItemLemmas.{kept_start}
+
+-- top and second are amounts, where the top that is told is one
+amounts : (bands : List (ℕ × ℕ)) (start at : ℕ) (led top next : Option ℕ) (count : ℕ) → is_standing bands (kept_from start at led top next count) ≡ true
+    → IfSome (kept_from start at led top next count).top (λ n. n ≤ most_cents) → IfSome top (λ n. n ≤ most_cents) × IfSome next (λ n. n ≤ most_cents)
+amounts bands start at None None None count h low = (tt, tt)
+amounts bands start at None None (Some s) count h low = absurd (true≢false (sym h))
+amounts bands start at None (Some t) None count h low = absurd (true≢false (sym h))
+amounts bands start at None (Some t) (Some s) count h low = absurd (true≢false (sym h))
+amounts bands start at (Some l) None None count h low = (tt, tt)
+amounts bands start at (Some l) None (Some s) count h low = absurd (true≢false (sym h))
+amounts bands start at (Some l) (Some t) None count h low = (low, tt)
+amounts bands start at (Some l) (Some t) (Some s) count h low =
+    let shape = second_of_both (nat_le start s) _ (second_of_both (nat_le count 10000) _ (second_of_both (nat_le 2 count) _ h)) in
+    let below = at_most s t (first_of_both (nat_le s t) _ shape) in
+    (low, omega (arith, low, below))
+
+-- who leads by the bids is who leads
+leads : (P : ℕ → Type 0) (start at : ℕ) (led top next : Option ℕ) (count : ℕ) → IfSome led P → IfSome (kept_from start at led top next count).leader P
+leads P start at None top next count h = h
+leads P start at (Some l) None next count h = tt
+leads P start at (Some l) (Some t) next count h = h
+
+counts : (start at : ℕ) (led top next : Option ℕ) (count : ℕ) → (kept_from start at led top next count).count ≡ count
+counts start at None top next count = refl
+counts start at (Some l) None next count = refl
+counts start at (Some l) (Some t) next count = refl
+
+pub are_standing : (bands : List (ℕ × ℕ)) (r : Row) → ItemRowFits bands (item_row_in r) → AreStanding bands (kept_columns r)
+are_standing bands r h =
+    let start = number_in (column r 7) in
+    let at = number_in (column r 12) in
+    let led = maybe_number_in (column r 13) in
+    let top = maybe_number_in (column r 14) in
+    let next = maybe_number_in (column r 15) in
+    let count = number_in (column r 16) in
+    let begins : start ≡ (item_row_in r).item.terms.start = sym (kept_start start at led top next count) ∙ ap (λ k. k.start) h.stands in
+    let stands = subst (λ k. is_standing bands k ≡ true) (sym h.stands) (accepted_shape bands _ h.bids h.accepted h.few) in
+    let both = amounts bands start at led top next count stands h.top in
+    record {
+      wide = omega arith;
+      start = subst (λ n. n ≤ most_cents) (sym begins) h.item.terms.start.1;
+      price = h.item.terms.price;
+      leader = weaker (IsWithin 1 most_members) (λ n. n < 2 ^ 32) led (λ n low. omega (arith, low.1)) h.item.terms.leader;
+      top = both.0;
+      second = both.1;
+      count = omega (arith, h.item.terms.count);
+      stands = stands;
+      fits = record {
+        leader = leads (IsWithin 1 most_members) start at led top next count h.item.terms.leader;
+        count = subst (λ n. n ≤ most_bids) (sym (counts start at led top next count)) h.item.terms.count;
+      };
+    }
+
+first : {A : Type 0} (P : A → Type 0) (xs : List A) → AllByRecursion P xs → IfSome (slice_get xs 0) P
+first P [] all = tt
+first P (x ∷ xs) all = all.0
+
+pub standing_fits : (old new : State) (answer : List Row) → IsHouse old.now → (n : ℕ) (bands : List (ℕ × ℕ)) → Shown standing_at_text (Int (pos n) ∷ []) old new answer → AllByRecursion (ItemRowFits bands) (items_in old.now.trees)
+    → IfSome (slice_get answer 0) (AreStanding bands)
+standing_fits old new answer house n bands h fit =
+    let params = Int (pos n) ∷ [] in
+    let rows = old.now.trees 6 in
+    let test = equals 0 ∷ [] in
+    let read = reads_as standing_at_text params old new house_schema house.schema _ standing_at_is.0 standing_at_is.2 standing_at_is.1 answer h in
+    let order = in_order test standing_shown params rows answer house.shaped.1.1.1.1.0.0 (listed 6 test standing_shown by_rowid (overlay old.now.trees []) params answer (read.answer Null)) in
+    let each = all_weaker _ (λ r. AreStanding bands (kept_columns r)) (are_standing bands) rows (all_unmap (ItemRowFits bands) item_row_in rows fit) in
+    let kept = all-filter (λ r. AreStanding bands (kept_columns r)) (passes test params) rows each in
+    first (AreStanding bands) answer (subst (AllByRecursion (AreStanding bands)) (sym order) (all_map (AreStanding bands) (shown_by standing_shown params) (filter (passes test params) rows) kept))

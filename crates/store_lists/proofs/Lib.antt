@@ -1,0 +1,15 @@
+pub mod Both
+pub mod Sorting
+pub mod ByKey
+pub mod Apart
+pub mod Shown
+pub mod Tested
+pub mod QuestionMeaning
+pub mod QuestionLists
+pub mod PairKeys
+pub mod FeedbackLists
+pub mod WatchLists
+pub mod BidLists
+pub mod SortedTables
+pub mod Grouped
+pub mod Small
