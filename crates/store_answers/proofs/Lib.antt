@@ -1,0 +1,9 @@
+pub mod Counted
+pub mod ItemRising
+pub mod Joined
+pub mod OwnBidItems
+pub mod PartySales
+pub mod Sound
+pub mod Steps
+pub mod WaitingItems
+pub mod WatchedItems

@@ -1,0 +1,46 @@
+-- What reads, one after the other, leave.
+use Rattle.std.proofs.Common.{◌≡◌, ◌<◌, ◌+◌, ◌∙◌, ℕ, List, ◌++◌, append_assoc, drop, flat_map, get_or, length, ap, sym, subst, arith, inl, inr}
+use Rattle.std.proofs.lemmas.List.{at_drop_more}
+use Rattle.sqlite.specs.State.{State, HasCleanDisk, IsUnchanged, Survives}
+use Rattle.sqlite.proofs.StateLemmas.{survives_then}
+use Rattle.store_rows.specs.House.{IsHouse, KeepsCommitted, Serves}
+
+pub clean_before : (old new : State) → Survives old new (λ _. ⊥) → HasCleanDisk new → HasCleanDisk old
+clean_before old new survives clean = omega (arith, survives.clean)
+
+pub both_survive : (old mid new : State) → Survives old mid (λ _. ⊥) → Survives mid new (λ _. ⊥) → Survives old new (λ _. ⊥)
+both_survive old mid new one two = survives_then old mid new (λ _. ⊥) (λ _. ⊥) (λ _. ⊥) (λ _ _ none. none) (λ _ _ none. none) one two
+
+pub both_same : (old mid new : State) → IsUnchanged old mid → IsUnchanged mid new → IsUnchanged old new
+both_same old mid new one two = (
+  record {
+    was_open = one.0.was_open;
+    is_open = two.0.is_open;
+    now_is = two.0.now_is ∙ one.0.now_is;
+    committed_is = two.0.committed_is ∙ one.0.committed_is;
+    mode = two.0.mode ∙ one.0.mode;
+  },
+  record { changes = two.1.changes ∙ one.1.changes; last_rowid = two.1.last_rowid ∙ one.1.last_rowid },
+  two.2 ∙ one.2,
+)
+
+pub serves_on : (old mid : State) → Serves old → (HasCleanDisk mid → IsUnchanged old mid) → Survives old mid (λ _. ⊥) → Serves mid
+serves_on old mid serves same survives clean =
+    let kept = same clean in
+    (kept.0.is_open, subst IsHouse (sym kept.0.now_is) (serves (clean_before old mid survives clean)).1)
+
+-- an error after reads that left all leaves what was committed
+pub then_kept : (old mid new : State) → IsUnchanged old mid → KeepsCommitted mid new → KeepsCommitted old new
+then_kept old mid new one (inl same) = inl (both_same old mid new one same)
+then_kept old mid new one (inr undone) = inr (record {
+  was_open = λ is_open. one.0.was_open;
+  undone = λ is_open. let it = undone.undone is_open in (it.0 ∙ one.0.committed_is, it.1 ∙ one.0.committed_is);
+  autocommit = undone.autocommit;
+  unmarked = undone.unmarked;
+  counts = record { changes = undone.counts.changes ∙ one.1.changes; last_rowid = undone.counts.last_rowid ∙ one.1.last_rowid };
+})
+
+-- a step of a loop that goes on at the end of what was found
+pub found_more : {A B : Type 0} (F : A → List B) (xs : List A) (i : ℕ) (d : A) (acc more whole : List B) → i < length xs → acc ++ flat_map F (drop i xs) ≡ whole → more ≡ acc ++ F (get_or xs i d) → more ++ flat_map F (drop (i + 1) xs) ≡ whole
+found_more F xs i d acc more whole low held step =
+    ap (λ l. l ++ flat_map F (drop (i + 1) xs)) step ∙ append_assoc acc (F (get_or xs i d)) (flat_map F (drop (i + 1) xs)) ∙ sym (ap (λ l. acc ++ l) (at_drop_more (flat_map F) xs i d low)) ∙ held

@@ -1,0 +1,38 @@
+use Rattle.std.proofs.Common.{◌≡◌, ◌<◌, ◌^◌, ◌∙◌, ap, flat_map, rules, subst, sym}
+use Rattle.std.specs.List.{AllByRecursion}
+use Rattle.sqlite.specs.Effect.{Database}
+use Rattle.sqlite.specs.Held.{state}
+use Rattle.house_rows.specs.Fits.{ItemFits}
+use Rattle.house_rows.specs.Tables.{ItemRow}
+use Rattle.store_rows.specs.ItemRows.{items_in}
+use Rattle.store_rows.proofs.StateLemmas.{ok_then}
+use Rattle.store_answers.specs.Joined.{item_found}
+use Rattle.store_answers.proofs.Sound.{items_fit, watches_fit}
+use Rattle.store_answers.proofs.Steps.{clean_before}
+use Rattle.store_answers.proofs.WatchedItems.{watched_found}
+use Rattle.store_answers.proofs.watch.items_watched.Goals as goal
+
+pub returns-in_err-numbers-clause-damaged : goal.returns-in_err-numbers-clause-damaged
+returns-in_err-numbers-clause-damaged g c clean sound is = c.in_err-numbers.ensures.damaged clean (watches_fit (state g.S.Store c.args.conn.now).now.trees sound) (search rules)
+
+pub returns-clause-value : goal.returns-clause-value
+returns-clause-value g c clean =
+    let old = state g.S.Store c.args.conn.now in
+    let mid = state g.S.Store c.watched_by.new.conn in
+    let new = state g.S.Store c.items_at.new.conn in
+    let before = clean_before mid new c.items_at.ensures.crash clean in
+    let first = c.in_ok-numbers.ensures.same before in
+    let house = (c.requires (clean_before old mid c.watched_by.ensures.crash before)).1 in
+    let numbers = c.in_ok-numbers.numbers.items in
+    let same : c.deref.result.now ≡ numbers = search rules in
+    let low : AllByRecursion (λ n. n < 2 ^ 64) numbers = subst (AllByRecursion (λ n. n < 2 ^ 64)) same c.items_at.ensures.small in
+    let found = watched_found old.now c.args.member numbers house (c.in_ok-numbers.ensures.items before) (c.in_ok-numbers.ensures.rises before) low in
+    ok_then c.items_at.result (c.items_at.ensures.items clean) (λ items e.
+    e ∙ ap (flat_map (item_found mid.now.trees)) same ∙ ap (λ (db : Database). flat_map (item_found db.trees) numbers) first.0.now_is ∙ found)
+
+pub returns-clause-damaged : goal.returns-clause-damaged
+returns-clause-damaged g c clean sound =
+    let old = state g.S.Store c.args.conn.now in
+    let mid = state g.S.Store c.watched_by.new.conn in
+    let before = clean_before mid (state g.S.Store c.items_at.new.conn) c.items_at.ensures.crash clean in
+    c.items_at.ensures.damaged clean (subst (λ (db : Database). AllByRecursion (λ (row : ItemRow). ItemFits row.item) (items_in db.trees)) (sym (c.in_ok-numbers.ensures.same before).0.now_is) (items_fit old.now.trees sound))

@@ -1,0 +1,105 @@
+//! What a member watches.
+ghost use Rattle.std.specs.Prelude.{◌≡◌, ◌<◌, ◌^◌, ◌++◌, false, flat_map, IfOk, OnOk, OnErr, IsErrOf};
+ghost use Rattle.std.specs.List.{AllByRecursion};
+ghost use Rattle.sqlite.specs.State.{HasCleanDisk, IsUnchanged, Survives};
+ghost use Rattle.sqlite.specs.Held.{state};
+ghost use Rattle.house_rows.specs.Fits.{ItemFits};
+ghost use Rattle.house_rows.specs.Found.{items_watched, watch_count};
+ghost use Rattle.house_rows.specs.Keeping.{AreSound};
+ghost use Rattle.house_rows.specs.Tables.{ItemRow};
+ghost use Rattle.house_rows.specs.declared.fault.KeepFault.TheVariants.{Damaged};
+ghost use Rattle.store_rows.specs.House.{Serves, KeepsCommitted};
+ghost use Rattle.store_rows.specs.ItemRows.{items_in};
+ghost use Rattle.store_lists.specs.Tables.{tables_in};
+ghost use Rattle.store_answers.specs.Joined.{item_found};
+
+use house_rows::{Item, KeepFault};
+use list_rows::push;
+use sqlite::{Alter, Connection};
+use std::alloc::Global;
+use store_items::item_at;
+use store_lists::watched_by;
+
+/// How many items a member watches.
+pub fn watch_count<S: Alter>(
+    alloc: Global,
+    conn: &mut Connection<S>,
+    member: u32,
+) -> Result<u64, KeepFault>
+    requires { Serves (state S.Store conn.old) }
+    ensures value { HasCleanDisk (state S.Store conn.new) → IfOk result (λ count. count ≡ watch_count (tables_in (state S.Store conn.old).now.trees) member) }
+    ensures damaged { HasCleanDisk (state S.Store conn.new) → AreSound (tables_in (state S.Store conn.old).now.trees) → ¬ (IsErrOf result Damaged) }
+    ensures same { HasCleanDisk (state S.Store conn.new) → OnOk result (IsUnchanged (state S.Store conn.old) (state S.Store conn.new)) }
+    ensures err { HasCleanDisk (state S.Store conn.new) → OnErr result (KeepsCommitted (state S.Store conn.old) (state S.Store conn.new)) }
+    ensures mode { conn.old.in_transaction ≡ false → conn.new.in_transaction ≡ false }
+    ensures crash { Survives (state S.Store conn.old) (state S.Store conn.new) (λ _. ⊥) }
+{
+    let items = watched_by(alloc, conn, member)?;
+    Ok(items.len() as u64)
+}
+
+// Adds the item with a number to those found, if it is there.
+fn add_item<S: Alter>(
+    conn: &mut Connection<S>,
+    number: u32,
+    items: &mut Vec<Item>,
+) -> Result<(), KeepFault>
+    requires { Serves (state S.Store conn.old) }
+    ensures items { HasCleanDisk (state S.Store conn.new) → OnOk result (items.new.items ≡ items.old.items ++ item_found (state S.Store conn.old).now.trees number) }
+    ensures fits { AllByRecursion ItemFits items.old.items → OnOk result (AllByRecursion ItemFits items.new.items) }
+    ensures damaged { HasCleanDisk (state S.Store conn.new) → AllByRecursion (λ (row : ItemRow). ItemFits row.item) (items_in (state S.Store conn.old).now.trees) → ¬ (IsErrOf result Damaged) }
+    ensures same { HasCleanDisk (state S.Store conn.new) → OnOk result (IsUnchanged (state S.Store conn.old) (state S.Store conn.new)) }
+    ensures err { HasCleanDisk (state S.Store conn.new) → OnErr result (KeepsCommitted (state S.Store conn.old) (state S.Store conn.new)) }
+    ensures mode { conn.old.in_transaction ≡ false → conn.new.in_transaction ≡ false }
+    ensures crash { Survives (state S.Store conn.old) (state S.Store conn.new) (λ _. ⊥) }
+{
+    match item_at(conn, number)? {
+        Some(item) => push(items, item),
+        None => Ok(()),
+    }
+}
+
+// The items with some numbers, in the order of these.
+fn items_at<S: Alter>(
+    alloc: Global,
+    conn: &mut Connection<S>,
+    numbers: &[u32],
+) -> Result<Vec<Item>, KeepFault>
+    requires { Serves (state S.Store conn.old) }
+    ensures items { HasCleanDisk (state S.Store conn.new) → IfOk result (λ items. items.items ≡ flat_map (item_found (state S.Store conn.old).now.trees) numbers.now) }
+    ensures fits { IfOk result (λ items. AllByRecursion ItemFits items.items) }
+    ensures small { AllByRecursion (λ n. n < 2 ^ 64) numbers.now }
+    ensures damaged { HasCleanDisk (state S.Store conn.new) → AllByRecursion (λ (row : ItemRow). ItemFits row.item) (items_in (state S.Store conn.old).now.trees) → ¬ (IsErrOf result Damaged) }
+    ensures same { HasCleanDisk (state S.Store conn.new) → OnOk result (IsUnchanged (state S.Store conn.old) (state S.Store conn.new)) }
+    ensures err { HasCleanDisk (state S.Store conn.new) → OnErr result (KeepsCommitted (state S.Store conn.old) (state S.Store conn.new)) }
+    ensures mode { conn.old.in_transaction ≡ false → conn.new.in_transaction ≡ false }
+    ensures crash { Survives (state S.Store conn.old) (state S.Store conn.new) (λ _. ⊥) }
+{
+    let mut items = Vec::new(alloc);
+    for number in numbers {
+        match add_item(conn, *number, &mut items) {
+            Ok(()) => {}
+            Err(fault) => return Err(fault),
+        }
+    }
+    Ok(items)
+}
+
+/// The items that a member watches, by number.
+pub fn items_watched<S: Alter>(
+    alloc: Global,
+    conn: &mut Connection<S>,
+    member: u32,
+) -> Result<Vec<Item>, KeepFault>
+    requires { Serves (state S.Store conn.old) }
+    ensures value { HasCleanDisk (state S.Store conn.new) → IfOk result (λ items. items.items ≡ items_watched (tables_in (state S.Store conn.old).now.trees) member) }
+    ensures fits { IfOk result (λ items. AllByRecursion ItemFits items.items) }
+    ensures damaged { HasCleanDisk (state S.Store conn.new) → AreSound (tables_in (state S.Store conn.old).now.trees) → ¬ (IsErrOf result Damaged) }
+    ensures same { HasCleanDisk (state S.Store conn.new) → OnOk result (IsUnchanged (state S.Store conn.old) (state S.Store conn.new)) }
+    ensures err { HasCleanDisk (state S.Store conn.new) → OnErr result (KeepsCommitted (state S.Store conn.old) (state S.Store conn.new)) }
+    ensures mode { conn.old.in_transaction ≡ false → conn.new.in_transaction ≡ false }
+    ensures crash { Survives (state S.Store conn.old) (state S.Store conn.new) (λ _. ⊥) }
+{
+    let numbers = watched_by(alloc, conn, member)?;
+    items_at(alloc, conn, &numbers)
+}

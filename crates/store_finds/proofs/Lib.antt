@@ -1,0 +1,11 @@
+pub mod Counted
+pub mod Ordered
+pub mod ColumnKinds
+pub mod FindMeaning
+pub mod BidFinds
+pub mod WatchFinds
+pub mod FeedbackFinds
+pub mod TermMeaning
+pub mod TermFinds
+pub mod QuestionFinds
+pub mod OwnBids

@@ -1,0 +1,11 @@
+pub mod StartLemmas
+pub mod FirstSorted
+pub mod NoTies
+pub mod Firsts
+pub mod Compared
+pub mod Bounds
+pub mod Asked
+pub mod ItemPages
+pub mod Ties
+pub mod QuestionPages
+pub mod FeedbackPages
