@@ -1,0 +1,36 @@
+use Rattle.std.proofs.Common.{◌≡◌, ◌∙◌, is_some, true, false, rules, sym, arith}
+use Rattle.sqlite.specs.Held.{state}
+use Rattle.house_rows.specs.Changed.{question_key}
+use Rattle.house_rows.specs.Fits.{QuestionFits}
+use Rattle.house_rows.specs.declared.change.Change.TheVariants.{Ask}
+use Rattle.store_lists.specs.Tables.{tables_in}
+use Rattle.store_lists.proofs.SortedTables.{found_sorted}
+use Rattle.store_entries.proofs.Keys.{all_unsorted, none_there, on_ok, some_there}
+use Rattle.store_entries.proofs.Steps.{survives_change}
+use Rattle.store_entries.proofs.questions.ask.Goals as goal
+
+pub returns-in_err-question_at-clause-damaged : goal.returns-in_err-question_at-clause-damaged
+unfolding tables_in
+returns-in_err-question_at-clause-damaged g c clean sound fits free is =
+    c.in_err-question_at.ensures.damaged clean (all_unsorted question_key QuestionFits _ sound.questions) (search rules)
+
+pub returns-then-is_some-clause-damaged : goal.returns-then-is_some-clause-damaged
+unfolding tables_in
+returns-then-is_some-clause-damaged g c clean sound fits free is =
+    let there : is_some c.in_ok-question_at.field-0 ≡ true = search rules in
+    let house = (c.requires.rests (omega (arith, c.in_ok-question_at.ensures.crash.clean))).house in
+    let same = found_sorted (state g.S.Store c.args.conn.now).now house c.args.item c.args.asker c.args.number (omega (arith, c.ranges.item)) (omega (arith, c.ranges.asker)) (omega (arith, c.ranges.number)) in
+    some_there c.in_ok-question_at.field-0 _ there (c.in_ok-question_at.ensures.found clean) (sym same ∙ free)
+
+pub returns-clause-taken : goal.returns-clause-taken
+unfolding tables_in
+returns-clause-taken g c clean =
+    let there : is_some c.in_ok-question_at.field-0 ≡ false = search rules in
+    let house = (c.requires.rests (omega (arith, c.in_ok-question_at.ensures.crash.clean, c.commit_ask.ensures.crash.clean))).house in
+    let same = found_sorted (state g.S.Store c.args.conn.now).now house c.args.item c.args.asker c.args.number (omega (arith, c.ranges.item)) (omega (arith, c.ranges.asker)) (omega (arith, c.ranges.number)) in
+    on_ok c.commit_ask.result (same ∙ none_there c.in_ok-question_at.field-0 _ there (c.in_ok-question_at.ensures.found (omega (arith, c.commit_ask.ensures.crash.clean))))
+
+pub returns-clause-crash : goal.returns-clause-crash
+returns-clause-crash g c =
+    survives_change (state g.S.Store c.args.conn.now) (state g.S.Store c.question_at.new.conn) (state g.S.Store c.commit_ask.new.conn) (Ask c.args.item c.args.asker c.args.number c.args.text)
+    c.in_ok-question_at.ensures.same c.in_ok-question_at.ensures.crash c.commit_ask.ensures.crash

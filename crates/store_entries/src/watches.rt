@@ -1,0 +1,93 @@
+//! What members watch.
+ghost use Rattle.std.specs.Prelude.{◌≡◌, false, OnOk, OnErr, IsTrue, IsErrOf};
+ghost use Rattle.sqlite.specs.State.{HasCleanDisk, KeepsCommit, Survives};
+ghost use Rattle.sqlite.specs.Held.{state};
+ghost use Rattle.house_rows.specs.Asks.{ChangeFits, IsFree};
+ghost use Rattle.house_rows.specs.Keeping.{AreSound};
+ghost use Rattle.house_rows.specs.declared.change.Change.TheVariants.{Unwatch, Watch};
+ghost use Rattle.house_rows.specs.declared.fault.KeepFault.TheVariants.{Damaged};
+ghost use Rattle.store_rows.specs.House.{IsInside, Serves};
+ghost use Rattle.store_lists.specs.Tables.{Changes, IsNumbered, Rests, tables_in};
+ghost use Rattle.store_entries.specs.Entries.{IsBack, IsMade, LeavesShown, MadeBy};
+
+use crate::commit::fault_of;
+use house_rows::KeepFault;
+use sqlite::{Alter, Connection, Transaction};
+use store_rows::{cut_watch, put_watch};
+
+// Takes the watch away.
+fn unwatch_within<S: Alter>(
+    tx: &mut Transaction<'_, S>,
+    member: u32,
+    item: u32,
+) -> Result<(), KeepFault>
+    requires serves { Serves (state S.Store tx.old.conn.now) }
+    requires numbered { HasCleanDisk (state S.Store tx.old.conn.now) → IsNumbered (state S.Store tx.old.conn.now).now.trees }
+    requires begun { HasCleanDisk (state S.Store tx.old.conn.now) → IsTrue tx.old.conn.now.in_transaction }
+    ensures same_reference { tx.new.conn.ghost_name ≡ tx.old.conn.ghost_name }
+    ensures ok { HasCleanDisk (state S.Store tx.new.conn.now) → OnOk result (Changes (Unwatch member item) (state S.Store tx.old.conn.now).now (state S.Store tx.new.conn.now).now) }
+    ensures sound { ¬ (IsErrOf result Damaged) }
+    ensures inside { HasCleanDisk (state S.Store tx.new.conn.now) → OnOk result (IsInside (state S.Store tx.old.conn.now) (state S.Store tx.new.conn.now)) }
+    ensures err { HasCleanDisk (state S.Store tx.new.conn.now) → OnErr result (KeepsCommit (state S.Store tx.old.conn.now) (state S.Store tx.new.conn.now)) }
+    ensures crash { Survives (state S.Store tx.old.conn.now) (state S.Store tx.new.conn.now) (λ _. ⊥) }
+{
+    cut_watch(tx, member, item)
+}
+
+/// A member watches an item no longer.
+pub fn unwatch<S: Alter>(conn: &mut Connection<S>, member: u32, item: u32) -> Result<(), KeepFault>
+    requires rests { Rests (state S.Store conn.old) }
+    requires mode { conn.old.in_transaction ≡ false }
+    ensures ok { HasCleanDisk (state S.Store conn.new) → OnOk result (IsMade (Unwatch member item) (state S.Store conn.old) (state S.Store conn.new)) }
+    ensures damaged { HasCleanDisk (state S.Store conn.new) → AreSound (tables_in (state S.Store conn.old).now.trees) → ChangeFits (tables_in (state S.Store conn.old).now.trees) (Unwatch member item) → IsFree (tables_in (state S.Store conn.old).now.trees) (Unwatch member item) → ¬ (IsErrOf result Damaged) }
+    ensures err { HasCleanDisk (state S.Store conn.new) → IsTrue (state S.Store conn.new).is_open → OnErr result (IsBack (state S.Store conn.old) (state S.Store conn.new)) }
+    ensures only { HasCleanDisk (state S.Store conn.new) → OnOk result (LeavesShown (state S.Store conn.new)) }
+    ensures mode { conn.new.in_transaction ≡ false }
+    ensures crash { Survives (state S.Store conn.old) (state S.Store conn.new) (MadeBy (Unwatch member item) (state S.Store conn.old)) }
+{
+    let mut tx = conn.transaction();
+    unwatch_within(&mut tx, member, item)?;
+    match tx.commit() {
+        Ok(()) => Ok(()),
+        Err(error) => Err(fault_of(error)),
+    }
+}
+
+// Takes the watch away, if it is there, and puts it.
+fn watch_within<S: Alter>(
+    tx: &mut Transaction<'_, S>,
+    member: u32,
+    item: u32,
+) -> Result<(), KeepFault>
+    requires serves { Serves (state S.Store tx.old.conn.now) }
+    requires numbered { HasCleanDisk (state S.Store tx.old.conn.now) → IsNumbered (state S.Store tx.old.conn.now).now.trees }
+    requires begun { HasCleanDisk (state S.Store tx.old.conn.now) → IsTrue tx.old.conn.now.in_transaction }
+    ensures same_reference { tx.new.conn.ghost_name ≡ tx.old.conn.ghost_name }
+    ensures ok { HasCleanDisk (state S.Store tx.new.conn.now) → OnOk result (Changes (Watch member item) (state S.Store tx.old.conn.now).now (state S.Store tx.new.conn.now).now) }
+    ensures sound { ¬ (IsErrOf result Damaged) }
+    ensures inside { HasCleanDisk (state S.Store tx.new.conn.now) → OnOk result (IsInside (state S.Store tx.old.conn.now) (state S.Store tx.new.conn.now)) }
+    ensures err { HasCleanDisk (state S.Store tx.new.conn.now) → OnErr result (KeepsCommit (state S.Store tx.old.conn.now) (state S.Store tx.new.conn.now)) }
+    ensures crash { Survives (state S.Store tx.old.conn.now) (state S.Store tx.new.conn.now) (λ _. ⊥) }
+{
+    cut_watch(tx, member, item)?;
+    put_watch(tx, member, item)
+}
+
+/// A member watches an item, if it doesn't yet.
+pub fn watch<S: Alter>(conn: &mut Connection<S>, member: u32, item: u32) -> Result<(), KeepFault>
+    requires rests { Rests (state S.Store conn.old) }
+    requires mode { conn.old.in_transaction ≡ false }
+    ensures ok { HasCleanDisk (state S.Store conn.new) → OnOk result (IsMade (Watch member item) (state S.Store conn.old) (state S.Store conn.new)) }
+    ensures damaged { HasCleanDisk (state S.Store conn.new) → AreSound (tables_in (state S.Store conn.old).now.trees) → ChangeFits (tables_in (state S.Store conn.old).now.trees) (Watch member item) → IsFree (tables_in (state S.Store conn.old).now.trees) (Watch member item) → ¬ (IsErrOf result Damaged) }
+    ensures err { HasCleanDisk (state S.Store conn.new) → IsTrue (state S.Store conn.new).is_open → OnErr result (IsBack (state S.Store conn.old) (state S.Store conn.new)) }
+    ensures only { HasCleanDisk (state S.Store conn.new) → OnOk result (LeavesShown (state S.Store conn.new)) }
+    ensures mode { conn.new.in_transaction ≡ false }
+    ensures crash { Survives (state S.Store conn.old) (state S.Store conn.new) (MadeBy (Watch member item) (state S.Store conn.old)) }
+{
+    let mut tx = conn.transaction();
+    watch_within(&mut tx, member, item)?;
+    match tx.commit() {
+        Ok(()) => Ok(()),
+        Err(error) => Err(fault_of(error)),
+    }
+}

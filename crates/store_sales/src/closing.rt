@@ -1,0 +1,109 @@
+//! The close of every item that is due.
+ghost use Rattle.std.specs.Prelude.{◌≡◌, false, filter, map, IfOk, OnOk, OnErr, IsErrOf, IsTrue};
+ghost use Rattle.std.specs.List.{AllByRecursion};
+ghost use Rattle.sqlite_trees.specs.Tree.{Trees};
+ghost use Rattle.sqlite.specs.Effect.{Database};
+ghost use Rattle.sqlite.specs.State.{HasCleanDisk, IsUnchanged, KeepsCommit, Survives};
+ghost use Rattle.sqlite.specs.Held.{state};
+ghost use Rattle.house_rows.specs.Asks.{ChangeFits, IsFree};
+ghost use Rattle.house_rows.specs.Fits.{TermsFit};
+ghost use Rattle.house_rows.specs.Items.{is_due};
+ghost use Rattle.house_rows.specs.Keeping.{AreSound};
+ghost use Rattle.house_rows.specs.Tables.{ItemRow};
+ghost use Rattle.house_rows.specs.declared.change.Change.TheVariants.{Close};
+ghost use Rattle.house_rows.specs.declared.fault.KeepFault.TheVariants.{Damaged};
+ghost use Rattle.store_rows.specs.House.{Serves, IsInside, KeepsCommitted};
+ghost use Rattle.store_rows.specs.ItemRows.{items_in};
+ghost use Rattle.store_lists.specs.Tables.{Changes, IsNumbered, Rests, tables_in};
+ghost use Rattle.store_sales.specs.Sales.{IsDue, SetsItems, StartsFit, with_ends};
+
+use crate::ending::{commit, stored_moment};
+use house_rows::{KeepFault, Terms};
+use sqlite::{Alter, Connection, Transaction};
+use std::alloc::Global;
+use store_finds::due_terms;
+use store_items::set_closed;
+use store_rows::set_clock;
+
+// The items that are due, whose rows fit.
+fn find_due<S: Alter>(
+    alloc: Global,
+    conn: &mut Connection<S>,
+    moment: u32,
+) -> Result<Vec<Terms>, KeepFault>
+    requires { Serves (state S.Store conn.old) }
+    ensures due { HasCleanDisk (state S.Store conn.new) → IfOk result (λ due. IsDue moment due.items (state S.Store conn.old).now) }
+    ensures damaged { HasCleanDisk (state S.Store conn.new) → AreSound (tables_in (state S.Store conn.old).now.trees) → ¬ (IsErrOf result Damaged) }
+    ensures same { HasCleanDisk (state S.Store conn.new) → OnOk result (IsUnchanged (state S.Store conn.old) (state S.Store conn.new)) }
+    ensures err { HasCleanDisk (state S.Store conn.new) → OnErr result (KeepsCommitted (state S.Store conn.old) (state S.Store conn.new)) }
+    ensures mode { conn.old.in_transaction ≡ false → conn.new.in_transaction ≡ false }
+    ensures crash { Survives (state S.Store conn.old) (state S.Store conn.new) (λ _. ⊥) }
+{
+    due_terms(alloc, conn, moment)
+}
+
+// Closes the items within a transaction, each as sold where somebody leads.
+fn close_items<S: Alter>(tx: &mut Transaction<'_, S>, due: &[Terms]) -> Result<(), KeepFault>
+    requires serves { Serves (state S.Store tx.old.conn.now) }
+    requires begun { HasCleanDisk (state S.Store tx.old.conn.now) → IsTrue tx.old.conn.now.in_transaction }
+    requires fits { HasCleanDisk (state S.Store tx.old.conn.now) → StartsFit due.now (state S.Store tx.old.conn.now).now }
+    ensures same_reference { tx.new.conn.ghost_name ≡ tx.old.conn.ghost_name }
+    ensures ok { HasCleanDisk (state S.Store tx.new.conn.now) → OnOk result (SetsItems (with_ends due.now) (state S.Store tx.old.conn.now).now (state S.Store tx.new.conn.now).now) }
+    ensures sound { ¬ (IsErrOf result Damaged) }
+    ensures inside { HasCleanDisk (state S.Store tx.new.conn.now) → OnOk result (IsInside (state S.Store tx.old.conn.now) (state S.Store tx.new.conn.now)) }
+    ensures err { HasCleanDisk (state S.Store tx.new.conn.now) → OnErr result (KeepsCommit (state S.Store tx.old.conn.now) (state S.Store tx.new.conn.now)) }
+    ensures crash { Survives (state S.Store tx.old.conn.now) (state S.Store tx.new.conn.now) (λ _. ⊥) }
+{
+    for terms in due {
+        match set_closed(tx, terms.item, terms.leader.is_some()) {
+            Ok(()) => {}
+            Err(fault) => return Err(fault),
+        }
+    }
+    Ok(())
+}
+
+// Closes the items that are due and sets the clock, within a transaction.
+fn write_close<S: Alter>(
+    tx: &mut Transaction<'_, S>,
+    moment: u32,
+    due: &[Terms],
+) -> Result<(), KeepFault>
+    requires serves { Serves (state S.Store tx.old.conn.now) }
+    requires begun { HasCleanDisk (state S.Store tx.old.conn.now) → IsTrue tx.old.conn.now.in_transaction }
+    requires numbered { HasCleanDisk (state S.Store tx.old.conn.now) → IsNumbered (state S.Store tx.old.conn.now).now.trees }
+    requires due { HasCleanDisk (state S.Store tx.old.conn.now) → IsDue moment due.now (state S.Store tx.old.conn.now).now }
+    ensures same_reference { tx.new.conn.ghost_name ≡ tx.old.conn.ghost_name }
+    ensures ok { HasCleanDisk (state S.Store tx.new.conn.now) → OnOk result (Changes (Close moment) (state S.Store tx.old.conn.now).now (state S.Store tx.new.conn.now).now) }
+    ensures sound { ¬ (IsErrOf result Damaged) }
+    ensures inside { HasCleanDisk (state S.Store tx.new.conn.now) → OnOk result (IsInside (state S.Store tx.old.conn.now) (state S.Store tx.new.conn.now)) }
+    ensures err { HasCleanDisk (state S.Store tx.new.conn.now) → OnErr result (KeepsCommit (state S.Store tx.old.conn.now) (state S.Store tx.new.conn.now)) }
+    ensures crash { Survives (state S.Store tx.old.conn.now) (state S.Store tx.new.conn.now) (λ _. ⊥) }
+{
+    close_items(tx, due)?;
+    set_clock(tx, moment)
+}
+
+/// Closes every open item whose end is at or before the moment: sold where somebody leads, else
+/// unsold. The moment is in seconds since 1970-01-01T00:00:00Z. Damaged where the row of an item
+/// that is due, or the moment, doesn't fit.
+pub fn close<S: Alter>(
+    conn: &mut Connection<S>,
+    alloc: Global,
+    moment: u64,
+) -> Result<(), KeepFault>
+    requires rests { Rests (state S.Store conn.old) }
+    requires mode { conn.old.in_transaction ≡ false }
+    ensures ok { HasCleanDisk (state S.Store conn.new) → OnOk result (IsTrue (state S.Store conn.new).is_open × ((state S.Store conn.new).now ≡ (state S.Store conn.new).committed) × Changes (Close moment) (state S.Store conn.old).now (state S.Store conn.new).now) }
+    ensures damaged { HasCleanDisk (state S.Store conn.new) → AreSound (tables_in (state S.Store conn.old).now.trees) → ChangeFits (tables_in (state S.Store conn.old).now.trees) (Close moment) → IsFree (tables_in (state S.Store conn.old).now.trees) (Close moment) → ¬ (IsErrOf result Damaged) }
+    ensures err { HasCleanDisk (state S.Store conn.new) → IsTrue (state S.Store conn.new).is_open → OnErr result (((state S.Store conn.new).now ≡ (state S.Store conn.old).committed) × ((state S.Store conn.new).committed ≡ (state S.Store conn.old).committed)) }
+    ensures only { HasCleanDisk (state S.Store conn.new) → OnOk result ((db : Trees) → (state S.Store conn.new).may_leave db → db ≡ (state S.Store conn.new).now.trees) }
+    ensures mode { conn.new.in_transaction ≡ false }
+    ensures crash { Survives (state S.Store conn.old) (state S.Store conn.new) (λ trees. (db : Database) × Changes (Close moment) (state S.Store conn.old).now db × (trees ≡ db.trees)) }
+{
+    let moment = stored_moment(moment)?;
+    let due = find_due(alloc, conn, moment)?;
+    let mut tx = conn.transaction();
+    write_close(&mut tx, moment, &due)?;
+    commit(tx)
+}

@@ -1,0 +1,75 @@
+//! A settlement.
+ghost use Rattle.std.specs.Prelude.{◌≡◌, false, OnOk, OnErr, IsErrOf, IsTrue};
+ghost use Rattle.sqlite_trees.specs.Tree.{Trees};
+ghost use Rattle.sqlite.specs.Effect.{Database};
+ghost use Rattle.sqlite.specs.State.{HasCleanDisk, IsUnchanged, KeepsCommit, Survives};
+ghost use Rattle.sqlite.specs.Held.{state};
+ghost use Rattle.house_rows.specs.Asks.{ChangeFits, HasItem, IsFree};
+ghost use Rattle.house_rows.specs.Keeping.{AreSound};
+ghost use Rattle.house_rows.specs.declared.change.Change.TheVariants.{Settle};
+ghost use Rattle.house_rows.specs.declared.fault.KeepFault.TheVariants.{Damaged};
+ghost use Rattle.store_rows.specs.House.{Serves, IsInside, KeepsCommitted};
+ghost use Rattle.store_items.specs.Items.{OfItem};
+ghost use Rattle.store_lists.specs.Tables.{Changes, IsNumbered, Rests, tables_in};
+ghost use Rattle.store_sales.specs.Sales.{StartFits};
+
+use crate::ending::{commit, stored_moment};
+use crate::looking::terms_there;
+use house_rows::KeepFault;
+use sqlite::{Alter, Connection, Transaction};
+use store_items::set_settled;
+use store_rows::set_clock;
+
+// Whether the row of an item fits; Damaged where there is none.
+fn check_terms<S: Alter>(conn: &mut Connection<S>, item: u32) -> Result<(), KeepFault>
+    requires { Serves (state S.Store conn.old) }
+    ensures fits { HasCleanDisk (state S.Store conn.new) → OnOk result (OfItem item StartFits (state S.Store conn.old).now) }
+    ensures damaged { HasCleanDisk (state S.Store conn.new) → AreSound (tables_in (state S.Store conn.old).now.trees) → HasItem (tables_in (state S.Store conn.old).now.trees) item → ¬ (IsErrOf result Damaged) }
+    ensures same { HasCleanDisk (state S.Store conn.new) → OnOk result (IsUnchanged (state S.Store conn.old) (state S.Store conn.new)) }
+    ensures err { HasCleanDisk (state S.Store conn.new) → OnErr result (KeepsCommitted (state S.Store conn.old) (state S.Store conn.new)) }
+    ensures mode { conn.old.in_transaction ≡ false → conn.new.in_transaction ≡ false }
+    ensures crash { Survives (state S.Store conn.old) (state S.Store conn.new) (λ _. ⊥) }
+{
+    terms_there(conn, item)?;
+    Ok(())
+}
+
+// Settles the sale and sets the clock, within a transaction.
+fn write_settlement<S: Alter>(
+    tx: &mut Transaction<'_, S>,
+    moment: u32,
+    item: u32,
+) -> Result<(), KeepFault>
+    requires serves { Serves (state S.Store tx.old.conn.now) }
+    requires begun { HasCleanDisk (state S.Store tx.old.conn.now) → IsTrue tx.old.conn.now.in_transaction }
+    requires numbered { HasCleanDisk (state S.Store tx.old.conn.now) → IsNumbered (state S.Store tx.old.conn.now).now.trees }
+    requires fits { HasCleanDisk (state S.Store tx.old.conn.now) → OfItem item StartFits (state S.Store tx.old.conn.now).now }
+    ensures same_reference { tx.new.conn.ghost_name ≡ tx.old.conn.ghost_name }
+    ensures ok { HasCleanDisk (state S.Store tx.new.conn.now) → OnOk result (Changes (Settle moment item) (state S.Store tx.old.conn.now).now (state S.Store tx.new.conn.now).now) }
+    ensures sound { ¬ (IsErrOf result Damaged) }
+    ensures inside { HasCleanDisk (state S.Store tx.new.conn.now) → OnOk result (IsInside (state S.Store tx.old.conn.now) (state S.Store tx.new.conn.now)) }
+    ensures err { HasCleanDisk (state S.Store tx.new.conn.now) → OnErr result (KeepsCommit (state S.Store tx.old.conn.now) (state S.Store tx.new.conn.now)) }
+    ensures crash { Survives (state S.Store tx.old.conn.now) (state S.Store tx.new.conn.now) (λ _. ⊥) }
+{
+    set_settled(tx, item)?;
+    set_clock(tx, moment)
+}
+
+/// Settles the sale of an item. The moment is in seconds since 1970-01-01T00:00:00Z. Damaged where
+/// there is no such item, or its row or the moment doesn't fit.
+pub fn settle<S: Alter>(conn: &mut Connection<S>, moment: u64, item: u32) -> Result<(), KeepFault>
+    requires rests { Rests (state S.Store conn.old) }
+    requires mode { conn.old.in_transaction ≡ false }
+    ensures ok { HasCleanDisk (state S.Store conn.new) → OnOk result (IsTrue (state S.Store conn.new).is_open × ((state S.Store conn.new).now ≡ (state S.Store conn.new).committed) × Changes (Settle moment item) (state S.Store conn.old).now (state S.Store conn.new).now) }
+    ensures damaged { HasCleanDisk (state S.Store conn.new) → AreSound (tables_in (state S.Store conn.old).now.trees) → ChangeFits (tables_in (state S.Store conn.old).now.trees) (Settle moment item) → IsFree (tables_in (state S.Store conn.old).now.trees) (Settle moment item) → ¬ (IsErrOf result Damaged) }
+    ensures err { HasCleanDisk (state S.Store conn.new) → IsTrue (state S.Store conn.new).is_open → OnErr result (((state S.Store conn.new).now ≡ (state S.Store conn.old).committed) × ((state S.Store conn.new).committed ≡ (state S.Store conn.old).committed)) }
+    ensures only { HasCleanDisk (state S.Store conn.new) → OnOk result ((db : Trees) → (state S.Store conn.new).may_leave db → db ≡ (state S.Store conn.new).now.trees) }
+    ensures mode { conn.new.in_transaction ≡ false }
+    ensures crash { Survives (state S.Store conn.old) (state S.Store conn.new) (λ trees. (db : Database) × Changes (Settle moment item) (state S.Store conn.old).now db × (trees ≡ db.trees)) }
+{
+    let moment = stored_moment(moment)?;
+    check_terms(conn, item)?;
+    let mut tx = conn.transaction();
+    write_settlement(&mut tx, moment, item)?;
+    commit(tx)
+}
