@@ -1,0 +1,73 @@
+-- What a house in SQLite is to its callers.
+use Rattle.std.specs.Prelude.{◌≡◌, ◌⊎◌, ℕ, List, Bool, false, refl}
+use Rattle.std.specs.Coded.{Coded, code_by, coded×, coded_ℕ, coded_bool, coded_list}
+use Rattle.sqlite_trees.specs.declared.store.Store.{Ghosts}
+use Rattle.sqlite_trees.specs.Tree.{Trees}
+use Rattle.sqlite.specs.Held.{Held, held_code, state}
+use Rattle.sqlite.specs.State.{HasCleanDisk}
+use Rattle.house_rows.specs.Fits.{IsMoment}
+use Rattle.house_rows.specs.Found.{counts_of}
+use Rattle.house_rows.specs.Tables.{Tables}
+use Rattle.house_rows.specs.declared.people.Counts.{Counts}
+use Rattle.house_rows.specs.declared.settings.Settings.{Settings}
+use Rattle.store_lists.specs.Tables.{IsAtRest, settings_in, tables_in}
+
+-- the connection, and what is known of its tables without asking it
+pub record House (S : Type 0) : Type 0 where
+  pub conn : Held S
+  pub settings : Settings
+  pub counts : Counts
+  pub clock : ℕ
+  -- a call has answered `Store`
+  pub failed : Bool
+
+-- settings, counts and a house are stored as the tuples of their fields
+abbrev pub settings_code : Coded Settings
+settings_code =
+    code_by (List (ℕ × ℕ) × (ℕ × List ℕ)) (coded× (coded_list (coded× coded_ℕ coded_ℕ)) (coded× coded_ℕ (coded_list coded_ℕ)))
+    (λ s. (s.bands, (s.rate, s.zone)))
+    (λ p. record { bands = p.0; rate = p.1.0; zone = p.1.1 })
+    (λ _. refl)
+
+abbrev pub counts_code : Coded Counts
+counts_code =
+    code_by (ℕ × (ℕ × ℕ)) (coded× coded_ℕ (coded× coded_ℕ coded_ℕ))
+    (λ c. (c.members, (c.categories, c.items)))
+    (λ p. record { members = p.0; categories = p.1.0; items = p.1.1 })
+    (λ _. refl)
+
+abbrev pub house_code : {S : Type 0} → Coded S → Coded (House S)
+house_code {S} store =
+    code_by (Held S × (Settings × (Counts × (ℕ × Bool)))) (coded× (held_code store) (coded× settings_code (coded× counts_code (coded× coded_ℕ coded_bool))))
+    (λ k. (k.conn, (k.settings, (k.counts, (k.clock, k.failed)))))
+    (λ p. record { conn = p.0; settings = p.1.0; counts = p.1.1.0; clock = p.1.1.1.0; failed = p.1.1.1.1 })
+    (λ _. refl)
+
+-- what is known of the tables is so
+pub record IsKnown (settings : Settings) (counts : Counts) (clock : ℕ) (db : Trees) : Type 0 where
+  pub settings_are : (tables_in db).settings ≡ settings
+  pub counts_are : counts_of (tables_in db) ≡ counts
+  pub clock_is : (tables_in db).clock ≡ clock
+
+-- no transaction is open; and until it failed, a house is committed, as far as the disk was honest
+pub record IsKept {S : Type 0} (g : Ghosts S) (k : House S) : Type 0 where
+  pub idle : k.conn.in_transaction ≡ false
+  pub moment : IsMoment k.clock
+  pub rests : k.failed ≡ false → HasCleanDisk (state g k.conn) → IsAtRest (state g k.conn)
+  pub known : k.failed ≡ false → HasCleanDisk (state g k.conn) → IsKnown k.settings k.counts k.clock (state g k.conn).now.trees
+
+-- ---- what the clauses of a keep speak of
+
+abbrev pub content : {S : Type 0} → Ghosts S → House S → Tables
+content g k = tables_in (state g k.conn).now.trees
+
+abbrev pub is_failed : {S : Type 0} → House S → Bool
+is_failed k = k.failed
+
+-- so far the disk has returned what was written
+abbrev pub IsHonest : {S : Type 0} → Ghosts S → House S → Type 0
+IsHonest g k = HasCleanDisk (state g k.conn)
+
+-- the tables of what a crash may leave
+abbrev pub MayLeave : {S : Type 0} → Ghosts S → House S → Tables → Type 0
+MayLeave g k tables = (db : Trees) × (state g k.conn).may_leave db × (tables ≡ tables_in db)

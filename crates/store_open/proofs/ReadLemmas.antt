@@ -1,0 +1,74 @@
+-- What was read of a house says what it is.
+use Rattle.std.proofs.Common.{◌≡◌, ◌≤◌, ◌==◌, ℕ, true, List, map, find, is_some, All, Option, Some, unwrap_or, [], refl, sym, ap, subst, ◌∙◌, IsTrue}
+use Rattle.sqlite_trees.specs.Tree.{Trees}
+use Rattle.sqlite.specs.Effect.{Database}
+use Rattle.sqlite.specs.State.{State, IsUnchanged}
+use Rattle.house_rows.specs.Found.{counts_of}
+use Rattle.house_rows.specs.Tables.{ItemRow}
+use Rattle.house_rows.specs.declared.people.Category.{Category}
+use Rattle.house_rows.specs.declared.people.Counts.{Counts}
+use Rattle.house_rows.specs.declared.people.Member.{Member}
+use Rattle.house_rows.specs.declared.settings.Settings.{Settings}
+use Rattle.store_rows.specs.declared.band.BandRow.{BandRow}
+use Rattle.store_rows.specs.declared.house.HouseRow.{HouseRow}
+use Rattle.store_rows.specs.House.{IsHouse}
+use Rattle.store_rows.specs.ItemRows.{items_in}
+use Rattle.store_rows.specs.Rows.{bands_in, categories_in, houses_in, members_in}
+use Rattle.store_lists.specs.Tables.{IsAtRest, IsNumbered, house_row_in, settings_in, tables_in}
+use Rattle.store_open.specs.Opening.{HasSettings, HaveNumbers}
+
+abbrev pairs : List BandRow → List (ℕ × ℕ)
+pairs = map (λ b. (b.from, b.step))
+
+pub has_settings : (db : Trees) (house : HouseRow) (rows : List BandRow) (s : Settings) → Some house ≡ find (λ h. h.id == 1) (houses_in db) → rows ≡ bands_in db
+    → s.bands ≡ pairs rows → s.rate ≡ house.rate → s.zone ≡ house.zone → HasSettings db s
+unfolding settings_in house_row_in
+has_settings db house rows s found read bands rate zone =
+    let none : HouseRow = record { id = 0; version = 0; clock = 0; rate = 0; zone = [] } in
+    let row : unwrap_or (find (λ h. h.id == 1) (houses_in db)) none ≡ house = ap (λ (o : Option HouseRow). unwrap_or o none) (sym found) in
+    let b : pairs (bands_in db) ≡ s.bands = ap pairs (sym read) ∙ sym bands in
+    let r : (unwrap_or (find (λ h. h.id == 1) (houses_in db)) none).rate ≡ s.rate = ap (λ (h : HouseRow). h.rate) row ∙ sym rate in
+    let z : (unwrap_or (find (λ h. h.id == 1) (houses_in db)) none).zone ≡ s.zone = ap (λ (h : HouseRow). h.zone) row ∙ sym zone in
+    let was : Settings = settings_in db in
+    record {
+      house = subst (λ (o : Option HouseRow). is_some o ≡ true) found refl;
+      settings_are = ap (λ (bs : List (ℕ × ℕ)). record was { bands = bs }) b
+          ∙ ap (λ (n : ℕ). record was { bands = s.bands; rate = n }) r
+          ∙ ap (λ (t : List ℕ). record { bands = s.bands; rate = s.rate; zone = t }) z;
+    }
+
+numbered : (db : Trees) (s : Settings) (counts : Counts) → HasSettings db s → HaveNumbers db counts → IsNumbered db
+numbered db s counts set have = record {
+  house = set.house;
+  members = subst (λ n. All (λ (m : Member). m.member ≤ n) (members_in db)) (sym have.members) have.members_within;
+  categories = subst (λ n. All (λ (k : Category). k.category ≤ n) (categories_in db)) (sym have.categories) have.categories_within;
+  items = subst (λ n. All (λ (row : ItemRow). row.item.terms.item ≤ n) (items_in db)) (sym have.items) have.items_within;
+}
+
+counts_are : (db : Trees) (counts : Counts) → HaveNumbers db counts → counts_of (tables_in db) ≡ counts
+unfolding tables_in
+counts_are db counts have =
+    ap (λ (n : ℕ). record (counts_of (tables_in db)) { members = n }) have.members
+    ∙ ap (λ (n : ℕ). record (counts_of (tables_in db)) { members = counts.members; categories = n }) have.categories
+    ∙ ap (λ (n : ℕ). record { members = counts.members; categories = counts.categories; items = n }) have.items
+
+-- a house that was read twice, and is as it was
+pub record WasRead (was is : State) (s : Settings) (counts : Counts) : Type 0 where
+  pub rests : IsAtRest is
+  pub settings_are : settings_in is.now.trees ≡ s
+  pub counts_are : counts_of (tables_in is.now.trees) ≡ counts
+  pub same : is.now.trees ≡ was.now.trees
+
+pub was_read : (was middle is : State) (s : Settings) (counts : Counts) → IsTrue was.is_open × IsHouse was.now → was.now ≡ was.committed → IsUnchanged was middle → IsUnchanged middle is
+    → HasSettings was.now.trees s → HaveNumbers middle.now.trees counts → WasRead was is s counts
+was_read was middle is s counts house settled first second set have =
+    let now = second.0.now_is ∙ first.0.now_is in
+    let committed = second.0.committed_is ∙ first.0.committed_is in
+    let set_now = subst (λ (d : Database). HasSettings d.trees s) (sym now) set in
+    let have_now = subst (λ (d : Database). HaveNumbers d.trees counts) (sym second.0.now_is) have in
+    record {
+      rests = record { is_open = second.0.is_open; house = subst IsHouse (sym now) house.1; settled = now ∙ settled ∙ sym committed; numbered = numbered is.now.trees s counts set_now have_now };
+      settings_are = set_now.settings_are;
+      counts_are = counts_are is.now.trees counts have_now;
+      same = ap (λ (d : Database). d.trees) now;
+    }

@@ -1,0 +1,14 @@
+//! What an opening hands out.
+use house_rows::{Counts, Settings};
+use sqlite::{Alter, Connection};
+
+/// A house that was opened.
+#[derive(Drop)]
+pub struct Opened<S: Alter> {
+    /// The connection, which holds a house.
+    pub conn: Connection<S>,
+    /// What it is set up with.
+    pub settings: Settings,
+    /// How many members, categories and items it has.
+    pub counts: Counts,
+}

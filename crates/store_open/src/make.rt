@@ -1,0 +1,119 @@
+//! A house is made in an empty database.
+ghost use Rattle.std.specs.Prelude.{◌≡◌, [], false, OnOk, OnErr, IsErrOf, IsTrue};
+ghost use Rattle.sqlite.specs.Effect.{Database};
+ghost use Rattle.sqlite.specs.State.{HasCleanDisk, KeepsCommit, Survives};
+ghost use Rattle.sqlite.specs.Held.{state};
+ghost use Rattle.sqlite_trees.specs.Tree.{Trees};
+ghost use Rattle.house_rows.specs.Tables.{tables_of};
+ghost use Rattle.house_rows.specs.declared.fault.KeepFault.TheVariants.{Damaged};
+ghost use Rattle.steps.specs.Table.{IsBandTable};
+ghost use Rattle.store_rows.specs.House.{IsHouse, IsInside};
+ghost use Rattle.store_rows.specs.Making.{IsBlank, IsEmptyHouse};
+ghost use Rattle.store_rows.specs.Schema.{no_schema};
+ghost use Rattle.store_lists.specs.Tables.{IsAtRest, tables_in};
+ghost use Rattle.store_open.specs.Putting.{IsBanded, IsStarted};
+
+use crate::put::{put_band, put_house};
+use house_rows::{KeepFault, Settings};
+use sqlite::{Alter, Connection, Error, ErrorCode, Transaction};
+use sqlite_schema::schema::Schema;
+use store_rows::make_tables;
+
+// Writes the bands of a table in an empty house.
+fn put_bands<S: Alter>(tx: &mut Transaction<'_, S>, bands: &[(u64, u64)]) -> Result<(), KeepFault>
+    requires valid { IsBandTable bands.now }
+    requires empty { HasCleanDisk (state S.Store tx.old.conn.now) → IsTrue (state S.Store tx.old.conn.now).is_open × IsEmptyHouse (state S.Store tx.old.conn.now).now }
+    requires begun { HasCleanDisk (state S.Store tx.old.conn.now) → IsTrue tx.old.conn.now.in_transaction }
+    ensures same_reference { tx.new.conn.ghost_name ≡ tx.old.conn.ghost_name }
+    ensures ok { HasCleanDisk (state S.Store tx.new.conn.now) → OnOk result (IsBanded bands.now (state S.Store tx.new.conn.now).now) }
+    ensures inside { HasCleanDisk (state S.Store tx.new.conn.now) → OnOk result (IsInside (state S.Store tx.old.conn.now) (state S.Store tx.new.conn.now)) }
+    ensures err { HasCleanDisk (state S.Store tx.new.conn.now) → OnErr result (KeepsCommit (state S.Store tx.old.conn.now) (state S.Store tx.new.conn.now)) }
+    ensures crash { Survives (state S.Store tx.old.conn.now) (state S.Store tx.new.conn.now) (λ _. ⊥) }
+{
+    for (from, step) in bands {
+        match put_band(tx, *from as u32, *step as u32) {
+            Ok(()) => {}
+            Err(fault) => return Err(fault),
+        }
+    }
+    Ok(())
+}
+
+// Writes what a house is set up with in an empty one.
+fn put_settings<S: Alter>(tx: &mut Transaction<'_, S>, settings: &Settings) -> Result<(), KeepFault>
+    requires empty { HasCleanDisk (state S.Store tx.old.conn.now) → IsTrue (state S.Store tx.old.conn.now).is_open × IsEmptyHouse (state S.Store tx.old.conn.now).now }
+    requires begun { HasCleanDisk (state S.Store tx.old.conn.now) → IsTrue tx.old.conn.now.in_transaction }
+    ensures same_reference { tx.new.conn.ghost_name ≡ tx.old.conn.ghost_name }
+    ensures ok { HasCleanDisk (state S.Store tx.new.conn.now) → OnOk result (IsStarted settings.now (state S.Store tx.new.conn.now).now) }
+    ensures inside { HasCleanDisk (state S.Store tx.new.conn.now) → OnOk result (IsInside (state S.Store tx.old.conn.now) (state S.Store tx.new.conn.now)) }
+    ensures err { HasCleanDisk (state S.Store tx.new.conn.now) → OnErr result (KeepsCommit (state S.Store tx.old.conn.now) (state S.Store tx.new.conn.now)) }
+    ensures crash { Survives (state S.Store tx.old.conn.now) (state S.Store tx.new.conn.now) (λ _. ⊥) }
+{
+    put_bands(tx, settings.bands.rows())?;
+    put_house(tx, settings.rate.value() as u32, &settings.zone)
+}
+
+// Whether nothing is listed.
+fn is_blank(schema: &Schema) -> bool
+    ensures { IsTrue result → schema.now ≡ no_schema }
+{
+    schema.tables.is_empty() && schema.indexes.is_empty() && schema.views.is_empty()
+}
+
+/// Why a commit or an opening failed.
+pub(crate) fn fault_of(error: Error) -> KeepFault {
+    match error {
+        Error::SqliteFailure(ErrorCode::OutOfMemory) => KeepFault::Memory,
+        _ => KeepFault::Store,
+    }
+}
+
+// Makes a house within a transaction, where nothing is listed.
+fn start<S: Alter>(tx: &mut Transaction<'_, S>, settings: &Settings) -> Result<(), KeepFault>
+    requires blank { IsBlank (state S.Store tx.old.conn.now) }
+    requires begun { HasCleanDisk (state S.Store tx.old.conn.now) → IsTrue tx.old.conn.now.in_transaction }
+    ensures same_reference { tx.new.conn.ghost_name ≡ tx.old.conn.ghost_name }
+    ensures ok { HasCleanDisk (state S.Store tx.new.conn.now) → OnOk result (IsStarted settings.now (state S.Store tx.new.conn.now).now) }
+    ensures inside { HasCleanDisk (state S.Store tx.new.conn.now) → OnOk result (IsInside (state S.Store tx.old.conn.now) (state S.Store tx.new.conn.now)) }
+    ensures err { HasCleanDisk (state S.Store tx.new.conn.now) → OnErr result (KeepsCommit (state S.Store tx.old.conn.now) (state S.Store tx.new.conn.now)) }
+    ensures crash { Survives (state S.Store tx.old.conn.now) (state S.Store tx.new.conn.now) (λ _. ⊥) }
+{
+    make_tables(tx)?;
+    put_settings(tx, settings)
+}
+
+// Makes a house where nothing is listed, and commits it.
+fn fill<S: Alter>(conn: &mut Connection<S>, settings: &Settings) -> Result<(), KeepFault>
+    requires blank { IsBlank (state S.Store conn.old) }
+    requires mode { conn.old.in_transaction ≡ false }
+    ensures ok { HasCleanDisk (state S.Store conn.new) → OnOk result (IsTrue (state S.Store conn.new).is_open × IsStarted settings.now (state S.Store conn.new).now × ((state S.Store conn.new).now ≡ (state S.Store conn.new).committed)) }
+    ensures err { HasCleanDisk (state S.Store conn.new) → IsTrue (state S.Store conn.new).is_open → OnErr result (((state S.Store conn.new).now ≡ (state S.Store conn.old).committed) × ((state S.Store conn.new).committed ≡ (state S.Store conn.old).committed)) }
+    ensures mode { conn.new.in_transaction ≡ false }
+    ensures crash { Survives (state S.Store conn.old) (state S.Store conn.new) (λ trees. (db : Database) × IsStarted settings.now db × (trees ≡ db.trees)) }
+{
+    let mut tx = conn.transaction();
+    start(&mut tx, settings)?;
+    match tx.commit() {
+        Ok(()) => Ok(()),
+        Err(error) => Err(fault_of(error)),
+    }
+}
+
+/// Makes a house in a database that lists nothing. After an error the database is as it was.
+///
+/// `Damaged` where a table, an index or a view is listed already.
+pub fn make_house<S: Alter>(conn: &mut Connection<S>, settings: &Settings) -> Result<(), KeepFault>
+    requires open { HasCleanDisk (state S.Store conn.old) → IsTrue (state S.Store conn.old).is_open }
+    requires mode { conn.old.in_transaction ≡ false }
+    ensures ok { HasCleanDisk (state S.Store conn.new) → OnOk result (IsAtRest (state S.Store conn.new) × (tables_in (state S.Store conn.new).now.trees ≡ tables_of settings.now [])) }
+    ensures blank { HasCleanDisk (state S.Store conn.new) → OnOk result ((state S.Store conn.old).now.schema ≡ no_schema) }
+    ensures err { HasCleanDisk (state S.Store conn.new) → IsTrue (state S.Store conn.new).is_open → OnErr result (((state S.Store conn.new).now ≡ (state S.Store conn.old).committed) × ((state S.Store conn.new).committed ≡ (state S.Store conn.old).committed)) }
+    ensures only { HasCleanDisk (state S.Store conn.new) → OnOk result ((db : Trees) → (state S.Store conn.new).may_leave db → db ≡ (state S.Store conn.new).now.trees) }
+    ensures mode { conn.new.in_transaction ≡ false }
+    ensures crash { Survives (state S.Store conn.old) (state S.Store conn.new) (λ trees. (db : Database) × IsHouse db × (tables_in db.trees ≡ tables_of settings.now []) × (trees ≡ db.trees)) }
+{
+    if !conn.is_autocommit() || !is_blank(conn.schema()) {
+        return Err(KeepFault::Damaged);
+    }
+    fill(conn, settings)
+}

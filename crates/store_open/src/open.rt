@@ -1,0 +1,94 @@
+//! A house is opened: whatever a connection holds is tested until it is a house.
+ghost use Rattle.std.specs.Prelude.{◌≡◌, false, map, IfOk, OnOk, IsTrue};
+ghost use Rattle.sqlite.specs.Held.{state};
+ghost use Rattle.sqlite.specs.State.{HasCleanDisk, IsUnchanged, Survives};
+ghost use Rattle.house_rows.specs.Found.{counts_of};
+ghost use Rattle.store_rows.specs.House.{Serves};
+ghost use Rattle.store_lists.specs.Tables.{IsAtRest, settings_in, tables_in};
+ghost use Rattle.store_open.specs.Opening.{HasSettings};
+
+use crate::anew::house_anew;
+use crate::house::Opened;
+use crate::numbers::read_counts;
+use house_rows::{KeepFault, Rate, Settings};
+use sqlite::{Alter, Connection};
+use std::alloc::Global;
+use steps::{Bands, BandsFault};
+use store_rows::{BandRow, HouseRow, all_bands, house_row};
+
+// The rows of the band table as pairs.
+fn pairs(alloc: Global, rows: &[BandRow]) -> Result<Vec<(u64, u64)>, KeepFault>
+    ensures { IfOk result (λ pairs. pairs.items ≡ map (λ (b : _). (b.from, b.step)) rows.now) }
+{
+    let mut pairs = Vec::new(alloc);
+    for row in rows {
+        let Ok(()) = pairs.push((row.from, row.step)) else {
+            return Err(KeepFault::Memory);
+        };
+    }
+    Ok(pairs)
+}
+
+// The band table of rows; Damaged where they are none.
+fn bands_of(alloc: Global, rows: &[BandRow]) -> Result<Bands, KeepFault>
+    ensures { IfOk result (λ bands. bands ≡ map (λ (b : _). (b.from, b.step)) rows.now) }
+{
+    let pairs = pairs(alloc, rows)?;
+    match Bands::of_rows(alloc, &pairs) {
+        Ok(bands) => Ok(bands),
+        Err(BandsFault::Memory) => Err(KeepFault::Memory),
+        Err(_) => Err(KeepFault::Damaged),
+    }
+}
+
+// What the house is set up with, by its row and its bands; Damaged where the rate is none.
+fn settings_of(house: HouseRow, bands: Bands) -> Result<Settings, KeepFault>
+    ensures { IfOk result (λ settings. (settings.bands ≡ bands) × (settings.rate ≡ house.rate) × (settings.zone ≡ house.zone)) }
+{
+    let Some(rate) = Rate::new(house.rate) else {
+        return Err(KeepFault::Damaged);
+    };
+    Ok(Settings {
+        bands,
+        rate,
+        zone: house.zone,
+    })
+}
+
+// What the house is set up with; Damaged where it has no row that fits, or its bands are no table.
+fn read_settings<S: Alter>(alloc: Global, conn: &mut Connection<S>) -> Result<Settings, KeepFault>
+    requires { Serves (state S.Store conn.old) }
+    ensures settings { HasCleanDisk (state S.Store conn.new) → IfOk result (HasSettings (state S.Store conn.old).now.trees) }
+    ensures same { HasCleanDisk (state S.Store conn.new) → OnOk result (IsUnchanged (state S.Store conn.old) (state S.Store conn.new)) }
+    ensures mode { conn.old.in_transaction ≡ false → conn.new.in_transaction ≡ false }
+    ensures crash { Survives (state S.Store conn.old) (state S.Store conn.new) (λ _. ⊥) }
+{
+    let Some(house) = house_row(conn)? else {
+        return Err(KeepFault::Damaged);
+    };
+    let rows = all_bands(alloc, conn)?;
+    let bands = bands_of(alloc, &rows)?;
+    settings_of(house, bands)
+}
+
+/// Opens the house that a connection holds. What it has not committed is undone.
+///
+/// `Damaged` where it holds no house of version 1: other tables than those of a house, a row of the
+/// house or bands that don't fit, or a member, a category or an item with a number over how many
+/// there are.
+pub fn opened<S: Alter + Drop>(alloc: Global, conn: Connection<S>) -> Result<Opened<S>, KeepFault>
+    ensures rests { IfOk result (λ o. HasCleanDisk (state S.Store o.conn) → IsAtRest (state S.Store o.conn)) }
+    ensures settings { IfOk result (λ o. HasCleanDisk (state S.Store o.conn) → settings_in (state S.Store o.conn).now.trees ≡ o.settings) }
+    ensures counts { IfOk result (λ o. HasCleanDisk (state S.Store o.conn) → counts_of (tables_in (state S.Store o.conn).now.trees) ≡ o.counts) }
+    ensures mode { IfOk result (λ o. o.conn.in_transaction ≡ false) }
+    ensures same { IfOk result (λ o. HasCleanDisk (state S.Store o.conn) → (state S.Store o.conn).now.trees ≡ (state S.Store conn).committed.trees) }
+{
+    let mut conn = house_anew(alloc, conn)?;
+    let settings = read_settings(alloc, &mut conn)?;
+    let counts = read_counts(&mut conn)?;
+    Ok(Opened {
+        conn,
+        settings,
+        counts,
+    })
+}
