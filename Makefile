@@ -14,7 +14,7 @@ help:
 	@echo "make cases     runs the conformance cases on the program that make test has left"
 	@echo "make memory    refuses each allocation of that program, a statement, an inbox and a house (needs cc)"
 	@echo "make statement compares statements with those that Python makes"
-	@echo "make random    compares a house with plain lists on random commands"
+	@echo "make random    compares a house with plain lists, on random commands and on long lists"
 	@echo "make wrong     tries the wrong bodies that make test leaves out"
 
 demo:
@@ -48,6 +48,7 @@ statement:
 
 random:
 	python3 tests/random_house.py crates/house_tests/out/house_tests
+	python3 tests/long_lists.py crates/house_tests/out/house_tests
 
 wrong:
 	python3 tests/wrong.py

@@ -1,11 +1,13 @@
 """How long the house in memory takes for a command, a look-up and a list at several sizes, and its memory.
 
 `house.py PROGRAM` plays scripts by the program `house_tests`. A house of so many items is made, with as
-many members, up to the most that there may be; then come many lines of one kind, at items and members
-that lie far apart, and the program tells its processor time before and after. Shown are nanoseconds a
-line at each size, medians of a few runs, less those of `? clock`, which any line takes to be read and
-answered; then the time at the greatest size over that at the least. Memory is the growth of the most
-that the program held, by member, item and bid.
+many members, up to the most that there may be; then come many lines of one kind, and the program tells
+its processor time before and after. Shown are nanoseconds a line at each size, medians of a few runs,
+less those of `? clock`, which any line takes to be read and answered; then the time at the greatest size
+over that at the least. The lines name a thousand items and members that lie evenly apart, so that at
+each size the same is done; a second table names all of them, and so shows what it costs that rows
+aren't in the processor's caches. Memory is the growth of the most that the program held, by member,
+item and bid.
 """
 import os
 import random
@@ -25,19 +27,26 @@ LINES, LISTS = 20_000, 1_000
 class House:
     """The numbers of a house. Item n is sold by member (n - 1) mod the members + 1."""
 
-    def __init__(self, items):
+    def __init__(self, items, named):
         self.items = items
+        self.named = named
         self.members = min(items, MOST_MEMBERS)
         # At least fifty items in each, so that a list of a category is full.
         self.categories = min(items // 50, MOST_CATEGORIES)
         self.random = random.Random(items)
         self.lots = 0
+        self.bids = 0
+
+    def among(self, count):
+        """A number up to a count, among as many as lines name."""
+        apart = max(1, count // self.named)
+        return self.random.randrange(0, count // apart) * apart + 1
 
     def item(self):
-        return self.random.randint(1, self.items)
+        return self.among(self.items)
 
     def member(self):
-        return self.random.randint(1, self.members)
+        return self.among(self.members)
 
     def busy(self):
         return self.random.randint(1, BUSY)
@@ -48,13 +57,13 @@ class House:
     def other(self, item):
         """A member that neither sells the item nor is busy."""
         while True:
-            member = self.random.randint(BUSY + 1, self.members)
-            if member != self.seller(item):
+            member = self.member()
+            if member > BUSY and member != self.seller(item):
                 return member
 
     def quiet(self):
-        """Items that no busy member sells, each once."""
-        numbers = list(range(1, self.items + 1))
+        """Items that no busy member sells, each once, but for the last two."""
+        numbers = list(range(1, self.items - 1))
         self.random.shuffle(numbers)
         return [item for item in numbers if self.seller(item) > BUSY]
 
@@ -75,6 +84,7 @@ class House:
                 yield f"{MOMENT} {busy} ask {item} Question"
         yield from self.sales(quiet[MANY:])
         yield from self.questions()
+        yield from self.touched()
 
     def sales(self, quiet):
         """Each busy member buys some items, and is rated for each."""
@@ -92,9 +102,19 @@ class House:
                     yield f"{MOMENT} {busy} answer {busy} {asker} 1 Answer"
 
 
+    def touched(self):
+        """The last members act on the last items: tables that grow with a number have grown before times are told."""
+        for member, item in (self.members - 1, self.items), (self.members, self.items - 1):
+            yield f"{MOMENT} {member} bid {item} 600"
+            yield f"{MOMENT} {member} watch {item}"
+            yield f"{MOMENT} {member} ask {item} Question"
+
+
 def bid(house):
+    """A bid over all before it."""
     item = house.item()
-    return f"{MOMENT} {house.other(item)} bid {item} {house.random.randint(10**6, 10**9)}"
+    house.bids += 1
+    return f"{MOMENT} {house.other(item)} bid {item} {1_000_000 + 20_000 * house.bids}"
 
 
 def ask(house):
@@ -151,9 +171,9 @@ def played(program, lines):
     return ran.stdout.splitlines()
 
 
-def measure(program, items):
+def measure(program, items, named):
     """The nanoseconds of a line of each kind."""
-    house = House(items)
+    house = House(items, named)
     lines = list(house.made())
     for count, line in KINDS.values():
         lines += ["time", *(line(house) for _ in range(count)), "time"]
@@ -193,13 +213,21 @@ def memory(program):
     return [(after - before) / count for before, after, count in zip(held, held[1:], counts)]
 
 
-def main(program):
-    runs = {items: [measure(program, items) for _ in range(RUNS)] for items in SIZES}
+def show(program, named):
+    """The times at each size, and the greatest size's over the least's."""
+    runs = {items: [measure(program, items, min(items, named)) for _ in range(RUNS)] for items in SIZES}
     print(f"{'nanoseconds a line':22}" + "".join(f"{items:>12,}" for items in SIZES) + f"{'ratio':>8}")
     for kind in KINDS:
-        times = [statistics.median(run[kind] - (run["clock"] if kind != "clock" else 0) for run in runs[items])
-                 for items in SIZES]
+        reading = "clock" if kind != "clock" else None
+        times = [statistics.median(run[kind] - run.get(reading, 0) for run in runs[items]) for items in SIZES]
         print(f"{kind:22}" + "".join(f"{time:12,.0f}" for time in times) + f"{times[-1] / times[0]:8.2f}")
+
+
+def main(program):
+    print(f"lines name {SIZES[0]:,} items and members")
+    show(program, SIZES[0])
+    print("lines name all items and members")
+    show(program, SIZES[-1])
     member, item, bid = memory(program)
     print(f"bytes: {member:.0f} a member, {item:.0f} an item with a text of 80 bytes, {bid:.0f} a bid")
 

@@ -6,11 +6,10 @@ or refused, and after each twentieth every look-up and list; four times it goes 
 `fill` has filled with its changes. Each answer has to be that of tests/plain_house.py. The last line
 is 'N of N answers, M wrong'.
 """
-import pathlib
 import random
-import subprocess
 import sys
 
+from played import compared, spelled
 from plain_house import House
 
 COMMANDS = 2_000
@@ -178,15 +177,6 @@ class Chance:
         ]
 
 
-def spelled(word):
-    """An argument as a script spells it."""
-    if word is None or word == "":
-        return "-"
-    if isinstance(word, int):
-        return str(word)
-    return "".join(c if c.isalnum() else f"%{ord(c):02x}" if c.isascii() else c for c in word)
-
-
 def script_of(house):
     """A random script: its lines, and what is to be answered to each that has an answer."""
     chance = Chance(house, SEED)
@@ -204,17 +194,7 @@ def script_of(house):
 
 
 def main():
-    program = str(pathlib.Path(sys.argv[1]).resolve())
-    lines = script_of(House())
-    script = "\n".join(line for line, _ in lines)
-    result = subprocess.run([program], input=script.encode(), capture_output=True, timeout=60)
-    expected = [pair for pair in lines if pair[1] is not None]
-    told = result.stdout.decode().splitlines()
-    wrong = [(line, answer, got) for (line, answer), got in zip(expected, told) if answer != got]
-    for line, answer, got in wrong[:5]:
-        print(f"{line}\n  expected {answer}\n  told     {got}")
-    print(f"{len(told)} of {len(expected)} answers, {len(wrong)} wrong")
-    return 1 if wrong or len(told) != len(expected) or result.returncode != 0 else 0
+    return compared(sys.argv[1], script_of(House()))
 
 
 if __name__ == "__main__":
