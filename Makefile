@@ -12,7 +12,7 @@ help:
 	@echo "make auction   proves and builds the program, as bin/auction"
 	@echo "make program   runs the program that make test has left on words, tables and streams (needs cc)"
 	@echo "make cases     runs the conformance cases on the program that make test has left"
-	@echo "make memory    refuses each allocation of that program, a statement, an inbox and a house (needs cc)"
+	@echo "make memory    refuses each allocation of that program and of the crates below it (needs cc)"
 	@echo "make statement compares statements with those that Python makes"
 	@echo "make random    compares a house with plain lists, on random commands and on long lists"
 	@echo "make wrong     tries the wrong bodies that make test leaves out"
@@ -42,6 +42,8 @@ memory:
 	python3 tests/refused_statement.py crates/settle_bench/out/settle_bench
 	python3 tests/refused_inbox.py crates/wire_bench/out/wire_bench
 	python3 tests/refused_house.py crates/house_tests/out/house_tests
+	python3 tests/refused_device.py crates/device_tests/out/device_tests
+	python3 tests/refused_bands.py crates/proxy_tests/out/proxy_tests
 
 statement:
 	python3 tests/compared_statements.py crates/settle_bench/out/settle_bench
