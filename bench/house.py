@@ -4,12 +4,11 @@
 many members, up to the most that there may be; then come many lines of one kind, and the program tells
 its processor time before and after. Shown are nanoseconds a line at each size, medians of a few runs,
 less those of `? clock`, which any line takes to be read and answered; then the time at the greatest size
-over that at the least. The lines name a thousand items and members that lie evenly apart, so that at
-each size the same is done; a second table names all of them, and so shows what it costs that rows
-aren't in the processor's caches. Memory is the growth of the most that the program held, by member,
+over that at the least. The lines name some items and members that lie evenly apart, and bids and questions
+as many open items, so that at each size the same is done; a second table names all of them, and so shows
+what it costs that rows aren't in the processor's caches. Memory is the growth of the most that the program held, by member,
 item and bid.
 """
-import os
 import random
 import statistics
 import subprocess
@@ -22,6 +21,8 @@ MOMENT, END = 1_000, 4_000_000_000
 # Busy members are those from 1 on; each has done a little more than a list shows.
 BUSY, MANY = 10, 60
 LINES, LISTS = 20_000, 1_000
+# How many items and members the lines of the first table name.
+NAMED = 300
 
 
 class House:
@@ -36,6 +37,10 @@ class House:
         self.random = random.Random(items)
         self.lots = 0
         self.bids = 0
+        # No busy member sells these; on the first of them all have bid, and the next are sold.
+        quiet = self.quiet()
+        self.liked, self.sold = quiet[:MANY], quiet[MANY:(1 + BUSY) * MANY]
+        self.open = quiet[(1 + BUSY) * MANY:][:named]
 
     def among(self, count):
         """A number up to a count, among as many as lines name."""
@@ -61,6 +66,9 @@ class House:
             if member > BUSY and member != self.seller(item):
                 return member
 
+    def open_item(self):
+        return self.random.choice(self.open)
+
     def quiet(self):
         """Items that no busy member sells, each once, but for the last two."""
         numbers = list(range(1, self.items - 1))
@@ -76,20 +84,19 @@ class House:
         for item in range(1, self.items + 1):
             category = (item - 1) % self.categories + 1
             yield f"{MOMENT} {self.seller(item)} list {category} L{item} Title Text*20 500 900000 {END}"
-        quiet = self.quiet()
         for busy in range(1, BUSY + 1):
-            for item in quiet[:MANY]:
+            for item in self.liked:
                 yield f"{MOMENT} {busy} bid {item} {500 + 100 * busy}"
                 yield f"{MOMENT} {busy} watch {item}"
                 yield f"{MOMENT} {busy} ask {item} Question"
-        yield from self.sales(quiet[MANY:])
+        yield from self.sales()
         yield from self.questions()
         yield from self.touched()
 
-    def sales(self, quiet):
+    def sales(self):
         """Each busy member buys some items, and is rated for each."""
         for busy in range(1, BUSY + 1):
-            for item in quiet[(busy - 1) * MANY:busy * MANY]:
+            for item in self.sold[(busy - 1) * MANY:busy * MANY]:
                 yield f"{MOMENT} {busy} buy {item}"
                 yield f"{MOMENT} {self.seller(item)} feedback {item} 1 Good"
 
@@ -101,7 +108,6 @@ class House:
                 if asker % 2 == 0:
                     yield f"{MOMENT} {busy} answer {busy} {asker} 1 Answer"
 
-
     def touched(self):
         """The last members act on the last items: tables that grow with a number have grown before times are told."""
         for member, item in (self.members - 1, self.items), (self.members, self.items - 1):
@@ -112,13 +118,13 @@ class House:
 
 def bid(house):
     """A bid over all before it."""
-    item = house.item()
+    item = house.open_item()
     house.bids += 1
     return f"{MOMENT} {house.other(item)} bid {item} {1_000_000 + 20_000 * house.bids}"
 
 
 def ask(house):
-    item = house.item()
+    item = house.open_item()
     return f"{MOMENT} {house.other(item)} ask {item} Question"
 
 
@@ -188,16 +194,14 @@ def measure(program, items, named):
 
 
 def most_held(program, lines):
-    """The most memory that the program holds while it plays a script, in bytes."""
-    reader, writer = os.pipe()
-    process = subprocess.Popen([program], stdin=reader, stdout=subprocess.DEVNULL)
-    os.close(reader)
-    with os.fdopen(writer, "w") as script:
-        script.write("\n".join(lines) + "\n")
-    _, status, usage = os.wait4(process.pid, 0)
-    if status != 0:
-        sys.exit("house.py: a run failed")
-    return usage.ru_maxrss * 1024
+    """The most memory that the program holds while it plays a script, in bytes.
+
+    `time` starts it: what a process of Python starts counts the memory of that process as its own.
+    """
+    script = "\n".join(lines) + "\n"
+    ran = subprocess.run(["/usr/bin/time", "-f", "%M", program], input=script, text=True, check=True,
+                         stdout=subprocess.DEVNULL, stderr=subprocess.PIPE)
+    return int(ran.stderr.split()[-1]) * 1024
 
 
 def memory(program):
@@ -224,8 +228,8 @@ def show(program, named):
 
 
 def main(program):
-    print(f"lines name {SIZES[0]:,} items and members")
-    show(program, SIZES[0])
+    print(f"lines name {NAMED:,} items and members")
+    show(program, NAMED)
     print("lines name all items and members")
     show(program, SIZES[-1])
     member, item, bid = memory(program)

@@ -18,7 +18,7 @@ LINES, LISTS = 1_000, 100
 
 def script(items):
     """The lines that make a house of so many items, and those of each kind between two that tell the time."""
-    made = house.House(items, min(items, house.SIZES[0]))
+    made = house.House(items, house.NAMED)
     yield from made.made()
     for kind, (count, line) in house.KINDS.items():
         yield "time"
@@ -41,7 +41,7 @@ def measured(program, items):
         given = pathlib.Path(folder, "script")
         given.write_text("\n".join(script(items)) + "\n")
         with given.open() as lines:
-            subprocess.run(["valgrind", "--tool=callgrind", "--cache-sim=yes", "--dump-before=*tell_time*",
+            subprocess.run(["valgrind", "--tool=callgrind", "--cache-sim=yes", "--dump-before=clock_gettime*",
                             f"--callgrind-out-file={folder}/dump", program],
                            stdin=lines, stdout=subprocess.DEVNULL, stderr=subprocess.DEVNULL, check=True)
         dumps = sorted(pathlib.Path(folder).glob("dump.*"), key=lambda path: int(path.suffix[1:]))
