@@ -6,8 +6,8 @@ its processor time before and after. Shown are nanoseconds a line at each size, 
 less those of `? clock`, which any line takes to be read and answered; then the time at the greatest size
 over that at the least. The lines name some items and members that lie evenly apart, and bids and questions
 as many open items, so that at each size the same is done; a second table names all of them, and so shows
-what it costs that rows aren't in the processor's caches. Memory is the growth of the most that the program held, by member,
-item and bid.
+what it costs that rows aren't in the processor's caches. Memory is the growth of the most that the program
+held, by member, item and bid.
 """
 import random
 import statistics
@@ -16,31 +16,32 @@ import sys
 
 RUNS = 5
 SIZES = [1_000, 10_000, 100_000, 1_000_000]
-MOST_MEMBERS, MOST_CATEGORIES = 100_000, 1_000
+MOST_MEMBERS, MOST_CATEGORIES, MOST_ITEMS = 100_000, 1_000, 1_000_000
 MOMENT, END = 1_000, 4_000_000_000
 # Busy members are those from 1 on; each has done a little more than a list shows.
 BUSY, MANY = 10, 60
-LINES, LISTS = 20_000, 1_000
+LINES, LISTS, CHANGES = 20_000, 1_000, 50
 # How many items and members the lines of the first table name.
-NAMED = 300
+NAMED = 200
 
 
 class House:
     """The numbers of a house. Item n is sold by member (n - 1) mod the members + 1."""
 
     def __init__(self, items, named):
-        self.items = items
+        # Less than the most that there may be, so that there is room for changes.
+        self.items = min(items, MOST_ITEMS - CHANGES)
         self.named = named
-        self.members = min(items, MOST_MEMBERS)
+        self.members = min(items, MOST_MEMBERS - CHANGES)
         # At least fifty items in each, so that a list of a category is full.
-        self.categories = min(items // 50, MOST_CATEGORIES)
+        self.categories = min(items // 50, MOST_CATEGORIES - CHANGES)
         self.random = random.Random(items)
-        self.lots = 0
-        self.bids = 0
+        # How many lines there were that each do something else.
+        self.done = 0
         # No busy member sells these; on the first of them all have bid, and the next are sold.
         quiet = self.quiet()
         self.liked, self.sold = quiet[:MANY], quiet[MANY:(1 + BUSY) * MANY]
-        self.open = quiet[(1 + BUSY) * MANY:][:named]
+        self.unbidden, self.open = quiet[-CHANGES:], quiet[(1 + BUSY) * MANY:-CHANGES][:named]
 
     def among(self, count):
         """A number up to a count, among as many as lines name."""
@@ -69,11 +70,20 @@ class House:
     def open_item(self):
         return self.random.choice(self.open)
 
+    def next(self):
+        self.done += 1
+        return self.done
+
     def quiet(self):
-        """Items that no busy member sells, each once, but for the last two."""
-        numbers = list(range(1, self.items - 1))
+        """Items that no busy member sells, each once, but for those that are touched."""
+        bought = self.bought()
+        numbers = [item for item in range(1, self.items - 1) if item not in bought]
         self.random.shuffle(numbers)
         return [item for item in numbers if self.seller(item) > BUSY]
+
+    def bought(self):
+        """The last item but two, and one of the last seller but two."""
+        return sorted({self.members - 2, self.items - 2})
 
     def made(self):
         """The lines that make it."""
@@ -114,13 +124,15 @@ class House:
             yield f"{MOMENT} {member} bid {item} 600"
             yield f"{MOMENT} {member} watch {item}"
             yield f"{MOMENT} {member} ask {item} Question"
+        for item in self.bought():
+            yield f"{MOMENT} 1 buy {item}"
+            yield f"{MOMENT} 1 feedback {item} 1 Good"
 
 
 def bid(house):
     """A bid over all before it."""
     item = house.open_item()
-    house.bids += 1
-    return f"{MOMENT} {house.other(item)} bid {item} {1_000_000 + 20_000 * house.bids}"
+    return f"{MOMENT} {house.other(item)} bid {item} {1_000_000 + 20_000 * house.next()}"
 
 
 def ask(house):
@@ -134,12 +146,30 @@ def own(house):
 
 
 def listing(house):
-    house.lots += 1
     category = house.random.randint(1, house.categories)
-    return f"{MOMENT} {house.member()} list {category} N{house.lots} Title Text*20 500 900000 {END}"
+    return f"{MOMENT} {house.member()} list {category} N{house.next()} Title Text*20 500 900000 {END}"
 
 
-KINDS = {
+def buy(house):
+    item = house.unbidden.pop()
+    return f"{MOMENT} {house.other(item)} buy {item}"
+
+
+def answer(house):
+    """The first busy member answers one of the others that asked."""
+    return f"{MOMENT} 1 answer 1 {BUSY - 1 + 2 * (house.next() % MANY + 1)} 1 Answer"
+
+
+def feedback(house):
+    """The first busy member rates what it bought."""
+    return f"{MOMENT} 1 feedback {house.sold[house.next() % MANY]} 1 Good"
+
+
+def settle(house):
+    return f"{END} 0 settle {house.liked.pop()}"
+
+
+ASKED = {
     "clock": (LINES, lambda house: "? clock"),
     "member": (LINES, lambda house: f"? member {house.member()}"),
     "member of a name": (LINES, lambda house: f"? member_named M{house.member()}"),
@@ -162,12 +192,25 @@ KINDS = {
     "waiting questions": (LISTS, lambda house: f"? waiting {house.busy()}"),
     "feedback": (LISTS, lambda house: f"? feedback {house.busy()} 0"),
     "sales": (LISTS, lambda house: f"? sales {house.busy()}"),
+}
+# The one line of this kind closes all items, and what is told is by item.
+CLOSE = "close, by item"
+GIVEN = {
     "bid": (LINES, bid),
     "watch": (LINES, lambda house: f"{MOMENT} {house.member()} watch {house.item()}"),
     "unwatch": (LINES, lambda house: f"{MOMENT} {house.member()} unwatch {house.item()}"),
     "ask": (LINES, ask),
     "empty close": (LINES, lambda house: f"{MOMENT} 0 close"),
+    "register": (CHANGES, lambda house: f"{MOMENT} 0 register N{house.next()}"),
+    "category more": (CHANGES, lambda house: f"{MOMENT} 0 add_category N{house.next()}"),
+    "listing": (CHANGES, listing),
+    "purchase": (CHANGES, buy),
+    "answer": (CHANGES, answer),
+    "feedback given": (CHANGES, feedback),
+    CLOSE: (1, lambda house: f"{END} 0 close"),
+    "settlement": (CHANGES, settle),
 }
+KINDS = {**ASKED, **GIVEN}
 
 
 def played(program, lines):
@@ -188,7 +231,8 @@ def measure(program, items, named):
         sys.exit("house.py: a line has no answer")
     times, at = {}, len(lines)
     for kind, (count, _) in reversed(KINDS.items()):
-        times[kind] = (int(answers[at - 1]) - int(answers[at - count - 2])) / count
+        done = house.items if kind == CLOSE else count
+        times[kind] = (int(answers[at - 1]) - int(answers[at - count - 2])) / done
         at -= count + 2
     return times
 
@@ -222,7 +266,7 @@ def show(program, named):
     runs = {items: [measure(program, items, min(items, named)) for _ in range(RUNS)] for items in SIZES}
     print(f"{'nanoseconds a line':22}" + "".join(f"{items:>12,}" for items in SIZES) + f"{'ratio':>8}")
     for kind in KINDS:
-        reading = "clock" if kind != "clock" else None
+        reading = None if kind in ("clock", CLOSE) else "clock"
         times = [statistics.median(run[kind] - run.get(reading, 0) for run in runs[items]) for items in SIZES]
         print(f"{kind:22}" + "".join(f"{time:12,.0f}" for time in times) + f"{times[-1] / times[0]:8.2f}")
 

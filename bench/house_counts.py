@@ -13,7 +13,8 @@ import tempfile
 
 import house
 
-LINES, LISTS = 1_000, 100
+# How many lines of a kind there are, by how many `house.py` has.
+LINES = {house.LINES: 1_000, house.LISTS: 100}
 
 
 def script(items):
@@ -22,7 +23,7 @@ def script(items):
     yield from made.made()
     for kind, (count, line) in house.KINDS.items():
         yield "time"
-        for _ in range(LINES if count == house.LINES else LISTS):
+        for _ in range(LINES.get(count, count)):
             yield line(made)
         yield "time"
 
@@ -49,7 +50,7 @@ def measured(program, items):
         kinds = [totals(dump) for dump in dumps[1::2]]
     if len(kinds) < len(house.KINDS):
         sys.exit("house_counts.py: a time was not told")
-    return {kind: [count / (LINES if often == house.LINES else LISTS) for count in counts]
+    return {kind: [count / (items if kind == house.CLOSE else LINES.get(often, often)) for count in counts]
             for (kind, (often, _)), counts in zip(house.KINDS.items(), kinds)}
 
 
@@ -57,7 +58,7 @@ def main(program, sizes):
     runs = [measured(program, items) for items in sizes]
     print(f"{'instructions a line':22}" + "".join(f"{items:>12,}" for items in sizes) + f"{'ratio':>8}{'misses a line':>20}")
     for kind in house.KINDS:
-        reading = "clock" if kind != "clock" else None
+        reading = None if kind in ("clock", house.CLOSE) else "clock"
         counts = [run[kind][0] - (run[reading][0] if reading else 0) for run in runs]
         misses = f"{runs[0][kind][1]:.1f} to {runs[-1][kind][1]:.1f}"
         print(f"{kind:22}" + "".join(f"{count:12,.0f}" for count in counts) + f"{counts[-1] / counts[0]:8.2f}{misses:>20}")
