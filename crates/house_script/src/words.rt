@@ -1,7 +1,7 @@
 //! The words of a line.
 ghost use Rattle.std.specs.Prelude.{◌<◌};
 
-use crate::script::Fault;
+use crate::fault::Fault;
 use house_rows::{Rating, Text};
 use std::alloc::{AllocError, Global};
 use std::str::SplitWhitespace;

@@ -1,46 +1,55 @@
-//! A house in memory that commands are given to.
-use crate::filling::{Order, empty, filled};
-use crate::script::Fault;
+//! A house that commands are given to.
+use crate::fault::Fault;
+use crate::filling::{filled, settings};
+use crate::makes::Makes;
+use crate::order::Order;
+use crate::question::Question;
+use crate::reply::Reply;
 use house::decide;
 use house_rows::{Keep, Refusal};
 use std::alloc::Global;
 use std::marker::Model;
-use store_list::ListKeep;
 
-/// A house whose keep has the tables of the commands that it accepted. Clauses see the tables.
+/// A house whose keep has the tables of the commands that it accepted. Clauses see the keep.
 #[derive(Drop)]
-pub(crate) struct House {
-    pub(crate) keep: ListKeep,
+pub(crate) struct House<K: Keep + Drop> {
+    keep: K,
     // What it accepted, where that is recorded.
     recorded: Option<Vec<Order>>,
 }
 
-impl Model for House {
-    ghost use Rattle.house_rows.specs.Tables.{Tables};
-    ghost use Rattle.house_tests.specs.Housed.{IsHoused};
+impl<K: Keep + Drop> Model for House<K> {
+    ghost use Rattle.house_script.specs.Housed.{IsHoused};
 
-    ghost Value = { Tables };
+    ghost Value = { K };
 
     ghost view = { λ house. house.keep };
 
-    ghost invariant = { λ house. IsHoused house.keep };
+    ghost invariant = { λ house. IsHoused (K.is_honest house.keep) (K.is_failed house.keep) (K.content house.keep) };
 }
 
-impl House {
+impl<K: Keep + Drop> House<K> {
     /// A house without members.
-    pub(crate) fn new(alloc: Global) -> Result<House, Fault> {
+    pub(crate) fn new<M: Makes<K>>(alloc: Global, makes: &M) -> Result<House<K>, Fault> {
+        let keep = makes.empty(alloc, settings(alloc)?)?;
         Ok(House {
-            keep: empty(alloc)?,
+            keep,
             recorded: None,
         })
     }
 
     /// A house without members that records what it accepts.
-    pub(crate) fn recording(alloc: Global) -> Result<House, Fault> {
+    pub(crate) fn recording<M: Makes<K>>(alloc: Global, makes: &M) -> Result<House<K>, Fault> {
+        let keep = makes.empty(alloc, settings(alloc)?)?;
         Ok(House {
-            keep: empty(alloc)?,
+            keep,
             recorded: Some(Vec::new(alloc)),
         })
+    }
+
+    /// Asks it something.
+    pub(crate) fn ask(&mut self, question: &Question) -> Result<Reply, Fault> {
+        Ok(question.ask(&mut self.keep)?)
     }
 
     /// Gives it a command, and tells why it is refused, if it is.
@@ -80,9 +89,9 @@ impl House {
     }
 
     /// Goes on with a new keep that is filled with the changes of what it has recorded.
-    pub(crate) fn refill(&mut self, alloc: Global) -> Result<(), Fault> {
+    pub(crate) fn refill<M: Makes<K>>(&mut self, alloc: Global, makes: &M) -> Result<(), Fault> {
         let recorded = self.recorded.as_ref().ok_or(Fault::Script)?;
-        self.keep = filled(alloc, recorded)?;
+        self.keep = filled(alloc, makes, recorded)?;
         Ok(())
     }
 }

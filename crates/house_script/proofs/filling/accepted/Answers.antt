@@ -1,9 +1,9 @@
 use Rattle.std.proofs.Common.{◌≡◌, ◌∙◌, refl, ap, subst}
 use Rattle.house_rows.specs.Changed.{changed}
 use Rattle.house.specs.Decided.{IsDecided}
-use Rattle.house_tests.specs.Housed.{set_up}
-use Rattle.house_tests.proofs.Leading.{one_more_leads}
-use Rattle.house_tests.proofs.filling.filled.Goals as goal
+use Rattle.house_script.specs.Housed.{set_up}
+use Rattle.house_script.proofs.Leading.{one_more_leads}
+use Rattle.house_script.proofs.filling.accepted.Goals as goal
 
 pub loop-order-preserved : goal.loop-order-preserved
 loop-order-preserved c =

@@ -1,5 +1,5 @@
-use Rattle.house_tests.specs.Housed.{LeadTo}
-use Rattle.house_tests.proofs.filling.filled.Given as goal
+use Rattle.house_script.specs.Housed.{LeadTo}
+use Rattle.house_script.proofs.filling.accepted.Given as goal
 
 abbrev pub invariant-loop-order : goal.invariant-loop-order
 invariant-loop-order l = LeadTo l.changes.items l.keep

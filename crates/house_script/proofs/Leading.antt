@@ -8,7 +8,7 @@ use Rattle.house_rows.specs.Runs.{entry}
 use Rattle.house_rows.specs.Tables.{Tables, tables_of}
 use Rattle.house.specs.Decided.{IsAccepted}
 use Rattle.house.specs.Filled.{FitInTurn, after}
-use Rattle.house_tests.specs.Housed.{LeadTo, set_up}
+use Rattle.house_script.specs.Housed.{LeadTo, set_up}
 
 pub fits_behind : (t : Tables) (changes : List Change) (change : Change) → FitInTurn t changes → ChangeFits (after t changes) change
     → FitInTurn t (changes ++ change ∷ [])

@@ -1,0 +1,111 @@
+//! What a line of a script may be, and what is answered to it.
+//!
+//! A command is `MOMENT CALLER NAME WORD..`, and its answer `ok`, or the refusal's name, for `Low` with the
+//! floor. `times N` before it gives it N times, until it is refused, `#` in it being the number of the time,
+//! from 1; the answer is the refusal, or `ok`. A question is `? NAME WORD..`, and its answer `-` where there is
+//! no such row. Where memory is wanted the answer is `Memory`, and nothing is changed.
+//!
+//! `new` begins with an empty house. So does `record`, and from then on `fill` goes on with a house that is
+//! filled with the changes so far; its answer is `ok`. An empty line, and one that begins with `--`, has no answer.
+use crate::fault::Fault;
+use crate::makes::Makes;
+use crate::order::Order;
+use crate::played::House;
+use crate::question::Question;
+use crate::words::Words;
+use house_rows::{Keep, Refusal};
+use std::alloc::{AllocError, Global};
+use std::fmt;
+use std::fmt::Write;
+
+/// What is answered to a line.
+#[derive(Drop)]
+pub(crate) enum Answer {
+    /// To a command, its refusal, if it is refused. It takes no memory, since the change is made.
+    Ordered(Option<Refusal>),
+    /// To a question.
+    Told(String),
+}
+
+impl fmt::Display for Answer {
+    fn fmt<W: Write>(&self, f: &mut fmt::Formatter<W>) -> fmt::Result {
+        match self {
+            Answer::Ordered(None) => write!(f, "ok"),
+            Answer::Ordered(Some(Refusal::Low { floor })) => write!(f, "Low {floor}"),
+            Answer::Ordered(Some(refusal)) => write!(f, "{}", refusal.name()),
+            Answer::Told(text) => write!(f, "{text}"),
+        }
+    }
+}
+
+/// Plays a line, and tells what is answered to it, if anything is.
+pub(crate) fn answered<K: Keep + Drop, M: Makes<K>>(
+    alloc: Global,
+    makes: &M,
+    house: &mut House<K>,
+    line: &str,
+) -> Result<Option<Answer>, Fault> {
+    let mut words = Words::new(alloc, line);
+    match words.next() {
+        None | Some("--") => Ok(None),
+        Some("new") => {
+            *house = House::new(alloc, makes)?;
+            Ok(None)
+        }
+        Some("record") => {
+            *house = House::recording(alloc, makes)?;
+            Ok(None)
+        }
+        Some("fill") => {
+            house.refill(alloc, makes)?;
+            Ok(Some(Answer::Ordered(None)))
+        }
+        Some("?") => {
+            let reply = house.ask(&Question::spelled(&mut words)?)?;
+            Ok(Some(Answer::Told(reply.line(alloc)?)))
+        }
+        Some("times") => Ok(Some(Answer::Ordered(repeat(alloc, house, line)?))),
+        Some(_) => Ok(Some(Answer::Ordered(order(alloc, house, line)?))),
+    }
+}
+
+// Gives the command of a line that begins with `times`, until it is refused.
+fn repeat<K: Keep + Drop>(
+    alloc: Global,
+    house: &mut House<K>,
+    line: &str,
+) -> Result<Option<Refusal>, Fault> {
+    let (_, counted) = line.split_once(' ').ok_or(Fault::Script)?;
+    let (times, command) = counted.split_once(' ').ok_or(Fault::Script)?;
+    let times: u64 = times.parse().map_err(|_| Fault::Script)?;
+    for time in 1..=times {
+        let command = numbered(alloc, command, time)?;
+        let refusal = order(alloc, house, command.as_str())?;
+        if refusal.is_some() {
+            return Ok(refusal);
+        }
+    }
+    Ok(None)
+}
+
+// A line with a number in the place of each `#`.
+fn numbered(alloc: Global, line: &str, number: u64) -> Result<String, AllocError> {
+    let mut text = String::new(alloc);
+    for character in line.chars() {
+        if character == '#' {
+            write!(text, "{number}")?;
+        } else {
+            text.push(character)?;
+        }
+    }
+    Ok(text)
+}
+
+// Gives a command, and tells why it is refused, if it is.
+fn order<K: Keep + Drop>(
+    alloc: Global,
+    house: &mut House<K>,
+    line: &str,
+) -> Result<Option<Refusal>, Fault> {
+    house.order(Order::spelled(&mut Words::new(alloc, line))?)
+}
