@@ -1,5 +1,5 @@
 -- What the rows of a new house make of an empty one.
-use Rattle.std.proofs.Common.{◌≡◌, ◌≢◌, ℕ, suc, zero, ◌+◌, ◌<◌, ◌≤◌, ◌==◌, true, List, [], ◌∷◌, ◌++◌, map, find, is_some, length, get_or, take, All, refl, sym, ap, ap₂, subst, ◌∙◌, arith}
+use Rattle.std.proofs.Common.{◌≡◌, ◌≢◌, ℕ, suc, zero, ◌+◌, ◌<◌, ◌≤◌, ◌^◌, ◌==◌, true, List, [], ◌∷◌, ◌++◌, map, find, is_some, length, get_or, take, All, refl, sym, ap, ap₂, subst, ◌∙◌, arith}
 use Rattle.std.specs.List.{AllByRecursion}
 use Rattle.std.proofs.lemmas.List.{map_more}
 use Rattle.std.proofs.lemmas.List.Elements.{All-from_recursion, All-nil}
@@ -8,11 +8,15 @@ use Rattle.sqlite_trees.specs.Tree.{Trees}
 use Rattle.sqlite_schema.specs.declared.schema.Table.{Table}
 use Rattle.sqlite.specs.Effect.{Database}
 use Rattle.steps.specs.Table.{IsBandTable, RisesFrom, RisesFromZero}
+use Rattle.house_rows.specs.Fits.{IsWithin}
 use Rattle.house_rows.specs.Questions.{questions}
 use Rattle.house_rows.specs.Tables.{Tables, tables_of}
+use Rattle.house_rows.specs.Text.{is_plain}
 use Rattle.house_rows.specs.declared.settings.Settings.{Settings}
 use Rattle.store_rows.specs.declared.band.BandRow.{BandRow}
 use Rattle.store_rows.specs.declared.house.HouseRow.{HouseRow}
+use Rattle.store_rows.specs.Fitting.{HouseRowFits}
+use Rattle.store_rows.specs.House.{IsHouse}
 use Rattle.store_rows.specs.ItemRows.{item_row_in}
 use Rattle.store_rows.specs.Making.{IsEmptyHouse}
 use Rattle.store_rows.specs.Rows.{band_in, bands_in, bid_in, category_in, house_in, houses_in, member_in, one_feedback_in, question_in, watch_in}
@@ -23,6 +27,7 @@ use Rattle.house_rows.specs.Ratings.{feedback_key}
 use Rattle.house_rows.specs.Watches.{watch_key}
 use Rattle.store_lists.specs.Sorted.{sorted_by}
 use Rattle.store_lists.specs.Tables.{house_row_in, settings_in, tables_in}
+use Rattle.store_open.specs.Opening.{IsSoundHouse}
 use Rattle.store_open.specs.Putting.{AddsBand, AddsHouse, IsBanded, IsStarted, band_row, new_house}
 
 -- ---- the bands
@@ -100,8 +105,28 @@ from_settings : (settings : Settings) → from_rows (new_house settings.rate set
 unfolding tables_of questions sorted_by
 from_settings settings = ap (λ (bands : List (ℕ × ℕ)). record (tables_of settings []) { settings = record settings { bands = bands } }) (same_bands settings.bands)
 
-pub house_started : (settings : Settings) (old new : Database) → IsBanded settings.bands old → AddsHouse settings.rate settings.zone old new → IsStarted settings new
-house_started settings old new was added =
+-- a house of these rows is one that an opening takes
+new_is_sound : (settings : Settings) (new : Database) → IsHouse new → IsBandTable settings.bands → settings.rate ≤ 2000 → houses_in new.trees ≡ new_house settings.rate settings.zone ∷ [] → bands_in new.trees ≡ map band_row settings.bands
+    → new.trees 2 ≡ [] → new.trees 4 ≡ [] → new.trees 6 ≡ [] → is_plain settings.zone ≡ true → IsSoundHouse new
+new_is_sound settings new house valid rate houses bands members categories items plain = record {
+  house = house;
+  set_up = record {
+    house = subst (λ (l : List HouseRow). is_some (find (λ h. h.id == 1) l) ≡ true) (sym houses) refl;
+    fits = subst (AllByRecursion HouseRowFits) (sym houses) (record { id = refl; version = refl; clock = omega arith; rate = rate; zone = plain }, tt);
+    bands = subst IsBandTable (sym (ap (map (λ (b : BandRow). (b.from, b.step))) bands ∙ same_bands settings.bands)) valid;
+  };
+  numbered = record {
+    few_members = subst (λ rows. length (map member_in rows) < 2 ^ 32) (sym members) (omega arith);
+    members = subst (λ rows. AllByRecursion (λ (m : _). IsWithin 1 (length (map member_in rows)) m.member) (map member_in rows)) (sym members) tt;
+    few_categories = subst (λ rows. length (map category_in rows) < 2 ^ 32) (sym categories) (omega arith);
+    categories = subst (λ rows. AllByRecursion (λ (k : _). IsWithin 1 (length (map category_in rows)) k.category) (map category_in rows)) (sym categories) tt;
+    few_items = subst (λ rows. length (map item_row_in rows) < 2 ^ 32) (sym items) (omega arith);
+    items = subst (λ rows. AllByRecursion (λ (row : _). IsWithin 1 (length (map item_row_in rows)) row.item.terms.item) (map item_row_in rows)) (sym items) tt;
+  };
+}
+
+pub house_started : (settings : Settings) (old new : Database) → IsBandTable settings.bands → settings.rate ≤ 2000 → IsBanded settings.bands old → AddsHouse settings.rate settings.zone old new → IsStarted settings new
+house_started settings old new valid rate was added =
     let db = new.trees in
     let others = added.others in
     let none : houses_in old.trees ≡ [] = ap (map house_in) (was.empty.0 (λ e. absurd (omega (arith, e)))) in
@@ -136,4 +161,5 @@ house_started settings old new was added =
           ∙ ap (λ l. from_rows hs bs [] [] [] [] [] l (db 14)) asked
           ∙ ap (λ l. from_rows hs bs [] [] [] [] [] [] l) given
           ∙ from_settings settings;
+      sound = new_is_sound settings new added.house valid rate houses bands members categories items;
     }

@@ -1,8 +1,12 @@
 -- What was read of a house says what it is.
-use Rattle.std.proofs.Common.{◌≡◌, ◌≤◌, ◌==◌, ℕ, true, List, map, find, is_some, All, Option, Some, unwrap_or, [], refl, sym, ap, subst, ◌∙◌, IsTrue}
+use Rattle.std.proofs.Common.{◌≡◌, ◌≤◌, ◌==◌, ℕ, true, List, map, find, is_some, All, Option, Some, unwrap_or, [], ◌∷◌, refl, sym, ap, subst, ◌∙◌, IsTrue, arith}
+use Rattle.std.specs.List.{AllByRecursion}
+use Rattle.std.proofs.lemmas.List.Elements.{All-from_recursion}
 use Rattle.sqlite_trees.specs.Tree.{Trees}
 use Rattle.sqlite.specs.Effect.{Database}
 use Rattle.sqlite.specs.State.{State, IsUnchanged}
+use Rattle.steps.specs.Table.{IsBand}
+use Rattle.house_rows.specs.Fits.{IsWithin}
 use Rattle.house_rows.specs.Found.{counts_of}
 use Rattle.house_rows.specs.Tables.{ItemRow}
 use Rattle.house_rows.specs.declared.people.Category.{Category}
@@ -11,19 +15,25 @@ use Rattle.house_rows.specs.declared.people.Member.{Member}
 use Rattle.house_rows.specs.declared.settings.Settings.{Settings}
 use Rattle.store_rows.specs.declared.band.BandRow.{BandRow}
 use Rattle.store_rows.specs.declared.house.HouseRow.{HouseRow}
+use Rattle.store_rows.specs.Fitting.{BandRowFits, HouseRowFits}
 use Rattle.store_rows.specs.House.{IsHouse}
 use Rattle.store_rows.specs.ItemRows.{items_in}
 use Rattle.store_rows.specs.Rows.{bands_in, categories_in, houses_in, members_in}
 use Rattle.store_lists.specs.Tables.{IsAtRest, IsNumbered, house_row_in, settings_in, tables_in}
-use Rattle.store_open.specs.Opening.{HasSettings, HaveNumbers}
+use Rattle.store_open.specs.Opening.{AreNumbered, HasSettings, HaveNumbers}
 
 abbrev pairs : List BandRow → List (ℕ × ℕ)
 pairs = map (λ b. (b.from, b.step))
 
-pub has_settings : (db : Trees) (house : HouseRow) (rows : List BandRow) (s : Settings) → Some house ≡ find (λ h. h.id == 1) (houses_in db) → rows ≡ bands_in db
-    → s.bands ≡ pairs rows → s.rate ≡ house.rate → s.zone ≡ house.zone → HasSettings db s
+-- the rows of a band table have 32 bits
+pub bands_fit : (rows : List BandRow) → AllByRecursion IsBand (pairs rows) → AllByRecursion BandRowFits rows
+bands_fit [] each = tt
+bands_fit (b ∷ rows) each = (record { from = omega (arith, each.0.0); step = omega (arith, each.0.2) }, bands_fit rows each.1)
+
+pub has_settings : (db : Trees) (house : HouseRow) (rows : List BandRow) (s : Settings) → Some house ≡ find (λ h. h.id == 1) (houses_in db) → HouseRowFits house → rows ≡ bands_in db
+    → s.bands ≡ pairs rows → s.rate ≡ house.rate → s.zone ≡ house.zone → HasSettings db s house.clock
 unfolding settings_in house_row_in
-has_settings db house rows s found read bands rate zone =
+has_settings db house rows s found fits read bands rate zone =
     let none : HouseRow = record { id = 0; version = 0; clock = 0; rate = 0; zone = [] } in
     let row : unwrap_or (find (λ h. h.id == 1) (houses_in db)) none ≡ house = ap (λ (o : Option HouseRow). unwrap_or o none) (sym found) in
     let b : pairs (bands_in db) ≡ s.bands = ap pairs (sym read) ∙ sym bands in
@@ -32,17 +42,26 @@ has_settings db house rows s found read bands rate zone =
     let was : Settings = settings_in db in
     record {
       house = subst (λ (o : Option HouseRow). is_some o ≡ true) found refl;
+      version = ap (λ (h : HouseRow). h.version) row ∙ fits.version;
       settings_are = ap (λ (bs : List (ℕ × ℕ)). record was { bands = bs }) b
           ∙ ap (λ (n : ℕ). record was { bands = s.bands; rate = n }) r
           ∙ ap (λ (t : List ℕ). record { bands = s.bands; rate = s.rate; zone = t }) z;
+      clock_is = ap (λ (h : HouseRow). h.clock) row;
     }
 
-numbered : (db : Trees) (s : Settings) (counts : Counts) → HasSettings db s → HaveNumbers db counts → IsNumbered db
-numbered db s counts set have = record {
+each_within : {T : Type 0} (number : T → ℕ) (n : ℕ) (xs : List T) → AllByRecursion (λ x. IsWithin 1 n (number x)) xs → AllByRecursion (λ x. number x ≤ n) xs
+each_within number n [] all = tt
+each_within number n (x ∷ xs) all = (all.0.1, each_within number n xs all.1)
+
+within : {T : Type 0} (number : T → ℕ) (n : ℕ) (xs : List T) → AllByRecursion (λ x. IsWithin 1 n (number x)) xs → All (λ x. number x ≤ n) xs
+within number n xs all = All-from_recursion (λ x. number x ≤ n) xs (each_within number n xs all)
+
+numbered : (db : Trees) (s : Settings) (clock : ℕ) → HasSettings db s clock → AreNumbered db → IsNumbered db
+numbered db s clock set are = record {
   house = set.house;
-  members = subst (λ n. All (λ (m : Member). m.member ≤ n) (members_in db)) (sym have.members) have.members_within;
-  categories = subst (λ n. All (λ (k : Category). k.category ≤ n) (categories_in db)) (sym have.categories) have.categories_within;
-  items = subst (λ n. All (λ (row : ItemRow). row.item.terms.item ≤ n) (items_in db)) (sym have.items) have.items_within;
+  members = within (λ (m : Member). m.member) _ (members_in db) are.members;
+  categories = within (λ (k : Category). k.category) _ (categories_in db) are.categories;
+  items = within (λ (row : ItemRow). row.item.terms.item) _ (items_in db) are.items;
 }
 
 counts_are : (db : Trees) (counts : Counts) → HaveNumbers db counts → counts_of (tables_in db) ≡ counts
@@ -52,23 +71,35 @@ counts_are db counts have =
     ∙ ap (λ (n : ℕ). record (counts_of (tables_in db)) { members = counts.members; categories = n }) have.categories
     ∙ ap (λ (n : ℕ). record { members = counts.members; categories = counts.categories; items = n }) have.items
 
+clock_of : (db : Trees) → (tables_in db).clock ≡ (house_row_in db).clock
+unfolding tables_in
+clock_of db = refl
+
 -- a house that was read twice, and is as it was
-pub record WasRead (was is : State) (s : Settings) (counts : Counts) : Type 0 where
+pub record WasRead (was is : State) (s : Settings) (clock : ℕ) (counts : Counts) : Type 0 where
   pub rests : IsAtRest is
   pub settings_are : settings_in is.now.trees ≡ s
   pub counts_are : counts_of (tables_in is.now.trees) ≡ counts
-  pub same : is.now.trees ≡ was.now.trees
+  pub clock_is : (tables_in is.now.trees).clock ≡ clock
+  pub version : (house_row_in is.now.trees).version ≡ 1
+  pub numbered : AreNumbered is.now.trees
+  pub same : is.now ≡ was.now
+  pub committed : is.committed ≡ is.now
 
-pub was_read : (was middle is : State) (s : Settings) (counts : Counts) → IsTrue was.is_open × IsHouse was.now → was.now ≡ was.committed → IsUnchanged was middle → IsUnchanged middle is
-    → HasSettings was.now.trees s → HaveNumbers middle.now.trees counts → WasRead was is s counts
-was_read was middle is s counts house settled first second set have =
+pub was_read : (was middle is : State) (s : Settings) (clock : ℕ) (counts : Counts) → IsTrue was.is_open × IsHouse was.now → was.now ≡ was.committed → IsUnchanged was middle → IsUnchanged middle is
+    → HasSettings was.now.trees s clock → HaveNumbers middle.now.trees counts → WasRead was is s clock counts
+was_read was middle is s clock counts house settled first second set have =
     let now = second.0.now_is ∙ first.0.now_is in
     let committed = second.0.committed_is ∙ first.0.committed_is in
-    let set_now = subst (λ (d : Database). HasSettings d.trees s) (sym now) set in
+    let set_now = subst (λ (d : Database). HasSettings d.trees s clock) (sym now) set in
     let have_now = subst (λ (d : Database). HaveNumbers d.trees counts) (sym second.0.now_is) have in
     record {
-      rests = record { is_open = second.0.is_open; house = subst IsHouse (sym now) house.1; settled = now ∙ settled ∙ sym committed; numbered = numbered is.now.trees s counts set_now have_now };
+      rests = record { is_open = second.0.is_open; house = subst IsHouse (sym now) house.1; settled = now ∙ settled ∙ sym committed; numbered = numbered is.now.trees s clock set_now have_now.numbered };
       settings_are = set_now.settings_are;
       counts_are = counts_are is.now.trees counts have_now;
-      same = ap (λ (d : Database). d.trees) now;
+      clock_is = clock_of is.now.trees ∙ set_now.clock_is;
+      version = set_now.version;
+      numbered = have_now.numbered;
+      same = now;
+      committed = committed ∙ sym settled ∙ sym now;
     }

@@ -1,22 +1,67 @@
--- What is read of a house as it is opened.
-use Rattle.std.specs.Prelude.{◌≡◌, ◌≤◌, ◌==◌, true, find, is_some, length, All}
+-- What is read of a house as it is opened, and which houses are taken.
+use Rattle.std.specs.Prelude.{◌≡◌, ◌≤◌, ◌<◌, ◌^◌, ◌==◌, ℕ, true, find, is_some, length, map}
+use Rattle.std.specs.List.{AllByRecursion}
+use Rattle.sqlite_trees.specs.declared.store.Store.{Ghosts}
 use Rattle.sqlite_trees.specs.Tree.{Trees}
+use Rattle.sqlite_trees.specs.View.{IsClean, doubt}
+use Rattle.sqlite.specs.Effect.{Database}
+use Rattle.sqlite.specs.Held.{Held, state}
+use Rattle.steps.specs.Table.{IsBandTable}
+use Rattle.house_rows.specs.Fits.{IsWithin}
 use Rattle.house_rows.specs.declared.people.Counts.{Counts}
 use Rattle.house_rows.specs.declared.settings.Settings.{Settings}
+use Rattle.store_rows.specs.Fitting.{HouseRowFits}
+use Rattle.store_rows.specs.House.{IsHouse}
 use Rattle.store_rows.specs.ItemRows.{items_in}
-use Rattle.store_rows.specs.Rows.{categories_in, houses_in, members_in}
-use Rattle.store_lists.specs.Tables.{settings_in}
+use Rattle.store_rows.specs.Rows.{bands_in, categories_in, houses_in, members_in}
+use Rattle.store_lists.specs.Tables.{house_row_in, settings_in}
 
--- the tables have so many rows, of which none has a number over that
+-- members, categories and items have numbers from 1 to how many there are, which has 32 bits
+pub record AreNumbered (db : Trees) : Type 0 where
+  pub few_members : length (members_in db) < 2 ^ 32
+  pub members : AllByRecursion (λ m. IsWithin 1 (length (members_in db)) m.member) (members_in db)
+  pub few_categories : length (categories_in db) < 2 ^ 32
+  pub categories : AllByRecursion (λ k. IsWithin 1 (length (categories_in db)) k.category) (categories_in db)
+  pub few_items : length (items_in db) < 2 ^ 32
+  pub items : AllByRecursion (λ row. IsWithin 1 (length (items_in db)) row.item.terms.item) (items_in db)
+
+-- the tables have so many rows, numbered from 1 on
 pub record HaveNumbers (db : Trees) (counts : Counts) : Type 0 where
   pub members : length (members_in db) ≡ counts.members
-  pub members_within : All (λ m. m.member ≤ counts.members) (members_in db)
   pub categories : length (categories_in db) ≡ counts.categories
-  pub categories_within : All (λ k. k.category ≤ counts.categories) (categories_in db)
   pub items : length (items_in db) ≡ counts.items
-  pub items_within : All (λ row. row.item.terms.item ≤ counts.items) (items_in db)
+  pub numbered : AreNumbered db
 
--- the house has its row, and is set up like this
-pub record HasSettings (db : Trees) (settings : Settings) : Type 0 where
+-- the house has its row, of version 1, and is set up like this
+pub record HasSettings (db : Trees) (settings : Settings) (clock : ℕ) : Type 0 where
   pub house : is_some (find (λ h. h.id == 1) (houses_in db)) ≡ true
+  pub version : (house_row_in db).version ≡ 1
   pub settings_are : settings_in db ≡ settings
+  pub clock_is : (house_row_in db).clock ≡ clock
+
+-- ---- which houses are taken
+
+-- the row of the house is there and fits, and its bands are a table
+pub record IsSetUp (db : Trees) : Type 0 where
+  pub house : is_some (find (λ h. h.id == 1) (houses_in db)) ≡ true
+  pub fits : AllByRecursion HouseRowFits (houses_in db)
+  pub bands : IsBandTable (map (λ b. (b.from, b.step)) (bands_in db))
+
+-- a house that an opening takes
+pub record IsSoundHouse (db : Database) : Type 0 where
+  pub house : IsHouse db
+  pub set_up : IsSetUp db.trees
+  pub numbered : AreNumbered db.trees
+
+-- ---- a call that takes a connection and hands none out
+
+-- What the store of a connection may become: that a wrong answer of the disk was taken as true is not forgotten, and a shield is kept.
+pub record Follows {S : Type 0} (g : Ghosts S) (conn : Held S) (store : S) : Type 0 where
+  pub clean : doubt (state g conn).is_clean ≤ doubt (g.view store).is_clean
+  pub shield : g.is_shielded conn.store → g.is_shielded store
+
+-- The store that the call has left was not handed out; where the disk was honest until then, something is so.
+pub record Leaves {S : Type 0} (g : Ghosts S) (conn : Held S) (Fact : Type 0) : Type 0 where
+  pub store : S
+  pub follows : Follows g conn store
+  pub honest : IsClean (g.view store) → Fact

@@ -1,8 +1,9 @@
 -- What the rows of a new house are, and what each write adds.
-use Rattle.std.specs.Prelude.{◌≡◌, ◌≢◌, ◌<◌, ℕ, List, [], ◌∷◌, ◌++◌, map, All}
+use Rattle.std.specs.Prelude.{◌≡◌, ◌≢◌, ◌<◌, true, ℕ, List, [], ◌∷◌, ◌++◌, map, All}
 use Rattle.std.specs.List.{AllByRecursion}
 use Rattle.sqlite.specs.Effect.{Database}
 use Rattle.house_rows.specs.Tables.{tables_of}
+use Rattle.house_rows.specs.Text.{is_plain}
 use Rattle.house_rows.specs.declared.settings.Settings.{Settings}
 use Rattle.store_rows.specs.declared.band.BandRow.{BandRow}
 use Rattle.store_rows.specs.declared.house.HouseRow.{HouseRow}
@@ -10,6 +11,7 @@ use Rattle.store_rows.specs.House.{IsHouse, KeepsOthers}
 use Rattle.store_rows.specs.Rows.{bands_in, houses_in}
 use Rattle.store_rows.specs.Schema.{house_schema}
 use Rattle.store_lists.specs.Tables.{IsNumbered, tables_in}
+use Rattle.store_open.specs.Opening.{IsSoundHouse}
 
 -- the row of a new house
 abbrev pub new_house : ℕ → List ℕ → HouseRow
@@ -37,8 +39,9 @@ pub record IsBanded (bands : List (ℕ × ℕ)) (db : Database) : Type 0 where
   pub bands_are : bands_in db.trees ≡ map band_row bands
   pub empty : AllByRecursion (λ t. t.tree ≢ 1 → db.trees t.tree ≡ []) house_schema.tables
 
--- a house with no history, as it is set up
+-- a house with no history, as it is set up; an opening takes it, if its zone has no control characters
 pub record IsStarted (settings : Settings) (db : Database) : Type 0 where
   pub house : IsHouse db
   pub numbered : IsNumbered db.trees
   pub tables : tables_in db.trees ≡ tables_of settings []
+  pub sound : is_plain settings.zone ≡ true → IsSoundHouse db

@@ -1,11 +1,13 @@
 //! A connection made anew, which has read its whole file.
-ghost use Rattle.std.specs.Prelude.{◌≡◌, false, IfOk, OnOk, IsTrue};
+ghost use Rattle.std.specs.Prelude.{◌≡◌, ◌↔◌, false, IfOk, OnOk, IsErrOf, IsTrue};
 ghost use Rattle.sqlite.specs.Held.{state};
 ghost use Rattle.sqlite.specs.State.{HasCleanDisk, Survives};
 ghost use Rattle.sqlite.specs.Steps.{over_memory};
+ghost use Rattle.house_rows.specs.declared.fault.KeepFault.TheVariants.{Damaged};
 ghost use Rattle.store_rows.specs.House.{IsHouse};
 ghost use Rattle.store_rows.specs.Making.{IsBlank, IsEmptyHouse};
 ghost use Rattle.store_rows.specs.Schema.{house_schema};
+ghost use Rattle.store_open.specs.Opening.{Follows, Leaves};
 
 use crate::make::fault_of;
 use crate::same::is_same_schema;
@@ -27,6 +29,8 @@ fn made_anew<S: Alter + Drop>(
     ensures rests { IfOk result (λ c. HasCleanDisk (state S.Store c) → IsTrue (state S.Store c).is_open × ((state S.Store c).now ≡ (state S.Store c).committed)) }
     ensures same { IfOk result (λ c. HasCleanDisk (state S.Store c) → (state S.Store c).now.trees ≡ (state S.Store conn).committed.trees) }
     ensures mode { IfOk result (λ c. c.in_transaction ≡ false) }
+    ensures follows { IfOk result (λ c. Follows S.Store conn c.store) }
+    ensures damaged { IsErrOf result Damaged → Leaves S.Store conn (¬ (IsHouse (state S.Store conn).committed)) }
 {
     let store = conn.into_store();
     if store.is_broken() {
@@ -44,6 +48,7 @@ fn make_schema<S: Alter>(conn: &mut Connection<S>) -> Result<(), KeepFault>
     requires blank { IsBlank (state S.Store conn.old) }
     requires mode { conn.old.in_transaction ≡ false }
     ensures ok { HasCleanDisk (state S.Store conn.new) → OnOk result ((state S.Store conn.new).now.schema ≡ house_schema) }
+    ensures sound { ¬ (IsErrOf result Damaged) }
 {
     let mut tx = conn.transaction();
     make_tables(&mut tx)?;
@@ -55,7 +60,8 @@ fn make_schema<S: Alter>(conn: &mut Connection<S>) -> Result<(), KeepFault>
 
 // An empty house in memory: its schema is the one to compare with.
 fn house_in_memory(alloc: Global) -> Result<Connection<MemStore>, KeepFault>
-    ensures { IfOk result (λ c. (state over_memory c).now.schema ≡ house_schema) }
+    ensures schema { IfOk result (λ c. (state over_memory c).now.schema ≡ house_schema) }
+    ensures sound { ¬ (IsErrOf result Damaged) }
 {
     let Ok(mut conn) = Connection::open_in_memory(alloc) else {
         return Err(KeepFault::Memory);
@@ -66,7 +72,8 @@ fn house_in_memory(alloc: Global) -> Result<Connection<MemStore>, KeepFault>
 
 // Whether a schema is that of a house. Memory is the only fault.
 fn is_house_schema(alloc: Global, schema: &Schema) -> Result<bool, KeepFault>
-    ensures { IfOk result (λ is. IsTrue is → schema.now ≡ house_schema) }
+    ensures value { IfOk result (λ is. IsTrue is ↔ (schema.now ≡ house_schema)) }
+    ensures sound { ¬ (IsErrOf result Damaged) }
 {
     let house = house_in_memory(alloc)?;
     Ok(is_same_schema(schema, house.schema()))
@@ -81,6 +88,8 @@ pub fn house_anew<S: Alter + Drop>(
     ensures rests { IfOk result (λ c. HasCleanDisk (state S.Store c) → (state S.Store c).now ≡ (state S.Store c).committed) }
     ensures same { IfOk result (λ c. HasCleanDisk (state S.Store c) → (state S.Store c).now.trees ≡ (state S.Store conn).committed.trees) }
     ensures mode { IfOk result (λ c. c.in_transaction ≡ false) }
+    ensures follows { IfOk result (λ c. Follows S.Store conn c.store) }
+    ensures damaged { IsErrOf result Damaged → Leaves S.Store conn (¬ (IsHouse (state S.Store conn).committed)) }
 {
     let again = made_anew(alloc, conn)?;
     if is_house_schema(alloc, again.schema())? {

@@ -11,4 +11,6 @@ pub struct Opened<S: Alter> {
     pub settings: Settings,
     /// How many members, categories and items it has.
     pub counts: Counts,
+    /// Its clock, in seconds since 1970-01-01T00:00:00Z.
+    pub clock: u64,
 }

@@ -1,10 +1,14 @@
 //! The house in a file, made and opened.
 //!
 //! Promised: `make_house` leaves the tables of a house with no history, and nothing else is ever
-//! found by a crash; `opened` takes any connection, and hands out one that holds a house of version 1,
-//! with what its settings and its counts are. Read `open.rt` first, then `make.rt`.
+//! found by a crash; it is `Damaged` exactly where something is listed already or a transaction is
+//! open. `opened` takes any connection, and hands out one that holds a house of version 1, with what
+//! its settings, its counts and its clock are; it is never `Damaged` of a sound house, which
+//! `specs/Opening.antt` defines. Read `open.rt` first, then `make.rt`.
 //!
-//! Everything is said wherever the disk was honest. What is no house of ours is `Damaged`.
+//! Everything is said wherever the disk was honest, also of an opening that hands out no connection.
+//! Not promised: when an error is `Memory` or `Store`, and that rows of other tables than the house
+//! and its bands fit: an opening does not read them.
 #![tactic(auto)]
 
 mod anew;

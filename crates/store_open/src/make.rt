@@ -1,16 +1,18 @@
 //! A house is made in an empty database.
-ghost use Rattle.std.specs.Prelude.{◌≡◌, [], false, OnOk, OnErr, IsErrOf, IsTrue};
+ghost use Rattle.std.specs.Prelude.{◌≡◌, ◌≢◌, ◌↔◌, ◌⊎◌, [], true, false, OnOk, OnErr, IsErrOf, IsTrue};
 ghost use Rattle.sqlite.specs.Effect.{Database};
-ghost use Rattle.sqlite.specs.State.{HasCleanDisk, KeepsCommit, Survives};
+ghost use Rattle.sqlite.specs.State.{HasCleanDisk, IsUnchanged, KeepsCommit, Survives};
 ghost use Rattle.sqlite.specs.Held.{state};
 ghost use Rattle.sqlite_trees.specs.Tree.{Trees};
 ghost use Rattle.house_rows.specs.Tables.{tables_of};
+ghost use Rattle.house_rows.specs.Text.{is_plain};
 ghost use Rattle.house_rows.specs.declared.fault.KeepFault.TheVariants.{Damaged};
 ghost use Rattle.steps.specs.Table.{IsBandTable};
-ghost use Rattle.store_rows.specs.House.{IsHouse, IsInside};
+ghost use Rattle.store_rows.specs.House.{IsHouse, IsInside, KeepsCommitted};
 ghost use Rattle.store_rows.specs.Making.{IsBlank, IsEmptyHouse};
 ghost use Rattle.store_rows.specs.Schema.{no_schema};
 ghost use Rattle.store_lists.specs.Tables.{IsAtRest, tables_in};
+ghost use Rattle.store_open.specs.Opening.{IsSoundHouse};
 ghost use Rattle.store_open.specs.Putting.{IsBanded, IsStarted};
 
 use crate::put::{put_band, put_house};
@@ -26,6 +28,7 @@ fn put_bands<S: Alter>(tx: &mut Transaction<'_, S>, bands: &[(u64, u64)]) -> Res
     requires begun { HasCleanDisk (state S.Store tx.old.conn.now) → IsTrue tx.old.conn.now.in_transaction }
     ensures same_reference { tx.new.conn.ghost_name ≡ tx.old.conn.ghost_name }
     ensures ok { HasCleanDisk (state S.Store tx.new.conn.now) → OnOk result (IsBanded bands.now (state S.Store tx.new.conn.now).now) }
+    ensures sound { ¬ (IsErrOf result Damaged) }
     ensures inside { HasCleanDisk (state S.Store tx.new.conn.now) → OnOk result (IsInside (state S.Store tx.old.conn.now) (state S.Store tx.new.conn.now)) }
     ensures err { HasCleanDisk (state S.Store tx.new.conn.now) → OnErr result (KeepsCommit (state S.Store tx.old.conn.now) (state S.Store tx.new.conn.now)) }
     ensures crash { Survives (state S.Store tx.old.conn.now) (state S.Store tx.new.conn.now) (λ _. ⊥) }
@@ -45,6 +48,7 @@ fn put_settings<S: Alter>(tx: &mut Transaction<'_, S>, settings: &Settings) -> R
     requires begun { HasCleanDisk (state S.Store tx.old.conn.now) → IsTrue tx.old.conn.now.in_transaction }
     ensures same_reference { tx.new.conn.ghost_name ≡ tx.old.conn.ghost_name }
     ensures ok { HasCleanDisk (state S.Store tx.new.conn.now) → OnOk result (IsStarted settings.now (state S.Store tx.new.conn.now).now) }
+    ensures sound { ¬ (IsErrOf result Damaged) }
     ensures inside { HasCleanDisk (state S.Store tx.new.conn.now) → OnOk result (IsInside (state S.Store tx.old.conn.now) (state S.Store tx.new.conn.now)) }
     ensures err { HasCleanDisk (state S.Store tx.new.conn.now) → OnErr result (KeepsCommit (state S.Store tx.old.conn.now) (state S.Store tx.new.conn.now)) }
     ensures crash { Survives (state S.Store tx.old.conn.now) (state S.Store tx.new.conn.now) (λ _. ⊥) }
@@ -55,13 +59,15 @@ fn put_settings<S: Alter>(tx: &mut Transaction<'_, S>, settings: &Settings) -> R
 
 // Whether nothing is listed.
 fn is_blank(schema: &Schema) -> bool
-    ensures { IsTrue result → schema.now ≡ no_schema }
+    ensures { IsTrue result ↔ (schema.now ≡ no_schema) }
 {
     schema.tables.is_empty() && schema.indexes.is_empty() && schema.views.is_empty()
 }
 
 /// Why a commit or an opening failed.
-pub(crate) fn fault_of(error: Error) -> KeepFault {
+pub(crate) fn fault_of(error: Error) -> KeepFault
+    ensures { result ≢ Damaged }
+{
     match error {
         Error::SqliteFailure(ErrorCode::OutOfMemory) => KeepFault::Memory,
         _ => KeepFault::Store,
@@ -74,6 +80,7 @@ fn start<S: Alter>(tx: &mut Transaction<'_, S>, settings: &Settings) -> Result<(
     requires begun { HasCleanDisk (state S.Store tx.old.conn.now) → IsTrue tx.old.conn.now.in_transaction }
     ensures same_reference { tx.new.conn.ghost_name ≡ tx.old.conn.ghost_name }
     ensures ok { HasCleanDisk (state S.Store tx.new.conn.now) → OnOk result (IsStarted settings.now (state S.Store tx.new.conn.now).now) }
+    ensures sound { ¬ (IsErrOf result Damaged) }
     ensures inside { HasCleanDisk (state S.Store tx.new.conn.now) → OnOk result (IsInside (state S.Store tx.old.conn.now) (state S.Store tx.new.conn.now)) }
     ensures err { HasCleanDisk (state S.Store tx.new.conn.now) → OnErr result (KeepsCommit (state S.Store tx.old.conn.now) (state S.Store tx.new.conn.now)) }
     ensures crash { Survives (state S.Store tx.old.conn.now) (state S.Store tx.new.conn.now) (λ _. ⊥) }
@@ -87,6 +94,7 @@ fn fill<S: Alter>(conn: &mut Connection<S>, settings: &Settings) -> Result<(), K
     requires blank { IsBlank (state S.Store conn.old) }
     requires mode { conn.old.in_transaction ≡ false }
     ensures ok { HasCleanDisk (state S.Store conn.new) → OnOk result (IsTrue (state S.Store conn.new).is_open × IsStarted settings.now (state S.Store conn.new).now × ((state S.Store conn.new).now ≡ (state S.Store conn.new).committed)) }
+    ensures sound { ¬ (IsErrOf result Damaged) }
     ensures err { HasCleanDisk (state S.Store conn.new) → IsTrue (state S.Store conn.new).is_open → OnErr result (((state S.Store conn.new).now ≡ (state S.Store conn.old).committed) × ((state S.Store conn.new).committed ≡ (state S.Store conn.old).committed)) }
     ensures mode { conn.new.in_transaction ≡ false }
     ensures crash { Survives (state S.Store conn.old) (state S.Store conn.new) (λ trees. (db : Database) × IsStarted settings.now db × (trees ≡ db.trees)) }
@@ -99,21 +107,39 @@ fn fill<S: Alter>(conn: &mut Connection<S>, settings: &Settings) -> Result<(), K
     }
 }
 
-/// Makes a house in a database that lists nothing. After an error the database is as it was.
+// Memory or Store where the connection serves no more.
+fn serve_still<S: Alter>(conn: &mut Connection<S>) -> Result<(), KeepFault>
+    ensures same { HasCleanDisk (state S.Store conn.new) → OnOk result (IsUnchanged (state S.Store conn.old) (state S.Store conn.new)) }
+    ensures sound { ¬ (IsErrOf result Damaged) }
+    ensures err { HasCleanDisk (state S.Store conn.new) → OnErr result (KeepsCommitted (state S.Store conn.old) (state S.Store conn.new)) }
+    ensures mode { conn.old.in_transaction ≡ false → conn.new.in_transaction ≡ false }
+    ensures crash { Survives (state S.Store conn.old) (state S.Store conn.new) (λ _. ⊥) }
+{
+    match conn.prepare("SELECT 1") {
+        Ok(_) => Ok(()),
+        Err(error) => Err(fault_of(error)),
+    }
+}
+
+/// Makes a house in a database that lists nothing. After an error the database is as it was. An opening
+/// takes the house, if its zone has no control characters.
 ///
-/// `Damaged` where a table, an index or a view is listed already.
+/// `Damaged` where a table, an index or a view is listed already, and where a transaction is open, which goes on.
 pub fn make_house<S: Alter>(conn: &mut Connection<S>, settings: &Settings) -> Result<(), KeepFault>
-    requires open { HasCleanDisk (state S.Store conn.old) → IsTrue (state S.Store conn.old).is_open }
-    requires mode { conn.old.in_transaction ≡ false }
     ensures ok { HasCleanDisk (state S.Store conn.new) → OnOk result (IsAtRest (state S.Store conn.new) × (tables_in (state S.Store conn.new).now.trees ≡ tables_of settings.now [])) }
-    ensures blank { HasCleanDisk (state S.Store conn.new) → OnOk result ((state S.Store conn.old).now.schema ≡ no_schema) }
-    ensures err { HasCleanDisk (state S.Store conn.new) → IsTrue (state S.Store conn.new).is_open → OnErr result (((state S.Store conn.new).now ≡ (state S.Store conn.old).committed) × ((state S.Store conn.new).committed ≡ (state S.Store conn.old).committed)) }
+    ensures opens { HasCleanDisk (state S.Store conn.new) → OnOk result (is_plain settings.now.zone ≡ true → IsSoundHouse (state S.Store conn.new).now) }
     ensures only { HasCleanDisk (state S.Store conn.new) → OnOk result ((db : Trees) → (state S.Store conn.new).may_leave db → db ≡ (state S.Store conn.new).now.trees) }
-    ensures mode { conn.new.in_transaction ≡ false }
+    ensures damaged { IsErrOf result Damaged ↔ ((conn.old.in_transaction ≡ true) ⊎ ((state S.Store conn.old).now.schema ≢ no_schema)) }
+    ensures same { IsErrOf result Damaged → conn.new ≡ conn.old }
+    ensures blank { OnOk result ((conn.old.in_transaction ≡ false) × ((state S.Store conn.old).now.schema ≡ no_schema)) }
+    ensures err { HasCleanDisk (state S.Store conn.new) → IsTrue (state S.Store conn.new).is_open → conn.old.in_transaction ≡ false
+        → OnErr result (((state S.Store conn.new).now ≡ (state S.Store conn.old).committed) × ((state S.Store conn.new).committed ≡ (state S.Store conn.old).committed)) }
+    ensures mode { conn.old.in_transaction ≡ false → conn.new.in_transaction ≡ false }
     ensures crash { Survives (state S.Store conn.old) (state S.Store conn.new) (λ trees. (db : Database) × IsHouse db × (tables_in db.trees ≡ tables_of settings.now []) × (trees ≡ db.trees)) }
 {
     if !conn.is_autocommit() || !is_blank(conn.schema()) {
         return Err(KeepFault::Damaged);
     }
+    serve_still(conn)?;
     fill(conn, settings)
 }

@@ -1,15 +1,19 @@
 //! How many members, categories and items there are, whose numbers run no higher.
-ghost use Rattle.std.specs.Prelude.{◌≡◌, ◌≤◌, [], All, false, length, IfOk, OnOk};
+ghost use Rattle.std.specs.Prelude.{◌≡◌, ◌<◌, ◌^◌, List, [], false, length, IfOk, OnOk, IsErrOf};
+ghost use Rattle.std.specs.List.{AllByRecursion};
+ghost use Rattle.sqlite_value.specs.Order.{Row};
 ghost use Rattle.sqlite.specs.Given.{IsPlain};
 ghost use Rattle.sqlite.specs.Held.{state};
 ghost use Rattle.sqlite.specs.Listing.{understood};
 ghost use Rattle.sqlite.specs.State.{HasCleanDisk, IsUnchanged, Shown, Survives};
 ghost use Rattle.sqlite.specs.Values.{bound};
+ghost use Rattle.house_rows.specs.Fits.{IsWithin};
+ghost use Rattle.house_rows.specs.declared.fault.KeepFault.TheVariants.{Damaged};
 ghost use Rattle.store_rows.specs.House.{IsHouse, Serves};
 ghost use Rattle.store_rows.specs.ItemRows.{items_in};
 ghost use Rattle.store_rows.specs.Rows.{categories_in, members_in};
 ghost use Rattle.store_rows.specs.Schema.{house_schema};
-ghost use Rattle.store_open.specs.Opening.{HaveNumbers};
+ghost use Rattle.store_open.specs.Opening.{AreNumbered, HaveNumbers};
 
 use house_rows::{Counts, KeepFault};
 use sqlite::types::ValueRef;
@@ -26,6 +30,7 @@ fn shows_none<S: Alter>(
     requires plain { IsPlain (understood house_schema sql.now) }
     ensures house { HasCleanDisk (state S.Store conn.new) → IsHouse (state S.Store conn.old).now }
     ensures none { HasCleanDisk (state S.Store conn.new) → OnOk result (Shown sql.now (bound params.now) (state S.Store conn.old) (state S.Store conn.new) []) }
+    ensures damaged { HasCleanDisk (state S.Store conn.new) → ((rows : List Row) → Shown sql.now (bound params.now) (state S.Store conn.old) (state S.Store conn.new) rows → rows ≡ []) → ¬ (IsErrOf result Damaged) }
     ensures same { HasCleanDisk (state S.Store conn.new) → OnOk result (IsUnchanged (state S.Store conn.old) (state S.Store conn.new)) }
     ensures mode { conn.old.in_transaction ≡ false → conn.new.in_transaction ≡ false }
     ensures crash { Survives (state S.Store conn.old) (state S.Store conn.new) (λ _. ⊥) }
@@ -40,7 +45,8 @@ fn shows_none<S: Alter>(
 
 // A count as a number of 32 bits.
 fn small(count: u64) -> Result<u32, KeepFault>
-    ensures { IfOk result (λ n. n ≡ count) }
+    ensures value { IfOk result (λ n. n ≡ count) }
+    ensures damaged { count < 2 ^ 32 → ¬ (IsErrOf result Damaged) }
 {
     match u32::try_from(count) {
         Ok(count) => Ok(count),
@@ -51,7 +57,8 @@ fn small(count: u64) -> Result<u32, KeepFault>
 // Damaged where a member has a number that is not from 1 to this one.
 fn members_within<S: Alter>(conn: &mut Connection<S>, most: u32) -> Result<(), KeepFault>
     requires { Serves (state S.Store conn.old) }
-    ensures within { HasCleanDisk (state S.Store conn.new) → OnOk result (All (λ m. m.member ≤ most) (members_in (state S.Store conn.old).now.trees)) }
+    ensures within { HasCleanDisk (state S.Store conn.new) → OnOk result (AllByRecursion (λ m. IsWithin 1 most m.member) (members_in (state S.Store conn.old).now.trees)) }
+    ensures damaged { HasCleanDisk (state S.Store conn.new) → AllByRecursion (λ m. IsWithin 1 most m.member) (members_in (state S.Store conn.old).now.trees) → ¬ (IsErrOf result Damaged) }
     ensures same { HasCleanDisk (state S.Store conn.new) → OnOk result (IsUnchanged (state S.Store conn.old) (state S.Store conn.new)) }
     ensures mode { conn.old.in_transaction ≡ false → conn.new.in_transaction ≡ false }
     ensures crash { Survives (state S.Store conn.old) (state S.Store conn.new) (λ _. ⊥) }
@@ -67,7 +74,8 @@ fn members_within<S: Alter>(conn: &mut Connection<S>, most: u32) -> Result<(), K
 // Damaged where a category has a number that is not from 1 to this one.
 fn categories_within<S: Alter>(conn: &mut Connection<S>, most: u32) -> Result<(), KeepFault>
     requires { Serves (state S.Store conn.old) }
-    ensures within { HasCleanDisk (state S.Store conn.new) → OnOk result (All (λ k. k.category ≤ most) (categories_in (state S.Store conn.old).now.trees)) }
+    ensures within { HasCleanDisk (state S.Store conn.new) → OnOk result (AllByRecursion (λ k. IsWithin 1 most k.category) (categories_in (state S.Store conn.old).now.trees)) }
+    ensures damaged { HasCleanDisk (state S.Store conn.new) → AllByRecursion (λ k. IsWithin 1 most k.category) (categories_in (state S.Store conn.old).now.trees) → ¬ (IsErrOf result Damaged) }
     ensures same { HasCleanDisk (state S.Store conn.new) → OnOk result (IsUnchanged (state S.Store conn.old) (state S.Store conn.new)) }
     ensures mode { conn.old.in_transaction ≡ false → conn.new.in_transaction ≡ false }
     ensures crash { Survives (state S.Store conn.old) (state S.Store conn.new) (λ _. ⊥) }
@@ -87,7 +95,8 @@ fn categories_within<S: Alter>(conn: &mut Connection<S>, most: u32) -> Result<()
 // Damaged where an item has a number that is not from 1 to this one.
 fn items_within<S: Alter>(conn: &mut Connection<S>, most: u32) -> Result<(), KeepFault>
     requires { Serves (state S.Store conn.old) }
-    ensures within { HasCleanDisk (state S.Store conn.new) → OnOk result (All (λ row. row.item.terms.item ≤ most) (items_in (state S.Store conn.old).now.trees)) }
+    ensures within { HasCleanDisk (state S.Store conn.new) → OnOk result (AllByRecursion (λ row. IsWithin 1 most row.item.terms.item) (items_in (state S.Store conn.old).now.trees)) }
+    ensures damaged { HasCleanDisk (state S.Store conn.new) → AllByRecursion (λ row. IsWithin 1 most row.item.terms.item) (items_in (state S.Store conn.old).now.trees) → ¬ (IsErrOf result Damaged) }
     ensures same { HasCleanDisk (state S.Store conn.new) → OnOk result (IsUnchanged (state S.Store conn.old) (state S.Store conn.new)) }
     ensures mode { conn.old.in_transaction ≡ false → conn.new.in_transaction ≡ false }
     ensures crash { Survives (state S.Store conn.old) (state S.Store conn.new) (λ _. ⊥) }
@@ -100,10 +109,11 @@ fn items_within<S: Alter>(conn: &mut Connection<S>, most: u32) -> Result<(), Kee
     )
 }
 
-// How many members there are; Damaged where one has a number over that.
+// How many members there are; Damaged where one has a number that is 0 or over that.
 fn members_numbered<S: Alter>(conn: &mut Connection<S>) -> Result<u32, KeepFault>
     requires { Serves (state S.Store conn.old) }
-    ensures count { HasCleanDisk (state S.Store conn.new) → IfOk result (λ n. (length (members_in (state S.Store conn.old).now.trees) ≡ n) × All (λ m. m.member ≤ n) (members_in (state S.Store conn.old).now.trees)) }
+    ensures count { HasCleanDisk (state S.Store conn.new) → IfOk result (λ n. (length (members_in (state S.Store conn.old).now.trees) ≡ n) × (n < 2 ^ 32) × AllByRecursion (λ m. IsWithin 1 n m.member) (members_in (state S.Store conn.old).now.trees)) }
+    ensures damaged { HasCleanDisk (state S.Store conn.new) → AreNumbered (state S.Store conn.old).now.trees → ¬ (IsErrOf result Damaged) }
     ensures same { HasCleanDisk (state S.Store conn.new) → OnOk result (IsUnchanged (state S.Store conn.old) (state S.Store conn.new)) }
     ensures mode { conn.old.in_transaction ≡ false → conn.new.in_transaction ≡ false }
     ensures crash { Survives (state S.Store conn.old) (state S.Store conn.new) (λ _. ⊥) }
@@ -113,10 +123,11 @@ fn members_numbered<S: Alter>(conn: &mut Connection<S>) -> Result<u32, KeepFault
     Ok(count)
 }
 
-// How many categories there are; Damaged where one has a number over that.
+// How many categories there are; Damaged where one has a number that is 0 or over that.
 fn categories_numbered<S: Alter>(conn: &mut Connection<S>) -> Result<u32, KeepFault>
     requires { Serves (state S.Store conn.old) }
-    ensures count { HasCleanDisk (state S.Store conn.new) → IfOk result (λ n. (length (categories_in (state S.Store conn.old).now.trees) ≡ n) × All (λ k. k.category ≤ n) (categories_in (state S.Store conn.old).now.trees)) }
+    ensures count { HasCleanDisk (state S.Store conn.new) → IfOk result (λ n. (length (categories_in (state S.Store conn.old).now.trees) ≡ n) × (n < 2 ^ 32) × AllByRecursion (λ k. IsWithin 1 n k.category) (categories_in (state S.Store conn.old).now.trees)) }
+    ensures damaged { HasCleanDisk (state S.Store conn.new) → AreNumbered (state S.Store conn.old).now.trees → ¬ (IsErrOf result Damaged) }
     ensures same { HasCleanDisk (state S.Store conn.new) → OnOk result (IsUnchanged (state S.Store conn.old) (state S.Store conn.new)) }
     ensures mode { conn.old.in_transaction ≡ false → conn.new.in_transaction ≡ false }
     ensures crash { Survives (state S.Store conn.old) (state S.Store conn.new) (λ _. ⊥) }
@@ -126,10 +137,11 @@ fn categories_numbered<S: Alter>(conn: &mut Connection<S>) -> Result<u32, KeepFa
     Ok(count)
 }
 
-// How many items there are; Damaged where one has a number over that.
+// How many items there are; Damaged where one has a number that is 0 or over that.
 fn items_numbered<S: Alter>(conn: &mut Connection<S>) -> Result<u32, KeepFault>
     requires { Serves (state S.Store conn.old) }
-    ensures count { HasCleanDisk (state S.Store conn.new) → IfOk result (λ n. (length (items_in (state S.Store conn.old).now.trees) ≡ n) × All (λ row. row.item.terms.item ≤ n) (items_in (state S.Store conn.old).now.trees)) }
+    ensures count { HasCleanDisk (state S.Store conn.new) → IfOk result (λ n. (length (items_in (state S.Store conn.old).now.trees) ≡ n) × (n < 2 ^ 32) × AllByRecursion (λ row. IsWithin 1 n row.item.terms.item) (items_in (state S.Store conn.old).now.trees)) }
+    ensures damaged { HasCleanDisk (state S.Store conn.new) → AreNumbered (state S.Store conn.old).now.trees → ¬ (IsErrOf result Damaged) }
     ensures same { HasCleanDisk (state S.Store conn.new) → OnOk result (IsUnchanged (state S.Store conn.old) (state S.Store conn.new)) }
     ensures mode { conn.old.in_transaction ≡ false → conn.new.in_transaction ≡ false }
     ensures crash { Survives (state S.Store conn.old) (state S.Store conn.new) (λ _. ⊥) }
@@ -143,6 +155,7 @@ fn items_numbered<S: Alter>(conn: &mut Connection<S>) -> Result<u32, KeepFault>
 pub fn read_counts<S: Alter>(conn: &mut Connection<S>) -> Result<Counts, KeepFault>
     requires { Serves (state S.Store conn.old) }
     ensures counts { HasCleanDisk (state S.Store conn.new) → IfOk result (HaveNumbers (state S.Store conn.old).now.trees) }
+    ensures damaged { HasCleanDisk (state S.Store conn.new) → AreNumbered (state S.Store conn.old).now.trees → ¬ (IsErrOf result Damaged) }
     ensures same { HasCleanDisk (state S.Store conn.new) → OnOk result (IsUnchanged (state S.Store conn.old) (state S.Store conn.new)) }
     ensures mode { conn.old.in_transaction ≡ false → conn.new.in_transaction ≡ false }
     ensures crash { Survives (state S.Store conn.old) (state S.Store conn.new) (λ _. ⊥) }

@@ -1,11 +1,15 @@
 //! A house is opened: whatever a connection holds is tested until it is a house.
-ghost use Rattle.std.specs.Prelude.{◌≡◌, false, map, IfOk, OnOk, IsTrue};
+ghost use Rattle.std.specs.Prelude.{◌≡◌, ◌≤◌, false, map, IfOk, OnOk, IsErrOf, IsTrue};
 ghost use Rattle.sqlite.specs.Held.{state};
 ghost use Rattle.sqlite.specs.State.{HasCleanDisk, IsUnchanged, Survives};
+ghost use Rattle.sqlite_trees.specs.Tree.{Trees};
+ghost use Rattle.house_rows.specs.Fits.{IsMoment};
 ghost use Rattle.house_rows.specs.Found.{counts_of};
+ghost use Rattle.house_rows.specs.declared.fault.KeepFault.TheVariants.{Damaged};
+ghost use Rattle.steps.specs.Table.{IsBandTable};
 ghost use Rattle.store_rows.specs.House.{Serves};
-ghost use Rattle.store_lists.specs.Tables.{IsAtRest, settings_in, tables_in};
-ghost use Rattle.store_open.specs.Opening.{HasSettings};
+ghost use Rattle.store_lists.specs.Tables.{IsAtRest, house_row_in, settings_in, tables_in};
+ghost use Rattle.store_open.specs.Opening.{AreNumbered, HasSettings, IsSetUp, IsSoundHouse, Leaves};
 
 use crate::anew::house_anew;
 use crate::house::Opened;
@@ -18,7 +22,8 @@ use store_rows::{BandRow, HouseRow, all_bands, house_row};
 
 // The rows of the band table as pairs.
 fn pairs(alloc: Global, rows: &[BandRow]) -> Result<Vec<(u64, u64)>, KeepFault>
-    ensures { IfOk result (λ pairs. pairs.items ≡ map (λ (b : _). (b.from, b.step)) rows.now) }
+    ensures value { IfOk result (λ pairs. pairs.items ≡ map (λ (b : _). (b.from, b.step)) rows.now) }
+    ensures sound { ¬ (IsErrOf result Damaged) }
 {
     let mut pairs = Vec::new(alloc);
     for row in rows {
@@ -31,19 +36,21 @@ fn pairs(alloc: Global, rows: &[BandRow]) -> Result<Vec<(u64, u64)>, KeepFault>
 
 // The band table of rows; Damaged where they are none.
 fn bands_of(alloc: Global, rows: &[BandRow]) -> Result<Bands, KeepFault>
-    ensures { IfOk result (λ bands. bands ≡ map (λ (b : _). (b.from, b.step)) rows.now) }
+    ensures value { IfOk result (λ bands. bands ≡ map (λ (b : _). (b.from, b.step)) rows.now) }
+    ensures damaged { IsBandTable (map (λ (b : _). (b.from, b.step)) rows.now) → ¬ (IsErrOf result Damaged) }
 {
     let pairs = pairs(alloc, rows)?;
     match Bands::of_rows(alloc, &pairs) {
         Ok(bands) => Ok(bands),
-        Err(BandsFault::Memory) => Err(KeepFault::Memory),
+        Err(fault) if fault == BandsFault::Memory => Err(KeepFault::Memory),
         Err(_) => Err(KeepFault::Damaged),
     }
 }
 
 // What the house is set up with, by its row and its bands; Damaged where the rate is none.
 fn settings_of(house: HouseRow, bands: Bands) -> Result<Settings, KeepFault>
-    ensures { IfOk result (λ settings. (settings.bands ≡ bands) × (settings.rate ≡ house.rate) × (settings.zone ≡ house.zone)) }
+    ensures value { IfOk result (λ settings. (settings.bands ≡ bands) × (settings.rate ≡ house.rate) × (settings.zone ≡ house.zone)) }
+    ensures damaged { house.rate ≤ 2000 → ¬ (IsErrOf result Damaged) }
 {
     let Some(rate) = Rate::new(house.rate) else {
         return Err(KeepFault::Damaged);
@@ -55,10 +62,16 @@ fn settings_of(house: HouseRow, bands: Bands) -> Result<Settings, KeepFault>
     })
 }
 
-// What the house is set up with; Damaged where it has no row that fits, or its bands are no table.
-fn read_settings<S: Alter>(alloc: Global, conn: &mut Connection<S>) -> Result<Settings, KeepFault>
+// What the house is set up with, and its clock; Damaged where it has no row that fits, or its bands are
+// no table.
+fn read_settings<S: Alter>(
+    alloc: Global,
+    conn: &mut Connection<S>,
+) -> Result<(Settings, u64), KeepFault>
     requires { Serves (state S.Store conn.old) }
-    ensures settings { HasCleanDisk (state S.Store conn.new) → IfOk result (HasSettings (state S.Store conn.old).now.trees) }
+    ensures settings { HasCleanDisk (state S.Store conn.new) → IfOk result (λ read. HasSettings (state S.Store conn.old).now.trees read.0 read.1) }
+    ensures moment { IfOk result (λ read. IsMoment read.1) }
+    ensures damaged { HasCleanDisk (state S.Store conn.new) → IsSetUp (state S.Store conn.old).now.trees → ¬ (IsErrOf result Damaged) }
     ensures same { HasCleanDisk (state S.Store conn.new) → OnOk result (IsUnchanged (state S.Store conn.old) (state S.Store conn.new)) }
     ensures mode { conn.old.in_transaction ≡ false → conn.new.in_transaction ≡ false }
     ensures crash { Survives (state S.Store conn.old) (state S.Store conn.new) (λ _. ⊥) }
@@ -68,27 +81,36 @@ fn read_settings<S: Alter>(alloc: Global, conn: &mut Connection<S>) -> Result<Se
     };
     let rows = all_bands(alloc, conn)?;
     let bands = bands_of(alloc, &rows)?;
-    settings_of(house, bands)
+    let clock = house.clock;
+    let settings = settings_of(house, bands)?;
+    Ok((settings, clock))
 }
 
 /// Opens the house that a connection holds. What it has not committed is undone.
 ///
 /// `Damaged` where it holds no house of version 1: other tables than those of a house, a row of the
-/// house or bands that don't fit, or a member, a category or an item with a number over how many
-/// there are.
+/// house or bands that don't fit, or a member, a category or an item with a number that is 0 or over
+/// how many there are.
 pub fn opened<S: Alter + Drop>(alloc: Global, conn: Connection<S>) -> Result<Opened<S>, KeepFault>
     ensures rests { IfOk result (λ o. HasCleanDisk (state S.Store o.conn) → IsAtRest (state S.Store o.conn)) }
     ensures settings { IfOk result (λ o. HasCleanDisk (state S.Store o.conn) → settings_in (state S.Store o.conn).now.trees ≡ o.settings) }
     ensures counts { IfOk result (λ o. HasCleanDisk (state S.Store o.conn) → counts_of (tables_in (state S.Store o.conn).now.trees) ≡ o.counts) }
+    ensures numbered { IfOk result (λ o. HasCleanDisk (state S.Store o.conn) → AreNumbered (state S.Store o.conn).now.trees) }
+    ensures clock { IfOk result (λ o. HasCleanDisk (state S.Store o.conn) → (tables_in (state S.Store o.conn).now.trees).clock ≡ o.clock) }
+    ensures moment { IfOk result (λ o. IsMoment o.clock) }
+    ensures version { IfOk result (λ o. HasCleanDisk (state S.Store o.conn) → (house_row_in (state S.Store o.conn).now.trees).version ≡ 1) }
+    ensures only { IfOk result (λ o. HasCleanDisk (state S.Store o.conn) → (db : Trees) → (state S.Store o.conn).may_leave db → db ≡ (state S.Store o.conn).now.trees) }
     ensures mode { IfOk result (λ o. o.conn.in_transaction ≡ false) }
     ensures same { IfOk result (λ o. HasCleanDisk (state S.Store o.conn) → (state S.Store o.conn).now.trees ≡ (state S.Store conn).committed.trees) }
+    ensures damaged { IsErrOf result Damaged → Leaves S.Store conn (¬ (IsSoundHouse (state S.Store conn).committed)) }
 {
     let mut conn = house_anew(alloc, conn)?;
-    let settings = read_settings(alloc, &mut conn)?;
+    let (settings, clock) = read_settings(alloc, &mut conn)?;
     let counts = read_counts(&mut conn)?;
     Ok(Opened {
         conn,
         settings,
         counts,
+        clock,
     })
 }

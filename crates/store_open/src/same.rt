@@ -1,5 +1,7 @@
 //! Whether two schemas are the same, as far as schemas without checks and computed defaults go.
-ghost use Rattle.std.specs.Prelude.{◌≡◌, [], IsTrue};
+ghost use Rattle.std.specs.Prelude.{◌≡◌, ◌↔◌, [], IsTrue};
+ghost use Rattle.std.specs.List.{AllByRecursion};
+ghost use Rattle.store_open.specs.Plain.{IsPlainColumn, IsPlainSchema, IsPlainTable, no_stamps};
 
 use sqlite_items::Items;
 use sqlite_schema::code::Terms;
@@ -7,11 +9,15 @@ use sqlite_schema::schema::{Column, Index, Reference, Schema, Stamps, Table};
 use sqlite_value::keys::Order;
 use sqlite_value::value::{Bytes, Value};
 
-/// What can be compared. The answer may be false of two that are the same.
+/// What can be compared. The answer may be false of two that are the same, where the first isn't plain.
 pub trait Same {
+    /// What is seen to be the same as itself.
+    ghost is_plain: { Self → Type 0 } = { λ _. Unit {0} };
+
     /// Whether both are seen to be the same.
     fn is_same(&self, other: &Self) -> bool
-        ensures { IsTrue result → self.now ≡ other.now };
+        ensures sound { IsTrue result → self.now ≡ other.now }
+        ensures whole { is_plain self.now → self.now ≡ other.now → IsTrue result };
 }
 
 impl Same for usize {
@@ -34,7 +40,8 @@ impl Same for Bytes {
 
 // Whether two lists are the same, one after the other.
 fn all_same<T: Same>(these: &[T], those: &[T]) -> bool
-    ensures { IsTrue result → these.now ≡ those.now }
+    ensures sound { IsTrue result → these.now ≡ those.now }
+    ensures whole { AllByRecursion T.is_plain these.now → these.now ≡ those.now → IsTrue result }
 {
     if these.len() != those.len() {
         return false;
@@ -48,6 +55,8 @@ fn all_same<T: Same>(these: &[T], those: &[T]) -> bool
 }
 
 impl<T: Same> Same for Items<T> {
+    ghost is_plain = { AllByRecursion T.is_plain };
+
     fn is_same(&self, other: &Items<T>) -> bool {
         all_same(self.as_slice(), other.as_slice())
     }
@@ -55,12 +64,14 @@ impl<T: Same> Same for Items<T> {
 
 // A value of a column that has no default.
 fn is_null(value: &Value) -> bool
-    ensures { IsTrue result → value.now ≡ Value.Null }
+    ensures { IsTrue result ↔ (value.now ≡ Value.Null) }
 {
     matches!(value, Value::Null)
 }
 
 impl Same for Column {
+    ghost is_plain = { IsPlainColumn };
+
     fn is_same(&self, other: &Column) -> bool {
         self.name.is_same(&other.name)
             && self.kind == other.kind
@@ -96,28 +107,28 @@ impl Same for Index {
 
 // Whether there is no expression.
 fn is_none(terms: &Terms) -> bool
-    ensures { IsTrue result → terms.now ≡ [] }
+    ensures { IsTrue result ↔ (terms.now ≡ []) }
 {
     terms.roots.is_empty()
 }
 
 // Whether no default reads the time.
 fn is_unstamped(stamps: &Stamps) -> bool
-    ensures { IsTrue result → stamps.now ≡ record { places = []; terms = []; formats = [] } }
+    ensures { IsTrue result ↔ (stamps.now ≡ no_stamps) }
 {
     stamps.places.is_empty() && is_none(&stamps.terms) && stamps.formats.is_empty()
 }
 
 // Whether a table has no checks and no defaults but values.
 fn is_simple(table: &Table) -> bool
-    ensures { IsTrue result → (table.now.checks ≡ []) × (table.now.computed ≡ []) × (table.now.stamps ≡ record { places = []; terms = []; formats = [] }) }
+    ensures { IsTrue result ↔ ((table.now.checks ≡ []) × (table.now.computed ≡ []) × (table.now.stamps ≡ no_stamps)) }
 {
     is_none(&table.checks) && table.computed.is_empty() && is_unstamped(&table.stamps)
 }
 
 // Whether the keys of two tables are the same.
 fn have_same_keys(this: &Table, that: &Table) -> bool
-    ensures { IsTrue result → (this.now.key ≡ that.now.key) × (this.now.primary ≡ that.now.primary) × (this.now.uniques ≡ that.now.uniques) × (this.now.orders ≡ that.now.orders) × (this.now.references ≡ that.now.references) }
+    ensures { IsTrue result ↔ ((this.now.key ≡ that.now.key) × (this.now.primary ≡ that.now.primary) × (this.now.uniques ≡ that.now.uniques) × (this.now.orders ≡ that.now.orders) × (this.now.references ≡ that.now.references)) }
 {
     this.key == that.key
         && this.primary.is_same(&that.primary)
@@ -127,6 +138,8 @@ fn have_same_keys(this: &Table, that: &Table) -> bool
 }
 
 impl Same for Table {
+    ghost is_plain = { IsPlainTable };
+
     fn is_same(&self, other: &Table) -> bool {
         self.name.is_same(&other.name)
             && self.tree == other.tree
@@ -138,9 +151,10 @@ impl Same for Table {
     }
 }
 
-/// Whether two schemas without views are the same.
+/// Whether two schemas without views are the same. It is false of schemas with checks, or with defaults.
 pub fn is_same_schema(this: &Schema, that: &Schema) -> bool
-    ensures { IsTrue result → this.now ≡ that.now }
+    ensures sound { IsTrue result → this.now ≡ that.now }
+    ensures whole { IsPlainSchema this.now → this.now ≡ that.now → IsTrue result }
 {
     this.tables.is_same(&that.tables)
         && this.indexes.is_same(&that.indexes)

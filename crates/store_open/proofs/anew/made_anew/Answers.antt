@@ -1,7 +1,10 @@
-use Rattle.std.proofs.Common.{◌≡◌, false, sym, ◌∙◌, arith, IsTrue}
+use Rattle.std.proofs.Common.{◌≡◌, false, ap, subst, sym, ◌∙◌, arith, IsTrue}
 use Rattle.sqlite_trees.specs.View.{IsClean}
+use Rattle.sqlite_catalog.specs.Listing.{IsSound}
 use Rattle.sqlite.specs.Held.{state}
-use Rattle.store_open.proofs.OpenLemmas.{house_from, not_shut}
+use Rattle.sqlite.specs.declared.error.Error.TheVariants.{SqliteFailure}
+use Rattle.sqlite.specs.declared.error.ErrorCode.TheVariants.{NotADatabase}
+use Rattle.store_open.proofs.OpenLemmas.{house_from, no_database, not_shut}
 use Rattle.store_open.proofs.anew.made_anew.Goals as goal
 
 pub returns-in-Ok-clause-house : goal.returns-in-Ok-clause-house
@@ -20,3 +23,21 @@ returns-in-Ok-clause-same g c clean =
     let whole : (g.S.Store.view store).is_broken ≡ false = sym (c.is_broken.ensures early) ∙ c.if-is_broken.false in
     let is_open : IsTrue (g.S.Store.view store).is_open = not_shut _ _ (g.met.S.Store.broken_if_shut store) whole in
     c.in-Ok.ensures.trees clean ∙ (c.into_store-store.ensures.undone.undone is_open).0
+
+pub returns-in-Err-SqliteFailure-NotADatabase-default-clause-damaged : goal.returns-in-Err-SqliteFailure-NotADatabase-default-clause-damaged
+returns-in-Err-SqliteFailure-NotADatabase-default-clause-damaged g c is =
+    let store = c.into_store-store.result in
+    let quiet = c.into_store-store.ensures.quiet in
+    let refused = c.in-Err-SqliteFailure-NotADatabase-default in
+    let left = refused.ensures.unharmed in
+    record {
+      store = refused.field-0-1;
+      follows = record { clean = omega (arith, quiet.clean, left.clean); shield = λ h. left.shield (quiet.shield h) };
+      honest = λ clean house.
+          let early : IsClean (g.S.Store.view store) = omega (arith, left.clean) in
+          let whole : (g.S.Store.view store).is_broken ≡ false = sym (c.is_broken.ensures early) ∙ c.if-is_broken.false in
+          let is_open : IsTrue (g.S.Store.view store).is_open = not_shut _ _ (g.met.S.Store.broken_if_shut store) whole in
+          let trees = (c.into_store-store.ensures.undone.undone is_open).0 in
+          let named : refused.field-0-0 ≡ SqliteFailure NotADatabase = refused.field-0-0-is ∙ ap SqliteFailure refused.field-0-0-0-is in
+          no_database _ _ _ named (refused.ensures.err clean) _ (subst (IsSound _) (sym trees) house.sound);
+    }
