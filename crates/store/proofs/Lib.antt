@@ -1,1 +1,6 @@
+pub mod Absent
+pub mod AbsentLists
+pub mod Nothing
 pub mod Sound
+pub mod Moves
+pub mod Begins

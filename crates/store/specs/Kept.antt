@@ -1,5 +1,5 @@
 -- What a house in SQLite is to its callers.
-use Rattle.std.specs.Prelude.{◌≡◌, ◌⊎◌, ℕ, List, Bool, false, refl}
+use Rattle.std.specs.Prelude.{◌≡◌, ℕ, List, Bool, false, refl}
 use Rattle.std.specs.Coded.{Coded, code_by, coded×, coded_ℕ, coded_bool, coded_list}
 use Rattle.sqlite_trees.specs.declared.store.Store.{Ghosts}
 use Rattle.sqlite_trees.specs.Tree.{Trees}
@@ -10,7 +10,7 @@ use Rattle.house_rows.specs.Found.{counts_of}
 use Rattle.house_rows.specs.Tables.{Tables}
 use Rattle.house_rows.specs.declared.people.Counts.{Counts}
 use Rattle.house_rows.specs.declared.settings.Settings.{Settings}
-use Rattle.store_lists.specs.Tables.{IsAtRest, settings_in, tables_in}
+use Rattle.store_lists.specs.Tables.{IsAtRest, tables_in}
 
 -- the connection, and what is known of its tables without asking it
 pub record House (S : Type 0) : Type 0 where

@@ -1,14 +1,22 @@
 //! The keep of a house in SQLite.
 //!
-//! Promised: each call answers what its words in `house_rows` say of the tables that the connection
-//! holds, wherever the disk was honest, and after a fault the tables are as before; once a call has
-//! answered Store every call does. Read `specs/Kept.antt` first, which says what the tables of a keep
-//! are and what it knows of them without asking, and then `keep`.
+//! Promised: a `SqlKeep` meets every clause of `Keep`. Wherever the disk was honest, each call answers
+//! what its definition in `house_rows` finds in the tables that the connection holds, and a change is
+//! made whole or not at all. After Memory or Damaged the tables are as before. Once a call has answered
+//! Store every call does, and what a crash then leaves is the tables as they were before that call or
+//! as its change makes them.
 //!
-//! Settings, counts and the clock are kept beside the connection: no call reads them.
+//! Read `specs/Kept.antt` first, which says what the tables of a keep are and what it knows of them
+//! without asking: settings, counts and the clock are kept beside the connection. Then read `keep`,
+//! and `changes` for what a change leaves.
 #![tactic(auto)]
 
+mod after;
+mod changes;
 mod keep;
+mod making;
+mod numbers;
+mod opening;
 mod settled;
 
 pub use keep::SqlKeep;

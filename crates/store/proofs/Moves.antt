@@ -1,0 +1,97 @@
+-- What a keep knows of the tables after a change.
+use Rattle.std.proofs.Common.{◌≡◌, ◌⊎◌, ℕ, Bool, true, false, refl, ap, sym, subst, ◌∙◌, inl, inr}
+use Rattle.std.specs.Prelude.{IsTrue}
+use Rattle.std.proofs.lemmas.List.{length-append, length-map}
+use Rattle.sqlite_trees.specs.Tree.{Trees}
+use Rattle.sqlite.specs.Effect.{Database}
+use Rattle.sqlite.specs.State.{State}
+use Rattle.house_rows.specs.Changed.{changed, with_close, with_purchase, with_settlement, with_standing}
+use Rattle.house_rows.specs.Asks.{ChangeFits}
+use Rattle.house_rows.specs.Fits.{IsMoment}
+use Rattle.house_rows.specs.Found.{counts_of}
+use Rattle.house_rows.specs.Tables.{Tables}
+use Rattle.house_rows.specs.declared.change.Change.{Change}
+use Rattle.house_rows.specs.declared.change.Change.TheVariants.{Register, AddCategory, List as Listed, Bid, Buy, Close, Settle, Watch, Unwatch, Ask, Answer, Feedback}
+use Rattle.house_rows.specs.declared.people.Counts.{Counts}
+use Rattle.house_rows.specs.declared.settings.Settings.{Settings}
+use Rattle.store_lists.specs.Tables.{Changes, tables_in}
+use Rattle.store.specs.After.{clock_after, counts_after}
+use Rattle.store.specs.Kept.{IsKnown}
+
+settings_stay : (t : Tables) (change : Change) → (changed t change).settings ≡ t.settings
+unfolding changed
+settings_stay t (Register moment name) = refl
+settings_stay t (AddCategory moment name) = refl
+settings_stay t (Listed moment seller category lot title text start buy_now end) = refl
+settings_stay t (Bid moment item placed standing) = refl
+settings_stay t (Buy moment item buyer price) = refl
+settings_stay t (Close moment) = refl
+settings_stay t (Settle moment item) = refl
+settings_stay t (Watch member item) = refl
+settings_stay t (Unwatch member item) = refl
+settings_stay t (Ask item asker number text) = refl
+settings_stay t (Answer moment item asker number text) = refl
+settings_stay t (Feedback moment item from to rating text) = refl
+
+clock_moves : (t : Tables) (change : Change) → (changed t change).clock ≡ clock_after t.clock change
+unfolding changed
+clock_moves t (Register moment name) = refl
+clock_moves t (AddCategory moment name) = refl
+clock_moves t (Listed moment seller category lot title text start buy_now end) = refl
+clock_moves t (Bid moment item placed standing) = refl
+clock_moves t (Buy moment item buyer price) = refl
+clock_moves t (Close moment) = refl
+clock_moves t (Settle moment item) = refl
+clock_moves t (Watch member item) = refl
+clock_moves t (Unwatch member item) = refl
+clock_moves t (Ask item asker number text) = refl
+clock_moves t (Answer moment item asker number text) = refl
+clock_moves t (Feedback moment item from to rating text) = refl
+
+counts_move : (t : Tables) (change : Change) → counts_of (changed t change) ≡ counts_after (counts_of t) change
+unfolding changed
+counts_move t (Register moment name) = rw (length-append t.members) refl
+counts_move t (AddCategory moment name) = rw (length-append t.categories) refl
+counts_move t (Listed moment seller category lot title text start buy_now end) = rw (length-append t.items) refl
+counts_move t (Bid moment item placed standing) = rw (length-map t.items (with_standing item standing)) refl
+counts_move t (Buy moment item buyer price) = rw (length-map t.items (with_purchase item buyer price moment)) refl
+counts_move t (Close moment) = rw (length-map t.items (with_close moment)) refl
+counts_move t (Settle moment item) = rw (length-map t.items (with_settlement item)) refl
+counts_move t (Watch member item) = refl
+counts_move t (Unwatch member item) = refl
+counts_move t (Ask item asker number text) = refl
+counts_move t (Answer moment item asker number text) = refl
+counts_move t (Feedback moment item from to rating text) = refl
+
+-- what was known is known of the tables after the change
+pub known_after : (settings : Settings) (counts : Counts) (clock : ℕ) (change : Change) (old new : Trees)
+    → IsKnown settings counts clock old → tables_in new ≡ changed (tables_in old) change → IsKnown settings (counts_after counts change) (clock_after clock change) new
+known_after settings counts clock change old new known is = record {
+  settings_are = ap (λ t. t.settings) is ∙ (settings_stay (tables_in old) change ∙ known.settings_are);
+  counts_are = ap counts_of is ∙ (counts_move (tables_in old) change ∙ ap (λ c. counts_after c change) known.counts_are);
+  clock_is = ap (λ t. t.clock) is ∙ (clock_moves (tables_in old) change ∙ ap (λ c. clock_after c change) known.clock_is);
+}
+
+-- the moment of a change that fits is one
+pub fits_moment : (t : Tables) (change : Change) (clock : ℕ) → IsMoment clock → ChangeFits t change → IsMoment (clock_after clock change)
+fits_moment t (Register moment name) clock is fits = fits.moment_fits
+fits_moment t (AddCategory moment name) clock is fits = fits.moment_fits
+fits_moment t (Listed moment seller category lot title text start buy_now end) clock is fits = fits.moment_fits
+fits_moment t (Bid moment item placed standing) clock is fits = fits.moment_fits
+fits_moment t (Buy moment item buyer price) clock is fits = fits.moment_fits
+fits_moment t (Close moment) clock is fits = fits
+fits_moment t (Settle moment item) clock is fits = fits.moment_fits
+fits_moment t (Watch member item) clock is fits = is
+fits_moment t (Unwatch member item) clock is fits = is
+fits_moment t (Ask item asker number text) clock is fits = is
+fits_moment t (Answer moment item asker number text) clock is fits = fits.moment_fits
+fits_moment t (Feedback moment item from to rating text) clock is fits = fits.moment_fits
+
+-- what a crash may leave after a change that failed: what it could leave before, or the new tables where the keep failed
+pub left_after : (old mid : State) (change : Change) (failed : Bool) (db : Trees) → old.may_leave old.committed.trees → (IsTrue mid.is_open → db ≡ mid.committed.trees)
+    → (failed ≡ false → IsTrue mid.is_open × (mid.committed ≡ old.committed)) → old.may_leave db ⊎ ((after : Database) × Changes change old.now after × (db ≡ after.trees))
+    → old.may_leave db ⊎ ((failed ≡ true) × (tables_in db ≡ changed (tables_in old.now.trees) change))
+left_after old mid change failed db stays settled told (inl may) = inl may
+left_after old mid change true db stays settled told (inr made) = inr (refl, ap tables_in made.2 ∙ made.1.tables)
+left_after old mid change false db stays settled told (inr made) =
+    let is_open = told refl in inl (subst old.may_leave (sym (settled is_open.0 ∙ ap (λ (d : Database). d.trees) is_open.1)) stays)

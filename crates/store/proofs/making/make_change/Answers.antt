@@ -1,0 +1,31 @@
+-- The counts after a change number what it adds, and the bands are those of the tables.
+use Rattle.std.proofs.Common.{ap, sym, ◌∙◌}
+use Rattle.sqlite.specs.Held.{state}
+use Rattle.house_rows.specs.Found.{counts_of}
+use Rattle.house_rows.specs.declared.people.Counts.{Counts}
+use Rattle.store_lists.specs.Tables.{tables_in}
+use Rattle.store.specs.After.{counts_after}
+use Rattle.store.proofs.making.make_change.Goals as goal
+
+pub register-requires-clause-numbered : goal.register-requires-clause-numbered
+unfolding tables_in
+register-requires-clause-numbered g c = λ honest.
+    ap (λ (k : Counts). k.members) (c.requires.counted honest ∙ ap (counts_after (counts_of (tables_in (state g.S.Store c.args.conn.now).now.trees))) c.in-Register.is)
+
+pub add_category-requires-clause-numbered : goal.add_category-requires-clause-numbered
+unfolding tables_in
+add_category-requires-clause-numbered g c = λ honest.
+    ap (λ (k : Counts). k.categories) (c.requires.counted honest ∙ ap (counts_after (counts_of (tables_in (state g.S.Store c.args.conn.now).now.trees))) c.in-AddCategory.is)
+
+pub list-requires-clause-numbered : goal.list-requires-clause-numbered
+unfolding tables_in
+list-requires-clause-numbered g c = λ honest.
+    ap (λ (k : Counts). k.items) (c.requires.counted honest ∙ ap (counts_after (counts_of (tables_in (state g.S.Store c.args.conn.now).now.trees))) c.in-List.is)
+
+pub bid-requires-clause-bands : goal.bid-requires-clause-bands
+unfolding tables_in
+bid-requires-clause-bands g c = λ honest. sym (c.requires.bands honest)
+
+pub buy-requires-clause-bands : goal.buy-requires-clause-bands
+unfolding tables_in
+buy-requires-clause-bands g c = λ honest. sym (c.requires.bands honest)
