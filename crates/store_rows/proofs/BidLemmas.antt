@@ -1,27 +1,24 @@
 -- What the statements on bids and watches find and write.
-use Rattle.std.proofs.Common.{◌≡◌, ◌==◌, ℕ, ◌^◌, ◌<◌, pos, Bool, true, not, ◌&&◌, List, [], ◌∷◌, ◌++◌, map, filter, drop, Ok, None, refl, sym, ap, subst, ◌∙◌, true≢false}
+use Rattle.std.proofs.Common.{◌≡◌, ℕ, ◌^◌, ◌<◌, pos, Bool, true, not, ◌&&◌, [], ◌∷◌, ◌++◌, map, filter, drop, Ok, None, refl, sym, ap, subst, ◌∙◌, true≢false}
 use Rattle.std.specs.List.{AllByRecursion}
 use Rattle.sqlite_value.specs.declared.value.Value.TheVariants.{Null, Int}
 use Rattle.sqlite_value.specs.Order.{Row, column}
 use Rattle.sqlite_schema.specs.Rules.{are_typed, are_present, has_computed}
 use Rattle.sqlite_schema.specs.declared.schema.Constraint.TheVariants.{Datatype, NotNull}
 use Rattle.sqlite_catalog.specs.Listing.{IsSound}
-use Rattle.sqlite_sql.specs.Program.{overlay}
 use Rattle.sqlite_trees.specs.View.{is_int}
 use Rattle.sqlite_trees.proofs.TreeLemmas.{IsShaped-put_row}
 use Rattle.sqlite_keyed.proofs.ListLemmas.{all_both}
 use Rattle.sqlite_keyed.proofs.RuleLemmas.{first_of_both, second_of_both}
 use Rattle.sqlite.specs.Edit.{next_rowid}
 use Rattle.sqlite.specs.Effect.{Database}
-use Rattle.sqlite.specs.State.{State, Shown, Executes}
-use Rattle.sqlite.proofs.Callers.{reads_as}
+use Rattle.sqlite.specs.State.{State, Executes}
 use Rattle.house_rows.specs.Bids.{BidRow}
 use Rattle.house_rows.specs.Watches.{WatchRow}
-use Rattle.store_rows.specs.Schema.{house_schema, bid_table, bid_layout, watch_table, watch_layout}
-use Rattle.store_rows.specs.Rows.{number_in, bid_of, bid_in, bids_in, watch_in, watches_in}
+use Rattle.store_rows.specs.Schema.{bid_table, bid_layout, watch_table, watch_layout}
+use Rattle.store_rows.specs.Rows.{bid_in, watch_in}
 use Rattle.store_rows.specs.House.{IsHouse, AddsBid, AddsWatch, RemovesWatch}
 use Rattle.store_rows.proofs.RowLemmas.{int_if, equals_number, alone, small}
-use Rattle.store_rows.proofs.Select.{listed, in_order, typed_where, typed_part, by_rowid, equals}
 use Rattle.store_rows.specs.Plain.{passes}
 use Rattle.sqlite_keyed.proofs.ListLemmas.{filter-map}
 use Rattle.house_rows.specs.Watches.{is_watch}
@@ -29,7 +26,7 @@ use Rattle.store_rows.proofs.RowLemmas.{filter_same_on}
 use Rattle.store_rows.proofs.Delete.{deletes}
 use Rattle.store_rows.proofs.Wrote.{still_house, map_more}
 use Rattle.store_rows.proofs.Insert.{puts, put_last, cast_int, cast_null}
-use Rattle.store_rows.proofs.BidMeaning.{put_bid_text, bids_by_text, put_watch_text, watched_text, bid_terms, bid_shown, watch_terms, watch_shown, by_member_on_item, put_bid_is, bids_by_is, put_watch_is, watched_is, cut_watch_text, cut_watch_is, this_watch}
+use Rattle.store_rows.proofs.BidMeaning.{put_bid_text, put_watch_text, bid_terms, watch_terms, put_bid_is, put_watch_is, cut_watch_text, cut_watch_is, this_watch}
 
 -- ---- the numbers in the rows are numbers
 
@@ -67,31 +64,8 @@ are_watches db house =
     one (id ∷ a ∷ b ∷ more) t p =
         let typed = first_of_both _ _ t in (int_if a (first_of_both _ _ typed) (first_of_both _ _ p), int_if b (first_of_both _ _ (second_of_both _ _ typed)) (first_of_both _ _ (second_of_both _ _ p)))
 
--- ---- what is found
-
 two : (a b : Bool) → (a && (b && true)) ≡ (a && b)
 two a b = ap (λ c. a && c) (alone b)
-
-module _ (old new : State) (answer : List Row) (house : IsHouse old.now) where
-  pub bids_answer : (member item : ℕ) → member < 2 ^ 32 → item < 2 ^ 32 → Shown bids_by_text (Int (pos member) ∷ Int (pos item) ∷ []) old new answer
-      → map bid_of answer ≡ filter (λ b. (b.bid.member == member) && (b.item == item)) (bids_in old.now.trees)
-  bids_answer member item low small h =
-      let params = Int (pos member) ∷ Int (pos item) ∷ [] in
-      let table = old.now.trees 8 in
-      let read = reads_as bids_by_text params old new house_schema house.schema _ bids_by_is.0 bids_by_is.2 bids_by_is.1 answer h in
-      let order = in_order by_member_on_item bid_shown params table answer house.shaped.1.1.1.1.1.0.0 (listed 8 by_member_on_item bid_shown by_rowid (overlay old.now.trees []) params answer (read.answer Null)) in
-      typed_where bid_of bid_in (λ b. (b.bid.member == member) && (b.item == item)) IsBid by_member_on_item bid_shown params table answer (λ r. refl)
-      (λ r is. rw (equals_number (column r 3) member is.1 low, equals_number (column r 1) item is.0 small) (two _ _)) (are_bids old.now house) order
-
-  pub watched_answer : (member : ℕ) → member < 2 ^ 32 → Shown watched_text (Int (pos member) ∷ []) old new answer
-      → map (λ r. number_in (column r 0)) answer ≡ map (λ (w : WatchRow). w.item) (filter (λ w. w.member == member) (watches_in old.now.trees))
-  watched_answer member low h =
-      let params = Int (pos member) ∷ [] in
-      let table = old.now.trees 10 in
-      let read = reads_as watched_text params old new house_schema house.schema _ watched_is.0 watched_is.2 watched_is.1 answer h in
-      let order = in_order (equals 1 ∷ []) watch_shown params table answer house.shaped.1.1.1.1.1.1.0.0 (listed 10 (equals 1 ∷ []) watch_shown by_rowid (overlay old.now.trees []) params answer (read.answer Null)) in
-      typed_part (λ r. number_in (column r 0)) watch_in (λ (w : WatchRow). w.item) (λ w. w.member == member) IsWatch (equals 1 ∷ []) watch_shown params table answer (λ r. refl)
-      (λ r is. rw (equals_number (column r 1) member is.0 low) (alone _)) (are_watches old.now house) order
 
 -- ---- what is written
 

@@ -1,10 +1,10 @@
 -- What the statements on bids and watches mean.
-use Rattle.std.proofs.Common.{◌≡◌, refl, List, [], ◌∷◌, ℕ, codes, false}
+use Rattle.std.proofs.Common.{◌≡◌, refl, List, [], ◌∷◌, ℕ, codes}
 use Rattle.sqlite_value.specs.declared.value.Value.TheVariants.{Null}
 use Rattle.sqlite.specs.Term.{Term, lit, col, op2}
 use Rattle.sqlite.specs.Source.TheVariants.{Values}
-use Rattle.sqlite.specs.Command.TheVariants.{Insert, Select, Delete}
-use Rattle.sqlite.specs.Listing.{understood, reads_listing}
+use Rattle.sqlite.specs.Command.TheVariants.{Insert, Delete}
+use Rattle.sqlite.specs.Listing.{understood}
 use Rattle.sqlite.proofs.Callers.{IsPlain, command_of}
 use Rattle.sqlite_tied.specs.Compute.{everything}
 use Rattle.sqlite_value.specs.declared.keys.Collation.TheVariants.{Binary}
@@ -12,19 +12,13 @@ use Rattle.sqlite_sql.specs.declared.ops.BinaryOp.TheVariants.{Compare}
 use Rattle.sqlite_sql.specs.declared.ops.CompareOp.TheVariants.{Eq}
 use Rattle.store_rows.specs.Schema.{house_schema}
 use Rattle.store_rows.specs.Plain.{plain_query}
-use Rattle.store_rows.proofs.Select.{by_rowid, equals}
+use Rattle.store_rows.proofs.Select.{equals}
 
 abbrev pub put_bid_text : List ℕ
 put_bid_text = codes "INSERT INTO bid (item, no, member, maximum) VALUES (?1, ?2, ?3, ?4)"
 
-abbrev pub bids_by_text : List ℕ
-bids_by_text = codes "SELECT item, no, member, maximum FROM bid WHERE member = ?1 AND item = ?2 ORDER BY rowid"
-
 abbrev pub put_watch_text : List ℕ
 put_watch_text = codes "INSERT INTO watch (member, item) VALUES (?1, ?2)"
-
-abbrev pub watched_text : List ℕ
-watched_text = codes "SELECT item FROM watch WHERE member = ?1 ORDER BY rowid"
 
 abbrev pub cut_watch_text : List ℕ
 cut_watch_text = codes "DELETE FROM watch WHERE member = ?1 AND item = ?2"
@@ -53,20 +47,9 @@ pub put_bid_is : (command_of (understood house_schema put_bid_text) ≡ Insert 5
 unfolding understood everything
 put_bid_is = (refl, (refl, refl))
 
-pub bids_by_is : (command_of (understood house_schema bids_by_text)
-    ≡ Select (record { lets = []; body = plain_query 8 by_member_on_item bid_shown by_rowid }) (codes "item" ∷ codes "no" ∷ codes "member" ∷ codes "maximum" ∷ []))
-    × (reads_listing house_schema bids_by_text ≡ false) × IsPlain (understood house_schema bids_by_text)
-unfolding understood everything
-bids_by_is = (refl, refl, (refl, refl))
-
 pub put_watch_is : (command_of (understood house_schema put_watch_text) ≡ Insert 6 (Values watch_terms 3)) × IsPlain (understood house_schema put_watch_text)
 unfolding understood everything
 put_watch_is = (refl, (refl, refl))
-
-pub watched_is : (command_of (understood house_schema watched_text) ≡ Select (record { lets = []; body = plain_query 10 (equals 1 ∷ []) watch_shown by_rowid }) (codes "item" ∷ []))
-    × (reads_listing house_schema watched_text ≡ false) × IsPlain (understood house_schema watched_text)
-unfolding understood everything
-watched_is = (refl, refl, (refl, refl))
 
 pub cut_watch_is : (command_of (understood house_schema cut_watch_text) ≡ Delete 6 (record { lets = []; body = plain_query 10 this_watch (col 1 0 ∷ []) [] })) × IsPlain (understood house_schema cut_watch_text)
 unfolding understood everything

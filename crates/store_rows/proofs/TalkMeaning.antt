@@ -36,20 +36,8 @@ put_feedback_is = (refl, (refl, refl))
 
 -- ---- reads
 
-abbrev pub all_feedback_text : List ℕ
-all_feedback_text = codes "SELECT item, giver, receiver, rating, body FROM feedback ORDER BY rowid"
-
 abbrev pub feedback_to_text : List ℕ
 feedback_to_text = codes "SELECT item, giver, receiver, rating, body FROM feedback WHERE receiver = ?1 ORDER BY rowid"
-
-abbrev pub all_questions_text : List ℕ
-all_questions_text = codes "SELECT item, asker, n, answer, body FROM question ORDER BY rowid"
-
-abbrev pub questions_on_text : List ℕ
-questions_on_text = codes "SELECT item, asker, n, answer, body FROM question WHERE item = ?1 ORDER BY rowid"
-
-abbrev pub questions_by_text : List ℕ
-questions_by_text = codes "SELECT item, asker, n, answer, body FROM question WHERE asker = ?1 ORDER BY rowid"
 
 abbrev pub question_at_text : List ℕ
 question_at_text = codes "SELECT item, asker, n, answer, body FROM question WHERE item = ?1 AND asker = ?2 AND n = ?3 ORDER BY rowid"
@@ -70,30 +58,10 @@ feedback_names = codes "item" ∷ codes "giver" ∷ codes "receiver" ∷ codes "
 abbrev question_names : List (List ℕ)
 question_names = codes "item" ∷ codes "asker" ∷ codes "n" ∷ codes "answer" ∷ codes "body" ∷ []
 
-pub all_feedback_is : (command_of (understood house_schema all_feedback_text) ≡ Select (record { lets = []; body = plain_query 14 [] talk_shown by_rowid }) feedback_names)
-    × (reads_listing house_schema all_feedback_text ≡ false) × IsPlain (understood house_schema all_feedback_text)
-unfolding understood everything
-all_feedback_is = (refl, refl, (refl, refl))
-
 pub feedback_to_is : (command_of (understood house_schema feedback_to_text) ≡ Select (record { lets = []; body = plain_query 14 (equals 3 ∷ []) talk_shown by_rowid }) feedback_names)
     × (reads_listing house_schema feedback_to_text ≡ false) × IsPlain (understood house_schema feedback_to_text)
 unfolding understood everything
 feedback_to_is = (refl, refl, (refl, refl))
-
-pub all_questions_is : (command_of (understood house_schema all_questions_text) ≡ Select (record { lets = []; body = plain_query 12 [] question_shown by_rowid }) question_names)
-    × (reads_listing house_schema all_questions_text ≡ false) × IsPlain (understood house_schema all_questions_text)
-unfolding understood everything
-all_questions_is = (refl, refl, (refl, refl))
-
-pub questions_on_is : (command_of (understood house_schema questions_on_text) ≡ Select (record { lets = []; body = plain_query 12 (equals 1 ∷ []) question_shown by_rowid }) question_names)
-    × (reads_listing house_schema questions_on_text ≡ false) × IsPlain (understood house_schema questions_on_text)
-unfolding understood everything
-questions_on_is = (refl, refl, (refl, refl))
-
-pub questions_by_is : (command_of (understood house_schema questions_by_text) ≡ Select (record { lets = []; body = plain_query 12 (equals 2 ∷ []) question_shown by_rowid }) question_names)
-    × (reads_listing house_schema questions_by_text ≡ false) × IsPlain (understood house_schema questions_by_text)
-unfolding understood everything
-questions_by_is = (refl, refl, (refl, refl))
 
 pub question_at_is : (command_of (understood house_schema question_at_text) ≡ Select (record { lets = []; body = plain_query 12 by_question question_shown by_rowid }) question_names)
     × (reads_listing house_schema question_at_text ≡ false) × IsPlain (understood house_schema question_at_text)

@@ -19,8 +19,8 @@ use Rattle.store_rows.specs.Rows.{number_in, question_of, question_in, questions
 use Rattle.store_rows.specs.House.{IsHouse}
 use Rattle.store_rows.proofs.RowLemmas.{int_if, equals_number, first_is, alone}
 use Rattle.store_rows.proofs.ColumnLemmas.{holds_all}
-use Rattle.store_rows.proofs.Select.{listed, in_order, typed_where, typed_all, by_rowid, equals}
-use Rattle.store_rows.proofs.TalkMeaning.{all_feedback_text, feedback_to_text, all_questions_text, questions_on_text, questions_by_text, question_at_text, talk_shown, question_shown, by_question, all_feedback_is, feedback_to_is, all_questions_is, questions_on_is, questions_by_is, question_at_is}
+use Rattle.store_rows.proofs.Select.{listed, in_order, typed_where, by_rowid, equals}
+use Rattle.store_rows.proofs.TalkMeaning.{feedback_to_text, question_at_text, talk_shown, question_shown, by_question, feedback_to_is, question_at_is}
 
 -- the first three columns are numbers
 pub record IsTalk (r : Row) : Type 0 where
@@ -67,12 +67,6 @@ module _ (old new : State) (answer : List Row) (house : IsHouse old.now) where
   abbrev asked : List Row
   asked = old.now.trees 12
 
-  pub feedback_answer : Shown all_feedback_text [] old new answer → map feedback_of answer ≡ feedback_in old.now.trees
-  feedback_answer h =
-      let read = reads_as all_feedback_text [] old new house_schema house.schema _ all_feedback_is.0 all_feedback_is.2 all_feedback_is.1 answer h in
-      typed_all feedback_of one_feedback_in talk_shown [] given answer (λ r. refl)
-      (in_order [] talk_shown [] given answer house.shaped.1.1.1.1.1.1.1.1.0.0 (listed 14 [] talk_shown by_rowid (overlay old.now.trees []) [] answer (read.answer Null)))
-
   pub feedback_to_answer : (member : ℕ) → member < 2 ^ 32 → Shown feedback_to_text (Int (pos member) ∷ []) old new answer → map feedback_of answer ≡ filter (λ f. f.to == member) (feedback_in old.now.trees)
   feedback_to_answer member low h =
       let params = Int (pos member) ∷ [] in
@@ -80,28 +74,6 @@ module _ (old new : State) (answer : List Row) (house : IsHouse old.now) where
       let order = in_order (equals 3 ∷ []) talk_shown params given answer house.shaped.1.1.1.1.1.1.1.1.0.0 (listed 14 (equals 3 ∷ []) talk_shown by_rowid (overlay old.now.trees []) params answer (read.answer Null)) in
       typed_where feedback_of one_feedback_in (λ f. f.to == member) IsTalk (equals 3 ∷ []) talk_shown params given answer (λ r. refl)
       (λ r is. rw (equals_number (column r 3) member is.third low) (alone _)) (are_feedback old.now house) order
-
-  pub questions_answer : Shown all_questions_text [] old new answer → map question_of answer ≡ questions_in old.now.trees
-  questions_answer h =
-      let read = reads_as all_questions_text [] old new house_schema house.schema _ all_questions_is.0 all_questions_is.2 all_questions_is.1 answer h in
-      typed_all question_of question_in question_shown [] asked answer (λ r. refl)
-      (in_order [] question_shown [] asked answer house.shaped.1.1.1.1.1.1.1.0.0 (listed 12 [] question_shown by_rowid (overlay old.now.trees []) [] answer (read.answer Null)))
-
-  pub questions_on_answer : (item : ℕ) → item < 2 ^ 32 → Shown questions_on_text (Int (pos item) ∷ []) old new answer → map question_of answer ≡ filter (λ q. q.item == item) (questions_in old.now.trees)
-  questions_on_answer item low h =
-      let params = Int (pos item) ∷ [] in
-      let read = reads_as questions_on_text params old new house_schema house.schema _ questions_on_is.0 questions_on_is.2 questions_on_is.1 answer h in
-      let order = in_order (equals 1 ∷ []) question_shown params asked answer house.shaped.1.1.1.1.1.1.1.0.0 (listed 12 (equals 1 ∷ []) question_shown by_rowid (overlay old.now.trees []) params answer (read.answer Null)) in
-      typed_where question_of question_in (λ q. q.item == item) IsTalk (equals 1 ∷ []) question_shown params asked answer (λ r. refl)
-      (λ r is. rw (equals_number (column r 1) item is.first low) (alone _)) (are_questions old.now house) order
-
-  pub questions_by_answer : (asker : ℕ) → asker < 2 ^ 32 → Shown questions_by_text (Int (pos asker) ∷ []) old new answer → map question_of answer ≡ filter (λ q. q.asker == asker) (questions_in old.now.trees)
-  questions_by_answer asker low h =
-      let params = Int (pos asker) ∷ [] in
-      let read = reads_as questions_by_text params old new house_schema house.schema _ questions_by_is.0 questions_by_is.2 questions_by_is.1 answer h in
-      let order = in_order (equals 2 ∷ []) question_shown params asked answer house.shaped.1.1.1.1.1.1.1.0.0 (listed 12 (equals 2 ∷ []) question_shown by_rowid (overlay old.now.trees []) params answer (read.answer Null)) in
-      typed_where question_of question_in (λ q. q.asker == asker) IsTalk (equals 2 ∷ []) question_shown params asked answer (λ r. refl)
-      (λ r is. rw (equals_number (column r 2) asker is.second low) (alone _)) (are_questions old.now house) order
 
   pub first_question : (item asker number : ℕ) → item < 2 ^ 32 → asker < 2 ^ 32 → number < 2 ^ 32 → Shown question_at_text (Int (pos item) ∷ Int (pos asker) ∷ Int (pos number) ∷ []) old new answer
       → option_map question_of (slice_get answer 0) ≡ find (is_question item asker number) (questions_in old.now.trees)

@@ -1,23 +1,19 @@
 //! The table of bids.
-ghost use Rattle.std.specs.Prelude.{◌≡◌, ◌==◌, ◌&&◌, false, map, filter, IfOk, OnOk, OnErr, IsTrue, IsErrOf};
-ghost use Rattle.std.specs.List.{AllByRecursion};
-ghost use Rattle.sqlite.specs.State.{HasCleanDisk, IsUnchanged, Survives};
+ghost use Rattle.std.specs.Prelude.{◌≡◌, IfOk, OnOk, OnErr, IsTrue, IsErrOf};
+ghost use Rattle.sqlite.specs.State.{HasCleanDisk, Survives};
 ghost use Rattle.sqlite.specs.Held.{state};
-ghost use Rattle.house_rows.specs.Bids.{BidRow};
-ghost use Rattle.house_rows.specs.Fits.{BidRowFits};
 ghost use Rattle.house_rows.specs.declared.fault.KeepFault.TheVariants.{Damaged};
 ghost use Rattle.store_rows.specs.Fitting.{BidFits};
 ghost use Rattle.store_rows.specs.House.{Serves, IsInside, KeepsCommitted, AddsBid};
-ghost use Rattle.store_rows.specs.Rows.{bid_of, bids_in};
+ghost use Rattle.store_rows.specs.Rows.{bid_of};
 
 use crate::columns::{cents_at, number_at};
 use crate::fits::bid_fits;
-use crate::statement::{rows_shown, run};
-use crate::stored::{Stored, all_of};
+use crate::statement::run;
+use crate::stored::Stored;
 use house_rows::KeepFault;
 use proxy::Bid;
-use sqlite::{Alter, Connection, Row, Transaction, params};
-use std::alloc::Global;
+use sqlite::{Alter, Row, Transaction, params};
 
 // The columns as they stand.
 fn told_bid(row: &Row) -> Result<Bid, KeepFault>
@@ -66,27 +62,4 @@ pub fn put_bid<S: Alter>(tx: &mut Transaction<'_, S>, item: u32, bid: Bid) -> Re
         "INSERT INTO bid (item, no, member, maximum) VALUES (?1, ?2, ?3, ?4)",
         params![item, bid.no, bid.member, maximum],
     )
-}
-
-/// A member's bids on an item, in the order in which they came.
-pub fn bids_by<S: Alter>(
-    alloc: Global,
-    conn: &mut Connection<S>,
-    member: u32,
-    item: u32,
-) -> Result<Vec<Bid>, KeepFault>
-    requires { Serves (state S.Store conn.old) }
-    ensures bids { HasCleanDisk (state S.Store conn.new) → IfOk result (λ bids. bids.items ≡ map (λ (b : BidRow). b.bid) (filter (λ b. (b.bid.member == member) && (b.item == item)) (bids_in (state S.Store conn.old).now.trees))) }
-    ensures damaged { HasCleanDisk (state S.Store conn.new) → AllByRecursion BidRowFits (bids_in (state S.Store conn.old).now.trees) → ¬ (IsErrOf result Damaged) }
-    ensures same { HasCleanDisk (state S.Store conn.new) → OnOk result (IsUnchanged (state S.Store conn.old) (state S.Store conn.new)) }
-    ensures err { HasCleanDisk (state S.Store conn.new) → OnErr result (KeepsCommitted (state S.Store conn.old) (state S.Store conn.new)) }
-    ensures mode { conn.old.in_transaction ≡ false → conn.new.in_transaction ≡ false }
-    ensures crash { Survives (state S.Store conn.old) (state S.Store conn.new) (λ _. ⊥) }
-{
-    let rows = rows_shown(
-        conn,
-        "SELECT item, no, member, maximum FROM bid WHERE member = ?1 AND item = ?2 ORDER BY rowid",
-        params![member, item],
-    )?;
-    all_of(alloc, &rows)
 }

@@ -1,5 +1,5 @@
 //! The table of feedback.
-ghost use Rattle.std.specs.Prelude.{◌≡◌, ◌==◌, true, false, map, filter, IfOk, OnOk, OnErr, IsTrue, IsErrOf};
+ghost use Rattle.std.specs.Prelude.{◌≡◌, ◌==◌, true, false, filter, IfOk, OnOk, OnErr, IsTrue, IsErrOf};
 ghost use Rattle.std.specs.List.{AllByRecursion};
 ghost use Rattle.sqlite_value.specs.Order.{column};
 ghost use Rattle.sqlite.specs.State.{HasCleanDisk, IsUnchanged, Survives};
@@ -101,28 +101,6 @@ impl Stored for Feedback {
             Err(KeepFault::Damaged)
         }
     }
-}
-
-/// All feedback, in the order in which it came.
-pub fn all_feedback<S: Alter>(
-    alloc: Global,
-    conn: &mut Connection<S>,
-) -> Result<Vec<Feedback>, KeepFault>
-    requires { Serves (state S.Store conn.old) }
-    ensures given { HasCleanDisk (state S.Store conn.new) → IfOk result (λ given. given.items ≡ feedback_in (state S.Store conn.old).now.trees) }
-    ensures fits { IfOk result (λ given. AllByRecursion FeedbackFits given.items) }
-    ensures damaged { HasCleanDisk (state S.Store conn.new) → AllByRecursion FeedbackFits (feedback_in (state S.Store conn.old).now.trees) → ¬ (IsErrOf result Damaged) }
-    ensures same { HasCleanDisk (state S.Store conn.new) → OnOk result (IsUnchanged (state S.Store conn.old) (state S.Store conn.new)) }
-    ensures err { HasCleanDisk (state S.Store conn.new) → OnErr result (KeepsCommitted (state S.Store conn.old) (state S.Store conn.new)) }
-    ensures mode { conn.old.in_transaction ≡ false → conn.new.in_transaction ≡ false }
-    ensures crash { Survives (state S.Store conn.old) (state S.Store conn.new) (λ _. ⊥) }
-{
-    let rows = rows_shown(
-        conn,
-        "SELECT item, giver, receiver, rating, body FROM feedback ORDER BY rowid",
-        &[],
-    )?;
-    all_of(alloc, &rows)
 }
 
 /// The feedback to a member, in the order in which it came.

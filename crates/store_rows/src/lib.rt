@@ -1,5 +1,6 @@
 //! The rows of the house in SQLite: its schema, the statements that make its tables, and one
-//! function for each statement over every table but that of the items.
+//! function for each statement that writes, finds or counts rows of a table or shows them as they
+//! lie, of every table but that of the items.
 //!
 //! Promised: the sixteen statements leave an empty house; each function says in typed rows what its
 //! statement finds or writes, wherever the disk was honest; a failure leaves what was committed.
@@ -9,7 +10,8 @@
 //! A read that is `Damaged` has met a row that does not fit: where every row of its table fits it is
 //! not. `Stored` says what typed row the shown columns tell, for items too.
 //!
-//! Not here: lists with an order of their own or with a limit, and the opening of a file.
+//! Not here: lists in the order of their keys (`store_lists`, `store_finds`) or with a limit
+//! (`store_pages`), and the opening of a file (`store_open`).
 #![tactic(auto)]
 
 mod band;
@@ -30,20 +32,18 @@ mod tables;
 mod watch;
 
 pub use band::{BandRow, all_bands};
-pub use bid::{bids_by, put_bid};
+pub use bid::put_bid;
 pub use category::{all_categories, category_at, category_named, put_category};
 pub use columns::{
     cents_at, count_at, maybe_cents_at, maybe_number_at, maybe_text_at, number_at, text_at,
     value_at,
 };
 pub use counts::{count_categories, count_items, count_members, read_count};
-pub use feedback::{all_feedback, feedback_to, put_feedback};
+pub use feedback::{feedback_to, put_feedback};
 pub use house::{HouseRow, house_row, set_clock};
 pub use member::{all_members, member_at, member_named, put_member};
-pub use question::{
-    all_questions, put_question, question_at, questions_by, questions_on, set_answer,
-};
+pub use question::{put_question, question_at, set_answer};
 pub use statement::{rows_shown, run};
 pub use stored::{Stored, all_of, first_of};
 pub use tables::make_tables;
-pub use watch::{cut_watch, items_watched, put_watch};
+pub use watch::{cut_watch, put_watch};

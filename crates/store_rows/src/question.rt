@@ -1,5 +1,5 @@
 //! The table of questions.
-ghost use Rattle.std.specs.Prelude.{◌≡◌, ◌==◌, false, None, find, map, filter, option_map, slice_get, IfOk, IfSome, OnOk, OnErr, IsTrue, IsErrOf};
+ghost use Rattle.std.specs.Prelude.{◌≡◌, false, None, find, IfOk, IfSome, OnOk, OnErr, IsTrue, IsErrOf};
 ghost use Rattle.std.specs.List.{AllByRecursion};
 ghost use Rattle.sqlite.specs.State.{HasCleanDisk, IsUnchanged, Survives};
 ghost use Rattle.sqlite.specs.Held.{state};
@@ -13,10 +13,9 @@ ghost use Rattle.store_rows.specs.Rows.{question_of, questions_in};
 use crate::columns::{maybe_text_at, number_at, text_at};
 use crate::fits::question_fits;
 use crate::statement::{rows_shown, run};
-use crate::stored::{Stored, all_of, first_of};
+use crate::stored::{Stored, first_of};
 use house_rows::{KeepFault, Question};
 use sqlite::{Alter, Connection, Row, Transaction, params};
-use std::alloc::Global;
 
 /// Adds a question that waits within a transaction, `number` among this asker's on the item.
 pub fn put_question<S: Alter>(
@@ -122,72 +121,4 @@ pub fn question_at<S: Alter>(
         params![item, asker, number],
     )?;
     first_of(&rows)
-}
-
-/// All questions, in the order in which they came.
-pub fn all_questions<S: Alter>(
-    alloc: Global,
-    conn: &mut Connection<S>,
-) -> Result<Vec<Question>, KeepFault>
-    requires { Serves (state S.Store conn.old) }
-    ensures asked { HasCleanDisk (state S.Store conn.new) → IfOk result (λ asked. asked.items ≡ questions_in (state S.Store conn.old).now.trees) }
-    ensures fits { IfOk result (λ asked. AllByRecursion QuestionFits asked.items) }
-    ensures damaged { HasCleanDisk (state S.Store conn.new) → AllByRecursion QuestionFits (questions_in (state S.Store conn.old).now.trees) → ¬ (IsErrOf result Damaged) }
-    ensures same { HasCleanDisk (state S.Store conn.new) → OnOk result (IsUnchanged (state S.Store conn.old) (state S.Store conn.new)) }
-    ensures err { HasCleanDisk (state S.Store conn.new) → OnErr result (KeepsCommitted (state S.Store conn.old) (state S.Store conn.new)) }
-    ensures mode { conn.old.in_transaction ≡ false → conn.new.in_transaction ≡ false }
-    ensures crash { Survives (state S.Store conn.old) (state S.Store conn.new) (λ _. ⊥) }
-{
-    let rows = rows_shown(
-        conn,
-        "SELECT item, asker, n, answer, body FROM question ORDER BY rowid",
-        &[],
-    )?;
-    all_of(alloc, &rows)
-}
-
-/// The questions on an item, in the order in which they came.
-pub fn questions_on<S: Alter>(
-    alloc: Global,
-    conn: &mut Connection<S>,
-    item: u32,
-) -> Result<Vec<Question>, KeepFault>
-    requires { Serves (state S.Store conn.old) }
-    ensures asked { HasCleanDisk (state S.Store conn.new) → IfOk result (λ asked. asked.items ≡ filter (λ q. q.item == item) (questions_in (state S.Store conn.old).now.trees)) }
-    ensures fits { IfOk result (λ asked. AllByRecursion QuestionFits asked.items) }
-    ensures damaged { HasCleanDisk (state S.Store conn.new) → AllByRecursion QuestionFits (questions_in (state S.Store conn.old).now.trees) → ¬ (IsErrOf result Damaged) }
-    ensures same { HasCleanDisk (state S.Store conn.new) → OnOk result (IsUnchanged (state S.Store conn.old) (state S.Store conn.new)) }
-    ensures err { HasCleanDisk (state S.Store conn.new) → OnErr result (KeepsCommitted (state S.Store conn.old) (state S.Store conn.new)) }
-    ensures mode { conn.old.in_transaction ≡ false → conn.new.in_transaction ≡ false }
-    ensures crash { Survives (state S.Store conn.old) (state S.Store conn.new) (λ _. ⊥) }
-{
-    let rows = rows_shown(
-        conn,
-        "SELECT item, asker, n, answer, body FROM question WHERE item = ?1 ORDER BY rowid",
-        params![item],
-    )?;
-    all_of(alloc, &rows)
-}
-
-/// A member's questions, in the order in which they came.
-pub fn questions_by<S: Alter>(
-    alloc: Global,
-    conn: &mut Connection<S>,
-    asker: u32,
-) -> Result<Vec<Question>, KeepFault>
-    requires { Serves (state S.Store conn.old) }
-    ensures asked { HasCleanDisk (state S.Store conn.new) → IfOk result (λ asked. asked.items ≡ filter (λ q. q.asker == asker) (questions_in (state S.Store conn.old).now.trees)) }
-    ensures fits { IfOk result (λ asked. AllByRecursion QuestionFits asked.items) }
-    ensures damaged { HasCleanDisk (state S.Store conn.new) → AllByRecursion QuestionFits (questions_in (state S.Store conn.old).now.trees) → ¬ (IsErrOf result Damaged) }
-    ensures same { HasCleanDisk (state S.Store conn.new) → OnOk result (IsUnchanged (state S.Store conn.old) (state S.Store conn.new)) }
-    ensures err { HasCleanDisk (state S.Store conn.new) → OnErr result (KeepsCommitted (state S.Store conn.old) (state S.Store conn.new)) }
-    ensures mode { conn.old.in_transaction ≡ false → conn.new.in_transaction ≡ false }
-    ensures crash { Survives (state S.Store conn.old) (state S.Store conn.new) (λ _. ⊥) }
-{
-    let rows = rows_shown(
-        conn,
-        "SELECT item, asker, n, answer, body FROM question WHERE asker = ?1 ORDER BY rowid",
-        params![asker],
-    )?;
-    all_of(alloc, &rows)
 }
