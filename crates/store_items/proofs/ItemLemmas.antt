@@ -38,7 +38,7 @@ use Rattle.store_rows.proofs.Select.{listed, in_order, typed_part, by_rowid, equ
 use Rattle.store_rows.proofs.Wrote.{still_house, map_more}
 use Rattle.store_rows.proofs.Insert.{puts, put_over, cast_int, cast_null}
 use Rattle.store_rows.proofs.Update.{updates, typed_set_on, stays_all, IsStrict}
-use Rattle.store_items.proofs.ItemMeaning.{item_at_text, terms_at_text, standing_at_text, with_lot_text, all_items_text, item_shown, terms_shown, standing_shown, by_lot, item_at_is, terms_at_is, standing_at_is, with_lot_is, all_items_is, items_in_category_text, items_in_category_is, items_of_seller_text, items_of_seller_is, put_item_text, set_standing_text, set_bought_text, set_closed_text, set_settled_text, put_terms, standing_set, bought_set, closed_set, settled_set, put_item_is, set_standing_is, set_bought_is, set_closed_is, set_settled_is}
+use Rattle.store_items.proofs.ItemMeaning.{item_at_text, terms_at_text, standing_at_text, with_lot_text, all_items_text, item_shown, terms_shown, standing_shown, by_lot, item_at_is, terms_at_is, standing_at_is, with_lot_is, all_items_is, put_item_text, set_standing_text, set_bought_text, set_closed_text, set_settled_text, put_terms, standing_set, bought_set, closed_set, settled_set, put_item_is, set_standing_is, set_bought_is, set_closed_is, set_settled_is}
 
 -- ---- what the columns hold
 
@@ -142,24 +142,6 @@ module _ (old new : State) (answer : List Row) (house : IsHouse old.now) where
       first_part (λ r. number_in (column r 0)) (λ (row : ItemRow). row.item.terms.item) keep answer (items_in old.now.trees)
       (typed_part (λ r. number_in (column r 0)) item_row_in (λ (row : ItemRow). row.item.terms.item) keep IsRow by_lot (Rattle.sqlite.specs.Term.col 1 0 ∷ []) params rows answer (λ r. refl)
       (λ r is. rw (equals_number (column r 2) seller is.seller low, equals_text (column r 4) lot u is.lot) (two _ _)) (are_rows old.now house) order)
-
-  pub items_in_category_answer : (n : ℕ) → n < 2 ^ 32 → Shown items_in_category_text (Int (pos n) ∷ []) old new answer
-      → map item_of answer ≡ map (λ (row : ItemRow). row.item) (filter (λ row. row.item.terms.category == n) (items_in old.now.trees))
-  items_in_category_answer n low h =
-      let params = Int (pos n) ∷ [] in
-      let read = reads_as items_in_category_text params old new house_schema house.schema _ items_in_category_is.0 items_in_category_is.2 items_in_category_is.1 answer h in
-      let order = in_order (equals 3 ∷ []) item_shown params rows answer house.shaped.1.1.1.1.0.0 (listed 6 (equals 3 ∷ []) item_shown by_rowid (overlay old.now.trees []) params answer (read.answer Null)) in
-      typed_part item_of item_row_in (λ (row : ItemRow). row.item) (λ row. row.item.terms.category == n) IsRow (equals 3 ∷ []) item_shown params rows answer (λ r. refl)
-      (λ r is. rw (equals_number (column r 3) n is.category low) (alone _)) (are_rows old.now house) order
-
-  pub items_of_seller_answer : (n : ℕ) → n < 2 ^ 32 → Shown items_of_seller_text (Int (pos n) ∷ []) old new answer
-      → map item_of answer ≡ map (λ (row : ItemRow). row.item) (filter (λ row. row.item.terms.seller == n) (items_in old.now.trees))
-  items_of_seller_answer n low h =
-      let params = Int (pos n) ∷ [] in
-      let read = reads_as items_of_seller_text params old new house_schema house.schema _ items_of_seller_is.0 items_of_seller_is.2 items_of_seller_is.1 answer h in
-      let order = in_order (equals 2 ∷ []) item_shown params rows answer house.shaped.1.1.1.1.0.0 (listed 6 (equals 2 ∷ []) item_shown by_rowid (overlay old.now.trees []) params answer (read.answer Null)) in
-      typed_part item_of item_row_in (λ (row : ItemRow). row.item) (λ row. row.item.terms.seller == n) IsRow (equals 2 ∷ []) item_shown params rows answer (λ r. refl)
-      (λ r is. rw (equals_number (column r 2) n is.seller low) (alone _)) (are_rows old.now house) order
 
   pub items_answer : Shown all_items_text [] old new answer → map item_of answer ≡ map (λ (row : ItemRow). row.item) (items_in old.now.trees)
   items_answer h =

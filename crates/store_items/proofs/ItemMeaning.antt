@@ -80,22 +80,6 @@ pub all_items_is : (command_of (understood house_schema all_items_text) ≡ Sele
 unfolding understood everything
 all_items_is = (refl, refl, (refl, refl))
 
-abbrev pub items_in_category_text : List ℕ
-items_in_category_text = codes "SELECT id, seller, category, start, buy_now, ending, state, closed, price, leader, count, lot, title, body FROM item WHERE category = ?1 ORDER BY id"
-
-pub items_in_category_is : (command_of (understood house_schema items_in_category_text) ≡ Select (record { lets = []; body = plain_query 6 (equals 3 ∷ []) item_shown by_rowid }) item_names)
-    × (reads_listing house_schema items_in_category_text ≡ false) × IsPlain (understood house_schema items_in_category_text)
-unfolding understood everything
-items_in_category_is = (refl, refl, (refl, refl))
-
-abbrev pub items_of_seller_text : List ℕ
-items_of_seller_text = codes "SELECT id, seller, category, start, buy_now, ending, state, closed, price, leader, count, lot, title, body FROM item WHERE seller = ?1 ORDER BY id"
-
-pub items_of_seller_is : (command_of (understood house_schema items_of_seller_text) ≡ Select (record { lets = []; body = plain_query 6 (equals 2 ∷ []) item_shown by_rowid }) item_names)
-    × (reads_listing house_schema items_of_seller_text ≡ false) × IsPlain (understood house_schema items_of_seller_text)
-unfolding understood everything
-items_of_seller_is = (refl, refl, (refl, refl))
-
 -- ---- writes
 
 abbrev pub put_item_text : List ℕ

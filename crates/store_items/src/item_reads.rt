@@ -1,5 +1,5 @@
 //! Look-ups in the table of items.
-ghost use Rattle.std.specs.Prelude.{◌≡◌, ◌==◌, ◌&&◌, false, filter, find, map, option_map, IfOk, IfSome, IsErrOf, OnOk, OnErr};
+ghost use Rattle.std.specs.Prelude.{◌≡◌, ◌==◌, ◌&&◌, false, find, map, option_map, IfOk, IfSome, IsErrOf, OnOk, OnErr};
 ghost use Rattle.sqlite.specs.State.{HasCleanDisk, IsUnchanged, Survives};
 ghost use Rattle.sqlite.specs.Held.{state};
 ghost use Rattle.house_rows.specs.Changed.{is_item};
@@ -120,52 +120,6 @@ pub fn all_items<S: Alter>(alloc: Global, conn: &mut Connection<S>) -> Result<Ve
         conn,
         "SELECT id, seller, category, start, buy_now, ending, state, closed, price, leader, count, lot, title, body FROM item ORDER BY id",
         &[],
-    )?;
-    all_of(alloc, &rows)
-}
-
-/// The items of a category, by number.
-pub fn items_in_category<S: Alter>(
-    alloc: Global,
-    conn: &mut Connection<S>,
-    category: u32,
-) -> Result<Vec<Item>, KeepFault>
-    requires { Serves (state S.Store conn.old) }
-    ensures items { HasCleanDisk (state S.Store conn.new) → IfOk result (λ items. items.items ≡ map (λ (row : ItemRow). row.item) (filter (λ row. row.item.terms.category == category) (items_in (state S.Store conn.old).now.trees))) }
-    ensures fits { IfOk result (λ items. AllByRecursion ItemFits items.items) }
-    ensures damaged { HasCleanDisk (state S.Store conn.new) → AllByRecursion (λ (row : ItemRow). ItemFits row.item) (items_in (state S.Store conn.old).now.trees) → ¬ (IsErrOf result Damaged) }
-    ensures same { HasCleanDisk (state S.Store conn.new) → OnOk result (IsUnchanged (state S.Store conn.old) (state S.Store conn.new)) }
-    ensures err { HasCleanDisk (state S.Store conn.new) → OnErr result (KeepsCommitted (state S.Store conn.old) (state S.Store conn.new)) }
-    ensures mode { conn.old.in_transaction ≡ false → conn.new.in_transaction ≡ false }
-    ensures crash { Survives (state S.Store conn.old) (state S.Store conn.new) (λ _. ⊥) }
-{
-    let rows = rows_shown(
-        conn,
-        "SELECT id, seller, category, start, buy_now, ending, state, closed, price, leader, count, lot, title, body FROM item WHERE category = ?1 ORDER BY id",
-        params![category],
-    )?;
-    all_of(alloc, &rows)
-}
-
-/// The items that a member sells, by number.
-pub fn items_of_seller<S: Alter>(
-    alloc: Global,
-    conn: &mut Connection<S>,
-    seller: u32,
-) -> Result<Vec<Item>, KeepFault>
-    requires { Serves (state S.Store conn.old) }
-    ensures items { HasCleanDisk (state S.Store conn.new) → IfOk result (λ items. items.items ≡ map (λ (row : ItemRow). row.item) (filter (λ row. row.item.terms.seller == seller) (items_in (state S.Store conn.old).now.trees))) }
-    ensures fits { IfOk result (λ items. AllByRecursion ItemFits items.items) }
-    ensures damaged { HasCleanDisk (state S.Store conn.new) → AllByRecursion (λ (row : ItemRow). ItemFits row.item) (items_in (state S.Store conn.old).now.trees) → ¬ (IsErrOf result Damaged) }
-    ensures same { HasCleanDisk (state S.Store conn.new) → OnOk result (IsUnchanged (state S.Store conn.old) (state S.Store conn.new)) }
-    ensures err { HasCleanDisk (state S.Store conn.new) → OnErr result (KeepsCommitted (state S.Store conn.old) (state S.Store conn.new)) }
-    ensures mode { conn.old.in_transaction ≡ false → conn.new.in_transaction ≡ false }
-    ensures crash { Survives (state S.Store conn.old) (state S.Store conn.new) (λ _. ⊥) }
-{
-    let rows = rows_shown(
-        conn,
-        "SELECT id, seller, category, start, buy_now, ending, state, closed, price, leader, count, lot, title, body FROM item WHERE seller = ?1 ORDER BY id",
-        params![seller],
     )?;
     all_of(alloc, &rows)
 }

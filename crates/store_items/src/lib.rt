@@ -7,7 +7,7 @@
 //!
 //! A look-up that is `Damaged` has met an item that does not fit.
 //!
-//! Not here yet: lists by leader or end, or with a limit.
+//! Not here: lists by seller, leader or end (`store_finds`), and those with a limit (`store_pages`).
 #![tactic(auto)]
 
 mod fits;
@@ -16,6 +16,4 @@ mod item_reads;
 mod standing;
 
 pub use item::{Offer, put_item, set_bought, set_closed, set_settled, set_standing};
-pub use item_reads::{
-    all_items, item_at, item_with_lot, items_in_category, items_of_seller, standing_at, terms_at,
-};
+pub use item_reads::{all_items, item_at, item_with_lot, standing_at, terms_at};
