@@ -1,7 +1,7 @@
 -- What the lists of feedback mean and find.
-use Rattle.std.proofs.Common.{◌≡◌, ◌==◌, ◌≤◌, ◌<◌, ◌^◌, ℕ, pos, Bool, true, false, not, cond, List, [], ◌∷◌, map, filter, codes, refl, subst, arith}
+use Rattle.std.proofs.Common.{◌≡◌, ◌≤◌, ◌^◌, ℕ, Bool, true, false, not, cond, List, [], ◌∷◌, map, filter, codes, refl, subst, arith}
 use Rattle.std.specs.List.{AllByRecursion}
-use Rattle.sqlite_value.specs.declared.value.Value.TheVariants.{Null, Int}
+use Rattle.sqlite_value.specs.declared.value.Value.TheVariants.{Null}
 use Rattle.sqlite_value.specs.Keys as keys
 use Rattle.sqlite_value.specs.Order.{Row, column}
 use Rattle.sqlite_schema.specs.Rules.{clashes}
@@ -24,8 +24,7 @@ use Rattle.store_rows.specs.Schema.{house_schema}
 use Rattle.store_rows.specs.House.{IsHouse}
 use Rattle.store_rows.specs.Plain.{plain_query, passes}
 use Rattle.store_rows.specs.Rows.{number_in, is_rating, feedback_of, one_feedback_in, feedback_in}
-use Rattle.store_rows.proofs.RowLemmas.{equals_number, alone}
-use Rattle.store_rows.proofs.Select.{IsListOf, listed, equals}
+use Rattle.store_rows.proofs.Select.{IsListOf, listed}
 use Rattle.store_rows.proofs.TalkMeaning.{talk_shown}
 use Rattle.store_rows.proofs.TalkReads.{IsTalk, are_feedback}
 use Rattle.store_lists.specs.Sorted.{sorted_feedback}
@@ -46,16 +45,9 @@ AsksFeedback sql test = (command_of (understood house_schema sql) ≡ Select (re
 abbrev pub all_feedback_text : List ℕ
 all_feedback_text = codes "SELECT item, giver, receiver, rating, body FROM feedback ORDER BY item, giver"
 
-abbrev pub feedback_for_text : List ℕ
-feedback_for_text = codes "SELECT item, giver, receiver, rating, body FROM feedback WHERE receiver = ?1 ORDER BY item, giver"
-
 pub all_feedback_is : AsksFeedback all_feedback_text []
 unfolding understood everything
 all_feedback_is = (refl, refl, (refl, refl))
-
-pub feedback_for_is : AsksFeedback feedback_for_text (equals 3 ∷ [])
-unfolding understood everything
-feedback_for_is = (refl, refl, (refl, refl))
 
 -- ---- the keys
 
@@ -103,9 +95,6 @@ module _ (test : List Term) (params : Row) (sql : List ℕ) (is : AsksFeedback s
       rows_by_key test talk_shown two_columns params table answer listing feedback_key one_feedback_in feedback_of keep IsTalk Pair (λ r. refl) tests (are_feedback old.now house)
       (pair_rises feedback_key one_feedback_in test talk_shown params) pairs
       (keys_apart feedback_key one_feedback_in (1 ∷ 2 ∷ []) Pair (pair_agrees feedback_key one_feedback_in) table house.shaped.1.1.1.1.1.1.1.1.0 (unique old.now house) (passes test params) pairs)
-
-pub receiver_test : (member : ℕ) → member < 2 ^ 32 → (r : Row) → IsTalk r → passes (equals 3 ∷ []) (Int (pos member) ∷ []) r ≡ ((one_feedback_in r).to == member)
-receiver_test member low r is = rw (equals_number (column r 3) member is.third low) (alone _)
 
 -- all of it
 pub everything_passes : (xs : List Feedback) → filter (λ f. true) xs ≡ xs

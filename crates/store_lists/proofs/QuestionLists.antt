@@ -95,14 +95,8 @@ module _ (test : List Term) (params : Row) where
 
 -- ---- the tests
 
-pub published_test : (item : ℕ) → item < 2 ^ 32 → (r : Row) → IsTalk r → passes (equals 1 ∷ was_answered ∷ []) (Int (pos item) ∷ []) r ≡ ((question_in r).item == item) && is_some (question_in r).answer
-published_test item low r is = rw (equals_number (column r 1) item is.first low, is_there (column r 5)) (ap (λ b. eqb (number_in (column r 1)) item && b) (alone (is_some (maybe_text_in (column r 5)))))
-
 pub answered_test : (r : Row) → IsTalk r → passes (was_answered ∷ []) [] r ≡ is_some (question_in r).answer
 answered_test r is = rw (is_there (column r 5)) (alone _)
 
 pub waiting_test : (item : ℕ) → item < 2 ^ 32 → (r : Row) → IsTalk r → passes (equals 1 ∷ waits ∷ []) (Int (pos item) ∷ []) r ≡ ((question_in r).item == item) && not (is_some (question_in r).answer)
 waiting_test item low r is = rw (equals_number (column r 1) item is.first low, is_missing (column r 5)) (ap (λ b. eqb (number_in (column r 1)) item && b) (alone (not (is_some (maybe_text_in (column r 5))))))
-
-pub asker_test : (asker : ℕ) → asker < 2 ^ 32 → (r : Row) → IsTalk r → passes (equals 2 ∷ []) (Int (pos asker) ∷ []) r ≡ ((question_in r).asker == asker)
-asker_test asker low r is = rw (equals_number (column r 2) asker is.second low) (alone _)

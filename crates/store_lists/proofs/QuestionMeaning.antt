@@ -34,21 +34,11 @@ waits = op2 (Is Binary) (col 1 5) (lit Null)
 abbrev pub was_answered : Term
 was_answered = op1 Not waits
 
-abbrev pub published_on_text : List ℕ
-published_on_text = codes "SELECT item, asker, n, answer, body FROM question WHERE item = ?1 AND answer IS NOT NULL ORDER BY item, asker, n"
-
 abbrev pub all_published_text : List ℕ
 all_published_text = codes "SELECT item, asker, n, answer, body FROM question WHERE answer IS NOT NULL ORDER BY item, asker, n"
 
 abbrev pub waiting_on_text : List ℕ
 waiting_on_text = codes "SELECT item, asker, n, answer, body FROM question WHERE item = ?1 AND answer IS NULL ORDER BY item, asker, n"
-
-abbrev pub questions_of_text : List ℕ
-questions_of_text = codes "SELECT item, asker, n, answer, body FROM question WHERE asker = ?1 ORDER BY item, asker, n"
-
-pub published_on_is : AsksQuestions published_on_text (equals 1 ∷ was_answered ∷ [])
-unfolding understood everything
-published_on_is = (refl, refl, (refl, refl))
 
 pub all_published_is : AsksQuestions all_published_text (was_answered ∷ [])
 unfolding understood everything
@@ -57,7 +47,3 @@ all_published_is = (refl, refl, (refl, refl))
 pub waiting_on_is : AsksQuestions waiting_on_text (equals 1 ∷ waits ∷ [])
 unfolding understood everything
 waiting_on_is = (refl, refl, (refl, refl))
-
-pub questions_of_is : AsksQuestions questions_of_text (equals 2 ∷ [])
-unfolding understood everything
-questions_of_is = (refl, refl, (refl, refl))

@@ -1,29 +1,18 @@
 //! Feedback, by item and giver.
-ghost use Rattle.std.specs.Prelude.{◌≡◌, ◌==◌, ◌&&◌, false, filter, take, nat_le, IfOk, OnOk, OnErr, IsErrOf};
+ghost use Rattle.std.specs.Prelude.{◌≡◌, false, IfOk, OnOk, OnErr, IsErrOf};
 ghost use Rattle.std.specs.List.{AllByRecursion};
 ghost use Rattle.sqlite.specs.State.{HasCleanDisk, IsUnchanged, Survives};
 ghost use Rattle.sqlite.specs.Held.{state};
 ghost use Rattle.house_rows.specs.Fits.{FeedbackFits};
-ghost use Rattle.house_rows.specs.Limits.{most_shown};
 ghost use Rattle.house_rows.specs.declared.fault.KeepFault.TheVariants.{Damaged};
 ghost use Rattle.store_rows.specs.House.{Serves, KeepsCommitted};
 ghost use Rattle.store_rows.specs.Rows.{feedback_in};
 ghost use Rattle.store_lists.specs.Sorted.{sorted_feedback};
 
 use house_rows::{Feedback, KeepFault};
-use list_rows::MOST_SHOWN;
 use sqlite::{Alter, Connection, params};
 use std::alloc::Global;
 use store_rows::{all_of, rows_shown};
-
-// The feedback from an item on, at most fifty.
-fn keep_from_item(given: &mut Vec<Feedback>, from: u64)
-    ensures shown { given.new.items ≡ take most_shown (filter (λ f. nat_le from f.item) given.old.items) }
-    ensures fits { AllByRecursion FeedbackFits given.old.items → AllByRecursion FeedbackFits given.new.items }
-{
-    given.retain(|feedback| from <= u64::from(feedback.item));
-    given.truncate(MOST_SHOWN);
-}
 
 /// All feedback.
 pub fn all_feedback<S: Alter>(
@@ -45,30 +34,4 @@ pub fn all_feedback<S: Alter>(
         &[],
     )?;
     all_of(alloc, &rows)
-}
-
-/// The feedback to a member, from an item on; at most fifty.
-pub fn feedback_for<S: Alter>(
-    alloc: Global,
-    conn: &mut Connection<S>,
-    member: u32,
-    from: u64,
-) -> Result<Vec<Feedback>, KeepFault>
-    requires { Serves (state S.Store conn.old) }
-    ensures given { HasCleanDisk (state S.Store conn.new) → IfOk result (λ given. given.items ≡ take most_shown (filter (λ f. (f.to == member) && nat_le from f.item) (sorted_feedback (state S.Store conn.old).now.trees))) }
-    ensures fits { IfOk result (λ given. AllByRecursion FeedbackFits given.items) }
-    ensures damaged { HasCleanDisk (state S.Store conn.new) → AllByRecursion FeedbackFits (feedback_in (state S.Store conn.old).now.trees) → ¬ (IsErrOf result Damaged) }
-    ensures same { HasCleanDisk (state S.Store conn.new) → OnOk result (IsUnchanged (state S.Store conn.old) (state S.Store conn.new)) }
-    ensures err { HasCleanDisk (state S.Store conn.new) → OnErr result (KeepsCommitted (state S.Store conn.old) (state S.Store conn.new)) }
-    ensures mode { conn.old.in_transaction ≡ false → conn.new.in_transaction ≡ false }
-    ensures crash { Survives (state S.Store conn.old) (state S.Store conn.new) (λ _. ⊥) }
-{
-    let rows = rows_shown(
-        conn,
-        "SELECT item, giver, receiver, rating, body FROM feedback WHERE receiver = ?1 ORDER BY item, giver",
-        params![member],
-    )?;
-    let mut given = all_of(alloc, &rows)?;
-    keep_from_item(&mut given, from);
-    Ok(given)
 }

@@ -14,6 +14,6 @@ mod question;
 mod watch;
 
 pub use bid::bids_of_on;
-pub use feedback::{all_feedback, feedback_for};
-pub use question::{all_published, published_on, questions_of, waiting_on};
+pub use feedback::all_feedback;
+pub use question::{all_published, waiting_on};
 pub use watch::watched_by;

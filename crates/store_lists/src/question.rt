@@ -1,91 +1,18 @@
 //! Questions, by item, asker and number.
-ghost use Rattle.std.specs.Prelude.{◌≡◌, ◌==◌, ◌&&◌, false, not, is_some, filter, take, nat_le, IfOk, OnOk, OnErr, IsErrOf};
+ghost use Rattle.std.specs.Prelude.{◌≡◌, ◌==◌, ◌&&◌, false, not, is_some, filter, IfOk, OnOk, OnErr, IsErrOf};
 ghost use Rattle.std.specs.List.{AllByRecursion};
 ghost use Rattle.sqlite.specs.State.{HasCleanDisk, IsUnchanged, Survives};
 ghost use Rattle.sqlite.specs.Held.{state};
 ghost use Rattle.house_rows.specs.Fits.{QuestionFits};
-ghost use Rattle.house_rows.specs.Limits.{most_shown};
 ghost use Rattle.house_rows.specs.declared.fault.KeepFault.TheVariants.{Damaged};
 ghost use Rattle.store_rows.specs.House.{Serves, KeepsCommitted};
 ghost use Rattle.store_rows.specs.Rows.{questions_in};
 ghost use Rattle.store_lists.specs.Sorted.{sorted_questions};
 
 use house_rows::{KeepFault, Question};
-use list_rows::MOST_SHOWN;
 use sqlite::{Alter, Connection, params};
 use std::alloc::Global;
 use store_rows::{all_of, rows_shown};
-
-// The questions from an asker on, at most fifty.
-fn keep_from_asker(asked: &mut Vec<Question>, from: u64)
-    ensures shown { asked.new.items ≡ take most_shown (filter (λ q. nat_le from q.asker) asked.old.items) }
-    ensures fits { AllByRecursion QuestionFits asked.old.items → AllByRecursion QuestionFits asked.new.items }
-{
-    asked.retain(|question| from <= u64::from(question.asker));
-    asked.truncate(MOST_SHOWN);
-}
-
-// Those from an item on, at most fifty.
-fn keep_from_item(asked: &mut Vec<Question>, from: u64)
-    ensures shown { asked.new.items ≡ take most_shown (filter (λ q. nat_le from q.item) asked.old.items) }
-    ensures fits { AllByRecursion QuestionFits asked.old.items → AllByRecursion QuestionFits asked.new.items }
-{
-    asked.retain(|question| from <= u64::from(question.item));
-    asked.truncate(MOST_SHOWN);
-}
-
-/// The published questions on an item, from an asker on; at most fifty.
-pub fn published_on<S: Alter>(
-    alloc: Global,
-    conn: &mut Connection<S>,
-    item: u32,
-    from: u64,
-) -> Result<Vec<Question>, KeepFault>
-    requires { Serves (state S.Store conn.old) }
-    ensures asked { HasCleanDisk (state S.Store conn.new) → IfOk result (λ asked. asked.items ≡ take most_shown (filter (λ q. (q.item == item) && nat_le from q.asker)
-        (filter (λ q. is_some q.answer) (sorted_questions (state S.Store conn.old).now.trees)))) }
-    ensures fits { IfOk result (λ asked. AllByRecursion QuestionFits asked.items) }
-    ensures damaged { HasCleanDisk (state S.Store conn.new) → AllByRecursion QuestionFits (questions_in (state S.Store conn.old).now.trees) → ¬ (IsErrOf result Damaged) }
-    ensures same { HasCleanDisk (state S.Store conn.new) → OnOk result (IsUnchanged (state S.Store conn.old) (state S.Store conn.new)) }
-    ensures err { HasCleanDisk (state S.Store conn.new) → OnErr result (KeepsCommitted (state S.Store conn.old) (state S.Store conn.new)) }
-    ensures mode { conn.old.in_transaction ≡ false → conn.new.in_transaction ≡ false }
-    ensures crash { Survives (state S.Store conn.old) (state S.Store conn.new) (λ _. ⊥) }
-{
-    let rows = rows_shown(
-        conn,
-        "SELECT item, asker, n, answer, body FROM question WHERE item = ?1 AND answer IS NOT NULL ORDER BY item, asker, n",
-        params![item],
-    )?;
-    let mut asked = all_of(alloc, &rows)?;
-    keep_from_asker(&mut asked, from);
-    Ok(asked)
-}
-
-/// A member's questions, from an item on; at most fifty.
-pub fn questions_of<S: Alter>(
-    alloc: Global,
-    conn: &mut Connection<S>,
-    asker: u32,
-    from: u64,
-) -> Result<Vec<Question>, KeepFault>
-    requires { Serves (state S.Store conn.old) }
-    ensures asked { HasCleanDisk (state S.Store conn.new) → IfOk result (λ asked. asked.items ≡ take most_shown (filter (λ q. (q.asker == asker) && nat_le from q.item) (sorted_questions (state S.Store conn.old).now.trees))) }
-    ensures fits { IfOk result (λ asked. AllByRecursion QuestionFits asked.items) }
-    ensures damaged { HasCleanDisk (state S.Store conn.new) → AllByRecursion QuestionFits (questions_in (state S.Store conn.old).now.trees) → ¬ (IsErrOf result Damaged) }
-    ensures same { HasCleanDisk (state S.Store conn.new) → OnOk result (IsUnchanged (state S.Store conn.old) (state S.Store conn.new)) }
-    ensures err { HasCleanDisk (state S.Store conn.new) → OnErr result (KeepsCommitted (state S.Store conn.old) (state S.Store conn.new)) }
-    ensures mode { conn.old.in_transaction ≡ false → conn.new.in_transaction ≡ false }
-    ensures crash { Survives (state S.Store conn.old) (state S.Store conn.new) (λ _. ⊥) }
-{
-    let rows = rows_shown(
-        conn,
-        "SELECT item, asker, n, answer, body FROM question WHERE asker = ?1 ORDER BY item, asker, n",
-        params![asker],
-    )?;
-    let mut asked = all_of(alloc, &rows)?;
-    keep_from_item(&mut asked, from);
-    Ok(asked)
-}
 
 /// All published questions.
 pub fn all_published<S: Alter>(
