@@ -10,10 +10,10 @@ ghost use Rattle.store_rows.specs.House.{IsInside, Serves};
 ghost use Rattle.store_lists.specs.Tables.{Changes, IsNumbered, Rests, tables_in};
 ghost use Rattle.store_entries.specs.Entries.{IsBack, IsMade, LeavesShown, MadeBy};
 
-use crate::commit::{fault_of, stored_moment};
+use crate::moment::stored_moment;
 use house_rows::KeepFault;
 use sqlite::{Alter, Connection, Transaction};
-use store_rows::{set_answer, set_clock};
+use store_rows::{fault_of, set_answer, set_clock};
 
 // The answer and the clock.
 fn answer_within<S: Alter>(

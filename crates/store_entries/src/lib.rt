@@ -10,8 +10,8 @@
 #![tactic(auto)]
 
 mod answers;
-mod commit;
 mod listing;
+mod moment;
 mod people;
 mod questions;
 mod ratings;

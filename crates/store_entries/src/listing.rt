@@ -11,12 +11,12 @@ ghost use Rattle.store_lists.specs.Tables.{Changes, IsNumbered, Rests, tables_in
 ghost use Rattle.store_entries.specs.Entries.{IsBack, IsMade, LeavesShown, MadeBy};
 ghost use Rattle.store_entries.specs.Listed.{listed, offered};
 
-use crate::commit::{fault_of, stored_moment};
+use crate::moment::stored_moment;
 use cents::Cents;
 use house_rows::KeepFault;
 use sqlite::{Alter, Connection, Transaction};
 use store_items::{Offer, item_with_lot, put_item};
-use store_rows::set_clock;
+use store_rows::{fault_of, set_clock};
 
 /// What a seller says of a new item.
 #[derive(Clone, Copy, Debug)]

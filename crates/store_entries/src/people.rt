@@ -11,10 +11,10 @@ ghost use Rattle.store_rows.specs.Rows.{categories_in, members_in};
 ghost use Rattle.store_lists.specs.Tables.{Changes, IsNumbered, Rests, tables_in};
 ghost use Rattle.store_entries.specs.Entries.{IsBack, IsMade, LeavesShown, MadeBy};
 
-use crate::commit::{fault_of, stored_moment};
+use crate::moment::stored_moment;
 use house_rows::KeepFault;
 use sqlite::{Alter, Connection, Transaction};
-use store_rows::{category_named, member_named, put_category, put_member, set_clock};
+use store_rows::{category_named, fault_of, member_named, put_category, put_member, set_clock};
 
 // The member and the clock, whether or not the name is free.
 fn register_within<S: Alter>(

@@ -10,10 +10,9 @@ ghost use Rattle.store_rows.specs.House.{IsInside, Serves};
 ghost use Rattle.store_lists.specs.Tables.{Changes, IsNumbered, Rests, tables_in};
 ghost use Rattle.store_entries.specs.Entries.{IsBack, IsMade, LeavesShown, MadeBy};
 
-use crate::commit::fault_of;
 use house_rows::KeepFault;
 use sqlite::{Alter, Connection, Transaction};
-use store_rows::{put_question, question_at};
+use store_rows::{fault_of, put_question, question_at};
 
 // The question, whether or not its key is free.
 fn ask_within<S: Alter>(

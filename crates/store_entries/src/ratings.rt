@@ -10,11 +10,11 @@ ghost use Rattle.store_rows.specs.House.{IsInside, Serves};
 ghost use Rattle.store_lists.specs.Tables.{Changes, IsNumbered, Rests, tables_in};
 ghost use Rattle.store_entries.specs.Entries.{IsBack, IsMade, LeavesShown, MadeBy};
 
-use crate::commit::{fault_of, stored_moment};
+use crate::moment::stored_moment;
 use house_rows::{KeepFault, Rating};
 use sqlite::{Alter, Connection, Transaction};
 use store_finds::is_given;
-use store_rows::{put_feedback, set_clock};
+use store_rows::{fault_of, put_feedback, set_clock};
 
 // The feedback and the clock, whether or not its key is free.
 fn give_within<S: Alter>(

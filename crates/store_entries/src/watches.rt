@@ -10,10 +10,9 @@ ghost use Rattle.store_rows.specs.House.{IsInside, Serves};
 ghost use Rattle.store_lists.specs.Tables.{Changes, IsNumbered, Rests, tables_in};
 ghost use Rattle.store_entries.specs.Entries.{IsBack, IsMade, LeavesShown, MadeBy};
 
-use crate::commit::fault_of;
 use house_rows::KeepFault;
 use sqlite::{Alter, Connection, Transaction};
-use store_rows::{cut_watch, put_watch};
+use store_rows::{cut_watch, fault_of, put_watch};
 
 // Takes the watch away.
 fn unwatch_within<S: Alter>(

@@ -9,7 +9,6 @@ ghost use Rattle.store_rows.specs.Making.{IsBlank, IsEmptyHouse};
 ghost use Rattle.store_rows.specs.Schema.{house_schema};
 ghost use Rattle.store_open.specs.Opening.{Follows, Leaves};
 
-use crate::make::fault_of;
 use crate::same::is_same_schema;
 use house_rows::KeepFault;
 use sqlite::{Alter, Connection, Error, ErrorCode};
@@ -17,7 +16,7 @@ use sqlite_schema::schema::Schema;
 use sqlite_trees::memory::MemStore;
 use sqlite_trees::store::Store;
 use std::alloc::Global;
-use store_rows::make_tables;
+use store_rows::{fault_of, make_tables};
 
 // The connection made anew over its store: what wasn't committed is undone, and each tree is tested
 // against the schema, so its rows lie in their order.

@@ -17,9 +17,9 @@ ghost use Rattle.store_open.specs.Putting.{IsBanded, IsStarted};
 
 use crate::put::{put_band, put_house};
 use house_rows::{KeepFault, Settings};
-use sqlite::{Alter, Connection, Error, ErrorCode, Transaction};
+use sqlite::{Alter, Connection, Transaction};
 use sqlite_schema::schema::Schema;
-use store_rows::make_tables;
+use store_rows::{fault_of, make_tables};
 
 // Writes the bands of a table in an empty house.
 fn put_bands<S: Alter>(tx: &mut Transaction<'_, S>, bands: &[(u64, u64)]) -> Result<(), KeepFault>
@@ -62,16 +62,6 @@ fn is_blank(schema: &Schema) -> bool
     ensures { IsTrue result ↔ (schema.now ≡ no_schema) }
 {
     schema.tables.is_empty() && schema.indexes.is_empty() && schema.views.is_empty()
-}
-
-/// Why a commit or an opening failed.
-pub(crate) fn fault_of(error: Error) -> KeepFault
-    ensures { result ≢ Damaged }
-{
-    match error {
-        Error::SqliteFailure(ErrorCode::OutOfMemory) => KeepFault::Memory,
-        _ => KeepFault::Store,
-    }
 }
 
 // Makes a house within a transaction, where nothing is listed.

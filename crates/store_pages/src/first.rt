@@ -1,5 +1,5 @@
 //! The first rows of an answer, read one at a time.
-ghost use Rattle.std.specs.Prelude.{◌≡◌, ◌≢◌, ◌<◌, ◌≤◌, false, [], length, IfOk, OnOk, OnErr, IsErrOf};
+ghost use Rattle.std.specs.Prelude.{◌≡◌, ◌<◌, ◌≤◌, false, [], length, IfOk, OnOk, OnErr, IsErrOf};
 ghost use Rattle.house_rows.specs.Limits.{most_shown};
 ghost use Rattle.house_rows.specs.declared.fault.KeepFault.TheVariants.{Damaged};
 ghost use Rattle.sqlite.specs.State.{HasCleanDisk, IsUnchanged, Survives, Shown, Begins};
@@ -14,18 +14,9 @@ ghost use Rattle.store_pages.specs.First.{IsFinite, ShowsFirst, ShowsSome};
 use house_rows::KeepFault;
 use list_rows::MOST_SHOWN;
 use sqlite::types::ValueRef;
-use sqlite::{Alter, Connection, Error, ErrorCode, Row};
+use sqlite::{Alter, Connection, Error, Row};
 use std::alloc::Global;
-
-// Why a query showed nothing: memory was wanted, or the store failed.
-fn fault_of(error: Error) -> KeepFault
-    ensures { result ≢ Damaged }
-{
-    match error {
-        Error::SqliteFailure(ErrorCode::OutOfMemory) => KeepFault::Memory,
-        _ => KeepFault::Store,
-    }
-}
+use store_rows::fault_of;
 
 // The rows with which an answer begins; all of it where fewer came.
 fn rows_given<S: Alter>(

@@ -1,6 +1,6 @@
 //! The rows of the house in SQLite: its schema, the statements that make its tables, and one
 //! function for each statement that writes, finds or counts rows of a table or shows them as they
-//! lie, of every table but that of the items.
+//! lie; the items are only counted.
 //!
 //! Promised: the sixteen statements leave an empty house; each function says in typed rows what its
 //! statement finds or writes, wherever the disk was honest; a failure leaves what was committed.
@@ -43,7 +43,7 @@ pub use feedback::{feedback_to, put_feedback};
 pub use house::{HouseRow, house_row, set_clock};
 pub use member::{all_members, member_at, member_named, put_member};
 pub use question::{put_question, question_at, set_answer};
-pub use statement::{rows_shown, run};
+pub use statement::{fault_of, rows_shown, run};
 pub use stored::{Stored, all_of, first_of};
 pub use tables::make_tables;
 pub use watch::{cut_watch, put_watch};

@@ -1,6 +1,8 @@
 //! What every statement on a house leaves beside its answer.
-ghost use Rattle.std.specs.Prelude.{◌≡◌, ◌≢◌, ℕ, false, Ok, IfOk, OnOk, OnErr, IsErrOf, IsTrue};
-ghost use Rattle.house_rows.specs.declared.fault.KeepFault.TheVariants.{Damaged};
+ghost use Rattle.std.specs.Prelude.{◌≡◌, ◌≢◌, ◌↔◌, ℕ, false, Ok, IfOk, OnOk, OnErr, IsErrOf, IsTrue};
+ghost use Rattle.house_rows.specs.declared.fault.KeepFault.TheVariants.{Damaged, Memory};
+ghost use Rattle.sqlite.specs.declared.error.Error.TheVariants.{SqliteFailure};
+ghost use Rattle.sqlite.specs.declared.error.ErrorCode.TheVariants.{OutOfMemory};
 ghost use Rattle.sqlite.specs.State.{HasCleanDisk, IsUnchanged, Survives, Shown, Executes};
 ghost use Rattle.sqlite.specs.Given.{IsPlain};
 ghost use Rattle.sqlite.specs.Listing.{understood};
@@ -13,9 +15,10 @@ use house_rows::KeepFault;
 use sqlite::types::ValueRef;
 use sqlite::{Alter, Connection, Error, ErrorCode, Row, Transaction};
 
-/// Why a statement did nothing: memory was wanted, or the store failed.
-pub(crate) fn fault_of(error: Error) -> KeepFault
-    ensures { result ≢ Damaged }
+/// Why a statement, a commit or an opening failed: memory was wanted, or else the store failed.
+pub fn fault_of(error: Error) -> KeepFault
+    ensures memory { (result ≡ Memory) ↔ (error ≡ SqliteFailure OutOfMemory) }
+    ensures sound { result ≢ Damaged }
 {
     match error {
         Error::SqliteFailure(ErrorCode::OutOfMemory) => KeepFault::Memory,

@@ -7,7 +7,8 @@ ghost use Rattle.house_rows.specs.declared.fault.KeepFault.TheVariants.{Damaged}
 ghost use Rattle.store_rows.specs.House.{KeepsCommitted};
 
 use house_rows::KeepFault;
-use sqlite::{Alter, Error, ErrorCode, Transaction};
+use sqlite::{Alter, Transaction};
+use store_rows::fault_of;
 
 /// A moment as a parameter; Damaged where it is none.
 pub(crate) fn stored_moment(moment: u64) -> Result<u32, KeepFault>
@@ -30,7 +31,6 @@ pub(crate) fn commit<S: Alter>(tx: Transaction<'_, S>) -> Result<(), KeepFault>
 {
     match tx.commit() {
         Ok(()) => Ok(()),
-        Err(Error::SqliteFailure(ErrorCode::OutOfMemory)) => Err(KeepFault::Memory),
-        Err(_) => Err(KeepFault::Store),
+        Err(error) => Err(fault_of(error)),
     }
 }
