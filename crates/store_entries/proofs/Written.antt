@@ -1,9 +1,8 @@
 -- What each write makes of the tables in the order of their keys, and that the house stays numbered.
-use Rattle.std.proofs.Common.{Bor, ◌≡◌, ◌≤◌, ◌<◌, ◌+◌, ℕ, eqb, true, false, List, [], ◌∷◌, ◌++◌, map, find, length, Option, Some, None, refl, ap, subst, ◌∙◌, inl, inr, arith, length-append}
-use Rattle.std.specs.Prelude.{◌==◌, is_some, option_map, unwrap_or, All}
+use Rattle.std.proofs.Common.{Bor, ◌≡◌, ◌≤◌, ◌<◌, ◌+◌, ℕ, eqb, false, List, [], ◌∷◌, ◌++◌, map, length, Option, None, refl, ap, subst, ◌∙◌, arith, length-append}
+use Rattle.std.specs.Prelude.{All}
 use Rattle.std.proofs.lemmas.List.Elements.{All-push, All-weaker}
 use Rattle.sqlite.specs.Effect.{Database}
-use Rattle.house_rows.specs.Bids.{BidRow, bid_key}
 use Rattle.house_rows.specs.Changed.{changed, new_item, question_key, with_answer}
 use Rattle.house_rows.specs.History.{put_by}
 use Rattle.house_rows.specs.Ratings.{feedback_key}
@@ -15,16 +14,15 @@ use Rattle.house_rows.specs.declared.people.Category.{Category}
 use Rattle.house_rows.specs.declared.people.Member.{Member}
 use Rattle.house_rows.specs.declared.talk.Feedback.{Feedback}
 use Rattle.house_rows.specs.declared.talk.Question.{Question}
-use Rattle.house_rows.proofs.Put.{by_test}
 use Rattle.store_rows.specs.Answers.{SetsAnswer}
-use Rattle.store_rows.specs.House.{IsHouse, AddsBid, AddsCategory, AddsFeedback, AddsMember, AddsQuestion, AddsWatch, KeepsOthers, RemovesWatch, SetsClock, with_clock}
+use Rattle.store_rows.specs.House.{IsHouse, AddsCategory, AddsFeedback, AddsMember, AddsQuestion, AddsWatch, KeepsOthers, RemovesWatch, SetsClock}
 use Rattle.store_items.specs.Items.{AddsItem}
 use Rattle.store_rows.specs.ItemRows.{items_in}
-use Rattle.store_rows.specs.Rows.{houses_in, members_in, categories_in}
-use Rattle.store_rows.specs.declared.house.HouseRow.{HouseRow}
+use Rattle.store_rows.specs.Rows.{members_in, categories_in}
 use Rattle.store_lists.specs.Tables.{IsNumbered, Changes, house_row_in, settings_in, tables_in}
 use Rattle.store_lists.specs.Sorted.{sorted_bids, sorted_feedback, sorted_questions, sorted_watches}
-use Rattle.store_lists.proofs.SortedTables.{adds_bid_sorted, adds_feedback_sorted, adds_question_sorted, adds_watch_sorted, removes_watch_sorted, sets_answer_sorted}
+use Rattle.store_lists.proofs.Clock.{clock_set}
+use Rattle.store_lists.proofs.SortedTables.{adds_feedback_sorted, adds_question_sorted, adds_watch_sorted, removes_watch_sorted, sets_answer_sorted}
 
 -- the house that a write leaves, and its tables
 pub record Makes (make : Tables → Tables) (old new : Database) : Type 0 where
@@ -58,45 +56,8 @@ module _ {A : Type 0} (number : A → ℕ) (xs : List A) (x : A) (next : number 
 
 -- ---- the clock
 
-abbrev at_moment : ℕ → HouseRow → HouseRow
-at_moment moment h = record h { clock = moment }
-
--- the row of the house is found with the new clock
-found_with_clock : (moment : ℕ) (rows : List HouseRow) → find (λ h. h.id == 1) (map (with_clock moment) rows) ≡ option_map (at_moment moment) (find (λ h. h.id == 1) rows)
-found_with_clock moment [] = refl
-found_with_clock moment (h ∷ rows) = elim (by_test (h.id == 1)) [ inl is ↦ rw (is, is) refl | inr not ↦ rw (not, not) (found_with_clock moment rows) ]
-
-unwrapped : (moment : ℕ) (found : Option HouseRow) (none : HouseRow) → is_some found ≡ true → unwrap_or (option_map (at_moment moment) found) none ≡ record (unwrap_or found none) { clock = moment }
-unwrapped moment None none h = absurd cc
-unwrapped moment (Some row) none h = refl
-
-still_some : (moment : ℕ) (found : Option HouseRow) → is_some found ≡ true → is_some (option_map (at_moment moment) found) ≡ true
-still_some moment None h = h
-still_some moment (Some row) h = h
-
 pub sets_clock : (moment : ℕ) (old new : Database) → IsNumbered old.trees → SetsClock moment old new → Makes (λ t. record t { clock = moment }) old new
-unfolding house_row_in settings_in tables_in
-sets_clock moment old new was w =
-    let found = ap (find (λ h. h.id == 1)) w.houses ∙ found_with_clock moment (houses_in old.trees) in
-    let row = ap (λ o. unwrap_or o (record { id = 0; version = 0; clock = 0; rate = 0; zone = [] })) found ∙ unwrapped moment (find (λ h. h.id == 1) (houses_in old.trees)) _ was.house in
-    let b = w.others.1.0 (other 1 0 refl) in
-    let m = w.others.1.1.0 (other 2 0 refl) in
-    let k = w.others.1.1.1.0 (other 4 0 refl) in
-    let i = w.others.1.1.1.1.0 (other 6 0 refl) in
-    let d = w.others.1.1.1.1.1.0 (other 8 0 refl) in
-    let v = w.others.1.1.1.1.1.1.0 (other 10 0 refl) in
-    let q = w.others.1.1.1.1.1.1.1.0 (other 12 0 refl) in
-    let f = w.others.1.1.1.1.1.1.1.1.0 (other 14 0 refl) in
-    record {
-      house = w.house;
-      numbered = record {
-        house = ap is_some found ∙ still_some moment (find (λ h. h.id == 1) (houses_in old.trees)) was.house;
-        members = rw m was.members;
-        categories = rw k was.categories;
-        items = rw i was.items;
-      };
-      tables = rw (b, m, k, i, d, v, q, f, row) refl;
-    }
+sets_clock moment old new was w = let it = clock_set moment old new was w in record { house = w.house; numbered = it.numbered; tables = it.tables }
 
 -- ---- the tables of what members do, which no number counts
 
@@ -118,18 +79,6 @@ module _ (tree : ℕ) (old new : Database) (over : 6 < tree) (was : IsNumbered o
       let k = others.1.1.1.0 (λ e. absurd (omega arith)) in
       let i = others.1.1.1.1.0 (λ e. absurd (omega arith)) in
       rw (h, b, m, k, i) refl
-
-pub adds_bid : (bid : BidRow) (old new : Database) → IsNumbered old.trees → AddsBid bid old new → Makes (λ t. record t { bids = put_by bid_key bid t.bids }) old new
-unfolding tables_in
-adds_bid bid old new was w =
-    let v = w.others.1.1.1.1.1.1.0 (other 10 8 refl) in
-    let q = w.others.1.1.1.1.1.1.1.0 (other 12 8 refl) in
-    let f = w.others.1.1.1.1.1.1.1.1.0 (other 14 8 refl) in
-    record {
-      house = w.house;
-      numbered = stays_numbered 8 old new (omega arith) was w.others;
-      tables = same_people 8 old new (omega arith) was w.others ∙ rw (v, q, f, adds_bid_sorted bid old new w) refl;
-    }
 
 pub cuts_watch : (member item : ℕ) (old new : Database) → IsNumbered old.trees → RemovesWatch member item old new → Makes (λ t. record t { watches = unwatched member item t.watches }) old new
 unfolding tables_in

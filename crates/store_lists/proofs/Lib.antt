@@ -10,6 +10,7 @@ pub mod PairKeys
 pub mod FeedbackLists
 pub mod WatchLists
 pub mod BidLists
+pub mod Clock
 pub mod SortedTables
 pub mod Grouped
 pub mod Small

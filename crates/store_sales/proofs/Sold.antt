@@ -16,7 +16,8 @@ use Rattle.store_items.specs.Items.{OfItem, SetsBought, SetsSettled, SetsStandin
 use Rattle.store_lists.specs.Tables.{Changes, IsNumbered, tables_in}
 use Rattle.store_sales.specs.Sales.{IsDue, with_ends, IsUnbid, SetsItems, StartFits, StartsAt}
 use Rattle.store_sales.proofs.Closed.{closes_all}
-use Rattle.store_sales.proofs.Written.{Holds, bid_added, clock_set, items_set}
+use Rattle.store_lists.proofs.Clock.{Holds, clock_set}
+use Rattle.store_sales.proofs.Written.{bid_added, items_set}
 
 -- the items changed, then the clock set
 pub items_then_clock : (f : ItemRow → ItemRow) (moment : ℕ) (old mid new : Database) → ((row : ItemRow) → (f row).item.terms.item ≡ row.item.terms.item) → IsNumbered old.trees → SetsItems f old mid → SetsClock moment mid new
