@@ -1,5 +1,5 @@
 -- What a keep knows as it begins.
-use Rattle.std.proofs.Common.{◌≡◌, ℕ, [], refl, ap, ◌∙◌}
+use Rattle.std.proofs.Common.{◌≡◌, ℕ, [], ap}
 use Rattle.sqlite_trees.specs.Tree.{Trees}
 use Rattle.house_rows.specs.Found.{counts_of}
 use Rattle.house_rows.specs.Tables.{Tables, tables_of}

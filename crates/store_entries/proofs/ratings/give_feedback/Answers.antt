@@ -1,4 +1,4 @@
-use Rattle.std.proofs.Common.{◌≡◌, ◌∙◌, true, false, true≢false, rules, subst, sym, arith, ℕ}
+use Rattle.std.proofs.Common.{◌∙◌, true≢false, subst, sym, arith, ℕ}
 use Rattle.sqlite.specs.Held.{state}
 use Rattle.sqlite.specs.State.{Survives}
 use Rattle.house_rows.specs.declared.change.Change.TheVariants.{Feedback}
