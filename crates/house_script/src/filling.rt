@@ -1,5 +1,5 @@
 //! Keeps that are filled with many changes at once.
-ghost use Rattle.std.specs.Prelude.{◌≡◌, [], IfOk};
+ghost use Rattle.std.specs.Prelude.{◌≡◌, [], false, IfOk};
 ghost use Rattle.house.specs.Filled.{after};
 ghost use Rattle.house_rows.specs.Tables.{tables_of};
 ghost use Rattle.house_script.specs.Housed.{IsHoused, LeadTo, set_up};
@@ -7,7 +7,7 @@ ghost use Rattle.house_script.specs.Housed.{IsHoused, LeadTo, set_up};
 use crate::fault::Fault;
 use crate::makes::Makes;
 use crate::order::Order;
-use house::{decide, fill};
+use house::fill;
 use house_rows::{Change, Keep, Rate, Settings, Text};
 use std::alloc::Global;
 use steps::Bands;
@@ -44,14 +44,26 @@ fn accepted<'o>(alloc: Global, orders: &'o [Order]) -> Result<Vec<Change<'o>>, F
     ensures { IfOk result (λ changes. LeadTo changes.items (after (tables_of set_up []) changes.items)) }
 {
     let mut keep = ListKeep::create(alloc, settings(alloc)?)?;
+    given(alloc, &mut keep, orders)
+}
+
+// The changes of orders that are given to a keep without members.
+fn given<'o, K: Keep>(
+    alloc: Global,
+    keep: &mut K,
+    orders: &'o [Order],
+) -> Result<Vec<Change<'o>>, Fault>
+    requires empty { K.is_honest keep.old → K.content keep.old ≡ tables_of set_up [] }
+    ensures lead { K.is_honest keep.new → K.is_failed keep.new ≡ false
+        → IfOk result (λ changes. LeadTo changes.items (K.content keep.new)) }
+{
     let mut changes = Vec::new(alloc);
     for order in orders {
         // The fault is matched, since a `?` on what holds a change isn't covered by the borrow check.
-        match decide(&mut keep, order.moment, order.caller, &order.command) {
-            Err(fault) => return Err(fault.into()),
+        match order.give(keep) {
+            Err(fault) => return Err(fault),
             Ok(Err(_)) => return Err(Fault::Keep),
             Ok(Ok(change)) => {
-                keep.apply(&change)?;
                 let Ok(()) = changes.push(change) else {
                     return Err(Fault::Memory);
                 };

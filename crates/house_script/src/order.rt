@@ -1,7 +1,13 @@
 //! The commands that a house is given.
+ghost use Rattle.std.specs.Prelude.{◌≡◌, true, IfOk};
+ghost use Rattle.house_rows.specs.Asks.{ChangeFits};
+ghost use Rattle.house_rows.specs.Changed.{changed};
+ghost use Rattle.house_script.specs.Housed.{IsHoused};
+
 use crate::fault::Fault;
 use crate::words::Words;
-use house_rows::Command;
+use house::decide;
+use house_rows::{Change, Command, Keep, Refusal};
 
 /// A command, when it is given and by whom.
 #[derive(Drop)]
@@ -22,6 +28,25 @@ impl Order {
             caller,
             command,
         })
+    }
+
+    /// Decides on it, and makes its change to the keep. Where it is refused nothing is changed.
+    pub(crate) fn give<K: Keep>(&self, keep: &mut K) -> Result<Result<Change<'_>, Refusal>, Fault>
+        requires housed { IsHoused (K.is_honest keep.old) (K.is_failed keep.old) (K.content keep.old) }
+        ensures honest { K.is_honest keep.new → K.is_honest keep.old }
+        ensures stays { K.is_failed keep.old ≡ true → K.is_failed keep.new ≡ true }
+        ensures housed { IsHoused (K.is_honest keep.new) (K.is_failed keep.new) (K.content keep.new) }
+        ensures made { K.is_honest keep.new → IfOk result (λ told. IfOk told (λ change.
+            ChangeFits (K.content keep.old) change × (K.content keep.new ≡ changed (K.content keep.old) change))) }
+    {
+        match decide(keep, self.moment, self.caller, &self.command) {
+            Err(fault) => Err(fault.into()),
+            Ok(Err(refusal)) => Ok(Err(refusal)),
+            Ok(Ok(change)) => {
+                keep.apply(&change)?;
+                Ok(Ok(change))
+            }
+        }
     }
 }
 

@@ -5,7 +5,6 @@ use crate::makes::Makes;
 use crate::order::Order;
 use crate::question::Question;
 use crate::reply::Reply;
-use house::decide;
 use house_rows::{Keep, Refusal};
 use std::alloc::Global;
 use std::marker::Model;
@@ -64,16 +63,13 @@ impl<K: Keep + Drop> House<K> {
         Ok(refusal)
     }
 
-    // Decides on a command, and makes its change.
+    // Gives a command to the keep.
     fn decided(&mut self, order: &Order) -> Result<Option<Refusal>, Fault> {
         // The fault is matched, since a `?` on what holds a change isn't covered by the borrow check.
-        match decide(&mut self.keep, order.moment, order.caller, &order.command) {
-            Err(fault) => Err(fault.into()),
+        match order.give(&mut self.keep) {
+            Err(fault) => Err(fault),
             Ok(Err(refusal)) => Ok(Some(refusal)),
-            Ok(Ok(change)) => {
-                self.keep.apply(&change)?;
-                Ok(None)
-            }
+            Ok(Ok(_)) => Ok(None),
         }
     }
 
