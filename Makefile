@@ -4,7 +4,7 @@
 CASES ?= ../shared/conformance
 SUITES = first-path money
 
-.PHONY: help demo test auction program cases memory statement random wrong
+.PHONY: help demo test auction program cases memory statement random file wrong
 
 help:
 	@echo "make demo      answers examples/first-bid.http, without waiting for the proofs"
@@ -14,7 +14,8 @@ help:
 	@echo "make cases     runs the conformance cases on the program that make test has left"
 	@echo "make memory    refuses each allocation of that program and of the crates below it (needs cc)"
 	@echo "make statement compares statements with those that Python makes"
-	@echo "make random    compares a house with plain lists, on random commands and on long lists"
+	@echo "make random    compares houses with plain lists, on random commands and on long lists, and with one another"
+	@echo "make file      makes a house in a file, opens it, reads it with sqlite3, and damages it"
 	@echo "make wrong     tries the wrong bodies that make test leaves out"
 
 demo:
@@ -42,6 +43,8 @@ memory:
 	python3 tests/refused_statement.py crates/settle_bench/out/settle_bench
 	python3 tests/refused_inbox.py crates/wire_bench/out/wire_bench
 	python3 tests/refused_house.py crates/house_tests/out/house_tests
+	python3 tests/refused_house.py crates/store_tests/out/store_tests 5
+	python3 tests/refused_store.py crates/store_tests/out/store_tests 11
 	python3 tests/refused_device.py crates/device_tests/out/device_tests
 	python3 tests/refused_bands.py crates/proxy_tests/out/proxy_tests
 
@@ -51,6 +54,12 @@ statement:
 random:
 	python3 tests/random_house.py crates/house_tests/out/house_tests
 	python3 tests/long_lists.py crates/house_tests/out/house_tests
+	python3 tests/random_house.py crates/store_tests/out/store_tests
+	python3 tests/long_lists.py crates/store_tests/out/store_tests
+	crates/house_tests/out/house_tests < crates/store_tests/stdin | cmp - crates/store_tests/stdout
+
+file:
+	python3 tests/store_file.py crates/store_tests/out/store_tests
 
 wrong:
 	python3 tests/wrong.py

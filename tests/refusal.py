@@ -23,13 +23,17 @@ def built_library():
         yield library
 
 
-def refused_runs(command, library, given=b""):
-    """For each allocation of a command its number, counted from 1, and the run that is refused it."""
+def refused_runs(command, library, given=b"", every=1):
+    """For each allocation of a command, or one in so many, its number, counted from 1, and the run that is refused it."""
+    for number in range(1, allocations(command, library, given) + 1, every):
+        yield number, run(command, given, LD_PRELOAD=library, REFUSE=str(number))
+
+
+def allocations(command, library, given=b""):
+    """How many allocations a run of the command makes."""
     with tempfile.NamedTemporaryFile() as count:
         run(command, given, LD_PRELOAD=library, REFUSE="0", REFUSE_COUNT=count.name)
-        allocations = int(count.read())
-    for number in range(1, allocations + 1):
-        yield number, run(command, given, LD_PRELOAD=library, REFUSE=str(number))
+        return int(count.read())
 
 
 def ended(result):

@@ -1,7 +1,7 @@
 #!/usr/bin/env python3
-"""Refuses each allocation of a house's run in turn: `refused_house.py PROGRAM`.
+"""Refuses each allocation of a house's run in turn, or one in so many: `refused_house.py PROGRAM [EVERY]`.
 
-The program is that of the crate `house_tests`. Its script has every command and every question. With
+The program is that of the crate `house_tests` or `store_tests`. Its script has every command and every question. With
 a refusal one line is answered `Memory`, and every other line as in the run without that line: the
 refused command has changed nothing. Or the run ends before the first line, with status 1; or all lines
 are answered as ever, where the memory was not needed. It needs a C compiler, `cc`. The last line is
@@ -68,8 +68,8 @@ fill
 ? due 9000
 ? sales 1
 """.splitlines()
-BEFORE = [(1, b"", b"house_tests: the script can't be read\n"),
-          (1, b"", b"house_tests: memory is wanted\n")]
+# How a run ends that is refused memory before the first line, but for the program's name.
+BEFORE = [(1, b"", b": the script can't be read\n"), (1, b"", b": memory is wanted\n")]
 
 
 def played(program, lines):
@@ -84,12 +84,19 @@ def without(program, place):
     return status, b"".join([*lines[:before], b"Memory\n", *lines[before:]]), fault
 
 
+def before(program):
+    """How a run may end before the first line."""
+    name = pathlib.Path(program).name.encode()
+    return [(status, answers, name + fault) for status, answers, fault in BEFORE]
+
+
 def main():
     program = str(pathlib.Path(sys.argv[1]).resolve())
+    every = int(sys.argv[2]) if len(sys.argv) > 2 else 1
     refusals = {without(program, place): line for place, line in enumerate(SCRIPT)}
-    allowed = [*refusals, *BEFORE, ended(played(program, SCRIPT))]
+    allowed = [*refusals, *before(program), ended(played(program, SCRIPT))]
     with built_library() as library:
-        refused = list(refused_runs([program], library, "\n".join(SCRIPT).encode()))
+        refused = list(refused_runs([program], library, "\n".join(SCRIPT).encode(), every))
     lines = {refusals[ended(result)] for _, result in refused if ended(result) in refusals}
     wrong = [(number, result) for number, result in refused if ended(result) not in allowed]
     print(f"{len(lines)} of {len(SCRIPT)} lines were answered Memory")

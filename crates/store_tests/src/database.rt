@@ -1,0 +1,59 @@
+//! Where the database of a house lies.
+use house_rows::{KeepFault, Settings};
+use house_script::Makes;
+use sqlite::{Alter, Connection, Error, ErrorCode, File, FileStore, MemStore};
+use std::alloc::Global;
+use store::SqlKeep;
+
+/// What connects with databases.
+pub(crate) trait Connects<S: Alter> {
+    /// A connection.
+    fn connection(&self) -> Result<Connection<S>, KeepFault>;
+}
+
+/// Connects each time with a new database in memory.
+#[derive(Drop)]
+pub(crate) struct InMemory {
+    pub(crate) alloc: Global,
+}
+
+impl Connects<MemStore> for InMemory {
+    fn connection(&self) -> Result<Connection<MemStore>, KeepFault> {
+        Connection::open_in_memory(self.alloc).map_err(|_| KeepFault::Memory)
+    }
+}
+
+/// Connects with the database in a file, which is made where it is missing.
+#[derive(Drop)]
+pub(crate) struct InFile<'f> {
+    rt: &'f HostRuntime,
+    path: &'f str,
+}
+
+impl<'f> InFile<'f> {
+    /// The file of a name.
+    pub(crate) fn new(rt: &'f HostRuntime, path: &'f str) -> InFile<'f> {
+        InFile { rt, path }
+    }
+}
+
+impl Connects<FileStore<File>> for InFile<'_> {
+    fn connection(&self) -> Result<Connection<FileStore<File>>, KeepFault> {
+        Connection::open(self.rt, self.path).map_err(|error| match error {
+            Error::SqliteFailure(ErrorCode::OutOfMemory) => KeepFault::Memory,
+            _ => KeepFault::Store,
+        })
+    }
+}
+
+/// Makes each house in a database of its own.
+#[derive(Drop)]
+pub(crate) struct Databases<C> {
+    pub(crate) place: C,
+}
+
+impl<S: Alter + Drop, C: Connects<S>> Makes<SqlKeep<S>> for Databases<C> {
+    fn empty(&self, alloc: Global, settings: Settings) -> Result<SqlKeep<S>, KeepFault> {
+        SqlKeep::create(alloc, self.place.connection()?, settings)
+    }
+}

@@ -1,0 +1,197 @@
+#!/usr/bin/env python3
+"""Plays a script on a house in a file, and looks at the file: `store_file.py PROGRAM`.
+
+The program is that of the crate `store_tests`, and the script the part of its `stdin` before `fill`. A first
+run makes the house in a new file and is given the commands; a second opens the file and is asked; each
+answer has to be that of `stdout`. Then Python's sqlite3, and SQLite's shell where it is there, look for damage
+and for keys that lead nowhere, and read the tables, which have to be those of the script's commands. A house isn't made in a file that has
+one. A file that is no house, or a damaged one, is neither read nor changed: an empty one, one cut short, one
+with a page overwritten, and those that sqlite3 has changed: other tables, another version, and a row with
+a column out of its range, which is met when that row is asked for. The last line is 'N checks, M wrong'.
+"""
+import contextlib
+import pathlib
+import shutil
+import sqlite3
+import subprocess
+import sys
+import tempfile
+
+CRATE = pathlib.Path(__file__).resolve().parent.parent / "crates" / "store_tests"
+SILENT = {"record", "new"}
+# By the script's commands. Items are open (0), sold (1), unsold (2) or settled (3).
+TABLES = {
+    "house": [(1, 1, 7001, 1000, "UTC0")],
+    "band": [(0, 5), (100, 25), (500, 50), (2500, 100), (10000, 250), (25000, 500), (50000, 1000),
+             (100000, 2500), (250000, 5000), (500000, 10000)],
+    "member": [(1, "Ana"), (2, "Ben"), (3, "Cid")],
+    "category": [(1, "Books"), (2, "Maps")],
+    "item": [(1, 1, 1, "A1", "Atlas", "An atlas of 1952", 500, None, 5000, 3, 5000, 1000, 3, 1000, 1000, 3),
+             (2, 1, 2, "B2", "Globe", "", 500, 900, 6000, 1, 1003, 900, 2, None, None, 0),
+             (3, 1, 2, "C3", "Chart", "", 500, None, 5000, 1, 5000, 500, 3, 700, None, 1),
+             (4, 2, 1, "A1", "Novel", "", 100, None, 7000, 1, 7000, 125, 3, 600, 100, 2),
+             (5, 1, 2, "D4", "Compass", "", 500, 800, 6000, 2, 6000, 500, None, None, None, 0)],
+    "bid": [(1, 1, 2, 500), (1, 2, 3, 1000), (1, 3, 2, 1000), (3, 1, 3, 700), (4, 1, 1, 100), (4, 2, 3, 600)],
+    "watch": [(2, 1), (2, 4), (3, 1)],
+    "question": [(1, 2, 1, "How old?", None), (1, 3, 1, "Is it signed?", None),
+                 (1, 3, 2, "By whom?", "By its maker"), (4, 3, 1, "In French?", None)],
+    "feedback": [(1, 1, 3, 1, "Good"), (1, 3, 1, 1, "No party"), (2, 2, 1, -1, "Late")],
+}
+
+# What sqlite3 does to the file, and a question whose answer it spoils.
+SPOILED = [
+    ("CREATE TABLE more (id INTEGER PRIMARY KEY) STRICT", "? clock"),
+    ("CREATE VIEW more AS SELECT id FROM item", "? clock"),
+    ("DROP INDEX item_by_end", "? clock"),
+    ("DROP TABLE watch", "? clock"),
+    ("UPDATE house SET version = 0", "? clock"),
+    ("UPDATE house SET version = 2", "? clock"),
+    ("UPDATE house SET clock = 4102444801", "? clock"),
+    ("UPDATE house SET rate = 2001", "? clock"),
+    ("UPDATE house SET zone = zone || char(10)", "? clock"),
+    ("UPDATE house SET id = 2", "? clock"),
+    ("DELETE FROM house", "? clock"),
+    ("DELETE FROM band", "? clock"),
+    ("UPDATE band SET step = 0 WHERE at = 0", "? clock"),
+    ("DELETE FROM member WHERE id = 2", "? clock"),
+    ("UPDATE item SET category = 9 WHERE id = 1", "? clock"),
+    ("UPDATE member SET name = '' WHERE id = 1", "? member 1"),
+    ("UPDATE member SET name = 'A' || char(10) WHERE id = 1", "? members"),
+    ("UPDATE category SET name = '' WHERE id = 1", "? category 1"),
+    ("UPDATE item SET lot = 'A 1' WHERE id = 1", "? item 1"),
+    ("UPDATE item SET title = '' WHERE id = 1", "? item 1"),
+    ("UPDATE item SET body = char(127) WHERE id = 1", "? item 1"),
+    ("UPDATE item SET start = 0 WHERE id = 1", "? item 1"),
+    ("UPDATE item SET buy_now = 499 WHERE id = 5", "? item 5"),
+    ("UPDATE item SET ending = 4102444801 WHERE id = 1", "? state 1"),
+    ("UPDATE item SET state = 4 WHERE id = 1", "? state 1"),
+    ("UPDATE item SET state = -1 WHERE id = 1", "? items_in 1 0"),
+    ("UPDATE item SET closed = NULL WHERE id = 1", "? state 1"),
+    ("UPDATE item SET closed = -1 WHERE id = 1", "? state 1"),
+    ("UPDATE item SET price = -1 WHERE id = 1", "? state 1"),
+    ("UPDATE item SET price = 100000000001 WHERE id = 1", "? state 1"),
+    ("UPDATE item SET leader = 1 WHERE id = 1", "? state 1"),
+    ("UPDATE item SET leader = NULL WHERE id = 1", "? state 1"),
+    ("UPDATE item SET count = -1 WHERE id = 1", "? state 1"),
+    ("UPDATE item SET count = 0 WHERE id = 1", "? standing 1"),
+    ("UPDATE item SET leader = NULL WHERE id = 4", "? standing 4"),
+    ("UPDATE item SET top = NULL WHERE id = 1", "? standing 1"),
+    ("UPDATE item SET top = 999 WHERE id = 1", "? standing 1"),
+    ("UPDATE item SET second = 1001 WHERE id = 1", "? standing 1"),
+    ("UPDATE item SET price = 499 WHERE id = 1", "? standing 1"),
+    ("UPDATE bid SET maximum = -1 WHERE item = 1 AND member = 2", "? own 1 2"),
+    ("UPDATE question SET n = 21 WHERE n = 2", "? questions 3 0"),
+    ("UPDATE question SET body = '' WHERE asker = 2", "? questions 2 0"),
+    ("UPDATE question SET answer = '' WHERE n = 2", "? published 1 0"),
+    ("UPDATE feedback SET rating = 2 WHERE giver = 1", "? feedback 3 0"),
+    ("UPDATE feedback SET rating = -2 WHERE giver = 1", "? ratings 3"),
+]
+
+
+def answered():
+    """The lines of the script, each with its answer or None for a line that has none."""
+    answers = iter((CRATE / "stdout").read_text().splitlines())
+    for line in (CRATE / "stdin").read_text().splitlines():
+        silent = not line or line.startswith("--") or line in SILENT
+        yield line, None if silent else next(answers)
+
+
+def parts():
+    """The script before `fill`, and the questions after it up to the next command."""
+    lines = [pair for pair in answered() if pair[0] not in SILENT]
+    place = [line for line, _ in lines].index("fill")
+    asked = lines[place + 1:]
+    end = next(number for number, (line, answer) in enumerate(asked) if answer and not line.startswith("?"))
+    return lines[:place], asked[:end]
+
+
+def played(program, word, path, lines):
+    """How a run ends that plays lines: its status, and its answers."""
+    script = "\n".join(line for line, _ in lines)
+    result = subprocess.run([program, word, path], input=script.encode(), capture_output=True, timeout=60)
+    return result.returncode, result.stdout.decode().splitlines()
+
+
+def told(lines):
+    """How it has to end."""
+    return 0, [answer for _, answer in lines if answer is not None]
+
+
+def spoiled(whole, folder):
+    """Files that are no house, or a damaged one: what they are, their bytes, and a question."""
+    size = int.from_bytes(whole[16:18], "big")
+    yield "empty", b"", "? clock"
+    for short in len(whole) - 1, len(whole) - size, len(whole) // 2, size, 99:
+        yield f"cut short at {short}", whole[:short], "? clock"
+    for at in range(0, len(whole), size):
+        for byte in 0, 255:
+            yield f"page {at // size + 1} all {byte}", whole[:at] + bytes([byte]) * size + whole[at + size:], "? clock"
+    path = folder / "spoiled.db"
+    for statement, question in SPOILED:
+        path.write_bytes(whole)
+        with contextlib.closing(sqlite3.connect(path)) as tables:
+            tables.execute(statement)
+            tables.commit()
+        yield statement, path.read_bytes(), question
+
+
+def refused(program, whole, folder):
+    """The checks of such files: that a question isn't answered, and that the file is as it was."""
+    for number, (what, content, question) in enumerate(spoiled(whole, folder)):
+        path = folder / f"spoiled{number}.db"
+        path.write_bytes(content)
+        yield what, (played(program, "ask", str(path), [(question, "")]), path.read_bytes() == content), ((1, []), True)
+
+
+def tables_checked(path):
+    """The checks of the tables by sqlite3, which leaves all in the one file."""
+    with contextlib.closing(sqlite3.connect(path)) as tables:
+        yield "integrity", tables.execute("PRAGMA integrity_check").fetchall(), [("ok",)]
+        yield "foreign keys", tables.execute("PRAGMA foreign_key_check").fetchall(), []
+        for name, rows in TABLES.items():
+            yield name, sorted(tables.execute(f"SELECT * FROM {name}")), rows
+
+
+def read_by_shell(path):
+    """The checks of the tables by the shell of SQLite, where it is there."""
+    if shutil.which("sqlite3") is None:
+        return
+    for name, rows in TABLES.items():
+        lines = sorted("|".join("" if value is None else str(value) for value in row) for row in rows)
+        yield f"{name} in the shell", sorted(shell(path, f"SELECT * FROM {name}")), lines
+    yield "integrity in the shell", shell(path, "PRAGMA integrity_check; PRAGMA foreign_key_check"), ["ok"]
+
+
+def shell(path, statement):
+    """The lines that the shell shows."""
+    ran = subprocess.run(["sqlite3", path, statement], capture_output=True, check=True, timeout=60)
+    return ran.stdout.decode().splitlines()
+
+
+def checks(program, folder):
+    """Each check: what it is of, what came and what should."""
+    commands, questions = parts()
+    path = folder / "made.db"
+    yield "made", played(program, "make", str(path), commands), told(commands)
+    yield "asked", played(program, "ask", str(path), questions), told(questions)
+    yield "made twice", played(program, "make", str(path), commands), (1, [])
+    yield "asked again", played(program, "ask", str(path), questions), told(questions)
+    yield from read_by_shell(path)
+    yield from tables_checked(path)
+    yield from refused(program, path.read_bytes(), folder)
+    yield "asked at last", played(program, "ask", str(path), questions), told(questions)
+
+
+def main():
+    program = str(pathlib.Path(sys.argv[1]).resolve())
+    with tempfile.TemporaryDirectory() as folder:
+        all_checks = list(checks(program, pathlib.Path(folder)))
+    wrong = [check for check in all_checks if check[1] != check[2]]
+    for name, got, expected in wrong:
+        print(f"{name}\n  expected {expected}\n  got      {got}")
+    print(f"{len(all_checks)} checks, {len(wrong)} wrong")
+    return 1 if wrong else 0
+
+
+if __name__ == "__main__":
+    sys.exit(main())
