@@ -21,7 +21,12 @@ def script(items):
     """The lines that make a house of so many items, and those of each kind between two that tell the time."""
     made = house.House(items, house.NAMED)
     yield from made.made()
-    for kind, (count, line) in house.KINDS.items():
+    yield from told(made, house.KINDS)
+
+
+def told(made, kinds):
+    """The lines of each kind between two that tell the time."""
+    for count, line in kinds.values():
         yield "time"
         for _ in range(LINES.get(count, count)):
             yield line(made)
@@ -36,32 +41,36 @@ def totals(dump):
     return counts["Ir"], sum(counts.get(event, 0) for event in ("ILmr", "DLmr", "DLmw"))
 
 
-def measured(program, items):
-    """Instructions and misses a line of each kind."""
+def counted(command, lines, kinds, items):
+    """Instructions and misses a line of each kind, where a command plays lines that tell the time around each kind."""
     with tempfile.TemporaryDirectory() as folder:
         given = pathlib.Path(folder, "script")
-        given.write_text("\n".join(script(items)) + "\n")
-        with given.open() as lines:
+        given.write_text("\n".join(lines) + "\n")
+        with given.open() as opened:
             subprocess.run(["valgrind", "--tool=callgrind", "--cache-sim=yes", "--dump-before=clock_gettime*",
-                            f"--callgrind-out-file={folder}/dump", program],
-                           stdin=lines, stdout=subprocess.DEVNULL, stderr=subprocess.DEVNULL, check=True)
+                            f"--callgrind-out-file={folder}/dump", *command],
+                           stdin=opened, stdout=subprocess.DEVNULL, stderr=subprocess.DEVNULL, check=True)
         dumps = sorted(pathlib.Path(folder).glob("dump.*"), key=lambda path: int(path.suffix[1:]))
         # The dump before the second time of a kind has that kind's lines.
-        kinds = [totals(dump) for dump in dumps[1::2]]
-    if len(kinds) < len(house.KINDS):
-        sys.exit("house_counts.py: a time was not told")
+        sums = [totals(dump) for dump in dumps[1::2]]
+    if len(sums) < len(kinds):
+        sys.exit("a time was not told")
     return {kind: [count / (items if kind == house.CLOSE else LINES.get(often, often)) for count in counts]
-            for (kind, (often, _)), counts in zip(house.KINDS.items(), kinds)}
+            for (kind, (often, _)), counts in zip(kinds.items(), sums)}
 
 
-def main(program, sizes):
-    runs = [measured(program, items) for items in sizes]
+def show(runs, sizes):
+    """The counts of each kind at each size, and the greatest size's over the least's."""
     print(f"{'instructions a line':22}" + "".join(f"{items:>12,}" for items in sizes) + f"{'ratio':>8}{'misses a line':>20}")
-    for kind in house.KINDS:
+    for kind in runs[0]:
         reading = None if kind in ("clock", house.CLOSE) else "clock"
         counts = [run[kind][0] - (run[reading][0] if reading else 0) for run in runs]
         misses = f"{runs[0][kind][1]:.1f} to {runs[-1][kind][1]:.1f}"
         print(f"{kind:22}" + "".join(f"{count:12,.0f}" for count in counts) + f"{counts[-1] / counts[0]:8.2f}{misses:>20}")
+
+
+def main(program, sizes):
+    show([counted([program], script(items), house.KINDS, items) for items in sizes], sizes)
 
 
 if __name__ == "__main__":

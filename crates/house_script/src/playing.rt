@@ -43,12 +43,16 @@ pub fn play<K: Keep + Drop, M: Makes<K>>(
 /// Asks a keep the questions of the script on standard input, and prints what is answered. The script has no
 /// commands: of the tables of a keep that was opened it isn't known that they are those of accepted ones.
 pub fn ask<K: Keep + Drop>(
-    rt: &(impl Input + Print),
+    rt: &(impl Input + Print + CpuClock),
     alloc: Global,
     mut keep: K,
 ) -> Result<(), Fault> {
     let script = io::read_to_string(alloc, rt.reader()).map_err(|_| Fault::Unread)?;
     for line in script.as_str().lines() {
+        if line == "time" {
+            tell_time(rt)?;
+            continue;
+        }
         match told(alloc, &mut keep, line) {
             Ok(None) => {}
             Ok(Some(answer)) => println!(rt; "{answer}").map_err(|_| Fault::Output)?,
