@@ -16,7 +16,9 @@ import sys
 
 RUNS = 5
 SIZES = [1_000, 10_000, 100_000, 1_000_000]
-MOST_MEMBERS, MOST_CATEGORIES, MOST_ITEMS = 100_000, 1_000, 1_000_000
+MOST_MEMBERS, MOST_ITEMS = 100_000, 1_000_000
+# As many at each size, so that what grows is members, items and what is done to them.
+CATEGORIES = 20
 MOMENT, END = 1_000, 4_000_000_000
 # Busy members are those from 1 on; each has done a little more than a list shows.
 BUSY, MANY = 10, 60
@@ -33,8 +35,7 @@ class House:
         self.items = min(items, MOST_ITEMS - CHANGES)
         self.named = named
         self.members = min(items, MOST_MEMBERS - CHANGES)
-        # At least fifty items in each, so that a list of a category is full.
-        self.categories = min(items // 50, MOST_CATEGORIES - CHANGES)
+        self.categories = CATEGORIES
         self.random = random.Random(items)
         # How many lines there were that each do something else.
         self.done = 0
