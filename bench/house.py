@@ -2,15 +2,14 @@
 
 `house.py PROGRAM` plays scripts by the program `house_tests`. A house of so many items is made, with as
 many members, up to the most that there may be; then come many lines of one kind, and the program tells
-its processor time before and after. Shown are nanoseconds a line at each size, medians of a few runs,
-less those of `? clock`, which any line takes to be read and answered; then the time at the greatest size
+its processor time before and after. Shown are nanoseconds a line at each size, the least of a few runs that take
+the sizes in turn, less those of `? clock`, which any line takes to be read and answered; then the time at the greatest size
 over that at the least. The lines name some items and members that lie evenly apart, and bids and questions
 as many open items, so that at each size the same is done; a second table names all of them, and so shows
 what it costs that rows aren't in the processor's caches. Memory is the growth of the most that the program
 held, by member, item and bid.
 """
 import random
-import statistics
 import subprocess
 import sys
 
@@ -264,11 +263,12 @@ def memory(program):
 
 def show(program, named):
     """The times at each size, and the greatest size's over the least's."""
-    runs = {items: [measure(program, items, min(items, named)) for _ in range(RUNS)] for items in SIZES}
+    runs = [[measure(program, items, min(items, named)) for items in SIZES] for _ in range(RUNS)]
+    least = [{kind: min(run[place][kind] for run in runs) for kind in KINDS} for place in range(len(SIZES))]
     print(f"{'nanoseconds a line':22}" + "".join(f"{items:>12,}" for items in SIZES) + f"{'ratio':>8}")
     for kind in KINDS:
         reading = None if kind in ("clock", CLOSE) else "clock"
-        times = [statistics.median(run[kind] - run.get(reading, 0) for run in runs[items]) for items in SIZES]
+        times = [row[kind] - row.get(reading, 0) for row in least]
         print(f"{kind:22}" + "".join(f"{time:12,.0f}" for time in times) + f"{times[-1] / times[0]:8.2f}")
 
 

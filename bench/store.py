@@ -1,11 +1,11 @@
 """How long the house in SQLite takes in a file, beside Python's `sqlite3` on the same tables.
 
-`store.py PROGRAM [SIZE..]` makes houses of so many items, and as many members, by the program `store_tests`, each in a file,
-with a commit a command, and then asks them. Shown are commits a second as the house is made, by the clock,
-beside those of Python for the same rows, in a copy of the tables with `journal_mode=WAL` and
-`synchronous=FULL`; then nanoseconds of the processor for a line of each kind, less those of `? clock`, at each
-size and at the greatest over the least, beside those that Python's `sqlite3` takes for the same statement; and how long an opening
-takes, with the most memory that it holds.
+`store.py PROGRAM [SIZE..]` makes houses of so many items, and as many members, by the program `store_tests`, each in
+a file, with a commit a command, and then opens and asks them. Shown are commits a second as the house is made, by the
+clock, beside those of Python for the same two statements on the same file, with `journal_mode=WAL` and
+`synchronous=FULL`; how long an opening takes, with the most memory that it holds; and nanoseconds of the processor for
+a line of each kind, the least of a few runs that take the sizes in turn, less those of `? clock`, with the greatest
+size's over the least's, and over those that Python's `sqlite3` takes for the same statement.
 """
 import pathlib
 import sqlite3
@@ -18,6 +18,7 @@ import house
 
 SIZES = [1_000, 10_000, 100_000]
 COMMITS = 2_000
+RUNS = 3
 ITEM = ("id, seller, category, start, buy_now, ending, state, closed, price, leader, count, lot, title, body")
 # What a line asks that is one statement, with what is bound to it.
 STATEMENTS = {
@@ -49,23 +50,32 @@ def seconds(command, lines):
     return time.perf_counter() - begun, ran.stdout.splitlines()
 
 
-def made(program, path, items):
-    """Makes a house and asks it: commits a second, and nanoseconds of the processor for a line of each kind."""
-    plan = house.House(items, house.NAMED)
+def made(program, path, plan):
+    """Makes a house: commits a second."""
     commands = list(plan.made())
-    lines = list(commands)
-    for kind, (count, line) in house.ASKED.items():
-        lines += ["time", *(line(plan) for _ in range(LINES[count])), "time"]
-    spent, answers = seconds([program, "make", path], lines)
-    if set(answers[:len(commands)]) != {"ok"}:
+    spent, answers = seconds([program, "make", path], commands)
+    if set(answers) != {"ok"}:
         sys.exit("store.py: a command was refused")
-    at, times = len(commands), {}
-    asking = (int(answers[-1]) - int(answers[at])) / 1e9
+    return len(commands) / spent
+
+
+def asked(program, path, plan):
+    """Asks a house: nanoseconds of the processor for a line of each kind."""
+    lines = []
+    for count, line in house.ASKED.values():
+        lines += ["time", *(line(plan) for _ in range(LINES[count])), "time"]
+    _, answers = seconds([program, "ask", path], lines)
+    at, times = 0, {}
     for kind, (count, _) in house.ASKED.items():
         last = at + LINES[count] + 1
         times[kind] = (int(answers[last]) - int(answers[at])) / LINES[count]
         at = last + 1
-    return len(commands) / (spent - asking), times
+    return times
+
+
+def least(runs):
+    """The least time of each kind."""
+    return {kind: min(run[kind] for run in runs) for kind in runs[0]}
 
 
 def pythons_commits(path, items):
@@ -85,9 +95,8 @@ def pythons_commits(path, items):
     return COMMITS / spent
 
 
-def pythons_answers(path, items):
+def pythons_answers(path, plan):
     """Nanoseconds of the processor that Python takes for each statement."""
-    plan = house.House(items, house.NAMED)
     there = sqlite3.connect(path)
     times = {}
     for kind, (statement, bound) in STATEMENTS.items():
@@ -111,17 +120,23 @@ def opening(program, path):
 
 def main(program, sizes):
     program = str(pathlib.Path(program).resolve())
-    times, pythons = [], []
+    plans = [house.House(items, house.NAMED) for items in sizes]
     with tempfile.TemporaryDirectory() as folder:
-        for items in sizes:
-            path = f"{folder}/house{items}"
-            commits, asked = made(program, path, items)
-            times.append(asked)
+        paths = [f"{folder}/house{items}" for items in sizes]
+        rates = [made(program, path, plan) for path, plan in zip(paths, plans)]
+        runs = [[(asked(program, path, plan), pythons_answers(path, plan)) for path, plan in zip(paths, plans)]
+                for _ in range(RUNS)]
+        times = [least([run[place][0] for run in runs]) for place in range(len(sizes))]
+        pythons = [least([run[place][1] for run in runs]) for place in range(len(sizes))]
+        for items, path, rate in zip(sizes, paths, rates):
             spent, held = opening(program, path)
-            pythons.append(pythons_answers(path, items))
-            pythons_rate = pythons_commits(path, items)
-            print(f"{items:,} items: {commits:,.0f} commits a second, Python {pythons_rate:,.0f}; "
+            print(f"{items:,} items: {rate:,.0f} commits a second, Python {pythons_commits(path, items):,.0f}; "
                   f"opened in {spent * 1000:,.0f} ms, {held / 1e6:,.0f} MB held")
+    show(times, pythons, sizes)
+
+
+def show(times, pythons, sizes):
+    """The times of each kind at each size, and over the others."""
     print(f"{'nanoseconds a line':22}" + "".join(f"{items:>12,}" for items in sizes) + f"{'ratio':>8}{'over Python':>16}")
     for kind in house.ASKED:
         rows = [row[kind] - (row["clock"] if kind != "clock" else 0) for row in times]
