@@ -2,8 +2,8 @@
 
 `store.py PROGRAM [SIZE..]` makes houses of so many items, and as many members, by the program `store_tests`, each in
 a file, with a commit a command, and then opens and asks them. Shown are commits a second as the house is made, by the
-clock, beside those of Python for the same two statements on the same file, with `journal_mode=WAL` and
-`synchronous=FULL`; how long an opening takes, with the most memory that it holds; and nanoseconds of the processor for
+clock, over all its commands, beside those of Python for the two statements of a listing on the same file, with
+`journal_mode=WAL` and `synchronous=FULL`; how long an opening takes, with the most memory that it holds; and nanoseconds of the processor for
 a line of each kind, the least of a few runs that take the sizes in turn, less those of `? clock`, with the greatest
 size's over the least's, and over those that Python's `sqlite3` takes for the same statement.
 """
@@ -79,7 +79,7 @@ def least(runs):
 
 
 def pythons_commits(path, items):
-    """Commits a second that Python makes with rows like those of the house, in the tables of a new one."""
+    """Commits a second that Python makes with listings, in the tables of a house."""
     there = sqlite3.connect(path, isolation_level=None)
     there.execute("PRAGMA journal_mode=WAL")
     there.execute("PRAGMA synchronous=FULL")

@@ -4,10 +4,11 @@
 The program is that of the crate `store_tests`, and the script the part of its `stdin` before `fill`. A first
 run makes the house in a new file and is given the commands; a second opens the file and is asked; each
 answer has to be that of `stdout`. Then Python's sqlite3, and SQLite's shell where it is there, look for damage
-and for keys that lead nowhere, and read the tables, which have to be those of the script's commands. A house isn't made in a file that has
-one. A file that is no house, or a damaged one, is neither read nor changed: an empty one, one cut short, one
-with a page overwritten, and those that sqlite3 has changed: other tables, another version, and a row with
-a column out of its range, which is met when that row is asked for. The last line is 'N checks, M wrong'.
+and for keys that lead nowhere, and read the tables, which have to be those of the script's commands. A house
+isn't made in a file that has one. A file that is no house, or a damaged one, answers nothing and stays as it
+is: an empty one, one cut short, one with a page overwritten, and one with other tables or another version. One
+with a row that has a column out of its range is opened, and doesn't answer when that row is asked for. The
+last line is 'N checks, M wrong'.
 """
 import contextlib
 import pathlib
@@ -19,6 +20,8 @@ import tempfile
 
 CRATE = pathlib.Path(__file__).resolve().parent.parent / "crates" / "store_tests"
 SILENT = {"record", "new"}
+# A question that any house answers once it is open, and its answer by the script.
+CLOCK, MOMENT = "? clock", "7001"
 # By the script's commands. Items are open (0), sold (1), unsold (2) or settled (3).
 TABLES = {
     "house": [(1, 1, 7001, 1000, "UTC0")],
@@ -40,21 +43,21 @@ TABLES = {
 
 # What sqlite3 does to the file, and a question whose answer it spoils.
 SPOILED = [
-    ("CREATE TABLE more (id INTEGER PRIMARY KEY) STRICT", "? clock"),
-    ("CREATE VIEW more AS SELECT id FROM item", "? clock"),
-    ("DROP INDEX item_by_end", "? clock"),
-    ("DROP TABLE watch", "? clock"),
-    ("UPDATE house SET version = 0", "? clock"),
-    ("UPDATE house SET version = 2", "? clock"),
-    ("UPDATE house SET clock = 4102444801", "? clock"),
-    ("UPDATE house SET rate = 2001", "? clock"),
-    ("UPDATE house SET zone = zone || char(10)", "? clock"),
-    ("UPDATE house SET id = 2", "? clock"),
-    ("DELETE FROM house", "? clock"),
-    ("DELETE FROM band", "? clock"),
-    ("UPDATE band SET step = 0 WHERE at = 0", "? clock"),
-    ("DELETE FROM member WHERE id = 2", "? clock"),
-    ("UPDATE item SET category = 9 WHERE id = 1", "? clock"),
+    ("CREATE TABLE more (id INTEGER PRIMARY KEY) STRICT", CLOCK),
+    ("CREATE VIEW more AS SELECT id FROM item", CLOCK),
+    ("DROP INDEX item_by_end", CLOCK),
+    ("DROP TABLE watch", CLOCK),
+    ("UPDATE house SET version = 0", CLOCK),
+    ("UPDATE house SET version = 2", CLOCK),
+    ("UPDATE house SET clock = 4102444801", CLOCK),
+    ("UPDATE house SET rate = 2001", CLOCK),
+    ("UPDATE house SET zone = zone || char(10)", CLOCK),
+    ("UPDATE house SET id = 2", CLOCK),
+    ("DELETE FROM house", CLOCK),
+    ("DELETE FROM band", CLOCK),
+    ("UPDATE band SET step = 0 WHERE at = 0", CLOCK),
+    ("DELETE FROM member WHERE id = 2", CLOCK),
+    ("UPDATE item SET category = 9 WHERE id = 1", CLOCK),
     ("UPDATE member SET name = '' WHERE id = 1", "? member 1"),
     ("UPDATE member SET name = 'A' || char(10) WHERE id = 1", "? members"),
     ("UPDATE category SET name = '' WHERE id = 1", "? category 1"),
@@ -120,12 +123,12 @@ def told(lines):
 def spoiled(whole, folder):
     """Files that are no house, or a damaged one: what they are, their bytes, and a question."""
     size = int.from_bytes(whole[16:18], "big")
-    yield "empty", b"", "? clock"
+    yield "empty", b"", CLOCK
     for short in len(whole) - 1, len(whole) - size, len(whole) // 2, size, 99:
-        yield f"cut short at {short}", whole[:short], "? clock"
+        yield f"cut short at {short}", whole[:short], CLOCK
     for at in range(0, len(whole), size):
         for byte in 0, 255:
-            yield f"page {at // size + 1} all {byte}", whole[:at] + bytes([byte]) * size + whole[at + size:], "? clock"
+            yield f"page {at // size + 1} all {byte}", whole[:at] + bytes([byte]) * size + whole[at + size:], CLOCK
     path = folder / "spoiled.db"
     for statement, question in SPOILED:
         path.write_bytes(whole)
@@ -140,7 +143,9 @@ def refused(program, whole, folder):
     for number, (what, content, question) in enumerate(spoiled(whole, folder)):
         path = folder / f"spoiled{number}.db"
         path.write_bytes(content)
-        yield what, (played(program, "ask", str(path), [(question, "")]), path.read_bytes() == content), ((1, []), True)
+        before = [] if question == CLOCK else [CLOCK]
+        ended = played(program, "ask", str(path), [(line, "") for line in (*before, question)])
+        yield what, (ended, path.read_bytes() == content), ((1, [MOMENT for _ in before]), True)
 
 
 def tables_checked(path):
