@@ -94,27 +94,27 @@ member_at members c = find (λ m. m.member == c) members
 -- the page of a read
 unfoldable pub page_of : Settings → History → ℕ → Query → Page
 page_of settings h c query.House = for_all (members h) c (House
-    (record { members = length (members h); categories = length (categories h); items = length (items_shown settings.bands h) })
+    (record { members = length (members h); categories = length (categories h); items = length (items_shown settings h) })
     (clock h) settings.rate settings.zone)
 page_of settings h c query.Bands = for_all (members h) c (Bands settings.bands)
 page_of settings h c query.Categories = for_all (members h) c (Categories (categories h))
 page_of settings h c (query.ItemsIn category from) = for_all (members h) c (
     if_known (list_any (λ k. k.category == category) (categories h))
-    (Items (take most_shown (filter (λ it. (it.item.terms.category == category) && nat_le from it.item.terms.item) (items_shown settings.bands h)))))
-page_of settings h c (query.Item i) = for_all (members h) c (item_page (shown_at (items_shown settings.bands h) i))
+    (Items (take most_shown (filter (λ it. (it.item.terms.category == category) && nat_le from it.item.terms.item) (items_shown settings h)))))
+page_of settings h c (query.Item i) = for_all (members h) c (item_page (shown_at (items_shown settings h) i))
 page_of settings h c (query.Questions i from) = for_all (members h) c (
-    if_known (is_some (shown_at (items_shown settings.bands h) i))
+    if_known (is_some (shown_at (items_shown settings h) i))
     (Questions (take most_shown (filter (λ q. (q.item == i) && nat_le from q.asker) (published h)))))
 page_of settings h c (query.Member m) = for_all (members h) c (member_page (member_at (members h) m) (ratings_of (feedback h) m))
 page_of settings h c (query.FeedbackTo m from) = for_all (members h) c (
     if_known (is_some (member_at (members h) m))
     (Feedbacks (take most_shown (filter (λ f. (f.to == m) && nat_le from f.item) (feedback h)))))
 page_of settings h c (query.MyBids from) = for_member (members h) c (
-    Bids (take most_shown (filter (λ b. nat_le from b.item) (own_bids h c (items_shown settings.bands h)))))
+    Bids (take most_shown (filter (λ b. nat_le from b.item) (own_bids h c (items_shown settings h)))))
 page_of settings h c query.MyWatches = for_member (members h) c (
-    Items (filter (λ it. list_any (λ w. w.item == it.item.terms.item) (own_watches h c)) (items_shown settings.bands h)))
+    Items (filter (λ it. list_any (λ w. w.item == it.item.terms.item) (own_watches h c)) (items_shown settings h)))
 page_of settings h c (query.MyQuestions from) = for_member (members h) c (
     Questions (take most_shown (filter (λ q. (q.asker == c) && nat_le from q.item) (questions h))))
 page_of settings h c query.MyWaiting = for_member (members h) c (Questions (take most_shown (waiting h c)))
 page_of settings h c (query.MyStatement from to) = for_member (members h) c (
-    Statement c from to (sales_of (items_shown settings.bands h) c))
+    Statement c from to (sales_of (items_shown settings h) c))

@@ -1,5 +1,5 @@
 -- What an accepted command is told.
-use Rattle.std.specs.Prelude.{ℕ, ◌-◌, List, Bool, true, false, not, ◌&&◌, length, Option, Some, None, is_some, unwrap_or}
+use Rattle.std.specs.Prelude.{ℕ, ◌-◌, List, Bool, true, false, not, ◌&&◌, length, Option, Some, None, unwrap_or}
 use Rattle.settle.specs.Fee.{fee_of}
 use Rattle.house_rows.specs.declared.command.Command.{Command}
 use Rattle.house_rows.specs.declared.command.Command.TheVariants.{Register, AddCategory, List as Listed, Bid, Buy, Close, Settle, Watch, Unwatch, Ask, Answer, Feedback}
@@ -10,18 +10,14 @@ use Rattle.house_rows.specs.declared.told.Told.{Told}
 use Rattle.house_rows.specs.declared.told.Told.TheVariants.{Registered, Added, Listing, Placed, Bought, Closed, Settlement, Watched, Question, Rated, Nothing}
 use Rattle.house_rows.specs.History.{History, counted}
 use Rattle.house_rows.specs.People.{categories, members}
-use Rattle.house_rows.specs.Items.{floor_of, is_due, items_shown, shown_at}
+use Rattle.house_rows.specs.Items.{close_sells, is_due, items_shown, shown_at}
 use Rattle.house_rows.specs.Questions.{ask_count}
 use Rattle.house_rows.specs.Ratings.{other_party}
 use Rattle.house_rows.specs.Views.{own_questions}
 
-abbrev pub is_led : ItemShown → Bool
-is_led it = is_some it.item.terms.leader
-
-abbrev pub told_placed : List (ℕ × ℕ) → Option ItemShown → Told
-told_placed bands None = Nothing
-told_placed bands (Some it) =
-    Placed it.item.terms.count (unwrap_or (floor_of bands it.item.terms) 0) it.item.terms.leader it.item.terms.price
+abbrev pub told_placed : Option ItemShown → Told
+told_placed None = Nothing
+told_placed (Some it) = Placed it.item.terms.count (unwrap_or it.floor 0) it.item.terms.leader it.item.terms.price
 
 abbrev pub told_bought : Option ItemShown → Told
 told_bought None = Nothing
@@ -40,15 +36,15 @@ told_rated c _ _ = Nothing
 abbrev pub told : Settings → History → ℕ → ℕ → Command → History → Told
 told settings after moment caller (Register name) before = Registered (length (members after))
 told settings after moment caller (AddCategory name) before = Added (length (categories after))
-told settings after moment caller (Listed category lot title text start buy_now end) before = Listing (length (items_shown settings.bands after))
-told settings after moment caller (Bid i maximum) before = told_placed settings.bands (shown_at (items_shown settings.bands after) i)
-told settings after moment caller (Buy i) before = told_bought (shown_at (items_shown settings.bands after) i)
+told settings after moment caller (Listed category lot title text start buy_now end) before = Listing (length (items_shown settings after))
+told settings after moment caller (Bid i maximum) before = told_placed (shown_at (items_shown settings after) i)
+told settings after moment caller (Buy i) before = told_bought (shown_at (items_shown settings after) i)
 told settings after moment caller Close before = Closed
-    (counted (λ it. is_due moment it.item.terms && is_led it) (items_shown settings.bands before))
-    (counted (λ it. is_due moment it.item.terms && not (is_led it)) (items_shown settings.bands before))
-told settings after moment caller (Settle i) before = told_settled settings.rate (shown_at (items_shown settings.bands after) i)
+    (counted (λ it. is_due moment it.item.terms && close_sells it.item.terms.leader) (items_shown settings before))
+    (counted (λ it. is_due moment it.item.terms && not (close_sells it.item.terms.leader)) (items_shown settings before))
+told settings after moment caller (Settle i) before = told_settled settings.rate (shown_at (items_shown settings after) i)
 told settings after moment caller (Watch i) before = Watched i true
 told settings after moment caller (Unwatch i) before = Watched i false
 told settings after moment caller (Ask i text) before = Question caller i (ask_count (own_questions after caller) caller i)
 told settings after moment caller (Answer i asker number text) before = Question asker i number
-told settings after moment caller (Feedback i rating text) before = told_rated caller rating (shown_at (items_shown settings.bands after) i)
+told settings after moment caller (Feedback i rating text) before = told_rated caller rating (shown_at (items_shown settings after) i)

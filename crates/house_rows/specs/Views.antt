@@ -31,7 +31,7 @@ public_view settings h = record {
   clock = clock h;
   members = members h;
   categories = categories h;
-  items = items_shown settings.bands h;
+  items = items_shown settings h;
   questions = published h;
   feedback = feedback h;
 }
