@@ -12,16 +12,16 @@ use Rattle.proxy.specs.declared.bid.Bid as bid
 use Rattle.proxy.specs.declared.bid.BidRefusal.TheVariants as no_bid
 use Rattle.house_rows.specs.declared.command.Command.{Command}
 use Rattle.house_rows.specs.declared.command.Command.TheVariants.{Bid, Buy}
-use Rattle.house_rows.specs.declared.item.Terms.{Terms}
+use Rattle.house_rows.specs.declared.item.ItemShown.{ItemShown}
 use Rattle.house_rows.specs.declared.refusal.Refusal.TheVariants.{Low, NotHigher, Limit, OwnItem, NotOpen, Ended, Range, NoBuyNow, HasBids}
 use Rattle.house_rows.specs.declared.settings.Settings.{Settings}
 use Rattle.house_rows.specs.Bids.{bids_on}
 use Rattle.house_rows.specs.History.{Entry, History}
-use Rattle.house_rows.specs.Items.{Purchase, is_bought, is_open, is_settled, is_taken, item_now, leader_of, purchase_in, purchase_of, purchases, state_of}
+use Rattle.house_rows.specs.Items.{Purchase, is_bought, is_open, is_settled, is_taken, item_now, leader_of, purchase_in, purchase_of, purchases, shown, state_of}
 use Rattle.house_rows.specs.Limits.{most_bids, most_cents}
 use Rattle.house_rows.specs.Listings.{Listing, listing_at, listings}
 use Rattle.house_rows.specs.Runs.{entry}
-use Rattle.house_rows.specs.Verdict.{IsHistory, Rule, bid_rules, purchase_rules, rules, verdict}
+use Rattle.house_rows.specs.Verdict.{IsHistory, Rule, bid_rules, by_terms, purchase_rules, rules, verdict}
 use Rattle.house_rows.proofs.Every.{every_as, every_more, found_has, found_is}
 use Rattle.house_rows.proofs.OpenItems.{bid_led, not_bought, open_parts, rules_of}
 use Rattle.house_rows.proofs.Passed.{item_pass, own_pass}
@@ -76,8 +76,8 @@ bid_accepted settings h t c m l listed none =
     let parts = open_parts (is_bought h l.item) (is_taken h l) (is_some (leader_of h l)) (is_settled h l.item) is in
     let unsold : purchase_of h l.item ≡ None = not_bought h l.item (purchase_of h l.item) refl parts.bought_not in
     let own : first_failing (rules settings h t c (Bid l.item m)) ≡ None = own_pass settings h t c (Bid l.item m) none in
-    let more : Terms → List Rule = bid_rules settings.bands t c m (greatest (bids_on h l.item) c) in
-    let pass : first_failing (more (item_now settings.bands h l).terms) ≡ None = rules_of settings h l more listed (item_pass settings.bands h l.item more own) in
+    let more : ItemShown → List Rule = bid_rules t c m (greatest (bids_on h l.item) c) in
+    let pass : first_failing (more (shown settings (item_now settings.bands h l))) ≡ None = rules_of settings h l more listed (item_pass settings h l.item more own) in
     let bids : List bid.Bid = bids_on h l.item in
     let least : ℕ = if length bids == 0 then l.start else over settings.bands (price settings.bands l.start bids) in
     let rest = own_rules (l.seller == c) false (nat_le l.end t) (nat_lt most_cents m) (leads bids c && nat_le m (greatest bids c)) (not (leads bids c) && nat_lt m least)
@@ -115,8 +115,8 @@ accepted_new : (settings : Settings) (h : History) (t c : ℕ) (command : Comman
 accepted_new settings h t c (Bid j m) l none free is =
     elim (by_test (j == l.item)) [
       | inl here ↦ (let at' : j ≡ l.item = grind (arith, nat_tests) in
-          let more : Terms → List Rule = bid_rules settings.bands t c m (greatest (bids_on h l.item) c) in
-          let pass = item_pass settings.bands h l.item more (own_pass settings h t c (Bid l.item m) (rw at' at none)) in
+          let more : ItemShown → List Rule = bid_rules t c m (greatest (bids_on h l.item) c) in
+          let pass = item_pass settings h l.item more (own_pass settings h t c (Bid l.item m) (rw at' at none)) in
           absurd (let e : None ≡ Some pass.listing = sym free ∙ pass.listed in cc))
       | inr other ↦ rw (other, unlisted settings h l.item is free) (none_accepted settings.bands l.start)
     ]
@@ -186,7 +186,7 @@ none_left (b ∷ bids) not = absurd (grind (arith, nat_tests, not))
 bought_now : (settings : Settings) (h : History) (t c i : ℕ) → verdict settings h t c (Buy i) ≡ None → BoughtIn (entry t c (Buy i) ∷ h) (record { item = i; buyer = c; moment = t })
 bought_now settings h t c i none =
     let own : first_failing (rules settings h t c (Buy i)) ≡ None = own_pass settings h t c (Buy i) none in
-    let pass = item_pass settings.bands h i (purchase_rules t c) own in
+    let pass = item_pass settings h i (by_terms (purchase_rules t c)) own in
     let l : Listing = pass.listing in
     let same : l.item ≡ i = listing_is h i l pass.listed in
     let rest = buy_pass (l.seller == c) (not (is_open (state_of h l))) (nat_le l.end t) (is_none l.buy_now) (nat_lt 0 (length (bids_on h l.item))) pass.pass in

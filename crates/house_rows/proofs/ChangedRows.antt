@@ -19,7 +19,7 @@ use Rattle.house_rows.specs.declared.state.State.TheVariants.{Open, Sold, Unsold
 use Rattle.house_rows.specs.Changed.{is_item, new_item, with_close, with_purchase, with_settlement, with_standing, with_terms}
 use Rattle.house_rows.specs.Fits.{IsItem, IsMember, IsMoment, IsWithin, TermsFit}
 use Rattle.house_rows.specs.Found.{row_at}
-use Rattle.house_rows.specs.Items.{is_due, is_open}
+use Rattle.house_rows.specs.Items.{close_sells, closed_state, is_due, is_open}
 use Rattle.house_rows.specs.Keeping.{AreInTurn, AreSound, IsBought, IsByBids, ItemRowFits}
 use Rattle.house_rows.specs.Limits.{most_bids, most_categories, most_cents}
 use Rattle.house_rows.specs.Tables.{ItemRow, Tables}
@@ -242,7 +242,7 @@ purchase_fits bands i buyer price moment row is fits member apart moment_fits no
 
 -- the row of an item that a close took
 abbrev closed_row : ItemRow → ItemRow
-closed_row row = with_terms (record row.item.terms { state = (if is_some row.item.terms.leader then Sold else Unsold); closed = Some row.item.terms.end }) row
+closed_row row = with_terms (record row.item.terms { state = closed_state (close_sells row.item.terms.leader); closed = Some row.item.terms.end }) row
 
 close_here : (moment : ℕ) (row : ItemRow) → is_due moment row.item.terms ≡ true → with_close moment row ≡ closed_row row
 close_here moment row due = rw due refl
@@ -256,7 +256,7 @@ due_open moment terms due = left (is_open terms.state) (nat_le terms.end moment)
   left true b e = refl
   left false b e = cc
 
-led_if : (led : Bool) → was_sold (if led then Sold else Unsold) ≡ true → led ≡ true
+led_if : (led : Bool) → was_sold (closed_state led) ≡ true → led ≡ true
 led_if true sold = refl
 led_if false sold = cc
 
@@ -277,7 +277,7 @@ closed_fits bands row is fits =
           leader = old.leader;
           apart = old.apart;
           count = old.count;
-          sold_led = λ sold. led_if (is_some row.item.terms.leader) sold;
+          sold_led = λ sold. led_if (close_sells row.item.terms.leader) sold;
           sold_closed = λ sold. refl;
         };
         lot = fits.item.lot;

@@ -5,7 +5,7 @@ use Rattle.std.proofs.lemmas.Bool.Decides.{nat_tests}
 use Rattle.proxy.specs.Bids.{greatest}
 use Rattle.proxy.specs.Rules.{first_failing}
 use Rattle.house_rows.specs.declared.command.Command.TheVariants.{Bid, Buy}
-use Rattle.house_rows.specs.declared.item.Terms.{Terms}
+use Rattle.house_rows.specs.declared.item.ItemShown.{ItemShown}
 use Rattle.house_rows.specs.declared.refusal.Refusal.{Refusal}
 use Rattle.house_rows.specs.declared.refusal.Refusal.TheVariants.{NotOpen, OwnItem}
 use Rattle.house_rows.specs.declared.settings.Settings.{Settings}
@@ -13,9 +13,9 @@ use Rattle.house_rows.specs.declared.state.State.{State}
 use Rattle.house_rows.specs.declared.state.State.TheVariants.{Open, Sold, Unsold, Settled}
 use Rattle.house_rows.specs.Bids.{bids_on}
 use Rattle.house_rows.specs.History.{History}
-use Rattle.house_rows.specs.Items.{Purchase, is_bought, is_open, item_now, purchase_of, state_from, state_of}
+use Rattle.house_rows.specs.Items.{Purchase, is_bought, is_open, item_now, purchase_of, shown, state_from, state_of}
 use Rattle.house_rows.specs.Listings.{Listing, listing_at, listings}
-use Rattle.house_rows.specs.Verdict.{Rule, bid_rules, purchase_rules, rules, verdict}
+use Rattle.house_rows.specs.Verdict.{Rule, bid_rules, by_terms, purchase_rules, rules, verdict}
 use Rattle.house_rows.proofs.Passed.{Passes, item_pass, own_pass}
 use Rattle.house_rows.proofs.RangedItems.{one_listing}
 
@@ -37,8 +37,8 @@ not_bought h i None e not = refl
 not_bought h i (Some p) e not = absurd (let some : is_bought h i ≡ true = rw (← e) refl in let e : true ≡ false = sym some ∙ not in cc)
 
 -- the rules of the listing that is known
-pub rules_of : (settings : Settings) (h : History) (l : Listing) (more : Terms → List Rule) → listing_at (listings h) l.item ≡ Some l → Passes settings.bands h l.item more
-    → first_failing (more (item_now settings.bands h l).terms) ≡ None
+pub rules_of : (settings : Settings) (h : History) (l : Listing) (more : ItemShown → List Rule) → listing_at (listings h) l.item ≡ Some l → Passes settings h l.item more
+    → first_failing (more (shown settings (item_now settings.bands h l))) ≡ None
 rules_of settings h l more listed pass =
     let e : pass.listing ≡ l = one_listing (listing_at (listings h) l.item) pass.listing l pass.listed listed in rw e at pass.pass
 
@@ -53,12 +53,14 @@ pub bid_led : (settings : Settings) (h : History) (t c j m : ℕ) (l : Listing) 
 bid_led settings h t c j m l listed none here =
     let at : j ≡ l.item = grind (arith, nat_tests) in
     let own : first_failing (rules settings h t c (Bid l.item m)) ≡ None = rw at at (own_pass settings h t c (Bid j m) none) in
-    let pass = rules_of settings h l (bid_rules settings.bands t c m (greatest (bids_on h l.item) c)) listed (item_pass settings.bands h l.item (bid_rules settings.bands t c m (greatest (bids_on h l.item) c)) own) in
+    let more : ItemShown → List Rule = bid_rules t c m (greatest (bids_on h l.item) c) in
+    let pass = rules_of settings h l more listed (item_pass settings h l.item more own) in
     open_pass (l.seller == c) (state_of h l) _ pass
 
 pub bought_open : (settings : Settings) (h : History) (t c j : ℕ) (l : Listing) → listing_at (listings h) l.item ≡ Some l → verdict settings h t c (Buy j) ≡ None → (j == l.item) ≡ true → is_open (state_of h l) ≡ true
 bought_open settings h t c j l listed none here =
     let at : j ≡ l.item = grind (arith, nat_tests) in
     let own : first_failing (rules settings h t c (Buy l.item)) ≡ None = rw at at (own_pass settings h t c (Buy j) none) in
-    let pass = rules_of settings h l (purchase_rules t c) listed (item_pass settings.bands h l.item (purchase_rules t c) own) in
+    let more : ItemShown → List Rule = by_terms (purchase_rules t c) in
+    let pass = rules_of settings h l more listed (item_pass settings h l.item more own) in
     open_pass (l.seller == c) (state_of h l) _ pass

@@ -3,11 +3,11 @@ use Rattle.std.proofs.Common.{◌≡◌, ℕ, ◌≤◌, List, [], ◌∷◌, �
 use Rattle.std.proofs.lemmas.Bool.Decides.{nat_tests}
 use Rattle.proxy.specs.Rules.{first_failing}
 use Rattle.house_rows.specs.declared.command.Command.{Command}
-use Rattle.house_rows.specs.declared.item.Terms.{Terms}
+use Rattle.house_rows.specs.declared.item.ItemShown.{ItemShown}
 use Rattle.house_rows.specs.declared.refusal.Refusal.{Refusal}
 use Rattle.house_rows.specs.declared.settings.Settings.{Settings}
 use Rattle.house_rows.specs.History.{History, clock}
-use Rattle.house_rows.specs.Items.{ItemShown, item_now, items, items_shown, shown, shown_at}
+use Rattle.house_rows.specs.Items.{item_now, items, items_shown, shown, shown_at}
 use Rattle.house_rows.specs.Limits.{last_moment}
 use Rattle.house_rows.specs.Listings.{Listing, listing_at, listings}
 use Rattle.house_rows.specs.People.{members}
@@ -27,17 +27,17 @@ first_pass [] rest none = refl
 first_pass (rule ∷ first) rest none = grind (arith, nat_tests, first_pass first rest)
 
 -- an item is found where its listing is
-abbrev pub item_from : List (ℕ × ℕ) → History → Option Listing → Option ItemShown
-item_from bands h None = None
-item_from bands h (Some l) = Some (shown bands (item_now bands h l))
+abbrev pub item_from : Settings → History → Option Listing → Option ItemShown
+item_from settings h None = None
+item_from settings h (Some l) = Some (shown settings (item_now settings.bands h l))
 
-pub find_item : (bands : List (ℕ × ℕ)) (h : History) (ls : List Listing) (i : ℕ) → shown_at (map (shown bands) (map (item_now bands h) ls)) i ≡ item_from bands h (listing_at ls i)
-find_item bands h [] i = refl
-find_item bands h (l ∷ ls) i = grind (arith, nat_tests, find_item bands h ls i)
+pub find_item : (settings : Settings) (h : History) (ls : List Listing) (i : ℕ) → shown_at (map (shown settings) (map (item_now settings.bands h) ls)) i ≡ item_from settings h (listing_at ls i)
+find_item settings h [] i = refl
+find_item settings h (l ∷ ls) i = grind (arith, nat_tests, find_item settings h ls i)
 
-pub shown_is : (bands : List (ℕ × ℕ)) (h : History) (i : ℕ) → shown_at (items_shown bands h) i ≡ item_from bands h (listing_at (listings h) i)
+pub shown_is : (settings : Settings) (h : History) (i : ℕ) → shown_at (items_shown settings h) i ≡ item_from settings h (listing_at (listings h) i)
 unfolding items_shown items
-shown_is bands h i = find_item bands h (listings h) i
+shown_is settings h i = find_item settings h (listings h) i
 
 -- the rules of every command
 pub record Common (h : History) (moment caller : ℕ) (of_house : Bool) : Type 0 where
@@ -76,14 +76,14 @@ own_pass settings h moment caller command none =
     later_pass (common_rules (clock h) (length (members h)) moment caller (is_house_command command)) (rules settings h moment caller command) none
 
 -- where an item's rules pass, the item is listed, and its own rules pass
-pub record Passes (bands : List (ℕ × ℕ)) (h : History) (i : ℕ) (more : Terms → List Rule) : Type 0 where
+pub record Passes (settings : Settings) (h : History) (i : ℕ) (more : ItemShown → List Rule) : Type 0 where
   pub listing : Listing
   pub listed : listing_at (listings h) i ≡ Some listing
-  pub pass : first_failing (more (item_now bands h listing).terms) ≡ None
+  pub pass : first_failing (more (shown settings (item_now settings.bands h listing))) ≡ None
 
-pub item_pass : (bands : List (ℕ × ℕ)) (h : History) (i : ℕ) (more : Terms → List Rule) → first_failing (of_item (shown_at (items_shown bands h) i) more) ≡ None → Passes bands h i more
-item_pass bands h i more none =
-    by_listing (listing_at (listings h) i) refl (rw (shown_is bands h i) at none) where
-      by_listing : (o : Option Listing) → listing_at (listings h) i ≡ o → first_failing (of_item (item_from bands h o) more) ≡ None → Passes bands h i more
+pub item_pass : (settings : Settings) (h : History) (i : ℕ) (more : ItemShown → List Rule) → first_failing (of_item (shown_at (items_shown settings h) i) more) ≡ None → Passes settings h i more
+item_pass settings h i more none =
+    by_listing (listing_at (listings h) i) refl (rw (shown_is settings h i) at none) where
+      by_listing : (o : Option Listing) → listing_at (listings h) i ≡ o → first_failing (of_item (item_from settings h o) more) ≡ None → Passes settings h i more
       by_listing None is pass = cc
       by_listing (Some l) is pass = record { listing = l; listed = is; pass = pass }

@@ -137,15 +137,15 @@ pub record ListingsFit (ls : List Listing) : Type 0 where
   pub all : AllByRecursion ListingRanges ls
   pub room : length ls ≤ most_items
 
-shown_count : (bands : List (ℕ × ℕ)) (h : History) → length (items_shown bands h) ≡ length (listings h)
+shown_count : (settings : Settings) (h : History) → length (items_shown settings h) ≡ length (listings h)
 unfolding items_shown items
-shown_count bands h = simp length-map
+shown_count settings h = simp length-map
 
 listings_step : (settings : Settings) (h : History) (t c : ℕ) (command : Command) → IsHistory settings h → verdict settings h t c command ≡ None → ListingsFit (listings h) → ListingsFit (listings (record { moment = t; caller = c; command = command } ∷ h))
 listings_step settings h t c (Listed category lot title text start buy_now end) is none fits =
     let own = own_pass settings h t c (Listed category lot title text start buy_now end) none in
-    let pass = listing_pass (is_lot lot) _ (are_terms t title text start buy_now end) (list_any (λ k. k.category == category) (categories h)) (length (items_shown settings.bands h)) own in
-    let count : length (items_shown settings.bands h) ≡ length (listings h) = shown_count settings.bands h in
+    let pass = listing_pass (is_lot lot) _ (are_terms t title text start buy_now end) (list_any (λ k. k.category == category) (categories h)) (length (items_shown settings h)) own in
+    let count : length (items_shown settings h) ≡ length (listings h) = shown_count settings h in
     let lt = pass.3 in let n = fits.room in
     let one = pass.1 in
     let two = and_right _ _ one in let three = and_right _ _ two in let four = and_right _ _ three in let five = and_right _ _ four in let six = and_right _ _ five in

@@ -9,6 +9,7 @@ use Rattle.proxy.specs.Rules.{first_failing}
 use Rattle.proxy.specs.declared.bid.Bid as bid
 use Rattle.house_rows.specs.declared.command.Command.{Command}
 use Rattle.house_rows.specs.declared.command.Command.TheVariants.{Register, AddCategory, List as Listed, Bid, Buy, Close, Settle, Watch, Unwatch, Ask, Answer, Feedback}
+use Rattle.house_rows.specs.declared.item.ItemShown.{ItemShown}
 use Rattle.house_rows.specs.declared.item.Terms.{Terms}
 use Rattle.house_rows.specs.declared.refusal.Refusal.{Refusal}
 use Rattle.house_rows.specs.declared.refusal.Refusal.TheVariants.{Low, NotHigher, Limit, OwnItem, NotOpen, Ended, Range}
@@ -20,7 +21,7 @@ use Rattle.house_rows.specs.Items.{Purchase, floor_of, is_open, item_now, purcha
 use Rattle.house_rows.specs.Limits.{most_bids, most_cents}
 use Rattle.house_rows.specs.Listings.{Listing, listing_at, listing_in, listings}
 use Rattle.house_rows.specs.Runs.{entry}
-use Rattle.house_rows.specs.Verdict.{IsHistory, bid_rules, purchase_rules, rules, verdict}
+use Rattle.house_rows.specs.Verdict.{IsHistory, bid_rules, by_terms, purchase_rules, rules, verdict}
 use Rattle.house_rows.proofs.Every.{every_as, every_more, found_is, found_more}
 use Rattle.house_rows.proofs.Passed.{common_pass, item_pass, own_pass}
 use Rattle.house_rows.proofs.Put.{by_test}
@@ -59,8 +60,8 @@ bid_pass a b d range raises low full f none = (grind (arith, nat_tests, none), g
 bid_fits : (settings : Settings) (h : History) (t c i m : ℕ) → IsHistory settings h → verdict settings h t c (Bid i m) ≡ None → BidsFit h i (bids_on h i) → BidsFit (entry t c (Bid i m) ∷ h) i (bids_on (entry t c (Bid i m) ∷ h) i)
 bid_fits settings h t c i m is none fits =
     let own : first_failing (rules settings h t c (Bid i m)) ≡ None = own_pass settings h t c (Bid i m) none in
-    let more : Terms → List (Bool × Refusal) = bid_rules settings.bands t c m (greatest (bids_on h i) c) in
-    let pass = item_pass settings.bands h i more own in
+    let more : ItemShown → List (Bool × Refusal) = bid_rules t c m (greatest (bids_on h i) c) in
+    let pass = item_pass settings h i more own in
     let l : Listing = pass.listing in
     let terms : Terms = (item_now settings.bands h l).terms in
     let rest = bid_pass (l.seller == c) (not (is_open (state_of h l))) (nat_le l.end t) (nat_lt most_cents m) (is_leader terms.leader c && nat_le m (greatest (bids_on h i) c))
@@ -126,7 +127,7 @@ first_pass_only false rest none = refl
 purchases_step : (settings : Settings) (h : History) (t c : ℕ) (command : Command) → IsHistory settings h → verdict settings h t c command ≡ None → AllByRecursion (PurchaseIn h) (purchases h) → AllByRecursion (PurchaseIn (entry t c command ∷ h)) (purchases (entry t c command ∷ h))
 purchases_step settings h t c (Buy i) is none all =
     let own : first_failing (rules settings h t c (Buy i)) ≡ None = own_pass settings h t c (Buy i) none in
-    let pass = item_pass settings.bands h i (purchase_rules t c) own in
+    let pass = item_pass settings h i (by_terms (purchase_rules t c)) own in
     let l : Listing = pass.listing in
     let own_not = first_pass_only (l.seller == c) _ pass.pass in
     let common = common_pass settings h t c (Buy i) none in

@@ -15,7 +15,7 @@ use Rattle.house_rows.specs.History.{History, Key, clock, counted, is_less, move
 use Rattle.house_rows.specs.Bids.{bid_key, bid_rows, bids_on}
 use Rattle.house_rows.specs.Limits.{most_bids, most_watches}
 use Rattle.house_rows.specs.Runs.{entry}
-use Rattle.house_rows.specs.Verdict.{IsHistory, rules, verdict, watch_rules}
+use Rattle.house_rows.specs.Verdict.{IsHistory, by_terms, rules, verdict, watch_rules}
 use Rattle.house_rows.specs.Views.{own_watches}
 use Rattle.house_rows.specs.Watches.{WatchRow, unwatched, watch_key, watches}
 use Rattle.house_rows.proofs.Every.{every_put}
@@ -74,7 +74,7 @@ bid_rows_fit settings (e ∷ h) is = bids_step settings h e.moment e.caller e.co
 
 watch_fits : (settings : Settings) (h : History) (t c i : ℕ) → IsHistory settings h → verdict settings h t c (Watch i) ≡ None → WatchRowFits (record { member = c; item = i })
 watch_fits settings h t c i is none =
-    let pass = item_pass settings.bands h i (watch_rules (own_watches h c)) (own_pass settings h t c (Watch i) none) in
+    let pass = item_pass settings h i (by_terms (watch_rules (own_watches h c))) (own_pass settings h t c (Watch i) none) in
     record { member = caller_is settings h t c false is (common_pass settings h t c (Watch i) none) refl; item = item_there settings h i pass.listing is pass.listed }
 
 watches_step : (settings : Settings) (h : History) (t c : ℕ) (command : Command) → IsHistory settings h → verdict settings h t c command ≡ None → AllByRecursion WatchRowFits (watches h) → AllByRecursion WatchRowFits (watches (entry t c command ∷ h))
@@ -120,7 +120,7 @@ few_of settings h t c m (Watch i) none few =
     elim (by_test (c == m)) [
       | inl mine ↦ (let at' : c ≡ m = grind (arith, nat_tests) in
           let own : first_failing (rules settings h t m (Watch i)) ≡ None = rw at' at (own_pass settings h t c (Watch i) none) in
-          let pass = item_pass settings.bands h i (watch_rules (own_watches h m)) own in
+          let pass = item_pass settings h i (by_terms (watch_rules (own_watches h m))) own in
           let room = watch_pass _ pass.pass in
           let same : pass.listing.item ≡ i = listing_is h i pass.listing pass.listed in
           let room' : nat_le most_watches (counted (λ w. not (w.item == i)) (filter (λ w. w.member == m) (watches h))) ≡ false = rw same at room in

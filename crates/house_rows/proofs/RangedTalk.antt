@@ -25,7 +25,7 @@ use Rattle.house_rows.specs.Questions.{Asked, answer_to, answered, answers, ask_
 use Rattle.house_rows.specs.Ratings.{feedback, feedback_key, other_party, party_against}
 use Rattle.house_rows.specs.Runs.{entry}
 use Rattle.house_rows.specs.Text.{is_text}
-use Rattle.house_rows.specs.Verdict.{IsHistory, answer_rules, feedback_rules, is_sold, question_rules, rules, settlement_rules, verdict, was_sold}
+use Rattle.house_rows.specs.Verdict.{IsHistory, answer_rules, by_terms, feedback_rules, is_sold, question_rules, rules, settlement_rules, verdict, was_sold}
 use Rattle.house_rows.specs.Views.{own_questions}
 use Rattle.house_rows.proofs.Every.{every_as, every_map, every_more, every_put, found_has, found_is, found_more, some_has}
 use Rattle.house_rows.proofs.Own.{count_own}
@@ -65,7 +65,7 @@ unfolding own_questions
 asked_step settings h t c (Ask i text) is none all =
     let own : first_failing (rules settings h t c (Ask i text)) ≡ None = own_pass settings h t c (Ask i text) none in
     let count : ℕ = ask_count (own_questions h c) c i in
-    let pass = item_pass settings.bands h i (question_rules t c text count) own in
+    let pass = item_pass settings h i (by_terms (question_rules t c text count)) own in
     let l : Listing = pass.listing in
     let rest = ask_pass (l.seller == c) (not (is_open (state_of h l))) (nat_le l.end t) (is_text 1 500 text) count pass.pass in
     let same : ask_count (asked h) c i ≡ count = count_own c i (asked h) in
@@ -107,7 +107,7 @@ answers_step settings h t c (Answer i asker number text) none all =
     let own : first_failing (rules settings h t c (Answer i asker number text)) ≡ None = own_pass settings h t c (Answer i asker number text) none in
     let waits : Bool = list_any (is_question i asker number) (waiting h c) in
     let public : Bool = list_any (is_question i asker number) (published h) in
-    let pass = item_pass settings.bands h i (answer_rules c text waits public) own in
+    let pass = item_pass settings h i (by_terms (answer_rules c text waits public)) own in
     let l : Listing = pass.listing in
     every_more TextFits (answers h) (record { item = i; asker = asker; number = number; text = text }) all
     (answer_pass (not (l.seller == c)) (not (waits || public)) public (is_text 1 500 text) pass.pass)
@@ -246,7 +246,7 @@ settle_pass false none = cc
 settlements_step : (settings : Settings) (h : History) (t c : ℕ) (command : Command) → verdict settings h t c command ≡ None → AllByRecursion (SettledIn h) (settlements h) → AllByRecursion (SettledIn (entry t c command ∷ h)) (settlements (entry t c command ∷ h))
 settlements_step settings h t c (Settle i) none all =
     let own : first_failing (rules settings h t c (Settle i)) ≡ None = own_pass settings h t c (Settle i) none in
-    let pass = item_pass settings.bands h i settlement_rules own in
+    let pass = item_pass settings h i (by_terms settlement_rules) own in
     let l : Listing = pass.listing in
     let sold = settle_pass (is_sold (state_of h l)) pass.pass in
     let at' : l.item ≡ i = listing_is h i l pass.listed in
@@ -295,7 +295,7 @@ feedback_step : (settings : Settings) (h : History) (t c : ℕ) (command : Comma
 feedback_step settings h t c (Feedback i (Some rating) text) is none all =
     let own : first_failing (rules settings h t c (Feedback i (Some rating) text)) ≡ None = own_pass settings h t c (Feedback i (Some rating) text) none in
     let given : Bool = list_any (λ f. (f.item == i) && (f.from == c)) (feedback h) in
-    let pass = item_pass settings.bands h i (feedback_rules c (Some rating) text given) own in
+    let pass = item_pass settings h i (by_terms (feedback_rules c (Some rating) text given)) own in
     let l : Listing = pass.listing in
     let rest = rating_pass (was_sold (state_of h l)) ((l.seller == c) || is_leader (leader_of h l) c) given false (is_text 0 200 text) pass.pass in
     let at' : l.item ≡ i = listing_is h i l pass.listed in

@@ -1,15 +1,15 @@
 -- The tables after a change.
-use Rattle.std.specs.Prelude.{if◌then◌else◌, ℕ, ◌+◌, List, [], ◌∷◌, ◌++◌, Bool, ◌==◌, length, map, Option, Some, None, is_some}
+use Rattle.std.specs.Prelude.{if◌then◌else◌, ℕ, ◌+◌, List, [], ◌∷◌, ◌++◌, Bool, ◌==◌, length, map, Option, Some, None}
 use Rattle.proxy.specs.Bids.{standing_of}
 use Rattle.proxy.specs.Kept.{Kept}
 use Rattle.house_rows.specs.declared.change.Change.{Change}
 use Rattle.house_rows.specs.declared.change.Change.TheVariants.{Register, AddCategory, List as Listed, Bid, Buy, Close, Settle, Watch, Unwatch, Ask, Answer, Feedback}
 use Rattle.house_rows.specs.declared.item.Terms.{Terms}
-use Rattle.house_rows.specs.declared.state.State.TheVariants.{Open, Sold, Unsold, Settled}
+use Rattle.house_rows.specs.declared.state.State.TheVariants.{Open, Sold, Settled}
 use Rattle.house_rows.specs.declared.talk.Question.{Question}
 use Rattle.house_rows.specs.History.{Key, put_by}
 use Rattle.house_rows.specs.Bids.{bid_key}
-use Rattle.house_rows.specs.Items.{is_due}
+use Rattle.house_rows.specs.Items.{close_sells, closed_state, is_due}
 use Rattle.house_rows.specs.Questions.{is_question}
 use Rattle.house_rows.specs.Ratings.{feedback_key}
 use Rattle.house_rows.specs.Tables.{ItemRow, Tables}
@@ -36,11 +36,11 @@ with_purchase i buyer price moment row =
     then with_terms (record row.item.terms { state = Sold; closed = Some moment; price = price; leader = Some buyer }) row
     else row
 
--- an item that is due is closed at its end: sold where somebody leads, else unsold
+-- an item that is due is closed at its end, sold or unsold
 abbrev pub with_close : ℕ → ItemRow → ItemRow
 with_close moment row =
     if is_due moment row.item.terms
-    then with_terms (record row.item.terms { state = (if is_some row.item.terms.leader then Sold else Unsold); closed = Some row.item.terms.end }) row
+    then with_terms (record row.item.terms { state = closed_state (close_sells row.item.terms.leader); closed = Some row.item.terms.end }) row
     else row
 
 -- the item of that number is settled

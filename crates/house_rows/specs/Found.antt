@@ -20,7 +20,7 @@ use Rattle.house_rows.specs.Limits.{most_shown}
 use Rattle.house_rows.specs.History.{counted}
 use Rattle.house_rows.specs.Bids.{BidRow}
 use Rattle.house_rows.specs.Changed.{is_item}
-use Rattle.house_rows.specs.Items.{is_due}
+use Rattle.house_rows.specs.Items.{close_sells, is_due}
 use Rattle.house_rows.specs.Pages.{sale_of}
 use Rattle.house_rows.specs.Questions.{is_question}
 use Rattle.house_rows.specs.Tables.{ItemRow, Tables}
@@ -84,8 +84,8 @@ is_given t item giver = list_any (λ f. (f.item == item) && (f.from == giver)) t
 -- how many items a close at a moment would leave sold, and how many unsold
 abbrev pub due_at : Tables → ℕ → Due
 due_at t moment = record {
-  sold = counted (λ row. is_due moment row.item.terms && is_some row.item.terms.leader) t.items;
-  unsold = counted (λ row. is_due moment row.item.terms && not (is_some row.item.terms.leader)) t.items;
+  sold = counted (λ row. is_due moment row.item.terms && close_sells row.item.terms.leader) t.items;
+  unsold = counted (λ row. is_due moment row.item.terms && not (close_sells row.item.terms.leader)) t.items;
 }
 
 abbrev pub all_items : Tables → List Item

@@ -6,7 +6,9 @@ use Rattle.proxy.specs.Bids.{leader, price}
 use Rattle.house_rows.specs.declared.command.Command.{Command}
 use Rattle.house_rows.specs.declared.command.Command.TheVariants.{Buy, Close, Settle}
 use Rattle.house_rows.specs.declared.item.Item.{Item}
+use Rattle.house_rows.specs.declared.item.ItemShown.{ItemShown}
 use Rattle.house_rows.specs.declared.item.Terms.{Terms}
+use Rattle.house_rows.specs.declared.settings.Settings.{Settings}
 use Rattle.house_rows.specs.declared.state.State.{State}
 use Rattle.house_rows.specs.declared.state.State.TheVariants.{Open, Sold, Unsold, Settled}
 use Rattle.house_rows.specs.History.{History}
@@ -74,12 +76,20 @@ leader_of h l = leader_from (purchase_of h l.item) (leader (bids_on h l.item))
 abbrev pub price_of : List (ℕ × ℕ) → History → Listing → ℕ
 price_of bands h l = if is_bought h l.item then unwrap_or l.buy_now 0 else price bands l.start (bids_on h l.item)
 
+-- whether a close sells an item, by its leader: somebody leads
+abbrev pub close_sells : Option ℕ → Bool
+close_sells leader = is_some leader
+
+-- what a close leaves an item
+abbrev pub closed_state : Bool → State
+closed_state sells = if sells then Sold else Unsold
+
 abbrev pub state_from : Bool → Bool → Bool → Bool → State
-state_from bought taken led settled =
-    if settled then Settled else (if bought then Sold else (if taken then (if led then Sold else Unsold) else Open))
+state_from bought taken sells settled =
+    if settled then Settled else (if bought then Sold else (if taken then closed_state sells else Open))
 
 abbrev pub state_of : History → Listing → State
-state_of h l = state_from (is_bought h l.item) (is_taken h l) (is_some (leader_of h l)) (is_settled h l.item)
+state_of h l = state_from (is_bought h l.item) (is_taken h l) (close_sells (leader_of h l)) (is_settled h l.item)
 
 -- the closing moment: that of the purchase, or the end of what was taken
 abbrev pub closed_from : Option Purchase → Bool → ℕ → Option ℕ
@@ -108,8 +118,8 @@ abbrev pub item_now : List (ℕ × ℕ) → History → Listing → Item
 item_now bands h l = record { terms = terms_now bands h l; lot = l.lot; title = l.title; text = l.text }
 
 -- every item, by number
-unfoldable pub items : List (ℕ × ℕ) → History → List Item
-items bands h = map (item_now bands h) (listings h)
+unfoldable pub items : Settings → History → List Item
+items settings h = map (item_now settings.bands h) (listings h)
 
 abbrev pub is_open : State → Bool
 is_open Open = true
@@ -125,16 +135,12 @@ floor_of bands terms =
     if is_open terms.state then Some (if terms.count == 0 then terms.start else over bands terms.price) else None
 
 -- an item as pages show it
-pub record ItemShown : Type 0 where
-  pub item : Item
-  pub floor : Option ℕ
-
-abbrev pub shown : List (ℕ × ℕ) → Item → ItemShown
-shown bands it = record { item = it; floor = floor_of bands it.terms }
+abbrev pub shown : Settings → Item → ItemShown
+shown settings it = record { item = it; floor = floor_of settings.bands it.terms }
 
 -- every item as pages show it, by number
-unfoldable pub items_shown : List (ℕ × ℕ) → History → List ItemShown
-items_shown bands h = map (shown bands) (items bands h)
+unfoldable pub items_shown : Settings → History → List ItemShown
+items_shown settings h = map (shown settings) (items settings h)
 
 abbrev pub shown_at : List ItemShown → ℕ → Option ItemShown
 shown_at its i = find (λ it. it.item.terms.item == i) its

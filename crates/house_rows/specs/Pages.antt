@@ -4,8 +4,11 @@ use Rattle.std.specs.List.{list_any}
 use Rattle.proxy.specs.Bids.{bids_by, greatest, is_leader}
 use Rattle.settle.specs.Statement.{is_party}
 use Rattle.settle.specs.declared.sale.Sold.{Sold}
+use Rattle.house_rows.specs.declared.item.ItemShown.{ItemShown}
 use Rattle.house_rows.specs.declared.item.OwnBid.{OwnBid}
 use Rattle.house_rows.specs.declared.item.Terms.{Terms}
+use Rattle.house_rows.specs.declared.page.Page.{Page}
+use Rattle.house_rows.specs.declared.page.Page.TheVariants.{Refused, House, Bands, Categories, Items, OneItem, Questions, OneMember, Feedbacks, Bids, Statement}
 use Rattle.house_rows.specs.declared.people.Category.{Category}
 use Rattle.house_rows.specs.declared.people.Counts.{Counts}
 use Rattle.house_rows.specs.declared.people.Member.{Member}
@@ -21,26 +24,11 @@ use Rattle.house_rows.specs.Limits.{most_shown}
 use Rattle.house_rows.specs.History.{History, clock, counted}
 use Rattle.house_rows.specs.People.{categories, members}
 use Rattle.house_rows.specs.Bids.{bids_on}
-use Rattle.house_rows.specs.Items.{ItemShown, items_shown, shown_at}
+use Rattle.house_rows.specs.Items.{items_shown, shown_at}
 use Rattle.house_rows.specs.Questions.{published, questions, waiting}
 use Rattle.house_rows.specs.Ratings.{feedback, is_minus, is_plus, is_zero}
 use Rattle.house_rows.specs.Verdict.{was_sold}
 use Rattle.house_rows.specs.Views.{own_watches}
-
-pub data Page : Type 0 where
-  Refused : Refusal → Page
-  -- the counts, the clock and the settings
-  House : Counts → ℕ → Settings → Page
-  Bands : List (ℕ × ℕ) → Page
-  Categories : List Category → Page
-  Items : List ItemShown → Page
-  OneItem : ItemShown → Page
-  Questions : List Question → Page
-  OneMember : Member → Ratings → Page
-  Feedbacks : List Feedback → Page
-  Bids : List OwnBid → Page
-  -- the member, the first and the last day, and the sales that the statement is made from
-  Statement : ℕ → ℕ → ℕ → List Sold → Page
 
 -- how often a member was rated with each rating
 abbrev pub ratings_of : List Feedback → ℕ → Ratings
@@ -106,27 +94,27 @@ member_at members c = find (λ m. m.member == c) members
 -- the page of a read
 unfoldable pub page_of : Settings → History → ℕ → Query → Page
 page_of settings h c query.House = for_all (members h) c (House
-    (record { members = length (members h); categories = length (categories h); items = length (items_shown settings.bands h) })
-    (clock h) settings)
+    (record { members = length (members h); categories = length (categories h); items = length (items_shown settings h) })
+    (clock h) settings.rate settings.zone)
 page_of settings h c query.Bands = for_all (members h) c (Bands settings.bands)
 page_of settings h c query.Categories = for_all (members h) c (Categories (categories h))
 page_of settings h c (query.ItemsIn category from) = for_all (members h) c (
     if_known (list_any (λ k. k.category == category) (categories h))
-    (Items (take most_shown (filter (λ it. (it.item.terms.category == category) && nat_le from it.item.terms.item) (items_shown settings.bands h)))))
-page_of settings h c (query.Item i) = for_all (members h) c (item_page (shown_at (items_shown settings.bands h) i))
+    (Items (take most_shown (filter (λ it. (it.item.terms.category == category) && nat_le from it.item.terms.item) (items_shown settings h)))))
+page_of settings h c (query.Item i) = for_all (members h) c (item_page (shown_at (items_shown settings h) i))
 page_of settings h c (query.Questions i from) = for_all (members h) c (
-    if_known (is_some (shown_at (items_shown settings.bands h) i))
+    if_known (is_some (shown_at (items_shown settings h) i))
     (Questions (take most_shown (filter (λ q. (q.item == i) && nat_le from q.asker) (published h)))))
 page_of settings h c (query.Member m) = for_all (members h) c (member_page (member_at (members h) m) (ratings_of (feedback h) m))
 page_of settings h c (query.FeedbackTo m from) = for_all (members h) c (
     if_known (is_some (member_at (members h) m))
     (Feedbacks (take most_shown (filter (λ f. (f.to == m) && nat_le from f.item) (feedback h)))))
 page_of settings h c (query.MyBids from) = for_member (members h) c (
-    Bids (take most_shown (filter (λ b. nat_le from b.item) (own_bids h c (items_shown settings.bands h)))))
+    Bids (take most_shown (filter (λ b. nat_le from b.item) (own_bids h c (items_shown settings h)))))
 page_of settings h c query.MyWatches = for_member (members h) c (
-    Items (filter (λ it. list_any (λ w. w.item == it.item.terms.item) (own_watches h c)) (items_shown settings.bands h)))
+    Items (filter (λ it. list_any (λ w. w.item == it.item.terms.item) (own_watches h c)) (items_shown settings h)))
 page_of settings h c (query.MyQuestions from) = for_member (members h) c (
     Questions (take most_shown (filter (λ q. (q.asker == c) && nat_le from q.item) (questions h))))
 page_of settings h c query.MyWaiting = for_member (members h) c (Questions (take most_shown (waiting h c)))
 page_of settings h c (query.MyStatement from to) = for_member (members h) c (
-    Statement c from to (sales_of (items_shown settings.bands h) c))
+    Statement c from to (sales_of (items_shown settings h) c))

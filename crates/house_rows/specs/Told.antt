@@ -1,46 +1,23 @@
 -- What an accepted command is told.
-use Rattle.std.specs.Prelude.{ℕ, ◌-◌, List, Bool, true, false, not, ◌&&◌, length, Option, Some, None, is_some, unwrap_or}
+use Rattle.std.specs.Prelude.{ℕ, ◌-◌, List, Bool, true, false, not, ◌&&◌, length, Option, Some, None, unwrap_or}
 use Rattle.settle.specs.Fee.{fee_of}
 use Rattle.house_rows.specs.declared.command.Command.{Command}
 use Rattle.house_rows.specs.declared.command.Command.TheVariants.{Register, AddCategory, List as Listed, Bid, Buy, Close, Settle, Watch, Unwatch, Ask, Answer, Feedback}
+use Rattle.house_rows.specs.declared.item.ItemShown.{ItemShown}
 use Rattle.house_rows.specs.declared.rating.Rating.{Rating}
 use Rattle.house_rows.specs.declared.settings.Settings.{Settings}
+use Rattle.house_rows.specs.declared.told.Told.{Told}
+use Rattle.house_rows.specs.declared.told.Told.TheVariants.{Registered, Added, Listing, Placed, Bought, Closed, Settlement, Watched, Question, Rated, Nothing}
 use Rattle.house_rows.specs.History.{History, counted}
 use Rattle.house_rows.specs.People.{categories, members}
-use Rattle.house_rows.specs.Items.{ItemShown, floor_of, is_due, items_shown, shown_at}
+use Rattle.house_rows.specs.Items.{close_sells, is_due, items_shown, shown_at}
 use Rattle.house_rows.specs.Questions.{ask_count}
 use Rattle.house_rows.specs.Ratings.{other_party}
 use Rattle.house_rows.specs.Views.{own_questions}
 
-pub data Told : Type 0 where
-  -- the number of the new member, category or item
-  Registered : ℕ → Told
-  Added : ℕ → Told
-  Listing : ℕ → Told
-  -- count, floor, leader and price of the item after the bid
-  Placed : ℕ → ℕ → Option ℕ → ℕ → Told
-  -- item and price
-  Bought : ℕ → ℕ → Told
-  -- how many items it left sold, and how many unsold
-  Closed : ℕ → ℕ → Told
-  -- fee, item, net and price
-  Settlement : ℕ → ℕ → ℕ → ℕ → Told
-  -- item, and whether it is watched
-  Watched : ℕ → Bool → Told
-  -- asker, item and number
-  Question : ℕ → ℕ → ℕ → Told
-  -- item, rating, and the member that is rated
-  Rated : ℕ → Option Rating → ℕ → Told
-  -- there is no such item; an accepted command is never told so
-  Nothing : Told
-
-abbrev pub is_led : ItemShown → Bool
-is_led it = is_some it.item.terms.leader
-
-abbrev pub told_placed : List (ℕ × ℕ) → Option ItemShown → Told
-told_placed bands None = Nothing
-told_placed bands (Some it) =
-    Placed it.item.terms.count (unwrap_or (floor_of bands it.item.terms) 0) it.item.terms.leader it.item.terms.price
+abbrev pub told_placed : Option ItemShown → Told
+told_placed None = Nothing
+told_placed (Some it) = Placed it.item.terms.count (unwrap_or it.floor 0) it.item.terms.leader it.item.terms.price
 
 abbrev pub told_bought : Option ItemShown → Told
 told_bought None = Nothing
@@ -52,22 +29,22 @@ told_settled rate (Some it) =
     Settlement (fee_of it.item.terms.price rate) it.item.terms.item (it.item.terms.price - fee_of it.item.terms.price rate) it.item.terms.price
 
 abbrev pub told_rated : ℕ → Option Rating → Option ItemShown → Told
-told_rated c rating None = Nothing
-told_rated c rating (Some it) = Rated it.item.terms.item rating (other_party it.item.terms.seller it.item.terms.leader c)
+told_rated c (Some rating) (Some it) = Rated it.item.terms.item rating (other_party it.item.terms.seller it.item.terms.leader c)
+told_rated c _ _ = Nothing
 
 -- what is told of an accepted command, over the history with its entry and the history before it
 abbrev pub told : Settings → History → ℕ → ℕ → Command → History → Told
 told settings after moment caller (Register name) before = Registered (length (members after))
 told settings after moment caller (AddCategory name) before = Added (length (categories after))
-told settings after moment caller (Listed category lot title text start buy_now end) before = Listing (length (items_shown settings.bands after))
-told settings after moment caller (Bid i maximum) before = told_placed settings.bands (shown_at (items_shown settings.bands after) i)
-told settings after moment caller (Buy i) before = told_bought (shown_at (items_shown settings.bands after) i)
+told settings after moment caller (Listed category lot title text start buy_now end) before = Listing (length (items_shown settings after))
+told settings after moment caller (Bid i maximum) before = told_placed (shown_at (items_shown settings after) i)
+told settings after moment caller (Buy i) before = told_bought (shown_at (items_shown settings after) i)
 told settings after moment caller Close before = Closed
-    (counted (λ it. is_due moment it.item.terms && is_led it) (items_shown settings.bands before))
-    (counted (λ it. is_due moment it.item.terms && not (is_led it)) (items_shown settings.bands before))
-told settings after moment caller (Settle i) before = told_settled settings.rate (shown_at (items_shown settings.bands after) i)
+    (counted (λ it. is_due moment it.item.terms && close_sells it.item.terms.leader) (items_shown settings before))
+    (counted (λ it. is_due moment it.item.terms && not (close_sells it.item.terms.leader)) (items_shown settings before))
+told settings after moment caller (Settle i) before = told_settled settings.rate (shown_at (items_shown settings after) i)
 told settings after moment caller (Watch i) before = Watched i true
 told settings after moment caller (Unwatch i) before = Watched i false
 told settings after moment caller (Ask i text) before = Question caller i (ask_count (own_questions after caller) caller i)
 told settings after moment caller (Answer i asker number text) before = Question asker i number
-told settings after moment caller (Feedback i rating text) before = told_rated caller rating (shown_at (items_shown settings.bands after) i)
+told settings after moment caller (Feedback i rating text) before = told_rated caller rating (shown_at (items_shown settings after) i)

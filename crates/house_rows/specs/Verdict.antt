@@ -5,6 +5,7 @@ use Rattle.proxy.specs.Bids.{greatest, is_leader}
 use Rattle.proxy.specs.Rules.{first_failing}
 use Rattle.house_rows.specs.declared.command.Command.{Command}
 use Rattle.house_rows.specs.declared.command.Command.TheVariants.{Register, AddCategory, List as Listed, Bid, Buy, Close, Settle, Watch, Unwatch, Ask, Answer, Feedback}
+use Rattle.house_rows.specs.declared.item.ItemShown.{ItemShown}
 use Rattle.house_rows.specs.declared.item.Terms.{Terms}
 use Rattle.house_rows.specs.declared.people.Category.{Category}
 use Rattle.house_rows.specs.declared.people.Member.{Member}
@@ -19,7 +20,7 @@ use Rattle.house_rows.specs.Text.{is_lot, is_text, same_text}
 use Rattle.house_rows.specs.History.{History, counted, clock}
 use Rattle.house_rows.specs.People.{categories, members}
 use Rattle.house_rows.specs.Bids.{bids_on}
-use Rattle.house_rows.specs.Items.{ItemShown, floor_of, is_open, items_shown, shown_at}
+use Rattle.house_rows.specs.Items.{is_open, items_shown, shown_at}
 use Rattle.house_rows.specs.Questions.{ask_count, is_question, published, waiting}
 use Rattle.house_rows.specs.Ratings.{feedback}
 use Rattle.house_rows.specs.Views.{own_questions, own_watches}
@@ -75,10 +76,14 @@ listing_rules lot has_lot fits has_category items =
     ∷ (not has_category, Unknown)
     ∷ (nat_le most_items items, Limit) ∷ []
 
--- the rules of an item; where it doesn't exist, it is unknown
-abbrev pub of_item : Option ItemShown → (Terms → List Rule) → List Rule
+-- the rules of an item as everybody sees it; where it doesn't exist, it is unknown
+abbrev pub of_item : Option ItemShown → (ItemShown → List Rule) → List Rule
 of_item None rules = (true, Unknown) ∷ []
-of_item (Some it) rules = (false, Unknown) ∷ rules it.item.terms
+of_item (Some it) rules = (false, Unknown) ∷ rules it
+
+-- rules that ask for its terms alone
+abbrev pub by_terms : (Terms → List Rule) → ItemShown → List Rule
+by_terms rules it = rules it.item.terms
 
 -- what is asked of others' open items
 abbrev pub open_rules : ℕ → ℕ → Terms → List Rule
@@ -88,13 +93,13 @@ open_rules moment caller terms =
     ∷ (nat_le terms.end moment, Ended) ∷ []
 
 -- of a bid, by the caller's own greatest maximum on the item
-abbrev pub bid_rules : List (ℕ × ℕ) → ℕ → ℕ → ℕ → ℕ → Terms → List Rule
-bid_rules bands moment caller maximum own terms =
-    open_rules moment caller terms ++
+abbrev pub bid_rules : ℕ → ℕ → ℕ → ℕ → ItemShown → List Rule
+bid_rules moment caller maximum own it =
+    open_rules moment caller it.item.terms ++
     ((nat_lt most_cents maximum, Range)
-    ∷ (is_leader terms.leader caller && nat_le maximum own, NotHigher)
-    ∷ (not (is_leader terms.leader caller) && nat_lt maximum (unwrap_or (floor_of bands terms) 0), Low (unwrap_or (floor_of bands terms) 0))
-    ∷ (nat_le most_bids terms.count, Limit) ∷ [])
+    ∷ (is_leader it.item.terms.leader caller && nat_le maximum own, NotHigher)
+    ∷ (not (is_leader it.item.terms.leader caller) && nat_lt maximum (unwrap_or it.floor 0), Low (unwrap_or it.floor 0))
+    ∷ (nat_le most_bids it.item.terms.count, Limit) ∷ [])
 
 abbrev pub purchase_rules : ℕ → ℕ → Terms → List Rule
 purchase_rules moment caller terms =
@@ -143,26 +148,26 @@ abbrev pub rules : Settings → History → ℕ → ℕ → Command → List Rul
 rules settings h moment caller (Register name) = register_rules name (members h)
 rules settings h moment caller (AddCategory name) = category_rules name (categories h)
 rules settings h moment caller (Listed category lot title text start buy_now end) = listing_rules lot
-    (list_any (λ it. (it.item.terms.seller == caller) && same_text it.item.lot lot) (items_shown settings.bands h))
+    (list_any (λ it. (it.item.terms.seller == caller) && same_text it.item.lot lot) (items_shown settings h))
     (are_terms moment title text start buy_now end)
     (list_any (λ k. k.category == category) (categories h))
-    (length (items_shown settings.bands h))
+    (length (items_shown settings h))
 rules settings h moment caller (Bid i maximum) =
-    of_item (shown_at (items_shown settings.bands h) i) (bid_rules settings.bands moment caller maximum (greatest (bids_on h i) caller))
-rules settings h moment caller (Buy i) = of_item (shown_at (items_shown settings.bands h) i) (purchase_rules moment caller)
+    of_item (shown_at (items_shown settings h) i) (bid_rules moment caller maximum (greatest (bids_on h i) caller))
+rules settings h moment caller (Buy i) = of_item (shown_at (items_shown settings h) i) (by_terms (purchase_rules moment caller))
 rules settings h moment caller Close = []
-rules settings h moment caller (Settle i) = of_item (shown_at (items_shown settings.bands h) i) settlement_rules
-rules settings h moment caller (Watch i) = of_item (shown_at (items_shown settings.bands h) i) (watch_rules (own_watches h caller))
-rules settings h moment caller (Unwatch i) = of_item (shown_at (items_shown settings.bands h) i) (λ terms. [])
+rules settings h moment caller (Settle i) = of_item (shown_at (items_shown settings h) i) (by_terms settlement_rules)
+rules settings h moment caller (Watch i) = of_item (shown_at (items_shown settings h) i) (by_terms (watch_rules (own_watches h caller)))
+rules settings h moment caller (Unwatch i) = of_item (shown_at (items_shown settings h) i) (λ it. [])
 rules settings h moment caller (Ask i text) =
-    of_item (shown_at (items_shown settings.bands h) i) (question_rules moment caller text (ask_count (own_questions h caller) caller i))
+    of_item (shown_at (items_shown settings h) i) (by_terms (question_rules moment caller text (ask_count (own_questions h caller) caller i)))
 rules settings h moment caller (Answer i asker number text) =
-    of_item (shown_at (items_shown settings.bands h) i) (answer_rules caller text
+    of_item (shown_at (items_shown settings h) i) (by_terms (answer_rules caller text
     (list_any (is_question i asker number) (waiting h caller))
-    (list_any (is_question i asker number) (published h)))
+    (list_any (is_question i asker number) (published h))))
 rules settings h moment caller (Feedback i rating text) =
-    of_item (shown_at (items_shown settings.bands h) i) (feedback_rules caller rating text
-    (list_any (λ f. (f.item == i) && (f.from == caller)) (feedback h)))
+    of_item (shown_at (items_shown settings h) i) (by_terms (feedback_rules caller rating text
+    (list_any (λ f. (f.item == i) && (f.from == caller)) (feedback h))))
 
 -- the verdict: none where the command is accepted
 unfoldable pub verdict : Settings → History → ℕ → ℕ → Command → Option Refusal

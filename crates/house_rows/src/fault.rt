@@ -1,7 +1,9 @@
 //! Why a keep doesn't answer.
 ghost use Rattle.std.specs.Prelude.{◌≡◌};
 ghost use Rattle.house_rows.specs.Names.{fault_number};
+ghost use Rattle.house_rows.specs.declared.fault.KeepFault.TheVariants.{Memory};
 
+use std::alloc::AllocError;
 use thiserror::Error;
 
 /// Why a keep doesn't answer.
@@ -16,6 +18,14 @@ pub enum KeepFault {
     /// A row doesn't fit its type, or the new key of a change other than a watch is taken. Nothing changed.
     #[error("the store is damaged")]
     Damaged,
+}
+
+impl From<AllocError> for KeepFault {
+    ghost from_gives = { λ _ fault. fault ≡ Memory };
+
+    fn from(_fault: AllocError) -> KeepFault {
+        KeepFault::Memory
+    }
 }
 
 impl KeepFault {
