@@ -2,8 +2,8 @@
 use Rattle.std.specs.Prelude.{ℕ, List, codes}
 use Rattle.wire.specs.declared.fault.WireFault.{WireFault}
 use Rattle.wire.specs.declared.fault.WireFault.TheVariants.{Head, Host, Transfer, Length, Size, End, Excess}
-use Rattle.wire.specs.declared.status.Status.{Status}
-use Rattle.wire.specs.declared.status.Status.TheVariants.{BadRequest, ContentTooLarge, NotImplemented}
+use Rattle.status.specs.declared.Status.{Status}
+use Rattle.status.specs.declared.Status.TheVariants.{BadRequest, ContentTooLarge, NotImplemented}
 
 -- the place of a fault in the order of judging, from 1 on
 abbrev pub number_of : WireFault → ℕ

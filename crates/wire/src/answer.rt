@@ -1,8 +1,9 @@
 //! The bytes of an answer.
 ghost use Rattle.std.specs.Prelude.{◌≡◌, ◌++◌, IfOk, OnErr, OnOk, take, vec_len};
-ghost use Rattle.wire.specs.Answer.{answer_bytes, head_end};
+ghost use Rattle.wire.specs.Answer.{answer_bytes, head_end, head_start};
 
-use crate::status::{Methods, Status};
+use crate::methods::Methods;
+use status::Status;
 use std::alloc::{AllocError, Global};
 
 // No head of an answer is longer.
@@ -17,6 +18,40 @@ pub struct Answer<'a> {
     /// Whether the connection ends behind the answer.
     pub closes: bool,
     pub body: &'a [u8],
+}
+
+// An answer up to the number of its content-length, in one piece, so that it is one copy.
+fn head_start(status: Status) -> &'static [u8]
+    ensures { result.now ≡ head_start status }
+{
+    match status {
+        Status::Success => b"HTTP/1.1 200 OK\r\ncontent-type: application/json\r\ncontent-length: ",
+        Status::Created =>
+            b"HTTP/1.1 201 Created\r\ncontent-type: application/json\r\ncontent-length: ",
+        Status::BadRequest =>
+            b"HTTP/1.1 400 Bad Request\r\ncontent-type: application/json\r\ncontent-length: ",
+        Status::Forbidden =>
+            b"HTTP/1.1 403 Forbidden\r\ncontent-type: application/json\r\ncontent-length: ",
+        Status::NotFound =>
+            b"HTTP/1.1 404 Not Found\r\ncontent-type: application/json\r\ncontent-length: ",
+        Status::MethodNotAllowed => {
+            b"HTTP/1.1 405 Method Not Allowed\r\ncontent-type: application/json\r\ncontent-length: "
+        }
+        Status::Conflict =>
+            b"HTTP/1.1 409 Conflict\r\ncontent-type: application/json\r\ncontent-length: ",
+        Status::ContentTooLarge => {
+            b"HTTP/1.1 413 Content Too Large\r\ncontent-type: application/json\r\ncontent-length: "
+        }
+        Status::InternalServerError => {
+            b"HTTP/1.1 500 Internal Server Error\r\ncontent-type: application/json\r\ncontent-length: "
+        }
+        Status::NotImplemented => {
+            b"HTTP/1.1 501 Not Implemented\r\ncontent-type: application/json\r\ncontent-length: "
+        }
+        Status::ServiceUnavailable => {
+            b"HTTP/1.1 503 Service Unavailable\r\ncontent-type: application/json\r\ncontent-length: "
+        }
+    }
 }
 
 // What stands between the number of the content-length and the body, in one piece.
@@ -60,7 +95,7 @@ impl Answer<'_> {
     {
         let mut digits = itoa::Buffer::new();
         out.reserve(self.body.len().saturating_add(MOST_HEAD))?;
-        out.extend_from_slice(self.status.head_start())?;
+        out.extend_from_slice(head_start(self.status))?;
         out.extend_from_slice(digits.format(self.body.len()).as_bytes())?;
         out.extend_from_slice(head_end(self.allow, self.closes))?;
         out.extend_from_slice(self.body)?;

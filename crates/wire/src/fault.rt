@@ -2,7 +2,7 @@
 ghost use Rattle.std.specs.Prelude.{◌≡◌};
 ghost use Rattle.wire.specs.Fault.{number_of, status_of, word_of};
 
-use crate::status::Status;
+use status::Status;
 use thiserror::Error;
 
 /// Why bytes are no message of the profile: the first that holds, in this order. Each ends the

@@ -2,7 +2,7 @@
 ghost use Rattle.std.specs.Prelude.{◌≡◌, None, codes, true};
 ghost use Rattle.wire.specs.Answer.{answer_bytes, error_body};
 ghost use Rattle.wire.specs.Fault.{status_of, word_of};
-ghost use Rattle.wire.specs.declared.status.Status.TheVariants.{InternalServerError, ServiceUnavailable};
+ghost use Rattle.status.specs.declared.Status.TheVariants.{InternalServerError, ServiceUnavailable};
 
 use crate::fault::WireFault;
 

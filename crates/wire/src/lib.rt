@@ -19,8 +19,8 @@ mod laws;
 mod length;
 mod lines;
 mod look;
+mod methods;
 mod request;
-mod status;
 
 pub use answer::Answer;
 pub use fault::WireFault;
@@ -29,5 +29,6 @@ pub use frame::whole;
 pub use inbox::{Inbox, ROOM};
 pub use laws::{a_message_stays, streams_have_one_cut, texts_have_one_frame};
 pub use look::Look;
+pub use methods::Methods;
 pub use request::Request;
-pub use status::{Methods, Status};
+pub use status::Status;

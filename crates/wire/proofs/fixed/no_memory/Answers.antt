@@ -1,7 +1,8 @@
 -- Each text computes.
 use Rattle.std.proofs.Common.{refl}
 use Rattle.std.specs.Fmt.{digits}
-use Rattle.wire.specs.Answer.{allow_field, answer_bytes, closing_field, head_end, head_start, phrase_of, status_line}
+use Rattle.status.specs.Status.{phrase_of}
+use Rattle.wire.specs.Answer.{allow_field, answer_bytes, closing_field, head_end, head_start, status_line}
 use Rattle.wire.proofs.fixed.no_memory.Goals as goal
 
 pub returns-then-closes : goal.returns-then-closes
