@@ -1,0 +1,10 @@
+//! Why a body isn't read.
+
+/// Why a body isn't read.
+#[derive(Clone, Copy, Debug, PartialEq, Eq)]
+pub enum BodyFault {
+    /// It is no object of JSON.
+    NoObject,
+    /// Memory was wanted.
+    Memory,
+}

@@ -1,0 +1,16 @@
+//! Bodies that are objects of JSON, and their fields.
+//!
+//! Promised: a body is read exactly as `serde_json` reads it, with no tree of owned texts, and a
+//! field is told exactly, or that it is absent or of another kind. Read `specs/Members.antt` and
+//! `specs/Fields.antt` first, and then `body`.
+#![tactic(auto)]
+
+mod body;
+mod fault;
+mod judged;
+mod lone;
+mod numeral;
+
+pub use body::Body;
+pub use fault::BodyFault;
+pub use lone::lone_whole;

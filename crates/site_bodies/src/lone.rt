@@ -1,0 +1,52 @@
+//! Bodies that are one number under a name.
+ghost use Rattle.std.specs.Prelude.{◌≡◌, ◌++◌, ◌∷◌, [], IfSome, List, ℕ};
+ghost use Rattle.std.specs.Str.{IsAscii};
+ghost use Rattle.json.specs.Print.{escape};
+ghost use Rattle.json.specs.Spaced.{IsGap};
+ghost use Rattle.site_bodies.specs.LoneNumber.{IsLone};
+
+// What stands behind the front.
+#[inline(always)]
+fn behind<'b>(bytes: &'b [u8], front: &[u8]) -> Option<&'b [u8]>
+    ensures { IfSome result (λ rest. bytes.now ≡ front.now ++ rest.now) }
+{
+    if bytes.starts_with(front) {
+        Some(&bytes[front.len()..])
+    } else {
+        None
+    }
+}
+
+// What stands before the brace at the end.
+#[inline(always)]
+fn before_brace(bytes: &[u8]) -> Option<&[u8]>
+    ensures { IfSome result (λ rest. bytes.now ≡ rest.now ++ 125 ∷ []) }
+{
+    match bytes {
+        [rest @ .., b'}'] => Some(rest),
+        _ => None,
+    }
+}
+
+// What stands behind a space, if one is there.
+#[inline(always)]
+fn behind_space(bytes: &[u8]) -> &[u8]
+    ensures { (gap : List ℕ) × IsGap gap × (bytes.now ≡ gap ++ result.now) }
+{
+    match behind(bytes, b" ") {
+        Some(rest) => rest,
+        None => bytes,
+    }
+}
+
+/// The whole number of a body that is an object of this one number, if it is written without spaces,
+/// or with one behind the colon. Where there is none, the body may yet be any.
+pub fn lone_whole(bytes: &[u8], name: &str) -> Option<u64>
+    requires plain { escape name.now ≡ name.now }
+    requires ascii { IsAscii name.now }
+    ensures { IfSome result (IsLone bytes.now name.now) }
+{
+    let named = behind(behind(bytes, b"{\"")?, name.as_bytes())?;
+    let value = behind_space(behind(named, b"\":")?);
+    site_digits::number(before_brace(value)?)
+}
