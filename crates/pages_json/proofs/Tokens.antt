@@ -8,7 +8,7 @@ use Rattle.json.specs.Print.{print}
 use Rattle.serde_json.proofs.Texts.{print-outline}
 use Rattle.serde_json.specs.Data.{Data}
 use Rattle.serde_json.specs.View.{items_of}
-use Rattle.serde_json.specs.Written.{outline, items_outline, members_outline}
+use Rattle.serde_json.specs.Written.{items_outline, members_outline}
 use Rattle.pages_json.specs.Words.{keyed, object_of, array_of, tokens_of, text_of, members_tokens, entries_tokens}
 
 members_then : (ms : List (List ℕ × Data)) → tree.members_tokens (members_outline (keyed ms)) ≡ members_tokens ms ++ token.end_object ∷ []

@@ -1,5 +1,6 @@
 //! How entries are shown, and lists of them.
-ghost use Rattle.std.specs.Prelude.{◌≡◌, ◌++◌, OnErr, OnOk};
+ghost use Rattle.std.specs.Prelude.{◌≡◌, ◌++◌, OnErr, OnOk, length};
+ghost use Rattle.json.specs.Print.{print};
 ghost use Rattle.pages_json.specs.Words.{array_of, entries_tokens, text_of, tokens_of};
 
 use json::Writer;
@@ -60,6 +61,17 @@ pub fn append<E, F: Shows<E>>(
     let before = out.len();
     let mut w = Writer::new(replace(out, Vec::new(alloc)));
     let put = form.put(&mut w, entry);
+    finish(out, before, w, put)
+}
+
+/// Hands a writer's text to the buffer that it was begun with: all of it, or after an `Err` what
+/// stood there before, of that length.
+pub fn finish<E>(out: &mut Vec<u8>, before: usize, w: Writer, put: Result<(), E>) -> Result<(), E>
+    requires { before ≡ length w.before }
+    ensures same { result ≡ put }
+    ensures ok { OnOk result (out.new.items ≡ w.before ++ print w.tokens) }
+    ensures err { OnErr result (out.new.items ≡ w.before) }
+{
     *out = w.into_inner();
     if put.is_err() {
         out.truncate(before);
