@@ -3,12 +3,16 @@ use Rattle.std.proofs.Common.{◌≡◌, ℕ, List, [], ◌∷◌, true, false, 
 use Rattle.std.specs.Prelude.{◌==◌, if◌then◌else◌}
 use Rattle.std.proofs.lemmas.Bool.Decides.{nat_tests}
 use Rattle.house_rows.specs.declared.command.Command.{Command}
+use Rattle.house_rows.specs.declared.message.Message.{Message}
+use Rattle.house_rows.specs.declared.message.Message.TheVariants.{Broken, Order, Read}
 use Rattle.house_rows.specs.declared.query.Query.{Query}
 use Rattle.house_rows.specs.declared.refusal.Refusal.{Refusal}
+use Rattle.house_rows.specs.declared.reply.Reply.TheVariants.{Shows}
 use Rattle.house_rows.specs.declared.settings.Settings.{Settings}
+use Rattle.house_rows.specs.declared.told.Told.{Told}
 use Rattle.house_rows.specs.History.{Entry, History}
-use Rattle.house_rows.specs.Runs.{Agrees, Broken, Message, Order, Read, Shows, Twin, TwinFrom, entered, entry, is_of, next, replies_from, replies_to, reply, reply_if}
-use Rattle.house_rows.specs.Told.{Told, told}
+use Rattle.house_rows.specs.Runs.{Agrees, Twin, TwinFrom, entered, entry, is_of, next, replies_from, replies_to, reply, reply_if}
+use Rattle.house_rows.specs.Told.{told}
 use Rattle.house_rows.specs.Verdict.{verdict}
 use Rattle.house_rows.specs.Views.{own_view, public_view}
 use Rattle.house_laws.specs.Alike.{AreAlike}

@@ -4,6 +4,7 @@ use Rattle.std.specs.Prelude.{◌==◌, ◌&&◌, if◌then◌else◌, is_some, 
 use Rattle.std.specs.List.{AllByRecursion, list_any}
 use Rattle.std.proofs.lemmas.Bool.Decides.{nat_tests}
 use Rattle.std.proofs.lemmas.List.{append_assoc}
+use Rattle.house_rows.specs.declared.item.ItemShown.{ItemShown}
 use Rattle.house_rows.specs.declared.item.OwnBid.{OwnBid}
 use Rattle.house_rows.specs.declared.item.Terms.{Terms}
 use Rattle.house_rows.specs.declared.query.Query.{Query}
@@ -11,7 +12,7 @@ use Rattle.house_rows.specs.declared.query.Query.TheVariants as query
 use Rattle.house_rows.specs.declared.settings.Settings.{Settings}
 use Rattle.house_rows.specs.declared.talk.Question.{Question}
 use Rattle.house_rows.specs.History.{History}
-use Rattle.house_rows.specs.Items.{ItemShown, items_shown}
+use Rattle.house_rows.specs.Items.{items_shown}
 use Rattle.house_rows.specs.Questions.{Asked, answer_to, answered, answers, asked, names, published, questions}
 use Rattle.house_rows.specs.Pages.{own_bid, own_bids, page_of}
 use Rattle.house_rows.specs.Views.{own_questions, own_view}

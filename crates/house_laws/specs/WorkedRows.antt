@@ -2,14 +2,17 @@
 use Rattle.std.specs.Prelude.{◌≡◌, ℕ, [], ◌∷◌, false, Some, None, codes}
 use Rattle.house_rows.specs.declared.command.Command.{Command}
 use Rattle.house_rows.specs.declared.command.Command.TheVariants.{Register, AddCategory, Bid, Buy, Close, Settle, Watch, Ask, Answer, Feedback}
+use Rattle.house_rows.specs.declared.page.Page.TheVariants.{Bids, OneItem, Questions}
 use Rattle.house_rows.specs.declared.query.Query.TheVariants as query
 use Rattle.house_rows.specs.declared.rating.Rating.TheVariants.{Plus}
 use Rattle.house_rows.specs.declared.refusal.Refusal.TheVariants.{NoCaller, HouseOnly, SellerOnly, Unknown, MomentBehind, Ended, NotOpen, OwnItem, Low, NotHigher, HasBids, NoBuyNow, LotExists, NameTaken, AlreadyAnswered, AlreadyGiven, NotParty, NotSold, Range}
 use Rattle.house_rows.specs.declared.state.State.TheVariants.{Open}
+use Rattle.house_rows.specs.declared.told.Told.{Told}
+use Rattle.house_rows.specs.declared.told.Told.TheVariants.{Bought, Closed, Placed, Question, Rated, Settlement}
 use Rattle.house_rows.specs.History.{History}
-use Rattle.house_rows.specs.Pages.{Bids, OneItem, Questions, page_of}
+use Rattle.house_rows.specs.Pages.{page_of}
 use Rattle.house_rows.specs.Runs.{entry}
-use Rattle.house_rows.specs.Told.{Bought, Closed, Placed, Question, Rated, Settlement, Told, told}
+use Rattle.house_rows.specs.Told.{told}
 use Rattle.house_rows.specs.Verdict.{verdict}
 use Rattle.house_laws.specs.Examples.{and_bid, answered_once, asked_twice, five_bids, lists, one_bid, rated_once, settings, settled_once, setup, sold_once, three_bids, two_bids, with_buy_now}
 
@@ -141,10 +144,10 @@ FeeIsRoundedDown =
 
 abbrev pub PartiesRateEachOtherOnce : Type 0
 PartiesRateEachOtherOnce =
-    Tells settled_once 5001 2 (Feedback 1 (Some Plus) []) (Rated 1 (Some Plus) 1)
+    Tells settled_once 5001 2 (Feedback 1 (Some Plus) []) (Rated 1 Plus 1)
     × (verdict settings rated_once 5002 2 (Feedback 1 (Some Plus) []) ≡ Some AlreadyGiven)
     × (verdict settings rated_once 5002 3 (Feedback 1 (Some Plus) []) ≡ Some NotParty)
-    × Tells rated_once 5002 1 (Feedback 1 (Some Plus) []) (Rated 1 (Some Plus) 2)
+    × Tells rated_once 5002 1 (Feedback 1 (Some Plus) []) (Rated 1 Plus 2)
     × (verdict settings rated_once 5002 1 (Feedback 1 None []) ≡ Some Range)
 
 abbrev pub SellersKeepOffTheirItems : Type 0

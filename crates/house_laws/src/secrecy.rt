@@ -3,13 +3,14 @@ ghost use Rattle.std.specs.Prelude.{◌≡◌, ◌==◌, ◌∷◌, ℕ, List, N
 ghost use Rattle.house_laws.specs.Alike.{AreAlike};
 ghost use Rattle.house_rows.specs.declared.command.Command.{Command};
 ghost use Rattle.house_rows.specs.declared.command.Command.TheVariants.{Ask};
+ghost use Rattle.house_rows.specs.declared.message.Message.{Message};
 ghost use Rattle.house_rows.specs.declared.query.Query.{Query};
 ghost use Rattle.house_rows.specs.declared.settings.Settings.{Settings};
 ghost use Rattle.house_rows.specs.History.{Entry, History};
 ghost use Rattle.house_rows.specs.Listings.{is_seller, listing_at, listings};
 ghost use Rattle.house_rows.specs.Pages.{page_of};
 ghost use Rattle.house_rows.specs.Questions.{waiting};
-ghost use Rattle.house_rows.specs.Runs.{Message, Twin, entry, replies_to};
+ghost use Rattle.house_rows.specs.Runs.{Twin, entry, replies_to};
 ghost use Rattle.house_rows.specs.Told.{told};
 ghost use Rattle.house_rows.specs.Verdict.{verdict};
 ghost use Rattle.house_rows.specs.Views.{own_view, public_view};

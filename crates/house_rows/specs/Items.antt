@@ -6,6 +6,7 @@ use Rattle.proxy.specs.Bids.{leader, price}
 use Rattle.house_rows.specs.declared.command.Command.{Command}
 use Rattle.house_rows.specs.declared.command.Command.TheVariants.{Buy, Close, Settle}
 use Rattle.house_rows.specs.declared.item.Item.{Item}
+use Rattle.house_rows.specs.declared.item.ItemShown.{ItemShown}
 use Rattle.house_rows.specs.declared.item.Terms.{Terms}
 use Rattle.house_rows.specs.declared.state.State.{State}
 use Rattle.house_rows.specs.declared.state.State.TheVariants.{Open, Sold, Unsold, Settled}
@@ -125,10 +126,6 @@ floor_of bands terms =
     if is_open terms.state then Some (if terms.count == 0 then terms.start else over bands terms.price) else None
 
 -- an item as pages show it
-pub record ItemShown : Type 0 where
-  pub item : Item
-  pub floor : Option ℕ
-
 abbrev pub shown : List (ℕ × ℕ) → Item → ItemShown
 shown bands it = record { item = it; floor = floor_of bands it.terms }
 

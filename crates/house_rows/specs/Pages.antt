@@ -4,8 +4,11 @@ use Rattle.std.specs.List.{list_any}
 use Rattle.proxy.specs.Bids.{bids_by, greatest, is_leader}
 use Rattle.settle.specs.Statement.{is_party}
 use Rattle.settle.specs.declared.sale.Sold.{Sold}
+use Rattle.house_rows.specs.declared.item.ItemShown.{ItemShown}
 use Rattle.house_rows.specs.declared.item.OwnBid.{OwnBid}
 use Rattle.house_rows.specs.declared.item.Terms.{Terms}
+use Rattle.house_rows.specs.declared.page.Page.{Page}
+use Rattle.house_rows.specs.declared.page.Page.TheVariants.{Refused, House, Bands, Categories, Items, OneItem, Questions, OneMember, Feedbacks, Bids, Statement}
 use Rattle.house_rows.specs.declared.people.Category.{Category}
 use Rattle.house_rows.specs.declared.people.Counts.{Counts}
 use Rattle.house_rows.specs.declared.people.Member.{Member}
@@ -21,26 +24,11 @@ use Rattle.house_rows.specs.Limits.{most_shown}
 use Rattle.house_rows.specs.History.{History, clock, counted}
 use Rattle.house_rows.specs.People.{categories, members}
 use Rattle.house_rows.specs.Bids.{bids_on}
-use Rattle.house_rows.specs.Items.{ItemShown, items_shown, shown_at}
+use Rattle.house_rows.specs.Items.{items_shown, shown_at}
 use Rattle.house_rows.specs.Questions.{published, questions, waiting}
 use Rattle.house_rows.specs.Ratings.{feedback, is_minus, is_plus, is_zero}
 use Rattle.house_rows.specs.Verdict.{was_sold}
 use Rattle.house_rows.specs.Views.{own_watches}
-
-pub data Page : Type 0 where
-  Refused : Refusal → Page
-  -- the counts, the clock and the settings
-  House : Counts → ℕ → Settings → Page
-  Bands : List (ℕ × ℕ) → Page
-  Categories : List Category → Page
-  Items : List ItemShown → Page
-  OneItem : ItemShown → Page
-  Questions : List Question → Page
-  OneMember : Member → Ratings → Page
-  Feedbacks : List Feedback → Page
-  Bids : List OwnBid → Page
-  -- the member, the first and the last day, and the sales that the statement is made from
-  Statement : ℕ → ℕ → ℕ → List Sold → Page
 
 -- how often a member was rated with each rating
 abbrev pub ratings_of : List Feedback → ℕ → Ratings
@@ -107,7 +95,7 @@ member_at members c = find (λ m. m.member == c) members
 unfoldable pub page_of : Settings → History → ℕ → Query → Page
 page_of settings h c query.House = for_all (members h) c (House
     (record { members = length (members h); categories = length (categories h); items = length (items_shown settings.bands h) })
-    (clock h) settings)
+    (clock h) settings.rate settings.zone)
 page_of settings h c query.Bands = for_all (members h) c (Bands settings.bands)
 page_of settings h c query.Categories = for_all (members h) c (Categories (categories h))
 page_of settings h c (query.ItemsIn category from) = for_all (members h) c (

@@ -1,28 +1,19 @@
--- Runs: messages, the next history, replies, and two runs that look alike to one member.
+-- Runs: the next history, replies, and two runs that look alike to one member.
 use Rattle.std.specs.Prelude.{if◌then◌else◌, ◌≡◌, ◌⊎◌, ℕ, List, [], ◌∷◌, ◌++◌, Bool, false, ◌==◌, Option, Some, None}
 use Rattle.house_rows.specs.declared.command.Command.{Command}
-use Rattle.house_rows.specs.declared.query.Query.{Query}
+use Rattle.house_rows.specs.declared.message.Message.{Message}
+use Rattle.house_rows.specs.declared.message.Message.TheVariants.{Order, Read, Broken}
 use Rattle.house_rows.specs.declared.refusal.Refusal.{Refusal}
+use Rattle.house_rows.specs.declared.reply.Reply.{Reply}
+use Rattle.house_rows.specs.declared.reply.Reply.TheVariants.{Done, Denied, Shows, Faulty}
 use Rattle.house_rows.specs.declared.settings.Settings.{Settings}
+use Rattle.house_rows.specs.declared.told.Told.{Told}
 use Rattle.house_rows.specs.History.{Entry, History}
-use Rattle.house_rows.specs.Pages.{Page, page_of}
+use Rattle.house_rows.specs.Pages.{page_of}
 use Rattle.house_rows.specs.Questions.{waiting}
-use Rattle.house_rows.specs.Told.{Told, told}
+use Rattle.house_rows.specs.Told.{told}
 use Rattle.house_rows.specs.Verdict.{verdict}
 use Rattle.house_rows.specs.Views.{public_view}
-
--- a message: a command, a read, or what is neither, with a fault F and the caller that it names, if it names one
-pub data Message (F : Type 0) : Type 0 where
-  Order : ℕ → ℕ → Command → Message F
-  Read : ℕ → Query → Message F
-  Broken : Option ℕ → F → Message F
-
--- what a message is answered
-pub data Reply (F : Type 0) : Type 0 where
-  Done : Told → Reply F
-  Denied : Refusal → Reply F
-  Shows : Page → Reply F
-  Faulty : F → Reply F
 
 abbrev pub entry : ℕ → ℕ → Command → Entry
 entry moment caller command = record { moment = moment; caller = caller; command = command }

@@ -3,36 +3,17 @@ use Rattle.std.specs.Prelude.{ℕ, ◌-◌, List, Bool, true, false, not, ◌&&�
 use Rattle.settle.specs.Fee.{fee_of}
 use Rattle.house_rows.specs.declared.command.Command.{Command}
 use Rattle.house_rows.specs.declared.command.Command.TheVariants.{Register, AddCategory, List as Listed, Bid, Buy, Close, Settle, Watch, Unwatch, Ask, Answer, Feedback}
+use Rattle.house_rows.specs.declared.item.ItemShown.{ItemShown}
 use Rattle.house_rows.specs.declared.rating.Rating.{Rating}
 use Rattle.house_rows.specs.declared.settings.Settings.{Settings}
+use Rattle.house_rows.specs.declared.told.Told.{Told}
+use Rattle.house_rows.specs.declared.told.Told.TheVariants.{Registered, Added, Listing, Placed, Bought, Closed, Settlement, Watched, Question, Rated, Nothing}
 use Rattle.house_rows.specs.History.{History, counted}
 use Rattle.house_rows.specs.People.{categories, members}
-use Rattle.house_rows.specs.Items.{ItemShown, floor_of, is_due, items_shown, shown_at}
+use Rattle.house_rows.specs.Items.{floor_of, is_due, items_shown, shown_at}
 use Rattle.house_rows.specs.Questions.{ask_count}
 use Rattle.house_rows.specs.Ratings.{other_party}
 use Rattle.house_rows.specs.Views.{own_questions}
-
-pub data Told : Type 0 where
-  -- the number of the new member, category or item
-  Registered : ℕ → Told
-  Added : ℕ → Told
-  Listing : ℕ → Told
-  -- count, floor, leader and price of the item after the bid
-  Placed : ℕ → ℕ → Option ℕ → ℕ → Told
-  -- item and price
-  Bought : ℕ → ℕ → Told
-  -- how many items it left sold, and how many unsold
-  Closed : ℕ → ℕ → Told
-  -- fee, item, net and price
-  Settlement : ℕ → ℕ → ℕ → ℕ → Told
-  -- item, and whether it is watched
-  Watched : ℕ → Bool → Told
-  -- asker, item and number
-  Question : ℕ → ℕ → ℕ → Told
-  -- item, rating, and the member that is rated
-  Rated : ℕ → Option Rating → ℕ → Told
-  -- there is no such item; an accepted command is never told so
-  Nothing : Told
 
 abbrev pub is_led : ItemShown → Bool
 is_led it = is_some it.item.terms.leader
@@ -52,8 +33,8 @@ told_settled rate (Some it) =
     Settlement (fee_of it.item.terms.price rate) it.item.terms.item (it.item.terms.price - fee_of it.item.terms.price rate) it.item.terms.price
 
 abbrev pub told_rated : ℕ → Option Rating → Option ItemShown → Told
-told_rated c rating None = Nothing
-told_rated c rating (Some it) = Rated it.item.terms.item rating (other_party it.item.terms.seller it.item.terms.leader c)
+told_rated c (Some rating) (Some it) = Rated it.item.terms.item rating (other_party it.item.terms.seller it.item.terms.leader c)
+told_rated c _ _ = Nothing
 
 -- what is told of an accepted command, over the history with its entry and the history before it
 abbrev pub told : Settings → History → ℕ → ℕ → Command → History → Told

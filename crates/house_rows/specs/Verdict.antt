@@ -5,6 +5,7 @@ use Rattle.proxy.specs.Bids.{greatest, is_leader}
 use Rattle.proxy.specs.Rules.{first_failing}
 use Rattle.house_rows.specs.declared.command.Command.{Command}
 use Rattle.house_rows.specs.declared.command.Command.TheVariants.{Register, AddCategory, List as Listed, Bid, Buy, Close, Settle, Watch, Unwatch, Ask, Answer, Feedback}
+use Rattle.house_rows.specs.declared.item.ItemShown.{ItemShown}
 use Rattle.house_rows.specs.declared.item.Terms.{Terms}
 use Rattle.house_rows.specs.declared.people.Category.{Category}
 use Rattle.house_rows.specs.declared.people.Member.{Member}
@@ -19,7 +20,7 @@ use Rattle.house_rows.specs.Text.{is_lot, is_text, same_text}
 use Rattle.house_rows.specs.History.{History, counted, clock}
 use Rattle.house_rows.specs.People.{categories, members}
 use Rattle.house_rows.specs.Bids.{bids_on}
-use Rattle.house_rows.specs.Items.{ItemShown, floor_of, is_open, items_shown, shown_at}
+use Rattle.house_rows.specs.Items.{floor_of, is_open, items_shown, shown_at}
 use Rattle.house_rows.specs.Questions.{ask_count, is_question, published, waiting}
 use Rattle.house_rows.specs.Ratings.{feedback}
 use Rattle.house_rows.specs.Views.{own_questions, own_watches}

@@ -2,6 +2,7 @@
 use Rattle.std.specs.Prelude.{if◌then◌else◌, ℕ, List, [], ◌∷◌, ◌++◌, ◌==◌, filter}
 use Rattle.house_rows.specs.declared.command.Command.{Command}
 use Rattle.house_rows.specs.declared.command.Command.TheVariants.{Bid}
+use Rattle.house_rows.specs.declared.item.ItemShown.{ItemShown}
 use Rattle.house_rows.specs.declared.people.Category.{Category}
 use Rattle.house_rows.specs.declared.people.Member.{Member}
 use Rattle.house_rows.specs.declared.settings.Settings.{Settings}
@@ -9,7 +10,7 @@ use Rattle.house_rows.specs.declared.talk.Feedback.{Feedback}
 use Rattle.house_rows.specs.declared.talk.Question.{Question}
 use Rattle.house_rows.specs.History.{History, clock}
 use Rattle.house_rows.specs.People.{categories, members}
-use Rattle.house_rows.specs.Items.{ItemShown, items_shown}
+use Rattle.house_rows.specs.Items.{items_shown}
 use Rattle.house_rows.specs.Questions.{Asked, asked, published}
 use Rattle.house_rows.specs.Ratings.{feedback}
 use Rattle.house_rows.specs.Watches.{WatchRow, watches}

@@ -44,6 +44,15 @@ pub struct Item {
     pub text: Text,
 }
 
+/// An item as pages show it.
+#[derive(Debug, Drop)]
+pub struct ItemShown {
+    /// The item.
+    pub item: Item,
+    /// The least maximum that is taken of who doesn't lead, in cents; none unless the item is open.
+    pub floor: Option<u64>,
+}
+
 /// What a member has bid on one item.
 #[derive(Clone, Copy, Debug, PartialEq, Eq)]
 pub struct OwnBest {

@@ -1,5 +1,5 @@
-//! The house: its commands and reads, the rows that it keeps, why a command is refused, and what
-//! every keep of the tables promises.
+//! The house: the messages that it takes and the replies that it gives, the rows that it keeps, why
+//! a command is refused, and what every keep of the tables promises.
 //!
 //! Promised here is little, and said much: `specs/` holds the definitions that everything above
 //! meets. Read `specs/History.antt` first, then `Items`, `Verdict`, `Views`, `Tables`, `Told` and
@@ -11,25 +11,35 @@ mod command;
 mod fault;
 mod item;
 mod keep;
+mod message;
+mod page;
 mod people;
 mod query;
 mod rating;
 mod refusal;
+mod reply;
+mod rows;
 mod settings;
 mod state;
 mod talk;
 mod text;
+mod told;
 
 pub use change::Change;
 pub use command::Command;
 pub use fault::KeepFault;
-pub use item::{Due, Item, OwnBest, OwnBid, Terms};
+pub use item::{Due, Item, ItemShown, OwnBest, OwnBid, Terms};
 pub use keep::Keep;
+pub use message::Message;
+pub use page::Page;
 pub use people::{Category, Counts, Member, Ratings};
 pub use query::Query;
 pub use rating::Rating;
 pub use refusal::Refusal;
+pub use reply::Reply;
+pub use rows::Rows;
 pub use settings::{Rate, Settings};
 pub use state::State;
 pub use talk::{Feedback, Question};
 pub use text::Text;
+pub use told::Told;
