@@ -7,7 +7,6 @@ use Rattle.house_rows.specs.declared.item.Terms.{Terms}
 use Rattle.house_rows.specs.declared.refusal.Refusal.{Refusal}
 use Rattle.house_rows.specs.declared.refusal.Refusal.TheVariants.{Unknown}
 use Rattle.house_rows.specs.declared.settings.Settings.{Settings}
-use Rattle.house_rows.specs.Asks.{HasMember}
 use Rattle.house_rows.specs.Changed.{is_item}
 use Rattle.house_rows.specs.Found.{row_at, terms_at}
 use Rattle.house_rows.specs.History.{History, clock}
@@ -16,7 +15,6 @@ use Rattle.house_rows.specs.People.{members}
 use Rattle.house_rows.specs.Tables.{ItemRow, Tables, tables_of}
 use Rattle.house_rows.specs.Verdict.{Rule, common_rules, of_item}
 use Rattle.house_rows.proofs.Every.{found_is}
-use Rattle.house_rows.proofs.Passed.{Common}
 use Rattle.house.proofs.Found.{first_none}
 use Rattle.house.proofs.Items.{terms_shown}
 use Rattle.house.specs.Decided.{of_terms}
@@ -53,8 +51,3 @@ row_there t item terms found = by_row (row_at t item) refl found where
       let same : row.item.terms ≡ terms = cc in
       let here = found_is (is_item item) t.items row is in
       record { row = row; there = is; same = same; numbered = rw (← same) (grind (arith, nat_tests, here)) }
-
--- whoever calls is a member that is there
-pub caller_there : (t : Tables) (settings : Settings) (h : History) (moment caller : ℕ) → t ≡ tables_of settings h → Common h moment caller false → HasMember t caller
-unfolding tables_of
-caller_there t settings h moment caller e common = rw e (common.member_if refl, common.registered)
