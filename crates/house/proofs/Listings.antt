@@ -27,7 +27,7 @@ use Rattle.house_rows.specs.Questions.{questions}
 use Rattle.house_rows.specs.Runs.{entry}
 use Rattle.house_rows.specs.Tables.{ItemRow, Tables, row_now, tables_of}
 use Rattle.house_rows.specs.Text.{is_lot, is_text, same_text}
-use Rattle.house_rows.specs.Verdict.{IsHistory, are_terms, common_rules, is_buy_now, listing_rules, settlement_rules, verdict}
+use Rattle.house_rows.specs.Verdict.{IsHistory, are_terms, by_terms, common_rules, is_buy_now, listing_rules, settlement_rules, verdict}
 use Rattle.house_rows.proofs.Every.{every_as, found_has, found_is}
 use Rattle.house_rows.proofs.Numbered.{numbered}
 use Rattle.house_rows.proofs.Passed.{first_pass, item_pass, later_pass, own_pass}
@@ -43,20 +43,20 @@ use Rattle.house.proofs.Found.{some_found}
 use Rattle.house.proofs.Rows.{each_and_new, same_number}
 
 -- what everybody sees of lots is in the rows
-lots_among : (bands : List (ℕ × ℕ)) (h : History) (caller : ℕ) (lot : List ℕ) (ls : List Listing)
-    → list_any (λ it. (it.item.terms.seller == caller) && same_text it.item.lot lot) (map (shown bands) (map (item_now bands h) ls))
-    ≡ list_any (λ (row : ItemRow). (row.item.terms.seller == caller) && same_text row.item.lot lot) (map (row_now bands h) ls)
-lots_among bands h caller lot [] = refl
-lots_among bands h caller lot (l ∷ ls) =
-    elim (by_test ((l.seller == caller) && same_text l.lot lot)) [ inl is ↦ rw is refl | inr not ↦ rw not (lots_among bands h caller lot ls) ]
+lots_among : (settings : Settings) (h : History) (caller : ℕ) (lot : List ℕ) (ls : List Listing)
+    → list_any (λ it. (it.item.terms.seller == caller) && same_text it.item.lot lot) (map (shown settings) (map (item_now settings.bands h) ls))
+    ≡ list_any (λ (row : ItemRow). (row.item.terms.seller == caller) && same_text row.item.lot lot) (map (row_now settings.bands h) ls)
+lots_among settings h caller lot [] = refl
+lots_among settings h caller lot (l ∷ ls) =
+    elim (by_test ((l.seller == caller) && same_text l.lot lot)) [ inl is ↦ rw is refl | inr not ↦ rw not (lots_among settings h caller lot ls) ]
 
 lots_shown : (settings : Settings) (h : History) (caller : ℕ) (lot : List ℕ)
-    → list_any (λ it. (it.item.terms.seller == caller) && same_text it.item.lot lot) (items_shown settings.bands h)
+    → list_any (λ it. (it.item.terms.seller == caller) && same_text it.item.lot lot) (items_shown settings h)
     ≡ list_any (λ (row : ItemRow). (row.item.terms.seller == caller) && same_text row.item.lot lot) (tables_of settings h).items
 unfolding items items_shown tables_of
-lots_shown settings h caller lot = lots_among settings.bands h caller lot (listings h)
+lots_shown settings h caller lot = lots_among settings h caller lot (listings h)
 
-count_shown : (settings : Settings) (h : History) → length (items_shown settings.bands h) ≡ length (tables_of settings h).items
+count_shown : (settings : Settings) (h : History) → length (items_shown settings h) ≡ length (tables_of settings h).items
 unfolding items items_shown tables_of
 count_shown settings h = simp length-map
 
@@ -70,7 +70,7 @@ list_verdict t settings h moment caller offer e =
     let has_category = list_any (λ k. k.category == offer.category) (categories h) in
     let has_lot = list_any (λ (row : ItemRow). (row.item.terms.seller == caller) && same_text row.item.lot offer.lot.now) (tables_of settings h).items in
     rw e (
-    ap (λ (has : Bool). first_failing (first ++ listing_rules offer.lot.now has fits has_category (length (items_shown settings.bands h)))) (lots_shown settings h caller offer.lot.now)
+    ap (λ (has : Bool). first_failing (first ++ listing_rules offer.lot.now has fits has_category (length (items_shown settings h)))) (lots_shown settings h caller offer.lot.now)
     ∙ ap (λ (count : ℕ). first_failing (first ++ listing_rules offer.lot.now has_lot fits has_category count)) (count_shown settings h)
     )
 
@@ -205,7 +205,7 @@ none_takes count i last (c ∷ cs) above all =
 settlement_small : (settings : Settings) (h : History) (moment caller : ℕ) (command : Command) → verdict settings h moment caller command ≡ None
     → AllByRecursion (λ s. s ≤ length (listings h)) (settlement_in command)
 settlement_small settings h moment caller (Settle i) none =
-    let pass = item_pass settings.bands h i settlement_rules (own_pass settings h moment caller (Settle i) none) in
+    let pass = item_pass settings h i (by_terms settlement_rules) (own_pass settings h moment caller (Settle i) none) in
     (listed_small h i pass.listing pass.listed, tt)
 settlement_small settings h moment caller _ none = tt
 

@@ -88,7 +88,7 @@ pub answer_refused : (t : Tables) (settings : Settings) (h : History) (moment ca
 unfolding verdict
 answer_refused t settings h moment caller item asker number text refusal e told =
     item_refused t settings h moment caller item refusal
-    (answer_rules caller text (list_any (is_question item asker number) (waiting h caller)) (list_any (is_question item asker number) (published h))) e told
+    (λ floor. answer_rules caller text (list_any (is_question item asker number) (waiting h caller)) (list_any (is_question item asker number) (published h))) e told
 
 answer_judged : (t : Tables) (settings : Settings) (h : History) (moment caller item asker number : ℕ) (text : List ℕ) (terms : Terms) → t ≡ tables_of settings h
     → terms_at t item ≡ Some terms → None ≡ first_failing (common_rules t.clock (length t.members) moment caller false)
@@ -97,7 +97,7 @@ answer_judged : (t : Tables) (settings : Settings) (h : History) (moment caller 
 unfolding verdict
 answer_judged t settings h moment caller item asker number text terms e found passed =
     item_judged t settings h moment caller item terms
-    (answer_rules caller text (list_any (is_question item asker number) (waiting h caller)) (list_any (is_question item asker number) (published h))) e found passed
+    (λ floor. answer_rules caller text (list_any (is_question item asker number) (waiting h caller)) (list_any (is_question item asker number) (published h))) e found passed
     ∙ rw (is_waiting h item asker number caller text, is_published h item asker number text, seller_is settings h item caller terms (rw e at found)) refl
 
 -- a caller that doesn't sell the item

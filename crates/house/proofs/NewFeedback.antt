@@ -46,7 +46,7 @@ pub feedback_refused : (t : Tables) (settings : Settings) (h : History) (moment 
     → ((more : Terms → List Rule) → Some refusal ≡ first_failing (common_rules t.clock (length t.members) moment caller false ++ of_terms (terms_at t item) more))
     → verdict settings h moment caller (Feedback item rating text) ≡ Some refusal
 unfolding verdict
-feedback_refused t settings h moment caller item rating text refusal e told = item_refused t settings h moment caller item refusal (feedback_rules caller rating text _) e told
+feedback_refused t settings h moment caller item rating text refusal e told = item_refused t settings h moment caller item refusal (λ floor. feedback_rules caller rating text _) e told
 
 -- the verdict by the terms, and by whether feedback is kept
 pub feedback_judged : (t : Tables) (settings : Settings) (h : History) (moment caller item : ℕ) (rating : Option Rating) (text : List ℕ) (terms : Terms) → t ≡ tables_of settings h
@@ -54,7 +54,7 @@ pub feedback_judged : (t : Tables) (settings : Settings) (h : History) (moment c
     → verdict settings h moment caller (Feedback item rating text) ≡ first_failing (feedback_rules caller rating text (is_given t item caller) terms)
 unfolding verdict tables_of
 feedback_judged t settings h moment caller item rating text terms e found passed =
-    item_judged t settings h moment caller item terms (feedback_rules caller rating text _) e found passed ∙ rw e refl
+    item_judged t settings h moment caller item terms (λ floor. feedback_rules caller rating text _) e found passed ∙ rw e refl
 
 rating_pass : (sold party given out fits : Bool)
     → first_failing ((not sold, NotSold) ∷ (not party, NotParty) ∷ (given, AlreadyGiven) ∷ (out || not fits, Range) ∷ []) ≡ None

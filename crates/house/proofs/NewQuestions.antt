@@ -24,7 +24,7 @@ use Rattle.house_rows.specs.Questions.{Asked, answer_to, answered, answers, ask_
 use Rattle.house_rows.specs.Runs.{entry}
 use Rattle.house_rows.specs.Tables.{Tables, row_now, tables_of}
 use Rattle.house_rows.specs.Text.{is_text}
-use Rattle.house_rows.specs.Verdict.{IsHistory, Rule, answer_rules, common_rules, question_rules, rules, verdict}
+use Rattle.house_rows.specs.Verdict.{IsHistory, Rule, answer_rules, by_terms, common_rules, question_rules, rules, verdict}
 use Rattle.house_rows.specs.Views.{own_questions}
 use Rattle.house_rows.proofs.Every.{every_as, every_map, every_more, every_put, some_has}
 use Rattle.house_rows.proofs.Own.{count_own}
@@ -83,7 +83,7 @@ answer_given settings h t c i asker number text none are =
     let own : first_failing (rules settings h t c (Answer i asker number text)) ≡ None = own_pass settings h t c (Answer i asker number text) none in
     let waits : Bool = list_any (is_question i asker number) (waiting h c) in
     let public : Bool = list_any (is_question i asker number) (published h) in
-    let pass = item_pass settings.bands h i (answer_rules c text waits public) own in
+    let pass = item_pass settings h i (by_terms (answer_rules c text waits public)) own in
     let any = answer_pass (not (pass.listing.seller == c)) waits public (not (is_text 1 500 text)) pass.pass in
     let IsNumbered : Question → Type 0 = λ q. q.number ≤ asked_count (asked h) q.asker q.item in
     let one = some_has IsNumbered (is_question i asker number) (map (answered (answers h)) (asked h)) (every_map (answered (answers h)) IsNumbered (asked h) are.questions)
@@ -179,7 +179,7 @@ pub ask_refused : (t : Tables) (settings : Settings) (h : History) (moment calle
     → verdict settings h moment caller (Ask item text) ≡ Some refusal
 unfolding verdict
 ask_refused t settings h moment caller item text refusal e told =
-    item_refused t settings h moment caller item refusal (question_rules moment caller text (asked_count (own_questions h caller) caller item)) e told
+    item_refused t settings h moment caller item refusal (λ floor. question_rules moment caller text (asked_count (own_questions h caller) caller item)) e told
 
 -- the verdict by the terms and the count that are kept
 pub ask_judged : (t : Tables) (settings : Settings) (h : History) (moment caller item : ℕ) (text : List ℕ) (terms : Terms) → t ≡ tables_of settings h
@@ -187,7 +187,7 @@ pub ask_judged : (t : Tables) (settings : Settings) (h : History) (moment caller
     → verdict settings h moment caller (Ask item text) ≡ first_failing (question_rules moment caller text (ask_count t caller item) terms)
 unfolding verdict own_questions
 ask_judged t settings h moment caller item text terms e found passed =
-    item_judged t settings h moment caller item terms (question_rules moment caller text (asked_count (own_questions h caller) caller item)) e found passed
+    item_judged t settings h moment caller item terms (λ floor. question_rules moment caller text (asked_count (own_questions h caller) caller item)) e found passed
     ∙ rw (e, count_kept settings h caller item, count_own caller item (asked h)) refl
 
 ask_pass : (a b d fits : Bool) (count : ℕ)

@@ -23,7 +23,7 @@ use Rattle.house_rows.specs.Bids.{BidRow, bid_in, bid_key, bid_rows, bids_on}
 use Rattle.house_rows.specs.Changed.{changed, is_item, with_standing}
 use Rattle.house_rows.specs.Found.{standing_at, terms_at}
 use Rattle.house_rows.specs.History.{History, clock}
-use Rattle.house_rows.specs.Items.{closings, floor_of, is_bought, is_open, is_settled, is_taken, leader_of, purchase_of, state_of, terms_now}
+use Rattle.house_rows.specs.Items.{closings, floor_of, is_bought, is_open, is_settled, is_taken, item_now, leader_of, purchase_of, shown, state_of, terms_now}
 use Rattle.house_rows.specs.Keeping.{AreSound, ItemRowFits}
 use Rattle.house_rows.specs.Limits.{most_bids, most_cents}
 use Rattle.house_rows.specs.Listings.{Listing, listing_at, listings}
@@ -48,11 +48,14 @@ use Rattle.house.specs.Refused.{as_refusal}
 abbrev first_rules : ℕ → ℕ → ℕ → Terms → List Rule
 first_rules moment caller maximum terms = open_rules moment caller terms ++ (nat_lt most_cents maximum, Range) ∷ []
 
-abbrev later_rules : List (ℕ × ℕ) → ℕ → ℕ → ℕ → Terms → List Rule
-later_rules bands caller maximum own terms =
+abbrev later_rules : ℕ → ℕ → ℕ → Option ℕ → Terms → List Rule
+later_rules caller maximum own least terms =
     (is_leader terms.leader caller && nat_le maximum own, NotHigher)
-    ∷ (not (is_leader terms.leader caller) && nat_lt maximum (unwrap_or (floor_of bands terms) 0), Low (unwrap_or (floor_of bands terms) 0))
+    ∷ (not (is_leader terms.leader caller) && nat_lt maximum (unwrap_or least 0), Low (unwrap_or least 0))
     ∷ (nat_le most_bids terms.count, Limit) ∷ []
+
+abbrev all_rules : ℕ → ℕ → ℕ → ℕ → Option ℕ → Terms → List Rule
+all_rules moment caller maximum own least terms = first_rules moment caller maximum terms ++ later_rules caller maximum own least terms
 
 open_is : (state : State) → is_open state ≡ true → state ≡ Open
 open_is Open is = refl
@@ -101,7 +104,7 @@ as_by_bids false false false f = refl
 
 -- the later rules are those of the item's bids
 later_is : (bands : List (ℕ × ℕ)) (h : History) (caller maximum : ℕ) (l : Listing) → Biddable h l
-    → first_failing (later_rules bands caller maximum (greatest (bids_on h l.item) caller) (terms_now bands h l)) ≡ option_map as_refusal (refusal bands l.start (bids_on h l.item) caller maximum)
+    → first_failing (later_rules caller maximum (greatest (bids_on h l.item) caller) (floor_of bands (terms_now bands h l)) (terms_now bands h l)) ≡ option_map as_refusal (refusal bands l.start (bids_on h l.item) caller maximum)
 later_is bands h caller maximum l can =
     rw (can.is_open, can.unsold) (rw (floor_is bands l.start (bids_on h l.item)) (as_by_bids _ _ _ _))
 
@@ -113,9 +116,9 @@ unfolding verdict
 judged settings h moment caller maximum l listed common first =
     let own : ℕ = greatest (bids_on h l.item) caller in
     let terms : Terms = terms_now settings.bands h l in
-    rw (shown_is settings.bands h l.item, listed) (
-    first_none (common_rules (clock h) (length (members h)) moment caller false) ((false, Unknown) ∷ bid_rules settings.bands moment caller maximum own terms) common
-    ∙ first_none (first_rules moment caller maximum terms) (later_rules settings.bands caller maximum own terms) first
+    rw (shown_is settings h l.item, listed) (
+    first_none (common_rules (clock h) (length (members h)) moment caller false) ((false, Unknown) ∷ bid_rules moment caller maximum own (shown settings (item_now settings.bands h l))) common
+    ∙ first_none (first_rules moment caller maximum terms) (later_rules caller maximum own (floor_of settings.bands terms) terms) first
     ∙ later_is settings.bands h caller maximum l (biddable settings.bands h moment caller maximum l first)
     )
 
@@ -240,7 +243,7 @@ pub bid_unknown : (t : Tables) (settings : Settings) (h : History) (moment calle
     → verdict settings h moment caller (Bid item maximum) ≡ Some told
 unfolding verdict
 bid_unknown t settings h moment caller item maximum told e so =
-    item_refused t settings h moment caller item told (bid_rules settings.bands moment caller maximum (greatest (bids_on h item) caller)) e so
+    item_refused t settings h moment caller item told (all_rules moment caller maximum (greatest (bids_on h item) caller)) e so
 
 -- what is refused before the item's bids are asked
 pub bid_unfit : (t : Tables) (settings : Settings) (h : History) (moment caller item maximum : ℕ) (terms : Terms) (told : Refusal) → t ≡ tables_of settings h
@@ -249,8 +252,8 @@ pub bid_unfit : (t : Tables) (settings : Settings) (h : History) (moment caller 
 unfolding verdict
 bid_unfit t settings h moment caller item maximum terms told e found common so =
     let own : ℕ = greatest (bids_on h item) caller in
-    item_judged t settings h moment caller item terms (bid_rules settings.bands moment caller maximum own) e found common
-    ∙ first_some (first_rules moment caller maximum terms) (later_rules settings.bands caller maximum own terms) told (sym so)
+    item_judged t settings h moment caller item terms (all_rules moment caller maximum own) e found common
+    ∙ first_some (first_rules moment caller maximum terms) (later_rules caller maximum own (floor_of settings.bands terms) terms) told (sym so)
 
 by_history : (t : Tables) (settings : Settings) (h : History) (moment caller : ℕ) → t ≡ tables_of settings h → None ≡ first_failing (common_rules t.clock (length t.members) moment caller false)
     → first_failing (common_rules (clock h) (length (members h)) moment caller false) ≡ None

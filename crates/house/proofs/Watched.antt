@@ -77,7 +77,7 @@ pub watch_refused : (t : Tables) (settings : Settings) (h : History) (moment cal
     → ((rules : Terms → List Rule) → Some refusal ≡ first_failing (common_rules t.clock (length t.members) moment caller false ++ of_terms (terms_at t item) rules))
     → verdict settings h moment caller (Watch item) ≡ Some refusal
 unfolding verdict
-watch_refused t settings h moment caller item refusal e told = item_refused t settings h moment caller item refusal (watch_rules (own_watches h caller)) e told
+watch_refused t settings h moment caller item refusal e told = item_refused t settings h moment caller item refusal (λ floor. watch_rules (own_watches h caller)) e told
 
 -- the verdict by whether there is room
 watch_judged : (t : Tables) (settings : Settings) (h : History) (moment caller item : ℕ) (terms : Terms) → IsHistory settings h → t ≡ tables_of settings h
@@ -85,7 +85,7 @@ watch_judged : (t : Tables) (settings : Settings) (h : History) (moment caller i
     → verdict settings h moment caller (Watch item) ≡ first_failing ((not (is_watched t caller item || nat_lt (watch_count t caller) most_watches), Limit) ∷ [])
 unfolding verdict own_watches tables_of
 watch_judged t settings h moment caller item terms is e found passed =
-    item_judged t settings h moment caller item terms (watch_rules (own_watches h caller)) e found passed
+    item_judged t settings h moment caller item terms (λ floor. watch_rules (own_watches h caller)) e found passed
     ∙ rw (row_there t item terms found).numbered (rw e (rw (others_own caller item (watches h), others_room caller item (watches h) (few_rows settings h caller is)) (by_room (others caller item (watches h))))) where
       by_room : (n : ℕ) → first_failing ((nat_le most_watches n, Limit) ∷ []) ≡ first_failing ((not (nat_lt n most_watches), Limit) ∷ [])
       by_room n = grind (arith, nat_tests)
@@ -133,12 +133,12 @@ pub unwatch_refused : (t : Tables) (settings : Settings) (h : History) (moment c
     → ((rules : Terms → List Rule) → Some refusal ≡ first_failing (common_rules t.clock (length t.members) moment caller false ++ of_terms (terms_at t item) rules))
     → verdict settings h moment caller (Unwatch item) ≡ Some refusal
 unfolding verdict
-unwatch_refused t settings h moment caller item refusal e told = item_refused t settings h moment caller item refusal (λ terms. []) e told
+unwatch_refused t settings h moment caller item refusal e told = item_refused t settings h moment caller item refusal (λ floor terms. []) e told
 
 unwatch_judged : (t : Tables) (settings : Settings) (h : History) (moment caller item : ℕ) (terms : Terms) → t ≡ tables_of settings h
     → terms_at t item ≡ Some terms → None ≡ first_failing (common_rules t.clock (length t.members) moment caller false) → verdict settings h moment caller (Unwatch item) ≡ None
 unfolding verdict
-unwatch_judged t settings h moment caller item terms e found passed = item_judged t settings h moment caller item terms (λ terms. []) e found passed
+unwatch_judged t settings h moment caller item terms e found passed = item_judged t settings h moment caller item terms (λ floor terms. []) e found passed
 
 pub unwatch_fits : (t : Tables) (moment caller item : ℕ) (terms : Terms) (member : ℕ)
     → member ≡ caller → terms_at t item ≡ Some terms → None ≡ first_failing (common_rules t.clock (length t.members) moment caller false)
