@@ -3,3 +3,4 @@ pub mod Examples
 pub mod WorkedRows
 pub mod WrongReadings
 pub mod Course
+pub mod TwinRuns

@@ -8,6 +8,7 @@
 
 mod course;
 mod secrecy;
+mod twins;
 mod worked;
 
 pub use course::{
@@ -16,4 +17,5 @@ pub use course::{
     states_only_move_forward,
 };
 pub use secrecy::{commands_step_equally, isolation, replies_depend_on_views, views_are_local};
+pub use twins::twin_runs_may_differ;
 pub use worked::{worked_rows, wrong_readings_differ};
