@@ -5,3 +5,4 @@ pub mod Alike
 pub mod States
 pub mod Rising
 pub mod Balanced
+pub mod Watching

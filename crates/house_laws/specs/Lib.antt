@@ -4,3 +4,5 @@ pub mod WorkedRows
 pub mod WrongReadings
 pub mod Course
 pub mod TwinRuns
+pub mod EdgeRows
+pub mod Watching

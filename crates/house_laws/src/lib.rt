@@ -7,6 +7,7 @@
 #![tactic(auto)]
 
 mod course;
+mod edges;
 mod secrecy;
 mod twins;
 mod worked;
@@ -16,6 +17,7 @@ pub use course::{
     refused_commands_change_nothing, rows_of_a_history_fit, sales_balance,
     states_only_move_forward,
 };
+pub use edges::{edges_of_rules, members_watch_200};
 pub use secrecy::{commands_step_equally, isolation, replies_depend_on_views, views_are_local};
 pub use twins::twin_runs_may_differ;
 pub use worked::{worked_rows, wrong_readings_differ};
