@@ -6,3 +6,5 @@ pub mod States
 pub mod Rising
 pub mod Balanced
 pub mod Watching
+pub mod Bidders
+pub mod Deals

@@ -6,3 +6,4 @@ pub mod Course
 pub mod TwinRuns
 pub mod EdgeRows
 pub mod Watching
+pub mod Deals
