@@ -8,3 +8,4 @@ pub mod Balanced
 pub mod Watching
 pub mod Bidders
 pub mod Deals
+pub mod StatementLines

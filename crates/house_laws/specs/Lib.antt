@@ -7,3 +7,4 @@ pub mod TwinRuns
 pub mod EdgeRows
 pub mod Watching
 pub mod Deals
+pub mod Statements
