@@ -5,3 +5,7 @@ pub mod Alike
 pub mod States
 pub mod Rising
 pub mod Balanced
+pub mod Watching
+pub mod Bidders
+pub mod Deals
+pub mod StatementLines

@@ -3,3 +3,8 @@ pub mod Examples
 pub mod WorkedRows
 pub mod WrongReadings
 pub mod Course
+pub mod TwinRuns
+pub mod EdgeRows
+pub mod Watching
+pub mod Deals
+pub mod Statements

@@ -2,7 +2,6 @@
 ghost use Rattle.std.specs.Prelude.{◌≡◌, ◌≤◌, ◌+◌, ◌∷◌, ℕ, length, true, Some, None};
 ghost use Rattle.settle.specs.Balance.{IsBalanced};
 ghost use Rattle.settle.specs.declared.zone.Zone.{Zone};
-ghost use Rattle.steps.specs.Table.{IsBandTable};
 ghost use Rattle.house_rows.specs.declared.change.Change.{Change};
 ghost use Rattle.house_rows.specs.declared.command.Command.{Command};
 ghost use Rattle.house_rows.specs.declared.command.Command.TheVariants.{Bid};
@@ -11,7 +10,7 @@ ghost use Rattle.house_rows.specs.declared.refusal.Refusal.{Refusal};
 ghost use Rattle.house_rows.specs.declared.settings.Settings.{Settings};
 ghost use Rattle.house_rows.specs.History.{History};
 ghost use Rattle.house_rows.specs.Bids.{bids_on};
-ghost use Rattle.house_rows.specs.Items.{is_open, items_shown, price_of, state_of};
+ghost use Rattle.house_rows.specs.Items.{items_shown, state_of};
 ghost use Rattle.house_rows.specs.Listings.{Listing, listing_at, listings};
 ghost use Rattle.house_rows.specs.Pages.{all_sales};
 ghost use Rattle.house_rows.specs.Runs.{entry, next};
@@ -29,15 +28,6 @@ pub fn states_only_move_forward()
     ensures { (settings : Settings) (h : History) (moment caller : ℕ) (command : Command) (l : Listing)
         → listing_at (listings h) l.item ≡ Some l → verdict settings h moment caller command ≡ None
         → may_move (state_of h l) (state_of (entry moment caller command ∷ h) l) ≡ true }
-{}
-
-/// The price of a listed item doesn't fall with an accepted command that leaves it open.
-#[tactic(auto, using(crate::proofs::Rising::price_kept))]
-pub fn open_prices_never_fall()
-    ensures { (settings : Settings) (h : History) (moment caller : ℕ) (command : Command) (l : Listing)
-        → IsBandTable settings.bands → listing_at (listings h) l.item ≡ Some l
-        → verdict settings h moment caller command ≡ None → is_open (state_of (entry moment caller command ∷ h) l) ≡ true
-        → price_of settings.bands h l ≤ price_of settings.bands (entry moment caller command ∷ h) l }
 {}
 
 /// Every accepted bid, a raise among them, adds one to its item's count.

@@ -7,13 +7,20 @@
 #![tactic(auto)]
 
 mod course;
+mod edges;
+mod prices;
 mod secrecy;
+mod statements;
+mod twins;
 mod worked;
 
 pub use course::{
-    accepted_bids_count, changes_keep_tables_sound, open_prices_never_fall,
-    refused_commands_change_nothing, rows_of_a_history_fit, sales_balance,
-    states_only_move_forward,
+    accepted_bids_count, changes_keep_tables_sound, refused_commands_change_nothing,
+    rows_of_a_history_fit, sales_balance, states_only_move_forward,
 };
+pub use edges::{edges_of_rules, members_watch_200};
+pub use prices::{best_offer_leads, prices_depend_on_deals, prices_never_fall};
 pub use secrecy::{commands_step_equally, isolation, replies_depend_on_views, views_are_local};
+pub use statements::statements_have_each_sale_once;
+pub use twins::twin_runs_may_differ;
 pub use worked::{worked_rows, wrong_readings_differ};

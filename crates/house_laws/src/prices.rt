@@ -1,0 +1,49 @@
+//! What the price of an item is by, and what bidders can rely on.
+ghost use Rattle.std.specs.Prelude.{◌≡◌, ◌≤◌, ◌<◌, ◌++◌, ℕ, List, length, false, Some};
+ghost use Rattle.steps.specs.Table.{IsBandTable};
+ghost use Rattle.proxy.specs.Bids.{greatest};
+ghost use Rattle.house_rows.specs.declared.settings.Settings.{Settings};
+ghost use Rattle.house_rows.specs.Bids.{bids_on};
+ghost use Rattle.house_rows.specs.History.{Entry, History};
+ghost use Rattle.house_rows.specs.Items.{is_bought, leader_of, price_of};
+ghost use Rattle.house_rows.specs.Listings.{Listing, listing_at, listings};
+ghost use Rattle.house_rows.specs.Verdict.{IsHistory};
+ghost use Rattle.house_laws.specs.Deals.{deals_on};
+
+/// The price of a listed item never falls, whatever follows: bids, a purchase, a close or a
+/// settlement.
+#[tactic(auto, using(crate::proofs::Rising::price_later))]
+pub fn prices_never_fall()
+    ensures { (settings : Settings) (h : History) (later : List Entry) (l : Listing)
+        → IsBandTable settings.bands → IsHistory settings (later ++ h)
+        → listing_at (listings h) l.item ≡ Some l
+        → price_of settings.bands h l ≤ price_of settings.bands (later ++ h) l }
+{}
+
+/// Of an item that wasn't bought at once, whoever has offered more than the price leads, and the
+/// leader has offered at least the price. So nobody who would have paid more loses, and nobody pays
+/// more than it offered.
+#[tactic(auto, using(crate::proofs::Bidders::above_price_leads, crate::proofs::Bidders::leader_covers))]
+pub fn best_offer_leads()
+    ensures above { (bands : List (ℕ × ℕ)) (h : History) (l : Listing) (member : ℕ)
+        → is_bought h l.item ≡ false → price_of bands h l < greatest (bids_on h l.item) member
+        → leader_of h l ≡ Some member }
+    ensures covered { (settings : Settings) (h : History) (l : Listing) (member : ℕ)
+        → IsHistory settings h → listing_at (listings h) l.item ≡ Some l
+        → is_bought h l.item ≡ false → leader_of h l ≡ Some member
+        → price_of settings.bands h l ≤ greatest (bids_on h l.item) member }
+{}
+
+/// Leader, price and count of bids of an item depend on its bids and its purchase alone, and the
+/// price on the band table, the start and the buy-now price too: on no moment, and on nothing that
+/// is done with other items.
+#[tactic(auto, using(crate::proofs::Deals::price_follows, crate::proofs::Deals::leader_follows, crate::proofs::Deals::count_follows))]
+pub fn prices_depend_on_deals()
+    ensures price { (bands : List (ℕ × ℕ)) (h k : History) (l m : Listing)
+        → l.start ≡ m.start → l.buy_now ≡ m.buy_now → deals_on h l.item ≡ deals_on k m.item
+        → price_of bands h l ≡ price_of bands k m }
+    ensures leader { (h k : History) (l m : Listing) → deals_on h l.item ≡ deals_on k m.item
+        → leader_of h l ≡ leader_of k m }
+    ensures count { (h k : History) (l m : Listing) → deals_on h l.item ≡ deals_on k m.item
+        → length (bids_on h l.item) ≡ length (bids_on k m.item) }
+{}
