@@ -15,7 +15,8 @@ use Rattle.house_rows.specs.History.{History}
 use Rattle.house_rows.specs.Items.{closed_at, item_now, items, items_shown, leader_of, price_of, shown, state_of, terms_now}
 use Rattle.house_rows.specs.Keeping.{AreInTurn}
 use Rattle.house_rows.specs.Listings.{Listing, listing_at, listings}
-use Rattle.house_rows.specs.Pages.{Statement, all_sales, page_of, sale_of, sales_of}
+use Rattle.house_rows.specs.declared.page.Page.TheVariants.{Statement}
+use Rattle.house_rows.specs.Pages.{all_sales, page_of, sale_of, sales_of}
 use Rattle.house_rows.specs.People.{members}
 use Rattle.house_rows.specs.Verdict.{IsHistory, was_sold}
 use Rattle.house_rows.proofs.InTurn.{listings_in_turn}
@@ -98,42 +99,42 @@ sale_other r w f i terms same other =
     ]
 
 -- the sales of listings
-abbrev sales_in : List (ℕ × ℕ) → History → List Listing → List Sold
-sales_in bands h ls = all_sales (map (shown bands) (map (item_now bands h) ls))
+abbrev sales_in : Settings → History → List Listing → List Sold
+sales_in settings h ls = all_sales (map (shown settings) (map (item_now settings.bands h) ls))
 
-sales_above : (bands : List (ℕ × ℕ)) (h : History) (r w : Sold → Bool) (f : Sold → Line) (i next : ℕ) (ls : List Listing) → ((s : Sold) → (f s).item ≡ s.item) → AreInTurn (λ l. l.item) next ls → i < next
-    → picked r w f i (sales_in bands h ls) ≡ []
-sales_above bands h r w f i next [] same turn lt = refl
-sales_above bands h r w f i next (l ∷ ls) same turn lt =
+sales_above : (settings : Settings) (h : History) (r w : Sold → Bool) (f : Sold → Line) (i next : ℕ) (ls : List Listing) → ((s : Sold) → (f s).item ≡ s.item) → AreInTurn (λ l. l.item) next ls → i < next
+    → picked r w f i (sales_in settings h ls) ≡ []
+sales_above settings h r w f i next [] same turn lt = refl
+sales_above settings h r w f i next (l ∷ ls) same turn lt =
     let at' = turn.0 in
     let other : (l.item == i) ≡ false = grind (arith, nat_tests) in
-    picked_more r w f i (sale_of (terms_now bands h l)) (sales_in bands h ls)
-    ∙ rw (sale_other r w f i (terms_now bands h l) same other) (sales_above bands h r w f i (next + 1) ls same turn.1 (omega arith))
+    picked_more r w f i (sale_of (terms_now settings.bands h l)) (sales_in settings h ls)
+    ∙ rw (sale_other r w f i (terms_now settings.bands h l) same other) (sales_above settings h r w f i (next + 1) ls same turn.1 (omega arith))
 
 -- only the sale of the item's listing counts
-sales_here : (bands : List (ℕ × ℕ)) (h : History) (r w : Sold → Bool) (f : Sold → Line) (i next : ℕ) (ls : List Listing) (l : Listing) → ((s : Sold) → (f s).item ≡ s.item) → AreInTurn (λ l. l.item) next ls
-    → listing_at ls i ≡ Some l → picked r w f i (sales_in bands h ls) ≡ picked r w f i (sale_of (terms_now bands h l))
-sales_here bands h r w f i next [] l same turn listed = absurd (let e : None ≡ Some l = listed in cc)
-sales_here bands h r w f i next (a ∷ ls) l same turn listed =
+sales_here : (settings : Settings) (h : History) (r w : Sold → Bool) (f : Sold → Line) (i next : ℕ) (ls : List Listing) (l : Listing) → ((s : Sold) → (f s).item ≡ s.item) → AreInTurn (λ l. l.item) next ls
+    → listing_at ls i ≡ Some l → picked r w f i (sales_in settings h ls) ≡ picked r w f i (sale_of (terms_now settings.bands h l))
+sales_here settings h r w f i next [] l same turn listed = absurd (let e : None ≡ Some l = listed in cc)
+sales_here settings h r w f i next (a ∷ ls) l same turn listed =
     elim (by_test (a.item == i)) [
       | inl here ↦ (let is : Some a ≡ Some l = rw here at listed in
           let at' = turn.0 in
           let e : a ≡ l = cc in
           let number : a.item ≡ i = grind (arith, nat_tests) in
-          let above : picked r w f i (sales_in bands h ls) ≡ [] = sales_above bands h r w f i (next + 1) ls same turn.1 (omega arith) in
-          picked_more r w f i (sale_of (terms_now bands h a)) (sales_in bands h ls)
-          ∙ rw above (simp append-nil (ap (λ (x : Listing). picked r w f i (sale_of (terms_now bands h x))) e)))
-      | inr other ↦ picked_more r w f i (sale_of (terms_now bands h a)) (sales_in bands h ls)
-          ∙ rw (sale_other r w f i (terms_now bands h a) same other) (sales_here bands h r w f i (next + 1) ls l same turn.1 (rw other at listed))
+          let above : picked r w f i (sales_in settings h ls) ≡ [] = sales_above settings h r w f i (next + 1) ls same turn.1 (omega arith) in
+          picked_more r w f i (sale_of (terms_now settings.bands h a)) (sales_in settings h ls)
+          ∙ rw above (simp append-nil (ap (λ (x : Listing). picked r w f i (sale_of (terms_now settings.bands h x))) e)))
+      | inr other ↦ picked_more r w f i (sale_of (terms_now settings.bands h a)) (sales_in settings h ls)
+          ∙ rw (sale_other r w f i (terms_now settings.bands h a) same other) (sales_here settings h r w f i (next + 1) ls l same turn.1 (rw other at listed))
     ]
 
-sales_unlisted : (bands : List (ℕ × ℕ)) (h : History) (r w : Sold → Bool) (f : Sold → Line) (i : ℕ) (ls : List Listing) → ((s : Sold) → (f s).item ≡ s.item) → listing_at ls i ≡ None → picked r w f i (sales_in bands h ls) ≡ []
-sales_unlisted bands h r w f i [] same free = refl
-sales_unlisted bands h r w f i (a ∷ ls) same free =
+sales_unlisted : (settings : Settings) (h : History) (r w : Sold → Bool) (f : Sold → Line) (i : ℕ) (ls : List Listing) → ((s : Sold) → (f s).item ≡ s.item) → listing_at ls i ≡ None → picked r w f i (sales_in settings h ls) ≡ []
+sales_unlisted settings h r w f i [] same free = refl
+sales_unlisted settings h r w f i (a ∷ ls) same free =
     elim (by_test (a.item == i)) [
       | inl here ↦ absurd (let e : Some a ≡ None = rw here at free in cc)
-      | inr other ↦ picked_more r w f i (sale_of (terms_now bands h a)) (sales_in bands h ls)
-          ∙ rw (sale_other r w f i (terms_now bands h a) same other) (sales_unlisted bands h r w f i ls same (rw other at free))
+      | inr other ↦ picked_more r w f i (sale_of (terms_now settings.bands h a)) (sales_in settings h ls)
+          ∙ rw (sale_other r w f i (terms_now settings.bands h a) same other) (sales_unlisted settings h r w f i ls same (rw other at free))
     ]
 
 line_item : (c : ℕ) (zone : Zone) (rate : ℕ) (s : Sold) → (line_of c zone rate s).item ≡ s.item
@@ -144,7 +145,7 @@ pub unlisted_line : (settings : Settings) (h : History) (c from to i : ℕ) (zon
 unfolding rows_of lines_of items_shown items
 unlisted_line settings h c from to i zone free =
     order_none (λ (line : Line). line.item == i) _
-    (sales_unlisted settings.bands h (is_party c) (is_within from to zone) (line_of c zone settings.rate) i (listings h) (line_item c zone settings.rate) free)
+    (sales_unlisted settings h (is_party c) (is_within from to zone) (line_of c zone settings.rate) i (listings h) (line_item c zone settings.rate) free)
 
 -- nor has one that wasn't sold
 pub unsold_line : (settings : Settings) (h : History) (c from to : ℕ) (zone : Zone) (l : Listing) → listing_at (listings h) l.item ≡ Some l → was_sold (state_of h l) ≡ false
@@ -152,7 +153,7 @@ pub unsold_line : (settings : Settings) (h : History) (c from to : ℕ) (zone : 
 unfolding rows_of lines_of items_shown items
 unsold_line settings h c from to zone l listed unsold =
     order_none (λ (line : Line). line.item == l.item) _
-    (sales_here settings.bands h (is_party c) (is_within from to zone) (line_of c zone settings.rate) l.item 1 (listings h) l (line_item c zone settings.rate) (listings_in_turn h) listed
+    (sales_here settings h (is_party c) (is_within from to zone) (line_of c zone settings.rate) l.item 1 (listings h) l (line_item c zone settings.rate) (listings_in_turn h) listed
     ∙ rw unsold refl)
 
 same_sale : (item seller price : ℕ) (buyer closed : Option ℕ) (s : Sold) → s.item ≡ item → s.seller ≡ seller → buyer ≡ Some s.buyer → closed ≡ Some s.closed → s.price ≡ price
@@ -171,7 +172,7 @@ unfolding rows_of lines_of items_shown items
 sale_line settings h c from to zone l s listed is party within =
     let here : (s.item == l.item) ≡ true = (let item = is.item in grind (arith, nat_tests)) in
     order_one (λ (line : Line). line.item == l.item) _ (line_of c zone settings.rate s)
-    (sales_here settings.bands h (is_party c) (is_within from to zone) (line_of c zone settings.rate) l.item 1 (listings h) l (line_item c zone settings.rate) (listings_in_turn h) listed
+    (sales_here settings h (is_party c) (is_within from to zone) (line_of c zone settings.rate) l.item 1 (listings h) l (line_item c zone settings.rate) (listings_in_turn h) listed
     ∙ ap (picked (is_party c) (is_within from to zone) (line_of c zone settings.rate) l.item) (sale_known settings h l s is)
     ∙ picked_one (is_party c) (is_within from to zone) (line_of c zone settings.rate) l.item s (line_item c zone settings.rate s) here party within)
 
@@ -181,7 +182,7 @@ pub sale_no_line : (settings : Settings) (h : History) (c from to : ℕ) (zone :
 unfolding rows_of lines_of items_shown items
 sale_no_line settings h c from to zone l s listed is out =
     order_none (λ (line : Line). line.item == l.item) _
-    (sales_here settings.bands h (is_party c) (is_within from to zone) (line_of c zone settings.rate) l.item 1 (listings h) l (line_item c zone settings.rate) (listings_in_turn h) listed
+    (sales_here settings h (is_party c) (is_within from to zone) (line_of c zone settings.rate) l.item 1 (listings h) l (line_item c zone settings.rate) (listings_in_turn h) listed
     ∙ ap (picked (is_party c) (is_within from to zone) (line_of c zone settings.rate) l.item) (sale_known settings h l s is)
     ∙ picked_none (is_party c) (is_within from to zone) (line_of c zone settings.rate) l.item s out)
 
@@ -211,7 +212,7 @@ sold_has_sale settings h l is listed sold = (
 
 -- a member reads its statement of these sales
 pub statement_read : (settings : Settings) (h : History) (c from to : ℕ) → 1 ≤ c → c ≤ length (members h)
-    → page_of settings h c (MyStatement from to) ≡ Statement c from to (sales_of (items_shown settings.bands h) c)
+    → page_of settings h c (MyStatement from to) ≡ Statement c from to (sales_of (items_shown settings h) c)
 unfolding page_of
 statement_read settings h c from to least most =
     let one : nat_le 1 c ≡ true = grind (arith, nat_tests) in

@@ -13,7 +13,7 @@ use Rattle.house_rows.specs.Items.{items_shown, shown_at}
 use Rattle.house_rows.specs.Limits.{last_moment, most_watches}
 use Rattle.house_rows.specs.Listings.{Listing, listing_at, listings}
 use Rattle.house_rows.specs.People.{members}
-use Rattle.house_rows.specs.Verdict.{IsHistory, Rule, common_rules, of_item, verdict, watch_rules}
+use Rattle.house_rows.specs.Verdict.{IsHistory, Rule, common_rules, by_terms, of_item, verdict, watch_rules}
 use Rattle.house_rows.specs.Views.{own_watches}
 use Rattle.house_rows.specs.Watches.{WatchRow}
 use Rattle.house_rows.proofs.Passed.{shown_is}
@@ -43,8 +43,8 @@ unfolding verdict
 watch_told settings h moment caller i l may listed =
     let same : l.item ≡ i = listing_is h i l listed in
     let told : told_by l.item (own_watches h caller) ≡ told_by i (own_watches h caller) = ap (λ (n : ℕ). told_by n (own_watches h caller)) same in
-    common_none h moment caller (of_item (shown_at (items_shown settings.bands h) i) (watch_rules (own_watches h caller))) may
-    ∙ rw (shown_is settings.bands h i, listed) told
+    common_none h moment caller (of_item (shown_at (items_shown settings h) i) (by_terms (watch_rules (own_watches h caller)))) may
+    ∙ rw (shown_is settings h i, listed) told
 
 others_all : (i : ℕ) (ws : List WatchRow) → list_any (λ w. w.item == i) ws ≡ false → counted (λ w. not (w.item == i)) ws ≡ length ws
 others_all i [] none = refl

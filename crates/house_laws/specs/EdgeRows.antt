@@ -9,9 +9,10 @@ use Rattle.house_rows.specs.declared.refusal.Refusal.{Refusal}
 use Rattle.house_rows.specs.declared.refusal.Refusal.TheVariants.{AlreadyGiven, NotParty, NotSold, LotExists, Unknown, Limit, Range}
 use Rattle.house_rows.specs.declared.state.State.TheVariants.{Sold}
 use Rattle.house_rows.specs.History.{History}
-use Rattle.house_rows.specs.Pages.{Feedbacks, OneItem, page_of}
+use Rattle.house_rows.specs.declared.page.Page.TheVariants.{Feedbacks, OneItem}
+use Rattle.house_rows.specs.Pages.{page_of}
 use Rattle.house_rows.specs.Runs.{entry}
-use Rattle.house_rows.specs.Told.{Closed, Placed, Rated}
+use Rattle.house_rows.specs.declared.told.Told.TheVariants.{Closed, Placed, Rated}
 use Rattle.house_rows.specs.Verdict.{listing_rules, verdict}
 use Rattle.house_laws.specs.Examples.{and_bid, five_bids, lists, settings, setup, three_bids, with_buy_now}
 use Rattle.house_laws.specs.WorkedRows.{Tells}
@@ -109,8 +110,8 @@ rates_buyer = Feedback 2 (Some Minus) []
 abbrev pub PartiesOfAPurchaseRateEachOther : Type 0
 PartiesOfAPurchaseRateEachOther =
     (verdict settings with_buy_now 1002 2 rates_seller ≡ Some NotSold)
-    × Tells bought_once 1002 2 rates_seller (Rated 2 (Some Plus) 1)
+    × Tells bought_once 1002 2 rates_seller (Rated 2 Plus 1)
     × (verdict settings buyer_rated 1003 2 rates_seller ≡ Some AlreadyGiven)
     × (verdict settings buyer_rated 1003 3 rates_seller ≡ Some NotParty)
-    × Tells buyer_rated 1003 1 rates_buyer (Rated 2 (Some Minus) 2)
+    × Tells buyer_rated 1003 1 rates_buyer (Rated 2 Minus 2)
     × (page_of settings (entry 1003 1 rates_buyer ∷ buyer_rated) 3 (query.FeedbackTo 2 1) ≡ Feedbacks (record { item = 2; from = 1; to = 2; rating = Minus; text = [] } ∷ []))

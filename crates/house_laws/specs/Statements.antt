@@ -24,4 +24,4 @@ pub record IsSaleOf (settings : Settings) (h : History) (l : Listing) (s : Sold)
 abbrev pub lines_on : Settings → History → ℕ → ℕ → ℕ → Zone → ℕ → List Line
 lines_on settings h c from to zone i =
     filter (λ line. line.item == i)
-    (statement_of (sales_of (items_shown settings.bands h) c) c from to zone settings.rate).rows
+    (statement_of (sales_of (items_shown settings h) c) c from to zone settings.rate).rows

@@ -3,9 +3,12 @@ use Rattle.std.specs.Prelude.{◌≡◌, ◌≢◌, ℕ, List, [], ◌∷◌, �
 use Rattle.house_rows.specs.declared.command.Command.TheVariants.{Register, AddCategory, Bid}
 use Rattle.house_rows.specs.declared.query.Query.TheVariants as query
 use Rattle.house_rows.specs.declared.state.State.TheVariants.{Open}
-use Rattle.house_rows.specs.Pages.{OneItem}
-use Rattle.house_rows.specs.Runs.{Done, Message, Order, Read, Shows, Twin, replies_to}
-use Rattle.house_rows.specs.Told.{Placed}
+use Rattle.house_rows.specs.declared.page.Page.TheVariants.{OneItem}
+use Rattle.house_rows.specs.declared.reply.Reply.TheVariants.{Done, Shows}
+use Rattle.house_rows.specs.declared.message.Message.{Message}
+use Rattle.house_rows.specs.declared.message.Message.TheVariants.{Order, Read}
+use Rattle.house_rows.specs.Runs.{Twin, replies_to}
+use Rattle.house_rows.specs.declared.told.Told.TheVariants.{Placed}
 use Rattle.house_laws.specs.Examples.{lists, settings}
 
 -- the house registers Ana, Ben and Cid and adds Books, and Ana lists item 1 from 5.00 until 5000

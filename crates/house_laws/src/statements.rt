@@ -8,7 +8,8 @@ ghost use Rattle.house_rows.specs.declared.settings.Settings.{Settings};
 ghost use Rattle.house_rows.specs.History.{History};
 ghost use Rattle.house_rows.specs.Items.{items_shown, state_of};
 ghost use Rattle.house_rows.specs.Listings.{Listing, listing_at, listings};
-ghost use Rattle.house_rows.specs.Pages.{Statement, page_of, sales_of};
+ghost use Rattle.house_rows.specs.declared.page.Page.TheVariants.{Statement};
+ghost use Rattle.house_rows.specs.Pages.{page_of, sales_of};
 ghost use Rattle.house_rows.specs.People.{members};
 ghost use Rattle.house_rows.specs.Verdict.{IsHistory, was_sold};
 ghost use Rattle.house_laws.specs.Statements.{IsSaleOf, lines_on};
@@ -37,5 +38,5 @@ pub fn statements_have_each_sale_once()
     ensures read { (settings : Settings) (h : History) (member from to : ℕ)
         → 1 ≤ member → member ≤ length (members h)
         → page_of settings h member (MyStatement from to)
-        ≡ Statement member from to (sales_of (items_shown settings.bands h) member) }
+        ≡ Statement member from to (sales_of (items_shown settings h) member) }
 {}

@@ -2,10 +2,13 @@ use Rattle.std.proofs.Common.{◌≡◌, ℕ, ◌+◌, List, [], ◌∷◌, refl
 use Rattle.steps.specs.Table.{step_at}
 use Rattle.proxy.specs.Bids.{greatest, leader, price, second, top}
 use Rattle.house_rows.specs.declared.command.Command.TheVariants.{Bid}
-use Rattle.house_rows.specs.Items.{ItemShown, items, items_shown}
+use Rattle.house_rows.specs.declared.item.ItemShown.{ItemShown}
+use Rattle.house_rows.specs.Items.{items, items_shown}
 use Rattle.house_rows.specs.Pages.{page_of}
 use Rattle.house_rows.specs.Questions.{published, questions, waiting}
-use Rattle.house_rows.specs.Runs.{Message, Order, next, reply}
+use Rattle.house_rows.specs.declared.message.Message.{Message}
+use Rattle.house_rows.specs.declared.message.Message.TheVariants.{Order}
+use Rattle.house_rows.specs.Runs.{next, reply}
 use Rattle.house_rows.specs.Verdict.{verdict}
 use Rattle.house_rows.specs.Views.{Public}
 use Rattle.house_laws.proofs.twins.twin_runs_may_differ.Goals as goal
