@@ -1,6 +1,8 @@
 pub mod Put
 pub mod Every
 pub mod Passed
+pub mod Shown
+pub mod Next
 pub mod Own
 pub mod Numbered
 pub mod Ranged
