@@ -18,6 +18,5 @@ pub mod Sound
 pub mod ChangedRows
 pub mod SoundAfter
 pub mod Lists
-pub mod ItemRows
+pub mod AllItems
 pub mod OwnBids
-pub mod Replies
