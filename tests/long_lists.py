@@ -2,8 +2,9 @@
 """Compares lists of 0, 1, 50, 51 and 120 rows with plain lists: `long_lists.py PROGRAM`.
 
 The program is that of the crate `house_tests`. Of each length there are a category, a member's bids, watches,
-questions, sales and feedback, and the questions on one item. Each list is asked for from several of its rows
-on; each answer has to be that of tests/plain_house.py. The last line is 'N of N answers, M wrong'.
+questions, sales and feedback, the questions on one item, and those that wait for a seller, on one item or on as
+many. Each list is asked for from several of its rows on; each answer has to be that of tests/plain_house.py. The
+last line is 'N of N answers, M wrong'.
 """
 import sys
 
@@ -14,8 +15,8 @@ LENGTHS = [0, 1, 50, 51, 120]
 MOMENT, END = 1000, 5000
 # Member 1 sells what is bid on and asked about, member 2 buys; ASKERS ask up to twenty times each.
 SELLER, BUYER, ASKERS = 1, 2, range(3, 9)
-# Behind these, for each length, a member that bids, watches and asks, and one that sells.
-MEMBERS = ASKERS.stop - 1 + 2 * len(LENGTHS)
+# Behind these, for each length, a member that bids, watches and asks, one that sells, and one that is asked.
+MEMBERS = ASKERS.stop - 1 + 3 * len(LENGTHS)
 SOLD = len(LENGTHS) + 1
 
 
@@ -51,7 +52,7 @@ class Script:
 
 def make(script, place, length):
     """Makes the rows of a length: the numbers of the items that are bid on, and of those that are sold."""
-    member = ASKERS.stop + 2 * place
+    member = ASKERS.stop + 3 * place
     items = [script.listed(SELLER, place + 1) for _ in range(length)]
     for item in items:
         script.order(member, "bid", item, 500)
@@ -63,14 +64,18 @@ def make(script, place, length):
         script.order(SELLER, "answer", items[0], asker, nth % 20 + 1, "So big.")
     sold = [script.listed(member + 1, SOLD) for _ in range(length)]
     for item in sold:
+        script.order(BUYER, "ask", item, "How new?")
         script.order(BUYER, "buy", item)
         script.order(BUYER, "feedback", item, 1, "Good")
+    asked = script.listed(member + 2, SOLD)
+    for nth in range(length):
+        script.order(ASKERS[nth // 20], "ask", asked, "How old?")
     return items, sold
 
 
 def question(script, place, items, sold):
     """Asks for the lists of a length."""
-    member = ASKERS.stop + 2 * place
+    member = ASKERS.stop + 3 * place
     script.ask_from("items_in", place + 1, items)
     script.ask_from("bids", member, items)
     script.ask_from("questions", member, items)
@@ -78,8 +83,9 @@ def question(script, place, items, sold):
     script.ask_from("published", items[0] if items else 0, ASKERS)
     for name in ("watches", "watch_count"):
         script.ask(name, member)
-    for name in ("sales", "ratings", "waiting"):
+    for name in ("sales", "ratings", "waiting", "first_waiting"):
         script.ask(name, member + 1)
+    script.ask("first_waiting", member + 2)
 
 
 def lines():
@@ -91,7 +97,8 @@ def lines():
     made = [make(script, place, length) for place, length in enumerate(LENGTHS)]
     for place, (items, sold) in enumerate(made):
         question(script, place, items, sold)
-    script.ask("waiting", SELLER)
+    for name in ("waiting", "first_waiting"):
+        script.ask(name, SELLER)
     script.ask("sales", BUYER)
     for name in ("items", "all_published", "all_feedback"):
         script.ask(name)

@@ -269,11 +269,17 @@ class House:
     def member(self, number):
         return dash(dict(enumerate(self.names, 1)).get(number))
 
+    def has_member(self, number):
+        return str(1 <= number <= len(self.names)).lower()
+
     def member_named(self, name):
         return dash(self.names.index(name) + 1 if name in self.names else None)
 
     def category(self, number):
         return dash(dict(enumerate(self.kinds, 1)).get(number))
+
+    def has_category(self, number):
+        return str(1 <= number <= len(self.kinds)).lower()
 
     def category_named(self, name):
         return dash(self.kinds.index(name) + 1 if name in self.kinds else None)
@@ -358,8 +364,14 @@ class House:
         return line([question_line(q) for q in self.sorted_questions() if q.answer is not None])
 
     def waiting(self, member):
-        return line([question_line(q) for q in self.sorted_questions()
-                     if q.answer is None and self.found(q.item).seller == member])
+        return line(self.waiting_lines(member))
+
+    def first_waiting(self, member):
+        return line(self.waiting_lines(member)[:50])
+
+    def waiting_lines(self, member):
+        return [question_line(q) for q in self.sorted_questions()
+                if q.answer is None and self.found(q.item).seller == member]
 
     def given(self, number, giver):
         return str(any((f.item, f.giver) == (number, giver) for f in self.given_rows)).lower()

@@ -159,6 +159,7 @@ class Chance:
         lots = [("item_of", listed.seller, listed.lot)] if listed else []
         return [
             ("clock",), ("counts",), ("member", member()), ("category", category()),
+            ("has_member", member()), ("has_category", category()),
             ("member_named", self.name()), ("category_named", self.name()),
             ("members",), ("categories",),
             ("item", item()), ("item_of", member(), self.lot()), *lots, ("items",),
@@ -170,7 +171,7 @@ class Chance:
             ("ask_count", item(), member()),
             ("questions", member(), 0), ("questions", member(), item()),
             ("published", item(), 0), ("published", 1, member()),
-            ("all_published",), ("waiting", member()),
+            ("all_published",), ("waiting", member()), ("first_waiting", member()),
             ("given", item(), member()), ("ratings", member()),
             ("feedback", member(), 0), ("feedback", member(), item()), ("all_feedback",),
             ("due", self.house.now + self.random.choice([0, 1, 50, 5_000])), ("sales", member()),

@@ -1,8 +1,7 @@
 -- What look-ups tell of an offer.
-use Rattle.std.proofs.Common.{◌≡◌, ℕ, List, [], ◌∷◌, ◌++◌, Bool, true, false, not, refl, ◌∙◌, ap, sym, arith, Option, Some, None, Result, Ok, Err, IfOk}
+use Rattle.std.proofs.Common.{◌≡◌, ℕ, List, [], ◌∷◌, ◌++◌, Bool, true, false, not, refl, ◌∙◌, sym, Option, Some, None, Result, Ok, Err, IfOk}
 use Rattle.std.specs.Prelude.{◌==◌, ◌&&◌, find, is_some, option_map}
 use Rattle.std.specs.List.{list_any}
-use Rattle.std.proofs.lemmas.Bool.Decides.{nat_tests}
 use Rattle.proxy.specs.Rules.{first_failing}
 use Rattle.house_rows.specs.declared.fault.KeepFault.{KeepFault}
 use Rattle.house_rows.specs.declared.people.Category.{Category}
@@ -12,13 +11,9 @@ use Rattle.house_rows.specs.Found.{category_at, item_with_lot}
 use Rattle.house_rows.specs.Tables.{ItemRow, Tables}
 use Rattle.house_rows.specs.Text.{same_text}
 use Rattle.house_rows.specs.Verdict.{Rule}
-use Rattle.house_rows.proofs.Every.{found_is}
 use Rattle.house.specs.declared.listing.Prices.{Prices}
 use Rattle.house.specs.Offered.{told}
 use Rattle.house.proofs.Found.{first_none, some_found}
-
-pub category_is : (t : Tables) (n : ℕ) (k : Category) → category_at t n ≡ Some k → k.category ≡ n
-category_is t n k found = let e = found_is (λ (k : Category). k.category == n) t.categories k found in grind (arith, nat_tests, e)
 
 some_mapped : {A B : Type 0} (f : A → B) (o : Option A) → is_some (option_map f o) ≡ is_some o
 some_mapped f None = refl
@@ -30,11 +25,8 @@ lot_found t seller lot =
     some_mapped (λ (row : ItemRow). row.item.terms.item) (find (λ row. (row.item.terms.seller == seller) && same_text row.item.lot lot) t.items)
     ∙ some_found (λ (row : ItemRow). (row.item.terms.seller == seller) && same_text row.item.lot lot) t.items
 
-pub some_category : (t : Tables) (n : ℕ) (k : Category) → category_at t n ≡ Some k → list_any (λ k. k.category == n) t.categories ≡ true
-some_category t n k found = sym (some_found (λ (k : Category). k.category == n) t.categories) ∙ ap (λ (o : Option Category). is_some o) found
-
-pub no_category : (t : Tables) (n : ℕ) → category_at t n ≡ None → list_any (λ k. k.category == n) t.categories ≡ false
-no_category t n found = sym (some_found (λ (k : Category). k.category == n) t.categories) ∙ ap (λ (o : Option Category). is_some o) found
+pub known_category : (t : Tables) (n : ℕ) → is_some (category_at t n) ≡ list_any (λ k. k.category == n) t.categories
+known_category t n = some_found (λ (k : Category). k.category == n) t.categories
 
 -- where the first rules pass, the rules behind them tell what is told
 pub told_behind : (first rest : List Rule) (r : Result (Result (ℕ × Prices) Refusal) KeepFault) → first_failing first ≡ None

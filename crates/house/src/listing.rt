@@ -146,17 +146,18 @@ fn taken<K: Keep>(
 }
 
 // The number of a category, if it is there.
-#[tactic(auto, using(crate::proofs::Offers::category_is, crate::proofs::Offers::some_category))]
+#[tactic(auto, using(crate::proofs::Offers::known_category))]
 fn category_number<K: Keep>(keep: &mut K, category: u64) -> Result<Option<u32>, KeepFault>
     ensures value { K.is_honest keep.new → IfOk result (λ v. is_some v ≡ list_any (λ k. k.category == category) (K.content keep.old).categories) }
     ensures same { K.is_honest keep.new → IfOk result (λ v. IfSome v (λ n. n ≡ category)) }
     ensures faults { Faults result (K.is_honest keep.new) (K.is_failed keep.new) (K.content keep.old) }
     ensures read { IsRead K.content K.is_failed K.is_honest K.may_leave keep.old keep.new }
 {
-    let Some(found) = keep.category(category)? else {
-        return Ok(None);
-    };
-    Ok(Some(found.category))
+    if keep.has_category(category)? {
+        Ok(Some(category as u32))
+    } else {
+        Ok(None)
+    }
 }
 
 // Whether a seller has an item with a lot.

@@ -1,7 +1,8 @@
 -- Lists each of whose elements has a property.
-use Rattle.std.proofs.Common.{◌≡◌, List, [], ◌∷◌, ◌++◌, map, Bool, true, false, refl, inl, inr, Option, Some, None}
-use Rattle.std.specs.Prelude.{find}
+use Rattle.std.proofs.Common.{◌≡◌, ◌==◌, ℕ, List, [], ◌∷◌, ◌++◌, map, Bool, true, false, refl, arith, inl, inr, Option, Some, None}
+use Rattle.std.specs.Prelude.{find, is_some}
 use Rattle.std.specs.List.{AllByRecursion, list_any}
+use Rattle.std.proofs.lemmas.Bool.Decides.{nat_tests}
 use Rattle.house_rows.specs.History.{Key, is_less, put_by}
 use Rattle.house_rows.proofs.Put.{by_test}
 
@@ -48,6 +49,16 @@ found_is p (y ∷ xs) x found =
     elim (by_test (p y)) [
       | inl is ↦ (let e : y ≡ x = found_one y x (rw is at found) in rw (← e) is)
       | inr not ↦ found_is p xs x (rw not at found)
+    ]
+
+-- the number by which one is found is one of those that have a property
+pub found_number : {A : Type 0} (number : A → ℕ) (P : A → Type 0) (Is : ℕ → Type 0) (n : ℕ) (xs : List A) → ((x : A) → P x → Is (number x)) → AllByRecursion P xs
+    → is_some (find (λ x. number x == n) xs) ≡ true → Is n
+found_number number P Is n [] has all found = absurd (let e : false ≡ true = found in cc)
+found_number number P Is n (x ∷ xs) has all found =
+    elim (by_test (number x == n)) [
+      | inl is ↦ (let same : number x ≡ n = grind (arith, nat_tests, is) in rw (← same) (has x all.0))
+      | inr not ↦ found_number number P Is n xs has all.1 (rw not at found)
     ]
 
 -- what is found stays found

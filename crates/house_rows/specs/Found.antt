@@ -136,6 +136,10 @@ sells (Some row) member = row.item.terms.seller == member
 abbrev pub waiting_for : Tables → ℕ → List Question
 waiting_for t member = filter (λ q. not (is_some q.answer) && sells (row_at t q.item) member) t.questions
 
+-- the first fifty of them
+abbrev pub first_waiting : Tables → ℕ → List Question
+first_waiting t member = take most_shown (waiting_for t member)
+
 abbrev pub sales_in : List Item → List Sold
 sales_in [] = []
 sales_in (it ∷ its) = sale_of it.terms ++ sales_in its

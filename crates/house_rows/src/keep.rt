@@ -1,13 +1,13 @@
 //! Whatever keeps the tables of the house.
-ghost use Rattle.std.specs.Prelude.{◌≡◌, ◌≢◌, ◌≤◌, ◌⊎◌, All, AllPairs, true, false, Bool, IfOk, IfSome, OnOk, OnErr, length};
+ghost use Rattle.std.specs.Prelude.{◌≡◌, ◌≢◌, ◌≤◌, ◌⊎◌, All, AllPairs, true, false, Bool, IfOk, IfSome, OnOk, OnErr, is_some, length};
 ghost use Rattle.settle.specs.Statement.{IsSale};
 ghost use Rattle.std.specs.List.{AllByRecursion};
 ghost use Rattle.house_rows.specs.Asks.{ChangeFits};
 ghost use Rattle.house_rows.specs.Changed.{changed};
-ghost use Rattle.house_rows.specs.Fits.{CategoryFits, FeedbackFits, IsItem, IsMoment, ItemFits, MemberFits, OwnBidFits, QuestionFits, StandingFits, TermsFit};
-ghost use Rattle.house_rows.specs.Found.{all_items, all_published, ask_count, best_of, category_at, category_named, counts_of, due_at, feedback_to, is_given, is_watched, item_at, item_with_lot, items_in, items_watched, member_named, own_bids, published_on, question_at, questions_of, sales_to, standing_at, terms_at, waiting_for, watch_count};
+ghost use Rattle.house_rows.specs.Fits.{CategoryFits, FeedbackFits, IsItem, IsMember, IsMoment, IsWithin, ItemFits, MemberFits, OwnBidFits, QuestionFits, StandingFits, TermsFit};
+ghost use Rattle.house_rows.specs.Found.{all_items, all_published, ask_count, best_of, category_at, category_named, counts_of, due_at, feedback_to, first_waiting, is_given, is_watched, item_at, item_with_lot, items_in, items_watched, member_named, own_bids, published_on, question_at, questions_of, sales_to, standing_at, terms_at, waiting_for, watch_count};
 ghost use Rattle.house_rows.specs.Keeping.{AreSound, ChangeFaults, Faults, IsRead};
-ghost use Rattle.house_rows.specs.Limits.{most_items};
+ghost use Rattle.house_rows.specs.Limits.{most_categories, most_items};
 ghost use Rattle.house_rows.specs.Pages.{member_at, ratings_of};
 ghost use Rattle.house_rows.specs.Tables.{Tables};
 
@@ -63,6 +63,13 @@ pub trait Keep {
         ensures faults { Faults result (is_honest self.new) (is_failed self.new) (content self.old) }
         ensures read { IsRead content is_failed is_honest may_leave self.old self.new };
 
+    /// Whether there is a member of a number.
+    fn has_member(&mut self, member: u64) -> Result<bool, KeepFault>
+        ensures value { is_honest self.new → IfOk result (λ v. v ≡ is_some (member_at (content self.old).members member)) }
+        ensures fits { IfOk result (λ v. v ≡ true → IsMember member) }
+        ensures faults { Faults result (is_honest self.new) (is_failed self.new) (content self.old) }
+        ensures read { IsRead content is_failed is_honest may_leave self.old self.new };
+
     /// The member of a name.
     fn member_named(&mut self, name: &str) -> Result<Option<Member>, KeepFault>
         ensures value { is_honest self.new → IfOk result (λ v. v ≡ member_named (content self.old) name.now) }
@@ -74,6 +81,13 @@ pub trait Keep {
     fn category(&mut self, category: u64) -> Result<Option<Category>, KeepFault>
         ensures value { is_honest self.new → IfOk result (λ v. v ≡ category_at (content self.old) category) }
         ensures fits { IfOk result (λ v. IfSome v CategoryFits) }
+        ensures faults { Faults result (is_honest self.new) (is_failed self.new) (content self.old) }
+        ensures read { IsRead content is_failed is_honest may_leave self.old self.new };
+
+    /// Whether there is a category of a number.
+    fn has_category(&mut self, category: u64) -> Result<bool, KeepFault>
+        ensures value { is_honest self.new → IfOk result (λ v. v ≡ is_some (category_at (content self.old) category)) }
+        ensures fits { IfOk result (λ v. v ≡ true → IsWithin 1 most_categories category) }
         ensures faults { Faults result (is_honest self.new) (is_failed self.new) (content self.old) }
         ensures read { IsRead content is_failed is_honest may_leave self.old self.new };
 
@@ -246,6 +260,14 @@ pub trait Keep {
     /// The questions that wait for a member's answer, by item, asker and number.
     fn waiting_for(&mut self, member: u64) -> Result<Vec<Question>, KeepFault>
         ensures value { is_honest self.new → IfOk result (λ v. v.items ≡ waiting_for (content self.old) member) }
+        ensures fits { IfOk result (λ v. AllByRecursion QuestionFits v.items) }
+        ensures faults { Faults result (is_honest self.new) (is_failed self.new) (content self.old) }
+        ensures read { IsRead content is_failed is_honest may_leave self.old self.new };
+
+    /// The first of the questions that wait for a member's answer, by item, asker and number; at most
+    /// fifty.
+    fn first_waiting(&mut self, member: u64) -> Result<Vec<Question>, KeepFault>
+        ensures value { is_honest self.new → IfOk result (λ v. v.items ≡ first_waiting (content self.old) member) }
         ensures fits { IfOk result (λ v. AllByRecursion QuestionFits v.items) }
         ensures faults { Faults result (is_honest self.new) (is_failed self.new) (content self.old) }
         ensures read { IsRead content is_failed is_honest may_leave self.old self.new };

@@ -13,8 +13,10 @@ pub(crate) enum Question {
     Clock,
     Counts,
     Member(u64),
+    HasMember(u64),
     MemberNamed(Text),
     Category(u64),
+    HasCategory(u64),
     CategoryNamed(Text),
     Members,
     Categories,
@@ -37,6 +39,7 @@ pub(crate) enum Question {
     Published(u64, u64),
     AllPublished,
     Waiting(u64),
+    FirstWaiting(u64),
     Given(u64, u64),
     Ratings(u64),
     Feedback(u64, u64),
@@ -75,11 +78,13 @@ impl Question {
             Question::Clock => Ok(Reply::Number(keep.clock()?)),
             Question::Counts => Ok(Reply::Counts(keep.counts()?)),
             Question::Member(member) => Ok(Reply::Member(keep.member(*member)?)),
+            Question::HasMember(member) => Ok(Reply::Flag(keep.has_member(*member)?)),
             Question::MemberNamed(name) => {
                 let found = keep.member_named(name.as_str())?;
                 Ok(Reply::Found(found.map(|member| member.member)))
             }
             Question::Category(category) => Ok(Reply::Category(keep.category(*category)?)),
+            Question::HasCategory(category) => Ok(Reply::Flag(keep.has_category(*category)?)),
             Question::CategoryNamed(name) => {
                 let found = keep.category_named(name.as_str())?;
                 Ok(Reply::Found(found.map(|category| category.category)))
@@ -109,6 +114,7 @@ impl Question {
             Question::Published(item, from) => Ok(Reply::Questions(keep.published(*item, *from)?)),
             Question::AllPublished => Ok(Reply::Questions(keep.all_published()?)),
             Question::Waiting(member) => Ok(Reply::Questions(keep.waiting_for(*member)?)),
+            Question::FirstWaiting(member) => Ok(Reply::Questions(keep.first_waiting(*member)?)),
             Question::Given(item, giver) => Ok(Reply::Flag(keep.given(*item, *giver)?)),
             Question::Ratings(member) => Ok(Reply::Ratings(keep.ratings(*member)?)),
             Question::Feedback(member, from) => {
@@ -154,8 +160,10 @@ fn on_people(words: &mut Words<'_>, name: &str) -> Maybe {
         "clock" => Question::Clock,
         "counts" => Question::Counts,
         "member" => Question::Member(words.number()?),
+        "has_member" => Question::HasMember(words.number()?),
         "member_named" => Question::MemberNamed(words.text()?),
         "category" => Question::Category(words.number()?),
+        "has_category" => Question::HasCategory(words.number()?),
         "category_named" => Question::CategoryNamed(words.text()?),
         "members" => Question::Members,
         "categories" => Question::Categories,
@@ -196,6 +204,7 @@ fn on_questions(words: &mut Words<'_>, name: &str) -> Maybe {
         "published" => Question::Published(words.number()?, words.number()?),
         "all_published" => Question::AllPublished,
         "waiting" => Question::Waiting(words.number()?),
+        "first_waiting" => Question::FirstWaiting(words.number()?),
         _ => return Ok(None),
     }))
 }

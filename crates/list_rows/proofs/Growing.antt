@@ -1,6 +1,7 @@
 -- Lists of rows that pass a test, as they grow from row to row.
-use Rattle.std.proofs.Common.{◌≡◌, ℕ, ◌+◌, ◌≤◌, ◌<◌, List, [], ◌∷◌, ◌++◌, length, take, map, filter, get_or, Bool, true, false, refl, ◌∙◌, ap, sym, arith, inl, inr}
-use Rattle.std.specs.Prelude.{◌&&◌, max}
+use Rattle.std.proofs.Common.{◌≡◌, ℕ, zero, suc, ◌+◌, ◌≤◌, ◌<◌, List, [], ◌∷◌, ◌++◌, length, take, map, filter, get_or, Bool, true, false, refl, ◌∙◌, ap, sym, arith, inl, inr}
+use Rattle.std.specs.Prelude.{◌&&◌, max, nat_lt}
+use Rattle.std.proofs.lemmas.Bool.Decides.{nat_tests}
 use Rattle.std.proofs.lemmas.List.{length-append, length-take, take_more, take_all, take-append-le, get_or-map, length-map, map-append}
 use Rattle.proxy.specs.Bids.{greatest_of}
 use Rattle.house_rows.proofs.Put.{by_test}
@@ -54,6 +55,32 @@ front_more most ys x lt =
 -- where there is none, it stays
 pub front_full : {A : Type 0} (most : ℕ) (ys : List A) (x : A) → most ≤ length (take most ys) → take most (ys ++ x ∷ []) ≡ take most ys
 front_full most ys x le = let l = length-take most ys in take-append-le most ys (x ∷ []) (omega arith)
+
+-- a full front takes no more
+pub front_stays : {A : Type 0} (most : ℕ) (ys zs : List A) → most ≤ length (take most ys) → take most ys ≡ take most (ys ++ zs)
+front_stays most ys zs le = let l = length-take most ys in sym (take-append-le most ys zs (omega arith))
+
+-- the front of a front with more behind it
+pub front_twice : {A : Type 0} (most : ℕ) (ys zs : List A) → take most (take most ys ++ zs) ≡ take most (ys ++ zs)
+front_twice most ys zs =
+    elim (by_test (nat_lt (length ys) most)) [
+      | inl is ↦ (let few : length ys ≤ most = grind (arith, nat_tests, is) in rw (take_all most ys few) refl)
+      | inr not ↦ (let l = length-take most ys in let many : most ≤ length ys = grind (arith, nat_tests, not) in
+          let full : most ≤ length (take most ys) = omega arith in
+          take-append-le most (take most ys) zs full ∙ take_all most (take most ys) (omega arith) ∙ sym (take-append-le most ys zs many))
+    ]
+
+-- what is put behind need be no longer than the front
+pub front_behind : {A : Type 0} (most many : ℕ) (ys zs : List A) → most ≤ many → take most (ys ++ take many zs) ≡ take most (ys ++ zs)
+front_behind zero many ys zs le = refl
+front_behind (suc most) zero ys zs le = absurd (omega arith)
+front_behind (suc most) (suc many) [] [] le = refl
+front_behind (suc most) (suc many) [] (z ∷ zs) le = ap (λ rest. z ∷ rest) (front_behind most many [] zs (omega arith))
+front_behind (suc most) (suc many) (y ∷ ys) zs le = ap (λ rest. y ∷ rest) (front_behind most (suc many) ys zs (omega arith))
+
+-- a front is no longer than it may be
+pub front_short : {A : Type 0} (most : ℕ) (ys found : List A) → found ≡ take most ys → length found ≤ most
+front_short most ys found is = let l = length-take most ys in rw is (omega arith)
 
 -- a row of a table: it is shown, there is no room, or it doesn't pass
 pub shown_more : {A : Type 0} (p : A → Bool) (most : ℕ) (xs : List A) (i : ℕ) (x : A) (found : List A) → i < length xs → x ≡ get_or xs i x

@@ -3,11 +3,12 @@ use Rattle.std.proofs.Common.{◌≡◌, ℕ, ◌+◌, ◌≤◌, ◌<◌, List,
 use Rattle.std.specs.Prelude.{◌==◌, nat_le, nat_lt}
 use Rattle.std.specs.List.{AllByRecursion, list_any}
 use Rattle.std.proofs.lemmas.Bool.Decides.{nat_tests}
-use Rattle.std.proofs.lemmas.List.{append-nil, append_assoc, length-append, length-take, take-append-drop, take_all, take_more, take-append-le}
+use Rattle.std.proofs.lemmas.List.{append-nil, append_assoc, length-append, length-take, take-append-drop, take_all, take_more}
 use Rattle.house_rows.proofs.Every.{every_as}
 use Rattle.house_rows.proofs.Put.{by_test}
 use Rattle.house_rows.specs.History.{Key, is_less}
 use Rattle.std.specs.Prelude.{IfOk, Vec}
+use Rattle.list_rows.proofs.Growing.{front_stays, front_twice}
 use Rattle.list_rows.proofs.Order.{every_filtered}
 use Rattle.list_rows.specs.Blocks.{IsRising, rows_of}
 use Rattle.list_talk.specs.Sorted.{AreRisen, AreSorted}
@@ -40,27 +41,9 @@ front_push most ys x lt =
     let fits : length (ys ++ x ∷ []) ≤ most = simp length-append (omega arith) in
     take_all most (ys ++ x ∷ []) fits ∙ ap (λ front. front ++ x ∷ []) (sym (take_all most ys (omega arith)))
 
--- a full front takes no more
-pub front_stays : {A : Type 0} (most : ℕ) (ys zs : List A) → most ≤ length (take most ys) → take most ys ≡ take most (ys ++ zs)
-front_stays most ys zs le = let l = length-take most ys in sym (take-append-le most ys zs (omega arith))
-
--- the front of a front with more behind it
-pub front_twice : {A : Type 0} (most : ℕ) (ys zs : List A) → take most (take most ys ++ zs) ≡ take most (ys ++ zs)
-front_twice most ys zs =
-    elim (by_test (nat_lt (length ys) most)) [
-      | inl is ↦ (let few : length ys ≤ most = grind (arith, nat_tests, is) in rw (take_all most ys few) refl)
-      | inr not ↦ (let l = length-take most ys in let many : most ≤ length ys = grind (arith, nat_tests, not) in
-          let full : most ≤ length (take most ys) = omega arith in
-          take-append-le most (take most ys) zs full ∙ take_all most (take most ys) (omega arith) ∙ sym (take-append-le most ys zs many))
-    ]
-
 -- what is found so far, with nothing looked at
 pub front_start : {A : Type 0} (most : ℕ) (ys : List A) → length ys ≤ most → ys ≡ take most (ys ++ [])
 front_start most ys le = rw (append-nil ys) (sym (take_all most ys le))
-
--- a front is no longer than it may be
-pub front_short : {A : Type 0} (most : ℕ) (ys found : List A) → found ≡ take most ys → length found ≤ most
-front_short most ys found is = let l = length-take most ys in rw is (omega arith)
 
 -- one more row that passes, where there is room
 pub shown_more : {A : Type 0} (p : A → Bool) (most : ℕ) (old xs : List A) (i : ℕ) (x : A) (found : List A) → i < length xs → x ≡ get_or xs i x → found ≡ take most (old ++ filter p (take i xs))

@@ -9,6 +9,7 @@ use Rattle.house_rows.specs.Changed.{question_key}
 use Rattle.house_rows.proofs.Put.{by_test}
 use Rattle.list_rows.specs.Blocks.{IsRising}
 use Rattle.list_talk.specs.Sorted.{AreRisen}
+use Rattle.list_rows.proofs.Growing.{front_twice}
 use Rattle.list_talk.proofs.Gathered.{gathered, gathered_all, gathered_more, sorted_by_first}
 
 -- whether a question waits, and its item passes
@@ -67,6 +68,20 @@ waiting_less test rows items i item found lt at' is fails =
     is ∙ sym (append-nil (waiting_among test rows (take i items)))
     ∙ ap (λ ys. waiting_among test rows (take i items) ++ ys) (sym (none_waiting test item rows fails))
     ∙ sym (gathered_more (λ (q : Question). q.item) (λ (item : ℕ). item) (is_waiting test) rows items i 0 item lt at')
+
+-- the same of the first of them
+pub first_more : (most : ℕ) (test : ℕ → Bool) (rows : List Question) (items : List ℕ) (i item : ℕ) (found after : List Question) → i < length items → item ≡ get_or items i 0
+    → found ≡ take most (waiting_among test rows (take i items)) → test item ≡ true
+    → after ≡ take most (found ++ filter (λ q. not (is_some q.answer)) (filter (λ q. q.item == item) rows)) → after ≡ take most (waiting_among test rows (take (i + 1) items))
+first_more most test rows items i item found after lt at' is passes made =
+    let so_far : List Question = waiting_among test rows (take i items) in
+    let more : List Question = filter (λ q. not (is_some q.answer)) (filter (λ q. q.item == item) rows) in
+    made ∙ ap (λ ys. take most (ys ++ more)) is ∙ front_twice most so_far more
+    ∙ ap (take most) (waiting_more test rows items i item so_far (so_far ++ more) lt at' refl passes refl)
+
+pub first_less : (most : ℕ) (test : ℕ → Bool) (rows : List Question) (items : List ℕ) (i item : ℕ) (found : List Question) → i < length items → item ≡ get_or items i 0
+    → found ≡ take most (waiting_among test rows (take i items)) → test item ≡ false → found ≡ take most (waiting_among test rows (take (i + 1) items))
+first_less most test rows items i item found lt at' is fails = is ∙ ap (take most) (waiting_less test rows items i item (waiting_among test rows (take i items)) lt at' refl fails)
 
 complete_waiting : (test : ℕ → Bool) (items : List ℕ) (rows : List Question) → AllByRecursion (λ q. test q.item ≡ true → list_any (λ item. item == q.item) items ≡ true) rows
     → AllByRecursion (λ q. is_waiting test q ≡ true → list_any (λ item. item == q.item) items ≡ true) rows

@@ -149,6 +149,34 @@ impl Questions {
         Ok(found)
     }
 
+    /// The first fifty of them.
+    pub fn first_waiting_on<F: Fn(u64) -> bool + Drop>(
+        &self,
+        alloc: Global,
+        items: &[u32],
+        passes: F,
+    ) -> Result<Vec<Question>, KeepFault>
+        requires callable { F.IsAlwaysCallable passes }
+        requires rising { AreRisen (λ (item : ℕ). item) items.now }
+        ensures value { (test : ℕ → Bool) → ((item : ℕ) (answer : Bool) → F.post passes item answer → answer ≡ test item)
+            → AllByRecursion (λ q. test q.item ≡ true → list_any (λ item. item == q.item) items.now ≡ true) self.now
+            → IfOk result (λ v. v.items ≡ take most_shown (filter (λ q. not (is_some q.answer) && test q.item) self.now)) }
+        ensures memory { IfErr result (λ e. e ≡ fault.Memory) }
+    {
+        let mut found = Vec::new(alloc);
+        for number in items {
+            if found.len() >= MOST_SHOWN {
+                return Ok(found);
+            }
+            let item = u64::from(*number);
+            if passes(item) {
+                let rows = block(&self.blocks, item);
+                push_shown(alloc, &mut found, rows, |row| row.answer.is_none())?;
+            }
+        }
+        Ok(found)
+    }
+
     /// A question was asked.
     pub fn ask(
         &mut self,

@@ -7,7 +7,7 @@ use Rattle.sqlite_trees.specs.Tree.{Trees}
 use Rattle.settle.specs.Statement.{is_party}
 use Rattle.proxy.specs.Bids.{is_leader}
 use Rattle.house_rows.specs.Changed.{is_item}
-use Rattle.house_rows.specs.Found.{feedback_to, is_watched, items_in, items_watched, own_bid, own_bids, published_on, questions_of, sales_in, sales_to, sells, waiting_for}
+use Rattle.house_rows.specs.Found.{feedback_to, first_waiting, is_watched, items_in, items_watched, own_bid, own_bids, published_on, questions_of, sales_in, sales_to, sells, waiting_for}
 use Rattle.house_rows.specs.Limits.{most_shown}
 use Rattle.house_rows.specs.Pages.{sale_of}
 use Rattle.house_rows.specs.Tables.{ItemRow}
@@ -111,6 +111,9 @@ module _ (db : Trees) (n : ℕ) (high : 2 ^ 32 ≤ n) (low : n < 2 ^ 64) where
   no_waiting =
       always_fails (λ (q : Question). not (is_some q.answer) && sells (find (is_item q.item) (stored.items_in db)) n)
       (λ q. second_fails (not (is_some q.answer)) (sells (find (is_item q.item) (stored.items_in db)) n) (not_sold_by (stored.items_in db) n q.item sellers_other)) (sorted_questions db)
+
+  pub no_first_waiting : first_waiting (tables_in db) n ≡ []
+  no_first_waiting = ap (take most_shown) no_waiting
 
   pub no_sales : sales_to (tables_in db) n ≡ []
   unfolding tables_in

@@ -18,9 +18,10 @@ use sqlite::{Alter, Connection};
 use std::alloc::Global;
 use std::marker::Model;
 use store_answers::{
-    due, items_watched, own_best, own_bids, ratings, sales_to, waiting_for, watch_count,
+    due, first_waiting, items_watched, own_best, own_bids, ratings, sales_to, waiting_for,
+    watch_count,
 };
-use store_finds::{ask_count, is_given, is_watched};
+use store_finds::{ask_count, has_category, has_member, is_given, is_watched};
 use store_items::{all_items, item_at, item_with_lot, standing_at, terms_at};
 use store_lists::{all_feedback, all_published};
 use store_pages::{feedback_to, items_in, published_on, questions_of};
@@ -112,6 +113,20 @@ impl<S: Alter> Keep for SqlKeep<S> {
         }
     }
 
+    #[tactic(auto, using(store_rows::proofs::Small::no_member), unfolding(store_lists::specs::Tables::tables_in))]
+    fn has_member(&mut self, member: u64) -> Result<bool, KeepFault> {
+        if self.failed {
+            return Err(KeepFault::Store);
+        }
+        if member > LAST_NUMBER {
+            return Ok(false);
+        }
+        match has_member(&mut self.conn, member as u32) {
+            Ok(is) => Ok(is),
+            Err(fault) => Err(told_fault(&mut self.conn, &mut self.failed, fault)),
+        }
+    }
+
     #[tactic(auto, unfolding(store_lists::specs::Tables::tables_in))]
     fn member_named(&mut self, name: &str) -> Result<Option<Member>, KeepFault> {
         if self.failed {
@@ -133,6 +148,20 @@ impl<S: Alter> Keep for SqlKeep<S> {
         }
         match category_at(&mut self.conn, category as u32) {
             Ok(found) => Ok(found),
+            Err(fault) => Err(told_fault(&mut self.conn, &mut self.failed, fault)),
+        }
+    }
+
+    #[tactic(auto, using(store_rows::proofs::Small::no_category), unfolding(store_lists::specs::Tables::tables_in))]
+    fn has_category(&mut self, category: u64) -> Result<bool, KeepFault> {
+        if self.failed {
+            return Err(KeepFault::Store);
+        }
+        if category > LAST_NUMBER {
+            return Ok(false);
+        }
+        match has_category(&mut self.conn, category as u32) {
+            Ok(is) => Ok(is),
             Err(fault) => Err(told_fault(&mut self.conn, &mut self.failed, fault)),
         }
     }
@@ -492,6 +521,20 @@ impl<S: Alter> Keep for SqlKeep<S> {
             return Ok(Vec::new(self.alloc));
         }
         match waiting_for(self.alloc, &mut self.conn, member as u32) {
+            Ok(all) => Ok(all),
+            Err(fault) => Err(told_fault(&mut self.conn, &mut self.failed, fault)),
+        }
+    }
+
+    #[tactic(auto, using(crate::proofs::AbsentLists::no_first_waiting))]
+    fn first_waiting(&mut self, member: u64) -> Result<Vec<Question>, KeepFault> {
+        if self.failed {
+            return Err(KeepFault::Store);
+        }
+        if member > LAST_NUMBER {
+            return Ok(Vec::new(self.alloc));
+        }
+        match first_waiting(self.alloc, &mut self.conn, member as u32) {
             Ok(all) => Ok(all),
             Err(fault) => Err(told_fault(&mut self.conn, &mut self.failed, fault)),
         }

@@ -19,5 +19,5 @@ pub use closing::due;
 pub use own::own_best;
 pub use rated::ratings;
 pub use sales::sales_to;
-pub use waiting::waiting_for;
+pub use waiting::{first_waiting, waiting_for};
 pub use watch::{items_watched, watch_count};

@@ -1,11 +1,12 @@
 //! The questions that wait for a member's answer.
-ghost use Rattle.std.specs.Prelude.{◌≡◌, ◌++◌, false, flat_map, IfOk, OnOk, OnErr, IsErrOf};
+ghost use Rattle.std.specs.Prelude.{◌≡◌, ◌≤◌, ◌++◌, false, flat_map, length, take, IfOk, OnOk, OnErr, IsErrOf};
 ghost use Rattle.std.specs.List.{AllByRecursion};
 ghost use Rattle.sqlite.specs.State.{HasCleanDisk, IsUnchanged, Survives};
 ghost use Rattle.sqlite.specs.Held.{state};
 ghost use Rattle.house_rows.specs.Fits.{QuestionFits};
-ghost use Rattle.house_rows.specs.Found.{waiting_for};
+ghost use Rattle.house_rows.specs.Found.{first_waiting, waiting_for};
 ghost use Rattle.house_rows.specs.Keeping.{AreSound};
+ghost use Rattle.house_rows.specs.Limits.{most_shown};
 ghost use Rattle.house_rows.specs.declared.item.Terms.{Terms as TermsRow};
 ghost use Rattle.house_rows.specs.declared.fault.KeepFault.TheVariants.{Damaged};
 ghost use Rattle.store_rows.specs.House.{Serves, KeepsCommitted};
@@ -14,10 +15,12 @@ ghost use Rattle.store_lists.specs.Tables.{tables_in};
 ghost use Rattle.store_answers.specs.Joined.{waiting_in};
 
 use house_rows::{KeepFault, Question, Terms};
+use list_rows::MOST_SHOWN;
 use sqlite::{Alter, Connection};
 use std::alloc::Global;
 use store_finds::terms_of_seller;
 use store_lists::waiting_on;
+use store_pages::first_waiting_on;
 
 // Adds the questions on an item that wait to those found.
 fn add_waiting<S: Alter>(
@@ -84,4 +87,82 @@ pub fn waiting_for<S: Alter>(
 {
     let own = terms_of_seller(alloc, conn, member)?;
     waiting_on_each(alloc, conn, &own)
+}
+
+// Adds the questions on an item that wait to those found, up to fifty in all.
+fn add_first_waiting<S: Alter>(
+    alloc: Global,
+    conn: &mut Connection<S>,
+    item: u32,
+    asked: &mut Vec<Question>,
+) -> Result<(), KeepFault>
+    requires { Serves (state S.Store conn.old) }
+    ensures asked { HasCleanDisk (state S.Store conn.new) → OnOk result (asked.new.items ≡ take most_shown (asked.old.items ++ waiting_in (state S.Store conn.old).now.trees item)) }
+    ensures few { OnOk result (length asked.new.items ≤ most_shown) }
+    ensures fits { AllByRecursion QuestionFits asked.old.items → OnOk result (AllByRecursion QuestionFits asked.new.items) }
+    ensures damaged { HasCleanDisk (state S.Store conn.new) → AllByRecursion QuestionFits (questions_in (state S.Store conn.old).now.trees) → ¬ (IsErrOf result Damaged) }
+    ensures same { HasCleanDisk (state S.Store conn.new) → OnOk result (IsUnchanged (state S.Store conn.old) (state S.Store conn.new)) }
+    ensures err { HasCleanDisk (state S.Store conn.new) → OnErr result (KeepsCommitted (state S.Store conn.old) (state S.Store conn.new)) }
+    ensures mode { conn.old.in_transaction ≡ false → conn.new.in_transaction ≡ false }
+    ensures crash { Survives (state S.Store conn.old) (state S.Store conn.new) (λ _. ⊥) }
+{
+    let mut more = first_waiting_on(alloc, conn, item)?;
+    match asked.append(&mut more) {
+        Ok(()) => {
+            asked.truncate(MOST_SHOWN);
+            Ok(())
+        }
+        Err(_) => Err(KeepFault::Memory),
+    }
+}
+
+// The first fifty questions on some items that wait, item by item.
+fn first_on_each<S: Alter>(
+    alloc: Global,
+    conn: &mut Connection<S>,
+    own: &[Terms],
+) -> Result<Vec<Question>, KeepFault>
+    requires { Serves (state S.Store conn.old) }
+    ensures asked { HasCleanDisk (state S.Store conn.new) → IfOk result (λ asked. asked.items ≡ take most_shown (flat_map (λ (t : TermsRow). waiting_in (state S.Store conn.old).now.trees t.item) own.now)) }
+    ensures fits { IfOk result (λ asked. AllByRecursion QuestionFits asked.items) }
+    ensures damaged { HasCleanDisk (state S.Store conn.new) → AllByRecursion QuestionFits (questions_in (state S.Store conn.old).now.trees) → ¬ (IsErrOf result Damaged) }
+    ensures same { HasCleanDisk (state S.Store conn.new) → OnOk result (IsUnchanged (state S.Store conn.old) (state S.Store conn.new)) }
+    ensures err { HasCleanDisk (state S.Store conn.new) → OnErr result (KeepsCommitted (state S.Store conn.old) (state S.Store conn.new)) }
+    ensures mode { conn.old.in_transaction ≡ false → conn.new.in_transaction ≡ false }
+    ensures crash { Survives (state S.Store conn.old) (state S.Store conn.new) (λ _. ⊥) }
+{
+    let mut asked = Vec::new(alloc);
+    for terms in own {
+        if asked.len() >= MOST_SHOWN {
+            return Ok(asked);
+        }
+        match add_first_waiting(alloc, conn, terms.item, &mut asked) {
+            Ok(()) => {}
+            Err(fault) => return Err(fault),
+        }
+    }
+    Ok(asked)
+}
+
+/// The first of the questions that wait for a member's answer, by item, asker and number; at most
+/// fifty.
+///
+/// It reads the terms of all items that the member sells, and of their questions no row behind the
+/// fiftieth.
+pub fn first_waiting<S: Alter>(
+    alloc: Global,
+    conn: &mut Connection<S>,
+    member: u32,
+) -> Result<Vec<Question>, KeepFault>
+    requires { Serves (state S.Store conn.old) }
+    ensures value { HasCleanDisk (state S.Store conn.new) → IfOk result (λ asked. asked.items ≡ first_waiting (tables_in (state S.Store conn.old).now.trees) member) }
+    ensures fits { IfOk result (λ asked. AllByRecursion QuestionFits asked.items) }
+    ensures damaged { HasCleanDisk (state S.Store conn.new) → AreSound (tables_in (state S.Store conn.old).now.trees) → ¬ (IsErrOf result Damaged) }
+    ensures same { HasCleanDisk (state S.Store conn.new) → OnOk result (IsUnchanged (state S.Store conn.old) (state S.Store conn.new)) }
+    ensures err { HasCleanDisk (state S.Store conn.new) → OnErr result (KeepsCommitted (state S.Store conn.old) (state S.Store conn.new)) }
+    ensures mode { conn.old.in_transaction ≡ false → conn.new.in_transaction ≡ false }
+    ensures crash { Survives (state S.Store conn.old) (state S.Store conn.new) (λ _. ⊥) }
+{
+    let own = terms_of_seller(alloc, conn, member)?;
+    first_on_each(alloc, conn, &own)
 }

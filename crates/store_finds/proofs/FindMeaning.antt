@@ -22,6 +22,12 @@ Finds sql tree test shown name = (command_of (understood house_schema sql) ≡ S
 abbrev pub of_pair : List Term
 of_pair = equals 1 ∷ op2 (Compare Eq Binary) (col 1 2) (col 0 1) ∷ []
 
+abbrev pub has_member_text : List ℕ
+has_member_text = codes "SELECT id FROM member WHERE id = ?1"
+
+abbrev pub has_category_text : List ℕ
+has_category_text = codes "SELECT id FROM category WHERE id = ?1"
+
 abbrev pub has_bid_text : List ℕ
 has_bid_text = codes "SELECT no FROM bid WHERE item = ?1 AND no = ?2"
 
@@ -41,6 +47,18 @@ asked_by = equals 2 ∷ op2 (Compare Eq Binary) (col 1 1) (col 0 1) ∷ []
 -- of this item by this giver, with a rating
 abbrev pub given_by : List Term
 given_by = equals 1 ∷ op2 (Compare Eq Binary) (col 1 2) (col 0 1) ∷ op2 (Compare Ge Binary) (col 1 4) (lit (Int (negsuc 0))) ∷ op2 (Compare Le Binary) (col 1 4) (lit (Int (pos 1))) ∷ []
+
+-- a query for the row of a number
+abbrev pub FindsNumbered : List ℕ → ℕ → Type 0
+FindsNumbered sql tree = Finds sql tree (equals 0 ∷ []) (col 1 0) (codes "id")
+
+pub has_member_is : FindsNumbered has_member_text 2
+unfolding understood everything
+has_member_is = (refl, refl, (refl, refl))
+
+pub has_category_is : FindsNumbered has_category_text 4
+unfolding understood everything
+has_category_is = (refl, refl, (refl, refl))
 
 pub has_bid_is : Finds has_bid_text 8 of_pair (col 1 2) (codes "no")
 unfolding understood everything

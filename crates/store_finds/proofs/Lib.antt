@@ -4,6 +4,7 @@ pub mod ColumnKinds
 pub mod FindMeaning
 pub mod BidFinds
 pub mod WatchFinds
+pub mod PeopleFinds
 pub mod FeedbackFinds
 pub mod TermMeaning
 pub mod TermFinds

@@ -11,6 +11,7 @@
 mod bid;
 mod feedback;
 mod item;
+mod people;
 mod placed;
 mod question;
 mod watch;
@@ -18,6 +19,7 @@ mod watch;
 pub use bid::{has_bid, own_bid_rows};
 pub use feedback::is_given;
 pub use item::{due_terms, terms_led_by, terms_of_seller};
+pub use people::{has_category, has_member};
 pub use placed::PlacedBid;
 pub use question::ask_count;
 pub use watch::is_watched;

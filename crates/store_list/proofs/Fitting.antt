@@ -1,6 +1,7 @@
 -- What is found in a table whose rows fit, fits.
-use Rattle.std.proofs.Common.{◌≡◌, ℕ, zero, suc, List, [], ◌∷◌, length, take, map, filter, Bool, true, ◌∙◌, ap, sym, arith, inl, inr, Option, Some, None, Result, Ok, Err}
-use Rattle.std.specs.Prelude.{IfOk, IfSome, Vec, find, option_map, ◌&&◌, nat_le, nat_lt}
+use Rattle.std.proofs.Common.{◌≡◌, ℕ, zero, suc, List, [], ◌∷◌, length, take, map, filter, Bool, true, ◌∙◌, ap, sym, arith, inl, inr, refl, Bor, Option, Some, None, Result, Ok, Err}
+use Rattle.std.specs.Option.{option_copied}
+use Rattle.std.specs.Prelude.{IfOk, IfSome, Vec, find, is_some, option_map, ◌&&◌, nat_le, nat_lt}
 use Rattle.std.specs.List.{AllByRecursion}
 use Rattle.std.proofs.lemmas.Bool.Decides.{nat_tests}
 use Rattle.proxy.specs.declared.bid.Bid.{Bid}
@@ -20,6 +21,11 @@ use Rattle.house_rows.proofs.Put.{by_test}
 pub find_fits : {A : Type 0} (P : A → Type 0) (p : A → Bool) (xs : List A) → AllByRecursion P xs → IfSome (find p xs) P
 find_fits P p [] all = tt
 find_fits P p (x ∷ xs) all = elim (by_test (p x)) [ inl is ↦ rw is all.0 | inr not ↦ rw not (find_fits P p xs all.1) ]
+
+-- what is there is there behind a reference
+pub some_copied : {A : Type 0} (o : Option (Bor A)) → is_some (option_copied o) ≡ is_some o
+some_copied None = refl
+some_copied (Some r) = refl
 
 pub some_as : {A B : Type 0} (f : A → B) (P : A → Type 0) (Q : B → Type 0) (o : Option A) → ((x : A) → P x → Q (f x)) → IfSome o P → IfSome (option_map f o) Q
 some_as f P Q None as' fits = tt

@@ -119,12 +119,20 @@ impl Keep for ListKeep {
         found(self.alloc, self.members.member(member))
     }
 
+    fn has_member(&mut self, member: u64) -> Result<bool, KeepFault> {
+        Ok(self.members.member(member).is_some())
+    }
+
     fn member_named(&mut self, name: &str) -> Result<Option<Member>, KeepFault> {
         found(self.alloc, self.members.named(name))
     }
 
     fn category(&mut self, category: u64) -> Result<Option<Category>, KeepFault> {
         found(self.alloc, self.categories.category(category))
+    }
+
+    fn has_category(&mut self, category: u64) -> Result<bool, KeepFault> {
+        Ok(self.categories.category(category).is_some())
     }
 
     fn category_named(&mut self, name: &str) -> Result<Option<Category>, KeepFault> {
@@ -233,6 +241,13 @@ impl Keep for ListKeep {
         let own = items.sold_by(member);
         self.questions
             .waiting_on(self.alloc, own, |item| items.is_sold_by(item, member))
+    }
+
+    fn first_waiting(&mut self, member: u64) -> Result<Vec<Question>, KeepFault> {
+        let items = &self.items;
+        let own = items.sold_by(member);
+        self.questions
+            .first_waiting_on(self.alloc, own, |item| items.is_sold_by(item, member))
     }
 
     fn sold_of(&mut self, member: u64) -> Result<Vec<Sold>, KeepFault> {

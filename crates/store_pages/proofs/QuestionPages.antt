@@ -36,7 +36,8 @@ use Rattle.store_rows.proofs.Update.{numbered_passes}
 use Rattle.store_lists.specs.Sorted.{sorted_questions}
 use Rattle.store_lists.specs.Tables.{tables_in}
 use Rattle.store_lists.proofs.ByKey.{by_columns}
-use Rattle.store_lists.proofs.QuestionMeaning.{question_order, was_answered}
+use Rattle.store_lists.proofs.QuestionLists.{waiting_test}
+use Rattle.store_lists.proofs.QuestionMeaning.{question_order, waiting_on_is, waiting_on_text, waits, was_answered}
 use Rattle.store_lists.proofs.Shown.{output_row}
 use Rattle.store_lists.proofs.Tested.{filter_both, filter_regrouped, is_there}
 use Rattle.store_pages.specs.First.{IsFinite, ShowsFirst, ShowsSome}
@@ -169,6 +170,41 @@ module _ (test : List Term) (order : List (Term × Sorting)) (params : Row) (sql
       (first_fit test question_shown order params table first.all (lists sql 12 test question_shown order question_names is (λ db. refl) old new params first.all house first.shown)
       question_of question_in (λ r. refl) QuestionFits (all_unmap QuestionFits question_in table fits) 50)
 
+-- in the order of item, asker and number, rows don't tie, and they rise with their keys
+module _ (test : List Term) (params : Row) where
+  agrees : (r s : Row) → IsTalk r → IsTalk s → tied test question_order params r s ≡ true → agree keys.plain (1 ∷ 2 ∷ 3 ∷ []) r (1 ∷ 2 ∷ 3 ∷ []) s ≡ true
+  agrees r s r_is s_is tie =
+      let each = ties_of_three (value_cmp (column r 1) (column s 1)) (value_cmp (column r 2) (column s 2)) (value_cmp (column r 3) (column s 3)) tie in
+      agree_three r s r_is s_is each.0 each.1 each.2
+
+  rises : (r s : Row) → IsTalk r → IsTalk s → Fits r → rise test question_order params r s → is_less (question_key (question_in r)) (question_key (question_in s)) ≡ true
+  rises r s r_is s_is fits less =
+      three_rise (column r 1) (column r 2) (column r 3) (column s 1) (column s 2) (column s 3) (item_low r fits) (asker_low r fits) (place_low r fits) s_is.first s_is.second s_is.third less
+
+-- ---- the questions on an item that wait for an answer
+
+abbrev waiting_terms : List Term
+waiting_terms = equals 1 ∷ waits ∷ []
+
+pub waiting_finite : IsFinite (understood house_schema waiting_on_text)
+unfolding understood everything
+waiting_finite = refl
+
+module _ (item : ℕ) (low : item < 2 ^ 32) (old new : State) (house : IsHouse old.now) (rows : List Row) (first : ShowsFirst 50 waiting_on_text (Int (pos item) ∷ []) old new rows) where
+  abbrev on_item : Row
+  on_item = Int (pos item) ∷ []
+
+  -- a row with a negative asker comes first, so it is among them, and doesn't fit
+  pub waiting_shown : AllByRecursion QuestionFits (map question_of rows) → map question_of rows ≡ take 50 (filter (λ q. (q.item == item) && not (is_some q.answer)) (sorted_questions old.now.trees))
+  waiting_shown fits =
+      let talk = are_questions old.now house in
+      first_shown waiting_terms question_order on_item waiting_on_text waiting_on_is old new house rows first (agrees waiting_terms on_item)
+      IsTalk (all-filter IsTalk (passes waiting_terms on_item) (old.now.trees 12) talk) (rises waiting_terms on_item)
+      (λ q. (q.item == item) && not (is_some q.answer)) IsTalk (waiting_test item low) talk fits
+
+  pub waiting_fit : AllByRecursion QuestionFits (questions_in old.now.trees) → AllByRecursion QuestionFits (map question_of rows)
+  waiting_fit = questions_fit waiting_terms question_order on_item waiting_on_text waiting_on_is old new house rows first
+
 -- ---- the published questions on an item
 
 published_bits : (a b negative over : Bool) → (a && negative) ≡ false → (a && (b && ((not negative && over) && true))) ≡ ((a && b) && over)
@@ -198,21 +234,12 @@ module _ (item from : ℕ) (low : item < 2 ^ 32) (small : from < 2 ^ 32) (old ne
       rw (equals_number (column r 1) item is.0.first low, is_there (column r 5), at_least (column r 2) from is.0.second small)
       (published_bits (eqb (number_in (column r 1)) item) (is_some (maybe_text_in (column r 5))) (is_negative (column r 2)) (nat_le from (number_in (column r 2))) (sym (stray_passes 1 2 item low r is.0.first is.0.second) ∙ is.1))
 
-  agrees : (r s : Row) → IsTalk r → IsTalk s → tied published_test question_order params r s ≡ true → agree keys.plain (1 ∷ 2 ∷ 3 ∷ []) r (1 ∷ 2 ∷ 3 ∷ []) s ≡ true
-  agrees r s r_is s_is tie =
-      let each = ties_of_three (value_cmp (column r 1) (column s 1)) (value_cmp (column r 2) (column s 2)) (value_cmp (column r 3) (column s 3)) tie in
-      agree_three r s r_is s_is each.0 each.1 each.2
-
-  rises : (r s : Row) → IsTalk r → IsTalk s → Fits r → rise published_test question_order params r s → is_less (question_key (question_in r)) (question_key (question_in s)) ≡ true
-  rises r s r_is s_is fits less =
-      three_rise (column r 1) (column r 2) (column r 3) (column s 1) (column s 2) (column s 3) (item_low r fits) (asker_low r fits) (place_low r fits) s_is.first s_is.second s_is.third less
-
   pub published_shown : (rows : List Row) → Shown stray_askers_text here old new [] → ShowsFirst 50 published_text params old new rows → AllByRecursion QuestionFits (map question_of rows)
       → map question_of rows ≡ take 50 (filter (λ q. (q.item == item) && nat_le from q.asker) (filter (λ q. is_some q.answer) (sorted_questions old.now.trees)))
   published_shown rows none first fits =
       let no_stray = none_passes stray_askers (col 1 2 ∷ []) question_order here asked [] (lists stray_askers_text 12 stray_askers (col 1 2 ∷ []) question_order _ stray_askers_is (λ db. refl) old new here [] house none) refl in
       let talk = are_questions old.now house in
-      let shown = first_shown published_test question_order params published_text published_is old new house rows first agrees IsTalk (all-filter IsTalk (passes published_test params) asked talk) rises
+      let shown = first_shown published_test question_order params published_text published_is old new house rows first (agrees published_test params) IsTalk (all-filter IsTalk (passes published_test params) asked talk) (rises published_test params)
       (keeps_published item from) IsNoStray passing (all_both IsTalk (λ r. passes stray_askers here r ≡ false) IsNoStray (λ r is no. (is, no)) asked talk no_stray) fits in
       shown ∙ ap (take 50) (sym (filter_both (λ q. (q.item == item) && is_some q.answer) (λ q. nat_le from q.asker) (sorted_questions old.now.trees))
       ∙ filter_regrouped (λ q. q.item == item) (λ q. is_some q.answer) (λ q. nat_le from q.asker) (sorted_questions old.now.trees))

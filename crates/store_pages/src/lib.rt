@@ -8,7 +8,8 @@
 //!
 //! A list that is `Damaged` has met a row that does not fit, or a stray: a row that does not fit and
 //! that SQL sorts elsewhere than its typed row belongs, as one with a negative number. Each list
-//! looks for strays by a query of their own; that of `feedback` goes through the rows before it.
+//! looks for strays by a query of their own; that of `feedback` goes through the rows before it, and that
+//! of what waits on an item needs none.
 #![tactic(auto)]
 
 mod bound;
@@ -20,4 +21,4 @@ mod questions;
 pub use feedback::feedback_to;
 pub use first::first_rows;
 pub use items::items_in;
-pub use questions::{published_on, questions_of};
+pub use questions::{first_waiting_on, published_on, questions_of};

@@ -1,5 +1,5 @@
 //! Lists of questions.
-ghost use Rattle.std.specs.Prelude.{◌≡◌, ◌==◌, ◌&&◌, false, filter, is_some, nat_le, take, IfOk, OnOk, OnErr, IsErrOf};
+ghost use Rattle.std.specs.Prelude.{◌≡◌, ◌==◌, ◌&&◌, false, filter, is_some, nat_le, not, take, IfOk, OnOk, OnErr, IsErrOf};
 ghost use Rattle.std.specs.List.{AllByRecursion};
 ghost use Rattle.house_rows.specs.Fits.{QuestionFits};
 ghost use Rattle.house_rows.specs.Found.{published_on, questions_of};
@@ -13,8 +13,9 @@ ghost use Rattle.store_lists.specs.Sorted.{sorted_questions};
 ghost use Rattle.store_lists.specs.Tables.{tables_in};
 
 use crate::bound::bound_of;
-use crate::first::page_rows;
+use crate::first::{first_rows, page_rows};
 use house_rows::{KeepFault, Question};
+use list_rows::MOST_SHOWN;
 use sqlite::{Alter, Connection, params};
 use std::alloc::Global;
 use store_rows::all_of;
@@ -63,6 +64,32 @@ pub fn published_on<S: Alter>(
     ensures crash { Survives (state S.Store conn.old) (state S.Store conn.new) (λ _. ⊥) }
 {
     published_from(alloc, conn, item, bound_of(from))
+}
+
+/// The questions on an item that wait for an answer; at most fifty.
+pub fn first_waiting_on<S: Alter>(
+    alloc: Global,
+    conn: &mut Connection<S>,
+    item: u32,
+) -> Result<Vec<Question>, KeepFault>
+    requires { Serves (state S.Store conn.old) }
+    ensures asked { HasCleanDisk (state S.Store conn.new) → IfOk result (λ asked. asked.items ≡ take most_shown (filter (λ q. (q.item == item) && not (is_some q.answer)) (sorted_questions (state S.Store conn.old).now.trees))) }
+    ensures fits { IfOk result (λ asked. AllByRecursion QuestionFits asked.items) }
+    ensures damaged { HasCleanDisk (state S.Store conn.new) → AllByRecursion QuestionFits (questions_in (state S.Store conn.old).now.trees) → ¬ (IsErrOf result Damaged) }
+    ensures same { HasCleanDisk (state S.Store conn.new) → OnOk result (IsUnchanged (state S.Store conn.old) (state S.Store conn.new)) }
+    ensures err { HasCleanDisk (state S.Store conn.new) → OnErr result (KeepsCommitted (state S.Store conn.old) (state S.Store conn.new)) }
+    ensures mode { conn.old.in_transaction ≡ false → conn.new.in_transaction ≡ false }
+    ensures crash { Survives (state S.Store conn.old) (state S.Store conn.new) (λ _. ⊥) }
+{
+    // A row with a negative number of its asker comes first, and doesn't fit: no stray is looked for.
+    let rows = first_rows(
+        alloc,
+        conn,
+        "SELECT item, asker, n, answer, body FROM question WHERE item = ?1 AND answer IS NULL ORDER BY item, asker, n",
+        params![item],
+        MOST_SHOWN,
+    )?;
+    all_of(alloc, &rows)
 }
 
 // A member's questions, from an item on; at most fifty.

@@ -7,8 +7,9 @@ use Rattle.house_rows.specs.Limits.{most_shown}
 use Rattle.house_rows.specs.Ratings.{feedback_key}
 use Rattle.list_rows.specs.Blocks.{rows_of}
 use Rattle.list_rows.proofs.Blocked.{rows_rise}
+use Rattle.list_rows.proofs.Growing.{front_short}
 use Rattle.list_talk.specs.declared.concerns.Concern.{Concern}
-use Rattle.list_talk.proofs.Gathered.{front_short, gathered, gathered_full, gathered_shown}
+use Rattle.list_talk.proofs.Gathered.{gathered, gathered_full, gathered_shown}
 use Rattle.list_talk.proofs.Noting.{own_gathered}
 use Rattle.list_talk.proofs.feedback.FeedbackTable.given_to.Goals as goal
 

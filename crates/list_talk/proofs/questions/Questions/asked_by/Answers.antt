@@ -7,9 +7,10 @@ use Rattle.house_rows.specs.Limits.{most_shown}
 use Rattle.house_rows.specs.Changed.{question_key}
 use Rattle.list_rows.specs.Blocks.{rows_of}
 use Rattle.list_rows.proofs.Blocked.{rows_rise}
+use Rattle.list_rows.proofs.Growing.{front_short}
 use Rattle.list_talk.specs.declared.concerns.Concern.{Concern}
 use Rattle.list_talk.proofs.Askers.{asked_from, by_asker}
-use Rattle.list_talk.proofs.Gathered.{front_short, gathered, gathered_full, gathered_shown}
+use Rattle.list_talk.proofs.Gathered.{gathered, gathered_full, gathered_shown}
 use Rattle.list_talk.proofs.Noting.{own_gathered}
 use Rattle.list_talk.proofs.questions.Questions.asked_by.Goals as goal
 

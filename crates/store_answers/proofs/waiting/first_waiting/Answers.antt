@@ -1,0 +1,38 @@
+use Rattle.std.proofs.Common.{◌≡◌, ◌∙◌, ap, flat_map, rules, subst, sym, take}
+use Rattle.std.specs.List.{AllByRecursion}
+use Rattle.sqlite.specs.Effect.{Database}
+use Rattle.sqlite.specs.Held.{state}
+use Rattle.house_rows.specs.Fits.{QuestionFits}
+use Rattle.house_rows.specs.Limits.{most_shown}
+use Rattle.house_rows.specs.declared.item.Terms.{Terms}
+use Rattle.store_rows.specs.Rows.{questions_in}
+use Rattle.store_rows.proofs.StateLemmas.{ok_then}
+use Rattle.store_answers.specs.Joined.{waiting_in}
+use Rattle.store_answers.proofs.Sound.{items_fit, questions_fit}
+use Rattle.store_answers.proofs.Steps.{clean_before}
+use Rattle.store_answers.proofs.WaitingItems.{waiting_found}
+use Rattle.store_answers.proofs.waiting.first_waiting.Goals as goal
+
+pub returns-in_err-own-clause-damaged : goal.returns-in_err-own-clause-damaged
+returns-in_err-own-clause-damaged g c clean sound is = c.in_err-own.ensures.damaged clean (items_fit (state g.S.Store c.args.conn.now).now.trees sound) (search rules)
+
+pub returns-clause-value : goal.returns-clause-value
+returns-clause-value g c clean =
+    let old = state g.S.Store c.args.conn.now in
+    let mid = state g.S.Store c.terms_of_seller.new.conn in
+    let new = state g.S.Store c.first_on_each.new.conn in
+    let before = clean_before mid new c.first_on_each.ensures.crash clean in
+    let first = c.in_ok-own.ensures.same before in
+    let house = (c.requires (clean_before old mid c.terms_of_seller.ensures.crash before)).1 in
+    let own = c.in_ok-own.own.items in
+    let same : c.deref.result.now ≡ own = search rules in
+    let found = waiting_found old.now c.args.member own house (c.in_ok-own.ensures.terms before) c.in_ok-own.ensures.fits in
+    ok_then c.first_on_each.result (c.first_on_each.ensures.asked clean) (λ asked e.
+    e ∙ ap (take most_shown) (ap (flat_map (λ (t : Terms). waiting_in mid.now.trees t.item)) same ∙ ap (λ (db : Database). flat_map (λ (t : Terms). waiting_in db.trees t.item) own) first.0.now_is ∙ found))
+
+pub returns-clause-damaged : goal.returns-clause-damaged
+returns-clause-damaged g c clean sound =
+    let old = state g.S.Store c.args.conn.now in
+    let mid = state g.S.Store c.terms_of_seller.new.conn in
+    let before = clean_before mid (state g.S.Store c.first_on_each.new.conn) c.first_on_each.ensures.crash clean in
+    c.first_on_each.ensures.damaged clean (subst (λ (db : Database). AllByRecursion QuestionFits (questions_in db.trees)) (sym (c.in_ok-own.ensures.same before).0.now_is) (questions_fit old.now.trees sound))
