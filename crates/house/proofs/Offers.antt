@@ -1,8 +1,7 @@
 -- What look-ups tell of an offer.
-use Rattle.std.proofs.Common.{◌≡◌, ℕ, List, [], ◌∷◌, ◌++◌, Bool, true, false, not, refl, ◌∙◌, ap, sym, arith, Option, Some, None, Result, Ok, Err, IfOk}
+use Rattle.std.proofs.Common.{◌≡◌, ℕ, List, [], ◌∷◌, ◌++◌, Bool, true, false, not, refl, ◌∙◌, sym, Option, Some, None, Result, Ok, Err, IfOk}
 use Rattle.std.specs.Prelude.{◌==◌, ◌&&◌, find, is_some, option_map}
 use Rattle.std.specs.List.{list_any}
-use Rattle.std.proofs.lemmas.Bool.Decides.{nat_tests}
 use Rattle.proxy.specs.Rules.{first_failing}
 use Rattle.house_rows.specs.declared.fault.KeepFault.{KeepFault}
 use Rattle.house_rows.specs.declared.people.Category.{Category}
@@ -12,7 +11,6 @@ use Rattle.house_rows.specs.Found.{category_at, item_with_lot}
 use Rattle.house_rows.specs.Tables.{ItemRow, Tables}
 use Rattle.house_rows.specs.Text.{same_text}
 use Rattle.house_rows.specs.Verdict.{Rule}
-use Rattle.house_rows.proofs.Every.{found_is}
 use Rattle.house.specs.declared.listing.Prices.{Prices}
 use Rattle.house.specs.Offered.{told}
 use Rattle.house.proofs.Found.{first_none, some_found}

@@ -18,7 +18,8 @@ use sqlite::{Alter, Connection};
 use std::alloc::Global;
 use std::marker::Model;
 use store_answers::{
-    due, first_waiting, items_watched, own_best, own_bids, ratings, sales_to, waiting_for, watch_count,
+    due, first_waiting, items_watched, own_best, own_bids, ratings, sales_to, waiting_for,
+    watch_count,
 };
 use store_finds::{ask_count, has_category, has_member, is_given, is_watched};
 use store_items::{all_items, item_at, item_with_lot, standing_at, terms_at};

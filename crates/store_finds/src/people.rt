@@ -30,11 +30,7 @@ pub fn has_member<S: Alter>(conn: &mut Connection<S>, member: u32) -> Result<boo
     ensures mode { conn.old.in_transaction ≡ false → conn.new.in_transaction ≡ false }
     ensures crash { Survives (state S.Store conn.old) (state S.Store conn.new) (λ _. ⊥) }
 {
-    let rows = rows_shown(
-        conn,
-        "SELECT id FROM member WHERE id = ?1",
-        params![member],
-    )?;
+    let rows = rows_shown(conn, "SELECT id FROM member WHERE id = ?1", params![member])?;
     if rows.is_empty() {
         Ok(false)
     } else if 1 <= member && member <= MOST_MEMBERS {

@@ -1,4 +1,4 @@
-use Rattle.std.proofs.Common.{◌≡◌, ◌++◌, ◌∙◌, ap, arith, flat_map, rules, subst, take}
+use Rattle.std.proofs.Common.{◌≡◌, ◌++◌, ◌∙◌, ap, rules, subst, take}
 use Rattle.sqlite.specs.Effect.{Database}
 use Rattle.sqlite.specs.Held.{state}
 use Rattle.house_rows.specs.Limits.{most_shown}
@@ -30,7 +30,6 @@ loop-terms-preserved g c =
 pub returns-then-len-ge-MOST_SHOWN-clause-asked : goal.returns-then-len-ge-MOST_SHOWN-clause-asked
 returns-then-len-ge-MOST_SHOWN-clause-asked g c clean =
     let held = c.loop-terms.invariant in
-    let F = λ (t : Terms). waiting_in (state g.S.Store c.args.conn.now).now.trees t.item in
     first_found_full most_shown c.loop-terms.asked.items _ _ held.few (search rules) (held.found clean)
 
 pub returns-clause-asked : goal.returns-clause-asked
