@@ -1,6 +1,8 @@
 pub mod Put
 pub mod Every
 pub mod Passed
+pub mod Shown
+pub mod Next
 pub mod Own
 pub mod Numbered
 pub mod Ranged
@@ -16,6 +18,5 @@ pub mod Sound
 pub mod ChangedRows
 pub mod SoundAfter
 pub mod Lists
-pub mod ItemRows
+pub mod AllItems
 pub mod OwnBids
-pub mod Replies
