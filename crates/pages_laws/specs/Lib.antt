@@ -1,0 +1,2 @@
+pub mod ByTables
+pub mod Laws
