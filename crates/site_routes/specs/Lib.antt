@@ -1,0 +1,4 @@
+pub mod Table
+pub mod Segments
+pub mod Numbers
+pub mod Routes

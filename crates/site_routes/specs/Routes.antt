@@ -1,0 +1,36 @@
+-- The route of a method and a target.
+use Rattle.std.specs.Prelude.{ℕ, List, codes, Bool, Option, Some, None, Result, Ok, Err, if◌then◌else◌}
+use Rattle.std.specs.Str.{bytes_eq, is_utf8}
+use Rattle.wire.specs.declared.methods.Methods.{Methods}
+use Rattle.wire.specs.declared.methods.Methods.TheVariants as methods
+use Rattle.site_routes.specs.Numbers.{command_in, read_in}
+use Rattle.site_routes.specs.Table.{path_of}
+use Rattle.site_routes.specs.declared.fault.RouteFault.{RouteFault}
+use Rattle.site_routes.specs.declared.fault.RouteFault.TheVariants as fault
+use Rattle.site_routes.specs.declared.path.Path.{Path}
+use Rattle.site_routes.specs.declared.path.Path.TheVariants as path
+use Rattle.site_routes.specs.declared.route.Route.{Route}
+use Rattle.site_routes.specs.declared.route.Route.TheVariants as route
+
+-- the path of a target; one that isn't UTF-8 has none
+unfoldable pub path_in : List ℕ → Option Path
+path_in target = if is_utf8 target then path_of target else None
+
+-- the route of a path, if the method is one of these; a path whose numbers can't be read is none
+abbrev pub by_method : Option Route → Bool → Methods → Result Route RouteFault
+by_method None is_method methods = Err fault.Path
+by_method (Some route) is_method methods = if is_method then Ok route else Err (fault.Method methods)
+
+-- the route of a method and a target, by the path of the target
+abbrev pub route_at : Option Path → List ℕ → List ℕ → Result Route RouteFault
+route_at None method target = Err fault.Path
+route_at (Some (path.Get read)) method target = by_method (read_in read target) (bytes_eq method (codes "GET")) methods.Get
+route_at (Some (path.Post command)) method target =
+    by_method (command_in command target) (bytes_eq method (codes "POST")) methods.Post
+route_at (Some path.Categories) method target =
+    if bytes_eq method (codes "GET") then Ok route.Categories else
+    by_method (Some route.AddCategory) (bytes_eq method (codes "POST")) methods.GetAndPost
+
+-- the route of a method and a target, or the first of these that holds: no path, no number, another method
+unfoldable pub route_of : List ℕ → List ℕ → Result Route RouteFault
+route_of method target = route_at (path_in target) method target
