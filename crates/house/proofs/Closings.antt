@@ -11,6 +11,7 @@ use Rattle.house_rows.specs.declared.refusal.Refusal.{Refusal}
 use Rattle.house_rows.specs.declared.settings.Settings.{Settings}
 use Rattle.house_rows.specs.declared.state.State.TheVariants.{Sold, Unsold}
 use Rattle.house_rows.specs.Changed.{changed, with_close}
+use Rattle.house_rows.specs.Fits.{IsMoment}
 use Rattle.house_rows.specs.History.{History}
 use Rattle.house_rows.specs.Items.{Closing, Purchase, closed_at, closed_from, closings, is_bought, is_open, is_settled, is_taken, leader_of, purchase_of, state_from, state_of}
 use Rattle.house_rows.specs.Listings.{Listing, listing_at, listings}
@@ -20,11 +21,11 @@ use Rattle.house_rows.specs.Tables.{Tables, row_now, tables_of}
 use Rattle.house_rows.specs.Verdict.{IsHistory, verdict, was_sold}
 use Rattle.house_rows.proofs.Every.{every_both}
 use Rattle.house_rows.proofs.Numbered.{numbered}
-use Rattle.house_rows.proofs.Passed.{common_pass}
 use Rattle.house_rows.proofs.Put.{by_test}
 use Rattle.house_rows.proofs.RangedTalk.{sold_is_closed}
 use Rattle.house.specs.Decided.{IsAccepted}
 use Rattle.house.specs.Judged.{first_rules}
+use Rattle.house.proofs.ByTables.{caller_fits}
 use Rattle.house.proofs.Rows.{each_row}
 
 close_verdict : (t : Tables) (settings : Settings) (h : History) (moment caller : ℕ) → t ≡ tables_of settings h
@@ -128,12 +129,15 @@ close_leads : (settings : Settings) (h : History) (moment caller : ℕ) → IsHi
 unfolding changed tables_of questions
 close_leads settings h moment caller is = rw (closed_rows settings h moment caller is) (simp append-nil)
 
+pub close_fits : (t : Tables) (moment caller : ℕ) → None ≡ first_failing (first_rules t moment caller true) → IsMoment moment
+close_fits t moment caller told = (caller_fits t moment caller true (sym told)).moment_fits
+
 pub close_accepts : (t : Tables) (settings : Settings) (h : History) (moment caller : ℕ) → IsHistory settings h → t ≡ tables_of settings h
     → None ≡ first_failing (first_rules t moment caller true) → IsAccepted settings h moment caller Close (change.Close moment)
 close_accepts t settings h moment caller is e told =
-    let accepted : verdict settings h moment caller Close ≡ None = close_verdict t settings h moment caller e ∙ sym told in
     record {
-      accepted = accepted;
-      fits = (common_pass settings h moment caller Close accepted).moment_fits;
+      accepted = close_verdict t settings h moment caller e ∙ sym told;
+      fits = close_fits t moment caller told;
+      free = tt;
       leads = close_leads settings h moment caller is;
     }

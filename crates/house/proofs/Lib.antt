@@ -3,6 +3,7 @@ pub mod NewNames
 pub mod Items
 pub mod Unchanged
 pub mod OnItems
+pub mod ByTables
 pub mod ListedTerms
 pub mod Rows
 pub mod Watched

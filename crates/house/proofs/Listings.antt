@@ -16,6 +16,7 @@ use Rattle.house_rows.specs.declared.settings.Settings.{Settings}
 use Rattle.house_rows.specs.Asks.{ListingFits}
 use Rattle.house_rows.specs.Changed.{changed, new_item}
 use Rattle.house_rows.specs.Fits.{IsWithin}
+use Rattle.house_rows.specs.Found.{item_with_lot}
 use Rattle.house_rows.specs.History.{Entry, History, clock}
 use Rattle.house_rows.specs.Bids.{bids_on}
 use Rattle.house_rows.specs.Items.{Closing, Purchase, closing_in, closings, item_now, items, items_shown, purchases, settlement_in, settlements, shown}
@@ -26,10 +27,10 @@ use Rattle.house_rows.specs.Questions.{questions}
 use Rattle.house_rows.specs.Runs.{entry}
 use Rattle.house_rows.specs.Tables.{ItemRow, Tables, row_now, tables_of}
 use Rattle.house_rows.specs.Text.{is_lot, is_text, same_text}
-use Rattle.house_rows.specs.Verdict.{IsHistory, are_terms, common_rules, is_buy_now, listing_rules, settlement_rules, verdict}
+use Rattle.house_rows.specs.Verdict.{IsHistory, are_terms, by_terms, common_rules, is_buy_now, listing_rules, settlement_rules, verdict}
 use Rattle.house_rows.proofs.Every.{every_as, found_has, found_is}
 use Rattle.house_rows.proofs.Numbered.{numbered}
-use Rattle.house_rows.proofs.Passed.{Common, common_pass, item_pass, later_pass, own_pass}
+use Rattle.house_rows.proofs.Passed.{first_pass, item_pass, later_pass, own_pass}
 use Rattle.house_rows.proofs.Put.{by_test}
 use Rattle.house_rows.proofs.RangedBids.{BidIn, PurchaseIn, bids_fit, purchases_fit}
 use Rattle.house.specs.declared.listing.Offer.{Offer}
@@ -37,24 +38,25 @@ use Rattle.house.specs.declared.listing.Prices.{Prices}
 use Rattle.house.specs.Decided.{IsAccepted}
 use Rattle.house.specs.Judged.{first_rules}
 use Rattle.house.specs.Offered.{AreOf, offer_rules}
+use Rattle.house.proofs.ByTables.{caller_fits, none_found}
 use Rattle.house.proofs.Found.{some_found}
 use Rattle.house.proofs.Rows.{each_and_new, same_number}
 
 -- what everybody sees of lots is in the rows
-lots_among : (bands : List (ℕ × ℕ)) (h : History) (caller : ℕ) (lot : List ℕ) (ls : List Listing)
-    → list_any (λ it. (it.item.terms.seller == caller) && same_text it.item.lot lot) (map (shown bands) (map (item_now bands h) ls))
-    ≡ list_any (λ (row : ItemRow). (row.item.terms.seller == caller) && same_text row.item.lot lot) (map (row_now bands h) ls)
-lots_among bands h caller lot [] = refl
-lots_among bands h caller lot (l ∷ ls) =
-    elim (by_test ((l.seller == caller) && same_text l.lot lot)) [ inl is ↦ rw is refl | inr not ↦ rw not (lots_among bands h caller lot ls) ]
+lots_among : (settings : Settings) (h : History) (caller : ℕ) (lot : List ℕ) (ls : List Listing)
+    → list_any (λ it. (it.item.terms.seller == caller) && same_text it.item.lot lot) (map (shown settings) (map (item_now settings.bands h) ls))
+    ≡ list_any (λ (row : ItemRow). (row.item.terms.seller == caller) && same_text row.item.lot lot) (map (row_now settings.bands h) ls)
+lots_among settings h caller lot [] = refl
+lots_among settings h caller lot (l ∷ ls) =
+    elim (by_test ((l.seller == caller) && same_text l.lot lot)) [ inl is ↦ rw is refl | inr not ↦ rw not (lots_among settings h caller lot ls) ]
 
 lots_shown : (settings : Settings) (h : History) (caller : ℕ) (lot : List ℕ)
-    → list_any (λ it. (it.item.terms.seller == caller) && same_text it.item.lot lot) (items_shown settings.bands h)
+    → list_any (λ it. (it.item.terms.seller == caller) && same_text it.item.lot lot) (items_shown settings h)
     ≡ list_any (λ (row : ItemRow). (row.item.terms.seller == caller) && same_text row.item.lot lot) (tables_of settings h).items
 unfolding items items_shown tables_of
-lots_shown settings h caller lot = lots_among settings.bands h caller lot (listings h)
+lots_shown settings h caller lot = lots_among settings h caller lot (listings h)
 
-count_shown : (settings : Settings) (h : History) → length (items_shown settings.bands h) ≡ length (tables_of settings h).items
+count_shown : (settings : Settings) (h : History) → length (items_shown settings h) ≡ length (tables_of settings h).items
 unfolding items items_shown tables_of
 count_shown settings h = simp length-map
 
@@ -68,7 +70,7 @@ list_verdict t settings h moment caller offer e =
     let has_category = list_any (λ k. k.category == offer.category) (categories h) in
     let has_lot = list_any (λ (row : ItemRow). (row.item.terms.seller == caller) && same_text row.item.lot offer.lot.now) (tables_of settings h).items in
     rw e (
-    ap (λ (has : Bool). first_failing (first ++ listing_rules offer.lot.now has fits has_category (length (items_shown settings.bands h)))) (lots_shown settings h caller offer.lot.now)
+    ap (λ (has : Bool). first_failing (first ++ listing_rules offer.lot.now has fits has_category (length (items_shown settings h)))) (lots_shown settings h caller offer.lot.now)
     ∙ ap (λ (count : ℕ). first_failing (first ++ listing_rules offer.lot.now has_lot fits has_category count)) (count_shown settings h)
     )
 
@@ -91,12 +93,12 @@ all_pass true true true true true true true is = (refl, refl, refl, refl, refl, 
 
 tests_pass : (lot taken fits known : Bool) (count : ℕ)
     → first_failing ((not lot, Range) ∷ (taken, LotExists) ∷ (not fits, Range) ∷ (not known, Unknown) ∷ (nat_le most_items count, Limit) ∷ []) ≡ None
-    → (lot ≡ true) × (fits ≡ true) × (known ≡ true) × (count < most_items)
+    → (taken ≡ false) × (lot ≡ true) × (fits ≡ true) × (known ≡ true) × (count < most_items)
 tests_pass false taken fits known count none = cc
 tests_pass true true fits known count none = cc
 tests_pass true false false known count none = cc
 tests_pass true false true false count none = cc
-tests_pass true false true true count none = (refl, refl, refl, grind (arith, nat_tests, none))
+tests_pass true false true true count none = (refl, refl, refl, refl, grind (arith, nat_tests, none))
 
 is_within : (a b : ℕ) → nat_le a b ≡ true → a ≤ b
 is_within a b is = grind (arith, nat_tests, is)
@@ -105,27 +107,48 @@ buy_now_within : (start : ℕ) (buy_now : Option ℕ) → is_buy_now start buy_n
 buy_now_within start None is = tt
 buy_now_within start (Some amount) is = (grind (arith, nat_tests, is), grind (arith, nat_tests, is))
 
-list_fits : (settings : Settings) (h : History) (moment caller : ℕ) (offer : Offer) → Common h moment caller false
-    → first_failing (offer_rules (tables_of settings h) moment caller offer) ≡ None
-    → ListingFits (tables_of settings h) moment caller offer.category offer.lot.now offer.title.now offer.text.now offer.start offer.buy_now offer.end
-unfolding tables_of
-list_fits settings h moment caller offer common none =
-    let pass = tests_pass (is_lot offer.lot.now) _ (are_terms moment offer.title.now offer.text.now offer.start offer.buy_now offer.end)
-    (list_any (λ k. k.category == offer.category) (categories h)) (length (map (row_now settings.bands h) (listings h))) none in
+-- that is of an offer by the tables
+offer_pass : (t : Tables) (moment caller : ℕ) (offer : Offer) → first_failing (offer_rules t moment caller offer) ≡ None
+    → (list_any (λ row. (row.item.terms.seller == caller) && same_text row.item.lot offer.lot.now) t.items ≡ false) × (is_lot offer.lot.now ≡ true)
+    × (are_terms moment offer.title.now offer.text.now offer.start offer.buy_now offer.end ≡ true)
+    × (list_any (λ k. k.category == offer.category) t.categories ≡ true) × (length t.items < most_items)
+offer_pass t moment caller offer none =
+    tests_pass (is_lot offer.lot.now) _ (are_terms moment offer.title.now offer.text.now offer.start offer.buy_now offer.end)
+    (list_any (λ k. k.category == offer.category) t.categories) (length t.items) none
+
+list_fits : (t : Tables) (moment caller : ℕ) (offer : Offer) → None ≡ first_failing (first_rules t moment caller false ++ offer_rules t moment caller offer)
+    → ListingFits t moment caller offer.category offer.lot.now offer.title.now offer.text.now offer.start offer.buy_now offer.end
+list_fits t moment caller offer told =
+    let fits = caller_fits t moment caller false (first_pass (first_rules t moment caller false) (offer_rules t moment caller offer) (sym told)) in
+    let pass = offer_pass t moment caller offer (later_pass (first_rules t moment caller false) (offer_rules t moment caller offer) (sym told)) in
     let terms = all_pass (is_text 1 80 offer.title.now) (is_text 0 2000 offer.text.now) (nat_le 1 offer.start) (nat_le offer.start most_cents)
-    (is_buy_now offer.start offer.buy_now) (nat_lt moment offer.end) (nat_le offer.end last_moment) pass.1 in
+    (is_buy_now offer.start offer.buy_now) (nat_lt moment offer.end) (nat_le offer.end last_moment) pass.2 in
     record {
-      moment_fits = common.moment_fits;
-      seller_there = (common.member_if refl, common.registered);
-      category_there = some_found (λ k. k.category == offer.category) (categories h) ∙ pass.2;
-      lot_fits = pass.0;
+      moment_fits = fits.moment_fits;
+      seller_there = fits.there refl;
+      category_there = some_found (λ k. k.category == offer.category) t.categories ∙ pass.3;
+      lot_fits = pass.1;
       title_fits = terms.0;
       text_fits = terms.1;
       start_fits = (is_within 1 offer.start terms.2, is_within offer.start most_cents terms.3);
       buy_now_fits = buy_now_within offer.start offer.buy_now terms.4;
       end_fits = is_within offer.end last_moment terms.6;
-      room = pass.3;
+      room = pass.4;
     }
+
+-- the same of the change
+pub listing_fits : (t : Tables) (moment caller : ℕ) (offer : Offer) (lot title text : Bor (List ℕ)) (taken : ℕ × Prices)
+    → lot.now ≡ offer.lot.now → title.now ≡ offer.title.now → text.now ≡ offer.text.now
+    → None ≡ first_failing (first_rules t moment caller false ++ offer_rules t moment caller offer) → AreOf offer taken
+    → ListingFits t moment caller taken.0 lot.now title.now text.now taken.1.start taken.1.buy_now offer.end
+listing_fits t moment caller offer lot title text taken same_lot same_title same_text told same =
+    rw (same.category, same.start, same.buy_now, same_lot, same_title, same_text) (list_fits t moment caller offer told)
+
+lot_free : (t : Tables) (moment caller : ℕ) (offer : Offer) → None ≡ first_failing (first_rules t moment caller false ++ offer_rules t moment caller offer)
+    → item_with_lot t caller offer.lot.now ≡ None
+lot_free t moment caller offer told =
+    let pass = offer_pass t moment caller offer (later_pass (first_rules t moment caller false) (offer_rules t moment caller offer) (sym told)) in
+    rw (none_found (λ (row : ItemRow). (row.item.terms.seller == caller) && same_text row.item.lot offer.lot.now) t.items pass.0) refl
 
 -- nothing in a history names an item over the number of those that are listed
 listed_small : (h : History) (i : ℕ) (l : Listing) → listing_at (listings h) i ≡ Some l → i ≤ length (listings h)
@@ -182,7 +205,7 @@ none_takes count i last (c ∷ cs) above all =
 settlement_small : (settings : Settings) (h : History) (moment caller : ℕ) (command : Command) → verdict settings h moment caller command ≡ None
     → AllByRecursion (λ s. s ≤ length (listings h)) (settlement_in command)
 settlement_small settings h moment caller (Settle i) none =
-    let pass = item_pass settings.bands h i settlement_rules (own_pass settings h moment caller (Settle i) none) in
+    let pass = item_pass settings h i (by_terms settlement_rules) (own_pass settings h moment caller (Settle i) none) in
     (listed_small h i pass.listing pass.listed, tt)
 settlement_small settings h moment caller _ none = tt
 
@@ -251,11 +274,9 @@ pub list_accepts : (t : Tables) (settings : Settings) (h : History) (moment call
     → IsAccepted settings h moment caller (Listed offer.category offer.lot.now offer.title.now offer.text.now offer.start offer.buy_now offer.end)
     (change.List moment caller taken.0 lot title text taken.1.start taken.1.buy_now offer.end)
 list_accepts t settings h moment caller offer lot title text taken is same_lot same_title same_text e told same =
-    let command : Command = Listed offer.category offer.lot.now offer.title.now offer.text.now offer.start offer.buy_now offer.end in
-    let accepted : verdict settings h moment caller command ≡ None = list_verdict t settings h moment caller offer e ∙ sym told in
-    let own : first_failing (offer_rules t moment caller offer) ≡ None = later_pass (first_rules t moment caller false) (offer_rules t moment caller offer) (sym told) in
     rw (same.category, same.start, same.buy_now) (record {
-      accepted = accepted;
-      fits = rw (same_lot, same_title, same_text) (list_fits settings h moment caller offer (common_pass settings h moment caller command accepted) (rw e at own));
+      accepted = list_verdict t settings h moment caller offer e ∙ sym told;
+      fits = rw (same_lot, same_title, same_text) (rw e at (list_fits t moment caller offer told));
+      free = rw same_lot (rw e at (lot_free t moment caller offer told));
       leads = rw (← same_lot, ← same_title, ← same_text) (list_leads settings h moment caller offer.category lot title text offer.start offer.buy_now offer.end is);
     })

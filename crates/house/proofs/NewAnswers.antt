@@ -12,6 +12,7 @@ use Rattle.house_rows.specs.declared.refusal.Refusal.{Refusal}
 use Rattle.house_rows.specs.declared.refusal.Refusal.TheVariants.{AlreadyAnswered, Range, SellerOnly, Unknown}
 use Rattle.house_rows.specs.declared.settings.Settings.{Settings}
 use Rattle.house_rows.specs.declared.talk.Question.{Question}
+use Rattle.house_rows.specs.Asks.{AnswerFits}
 use Rattle.house_rows.specs.Changed.{changed, with_answer}
 use Rattle.house_rows.specs.Found.{question_at, terms_at}
 use Rattle.house_rows.specs.History.{History}
@@ -22,7 +23,7 @@ use Rattle.house_rows.specs.Tables.{Tables, row_now, tables_of}
 use Rattle.house_rows.specs.Text.{is_text}
 use Rattle.house_rows.specs.Verdict.{Rule, answer_rules, common_rules, verdict}
 use Rattle.house_rows.proofs.Every.{every_map, found_has, found_is}
-use Rattle.house_rows.proofs.Passed.{common_pass}
+use Rattle.house.proofs.ByTables.{caller_fits}
 use Rattle.house.proofs.Found.{by_test, some_found}
 use Rattle.house.proofs.ListedTerms.{seller_is}
 use Rattle.house.proofs.OnItems.{item_judged, item_refused}
@@ -87,7 +88,7 @@ pub answer_refused : (t : Tables) (settings : Settings) (h : History) (moment ca
 unfolding verdict
 answer_refused t settings h moment caller item asker number text refusal e told =
     item_refused t settings h moment caller item refusal
-    (answer_rules caller text (list_any (is_question item asker number) (waiting h caller)) (list_any (is_question item asker number) (published h))) e told
+    (λ floor. answer_rules caller text (list_any (is_question item asker number) (waiting h caller)) (list_any (is_question item asker number) (published h))) e told
 
 answer_judged : (t : Tables) (settings : Settings) (h : History) (moment caller item asker number : ℕ) (text : List ℕ) (terms : Terms) → t ≡ tables_of settings h
     → terms_at t item ≡ Some terms → None ≡ first_failing (common_rules t.clock (length t.members) moment caller false)
@@ -96,7 +97,7 @@ answer_judged : (t : Tables) (settings : Settings) (h : History) (moment caller 
 unfolding verdict
 answer_judged t settings h moment caller item asker number text terms e found passed =
     item_judged t settings h moment caller item terms
-    (answer_rules caller text (list_any (is_question item asker number) (waiting h caller)) (list_any (is_question item asker number) (published h))) e found passed
+    (λ floor. answer_rules caller text (list_any (is_question item asker number) (waiting h caller)) (list_any (is_question item asker number) (published h))) e found passed
     ∙ rw (is_waiting h item asker number caller text, is_published h item asker number text, seller_is settings h item caller terms (rw e at found)) refl
 
 -- a caller that doesn't sell the item
@@ -120,9 +121,6 @@ judged_none t settings h moment caller item asker number text terms e found pass
 record QuestionThere (h : History) (item asker number : ℕ) (text : List ℕ) (q : Question) : Type 0 where
   pub there : list_any (is_question item asker number) (questions h) ≡ true
   pub answer : answer_to (answers h) (key item asker number text) ≡ q.answer
-  pub same_item : q.item ≡ item
-  pub same_asker : q.asker ≡ asker
-  pub same_number : q.number ≡ number
 
 question_there : (t : Tables) (settings : Settings) (h : History) (item asker number : ℕ) (text : List ℕ) (q : Question) → t ≡ tables_of settings h
     → question_at t item asker number ≡ Some q → QuestionThere h item asker number text q
@@ -134,9 +132,6 @@ question_there t settings h item asker number text q e found =
     record {
       there = sym (some_found (is_question item asker number) (map (answered (answers h)) (asked h))) ∙ ap is_some here;
       answer = found_has HasAnswer (is_question item asker number) (map (answered (answers h)) (asked h)) q (every_map (answered (answers h)) HasAnswer (asked h) (all_answered (asked h))) here is;
-      same_item = grind (arith, nat_tests, is);
-      same_asker = grind (arith, nat_tests, is);
-      same_number = grind (arith, nat_tests, is);
     } where
       all_answered : (qs : List Asked)
           → AllByRecursion (λ r. is_question item asker number (answered (answers h) r) ≡ true → answer_to (answers h) (key item asker number text) ≡ answer_to (answers h) r) qs
@@ -206,17 +201,43 @@ waiting_pass q text none = by_parts q.answer (is_text 1 500 text) none where
   by_parts None false none = cc
   by_parts None true none = (refl, refl)
 
+-- the question that was found is the one that was named
+pub record IsNamed (item asker number : ℕ) (q : Question) : Type 0 where
+  pub same_item : q.item ≡ item
+  pub same_asker : q.asker ≡ asker
+  pub same_number : q.number ≡ number
+
+pub question_named : (t : Tables) (item asker number : ℕ) (q : Question) → question_at t item asker number ≡ Some q → IsNamed item asker number q
+question_named t item asker number q found =
+    let is : is_question item asker number q ≡ true = found_is (is_question item asker number) t.questions q found in
+    record { same_item = grind (arith, nat_tests, is); same_asker = grind (arith, nat_tests, is); same_number = grind (arith, nat_tests, is) }
+
+pub answer_fits : (t : Tables) (moment caller item asker number : ℕ) (text : List ℕ) (q : Question) (told : Bor (List ℕ)) → told.now ≡ text
+    → None ≡ first_failing (common_rules t.clock (length t.members) moment caller false)
+    → question_at t item asker number ≡ Some q → None ≡ first_failing (waiting_rules (question_at t item asker number) text)
+    → AnswerFits t moment q.item q.asker q.number told.now
+answer_fits t moment caller item asker number text q told same_text passed found none =
+    let named = question_named t item asker number q found in
+    let pass = waiting_pass q text (sym (rw found at none)) in
+    rw (named.same_item, named.same_asker, named.same_number) (record {
+      moment_fits = (caller_fits t moment caller false (sym passed)).moment_fits;
+      question = q;
+      question_there = found;
+      waits = pass.0;
+      text_fits = rw same_text pass.1;
+    })
+
 pub answer_accepts : (t : Tables) (settings : Settings) (h : History) (moment caller item asker number : ℕ) (text : List ℕ) (terms : Terms) (q : Question) (told : Bor (List ℕ)) → t ≡ tables_of settings h → told.now ≡ text
     → terms_at t item ≡ Some terms → None ≡ first_failing (common_rules t.clock (length t.members) moment caller false)
     → (terms.seller == caller) ≡ true → question_at t item asker number ≡ Some q → None ≡ first_failing (waiting_rules (question_at t item asker number) text)
     → IsAccepted settings h moment caller (Answer item asker number text) (change.Answer moment q.item q.asker q.number told)
 answer_accepts t settings h moment caller item asker number text terms q told e same_text found passed sells asked' none =
-    let accepted : verdict settings h moment caller (Answer item asker number text) ≡ None = answer_of_seller t settings h moment caller item asker number text terms e found passed sells ∙ sym none in
-    let common = common_pass settings h moment caller (Answer item asker number text) accepted in
+    let named = question_named t item asker number q asked' in
     let q_there = question_there t settings h item asker number text q e asked' in
     let pass = waiting_pass q text (sym (rw asked' at none)) in
-    rw (q_there.same_item, q_there.same_asker, q_there.same_number) (record {
-      accepted = accepted;
-      fits = rw (← e) (record { moment_fits = common.moment_fits; question = q; question_there = asked'; waits = pass.0; text_fits = rw same_text pass.1 });
+    rw (named.same_item, named.same_asker, named.same_number) (record {
+      accepted = answer_of_seller t settings h moment caller item asker number text terms e found passed sells ∙ sym none;
+      fits = rw (e, named.same_item, named.same_asker, named.same_number) at (answer_fits t moment caller item asker number text q told same_text passed asked' none);
+      free = tt;
       leads = rw (← same_text) (answer_leads settings h moment caller item asker number told (rw same_text (q_there.answer ∙ pass.0)));
     })

@@ -12,6 +12,7 @@ use Rattle.house_rows.specs.declared.rating.Rating.{Rating}
 use Rattle.house_rows.specs.declared.refusal.Refusal.{Refusal}
 use Rattle.house_rows.specs.declared.refusal.Refusal.TheVariants.{AlreadyGiven, NotParty, NotSold, Range}
 use Rattle.house_rows.specs.declared.settings.Settings.{Settings}
+use Rattle.house_rows.specs.Asks.{RatingFits}
 use Rattle.house_rows.specs.Changed.{changed}
 use Rattle.house_rows.specs.Found.{is_given, terms_at}
 use Rattle.house_rows.specs.History.{History}
@@ -22,10 +23,10 @@ use Rattle.house_rows.specs.Runs.{entry}
 use Rattle.house_rows.specs.Tables.{Tables, row_now, tables_of}
 use Rattle.house_rows.specs.Text.{is_text}
 use Rattle.house_rows.specs.Verdict.{Rule, common_rules, feedback_rules, verdict, was_sold}
-use Rattle.house_rows.proofs.Passed.{common_pass}
+use Rattle.house.proofs.ByTables.{caller_fits}
 use Rattle.house.proofs.Found.{by_test}
 use Rattle.house.proofs.ListedTerms.{party_is}
-use Rattle.house.proofs.OnItems.{caller_there, item_judged, item_refused, row_there}
+use Rattle.house.proofs.OnItems.{item_judged, item_refused, row_there}
 use Rattle.house.specs.Decided.{IsAccepted, of_terms}
 
 -- items are as they were
@@ -45,7 +46,7 @@ pub feedback_refused : (t : Tables) (settings : Settings) (h : History) (moment 
     → ((more : Terms → List Rule) → Some refusal ≡ first_failing (common_rules t.clock (length t.members) moment caller false ++ of_terms (terms_at t item) more))
     → verdict settings h moment caller (Feedback item rating text) ≡ Some refusal
 unfolding verdict
-feedback_refused t settings h moment caller item rating text refusal e told = item_refused t settings h moment caller item refusal (feedback_rules caller rating text _) e told
+feedback_refused t settings h moment caller item rating text refusal e told = item_refused t settings h moment caller item refusal (λ floor. feedback_rules caller rating text _) e told
 
 -- the verdict by the terms, and by whether feedback is kept
 pub feedback_judged : (t : Tables) (settings : Settings) (h : History) (moment caller item : ℕ) (rating : Option Rating) (text : List ℕ) (terms : Terms) → t ≡ tables_of settings h
@@ -53,16 +54,22 @@ pub feedback_judged : (t : Tables) (settings : Settings) (h : History) (moment c
     → verdict settings h moment caller (Feedback item rating text) ≡ first_failing (feedback_rules caller rating text (is_given t item caller) terms)
 unfolding verdict tables_of
 feedback_judged t settings h moment caller item rating text terms e found passed =
-    item_judged t settings h moment caller item terms (feedback_rules caller rating text _) e found passed ∙ rw e refl
+    item_judged t settings h moment caller item terms (λ floor. feedback_rules caller rating text _) e found passed ∙ rw e refl
 
 rating_pass : (sold party given out fits : Bool)
-    → first_failing ((not sold, NotSold) ∷ (not party, NotParty) ∷ (given, AlreadyGiven) ∷ (out || not fits, Range) ∷ []) ≡ None → (sold ≡ true) × (party ≡ true) × (fits ≡ true)
+    → first_failing ((not sold, NotSold) ∷ (not party, NotParty) ∷ (given, AlreadyGiven) ∷ (out || not fits, Range) ∷ []) ≡ None
+    → (sold ≡ true) × (party ≡ true) × (given ≡ false) × (fits ≡ true)
 rating_pass false party given out fits none = cc
 rating_pass true false given out fits none = cc
 rating_pass true true true out fits none = cc
 rating_pass true true false true fits none = cc
 rating_pass true true false false false none = cc
-rating_pass true true false false true none = (refl, refl, refl)
+rating_pass true true false false true none = (refl, refl, refl, refl)
+
+rated : (caller : ℕ) (rating : Option Rating) (text : List ℕ) (given : Bool) (terms : Terms) → None ≡ first_failing (feedback_rules caller rating text given terms)
+    → (was_sold terms.state ≡ true) × (((terms.seller == caller) || is_leader terms.leader caller) ≡ true) × (given ≡ false) × (is_text 0 200 text ≡ true)
+rated caller rating text given terms none =
+    rating_pass (was_sold terms.state) ((terms.seller == caller) || is_leader terms.leader caller) given (is_none rating) (is_text 0 200 text) (sym none)
 
 -- the caller sells the item or leads it
 is_party : (seller : ℕ) (leader : Option ℕ) (c : ℕ) → ((seller == c) || is_leader leader c) ≡ true → (seller ≡ c) ⊎ (leader ≡ Some c)
@@ -73,28 +80,36 @@ is_party seller (Some l) c party =
       | inr not ↦ inr (let leads : (l == c) ≡ true = rw not at party in let e : l ≡ c = grind (arith, nat_tests, leads) in rw e refl)
     ]
 
+pub feedback_fits : (t : Tables) (moment caller item : ℕ) (rating : Option Rating) (text : List ℕ) (terms : Terms) (member to : ℕ) (told : Bor (List ℕ))
+    → told.now ≡ text → member ≡ caller → to ≡ other_party terms.seller terms.leader caller
+    → terms_at t item ≡ Some terms → None ≡ first_failing (common_rules t.clock (length t.members) moment caller false)
+    → None ≡ first_failing (feedback_rules caller rating text (is_given t item caller) terms) → RatingFits t moment terms.item member to told.now
+feedback_fits t moment caller item rating text terms member to told same_text same_member other found passed none =
+    let row = row_there t item terms found in
+    let fits = caller_fits t moment caller false (sym passed) in
+    let pass = rated caller rating text (is_given t item caller) terms none in
+    rw (same_member, row.numbered) (record {
+      moment_fits = fits.moment_fits;
+      row = row.row;
+      row_there = row.there;
+      was_sold = rw row.same pass.0;
+      giver_there = fits.there refl;
+      is_party = rw row.same (is_party terms.seller terms.leader caller pass.1);
+      receiver = rw row.same other;
+      text_fits = rw same_text pass.3;
+    })
+
 pub feedback_accepts : (t : Tables) (settings : Settings) (h : History) (moment caller item : ℕ) (rating : Option Rating) (text : List ℕ) (terms : Terms) (member to : ℕ) (taken : Rating) (told : Bor (List ℕ))
     → t ≡ tables_of settings h → told.now ≡ text → member ≡ caller → to ≡ other_party terms.seller terms.leader caller → rating ≡ Some taken
     → terms_at t item ≡ Some terms → None ≡ first_failing (common_rules t.clock (length t.members) moment caller false)
     → None ≡ first_failing (feedback_rules caller rating text (is_given t item caller) terms)
     → IsAccepted settings h moment caller (Feedback item rating text) (change.Feedback moment terms.item member to taken told)
 feedback_accepts t settings h moment caller item rating text terms member to taken told e same_text same_member other same_rating found passed none =
-    let accepted : verdict settings h moment caller (Feedback item rating text) ≡ None = feedback_judged t settings h moment caller item rating text terms e found passed ∙ sym none in
-    let row = row_there t item terms found in
-    let common = common_pass settings h moment caller (Feedback item rating text) accepted in
-    let pass = rating_pass (was_sold terms.state) ((terms.seller == caller) || is_leader terms.leader caller) (is_given t item caller) (is_none rating) (is_text 0 200 text) (sym none) in
+    let named : terms.item ≡ item = (row_there t item terms found).numbered in
     let there : terms_at (tables_of settings h) item ≡ Some terms = rw e at found in
-    rw (same_member, row.numbered) (record {
-      accepted = accepted;
-      fits = rw (← e) (record {
-        moment_fits = common.moment_fits;
-        row = row.row;
-        row_there = row.there;
-        was_sold = rw row.same pass.0;
-        giver_there = caller_there t settings h moment caller e common;
-        is_party = rw row.same (is_party terms.seller terms.leader caller pass.1);
-        receiver = rw row.same other;
-        text_fits = rw same_text pass.2;
-      });
+    rw (same_member, named) (record {
+      accepted = feedback_judged t settings h moment caller item rating text terms e found passed ∙ sym none;
+      fits = rw (← e) (rw (same_member, named) at (feedback_fits t moment caller item rating text terms member to told same_text same_member other found passed none));
+      free = rw (← e) (rated caller rating text (is_given t item caller) terms none).2;
       leads = rw (other, ← party_is settings h item caller terms there, same_rating, ← same_text) (feedback_leads settings h moment caller item taken told);
     })

@@ -1,6 +1,6 @@
 -- Questions: the verdict by the tables, and the tables after them.
 use Rattle.std.proofs.Common.{Bor, ◌≡◌, ℕ, ◌+◌, ◌≤◌, ◌<◌, List, [], ◌∷◌, ◌++◌, map, filter, length, Bool, true, false, not, refl, ◌∙◌, ap, sym, arith, inl, inr, Some, None}
-use Rattle.std.specs.Prelude.{◌==◌, ◌&&◌, ◌||◌, nat_le}
+use Rattle.std.specs.Prelude.{◌==◌, ◌&&◌, ◌||◌, find, nat_le}
 use Rattle.std.specs.List.{AllByRecursion, list_any}
 use Rattle.std.proofs.lemmas.Bool.Decides.{nat_tests}
 use Rattle.std.proofs.lemmas.List.{append-nil}
@@ -13,8 +13,9 @@ use Rattle.house_rows.specs.declared.refusal.Refusal.{Refusal}
 use Rattle.house_rows.specs.declared.refusal.Refusal.TheVariants.{AlreadyAnswered, Ended, Limit, NotOpen, OwnItem, Range, SellerOnly, Unknown}
 use Rattle.house_rows.specs.declared.settings.Settings.{Settings}
 use Rattle.house_rows.specs.declared.talk.Question.{Question}
+use Rattle.house_rows.specs.Asks.{QuestionAsked}
 use Rattle.house_rows.specs.Changed.{changed, question_key}
-use Rattle.house_rows.specs.Found.{ask_count, terms_at}
+use Rattle.house_rows.specs.Found.{ask_count, question_at, terms_at}
 use Rattle.house_rows.specs.History.{History, Key, counted, is_less, put_by}
 use Rattle.house_rows.specs.Items.{is_open}
 use Rattle.house_rows.specs.Limits.{most_questions}
@@ -23,13 +24,14 @@ use Rattle.house_rows.specs.Questions.{Asked, answer_to, answered, answers, ask_
 use Rattle.house_rows.specs.Runs.{entry}
 use Rattle.house_rows.specs.Tables.{Tables, row_now, tables_of}
 use Rattle.house_rows.specs.Text.{is_text}
-use Rattle.house_rows.specs.Verdict.{IsHistory, Rule, answer_rules, common_rules, question_rules, rules, verdict}
+use Rattle.house_rows.specs.Verdict.{IsHistory, Rule, answer_rules, by_terms, common_rules, question_rules, rules, verdict}
 use Rattle.house_rows.specs.Views.{own_questions}
 use Rattle.house_rows.proofs.Every.{every_as, every_map, every_more, every_put, some_has}
 use Rattle.house_rows.proofs.Own.{count_own}
-use Rattle.house_rows.proofs.Passed.{common_pass, item_pass, own_pass}
+use Rattle.house_rows.proofs.Passed.{item_pass, own_pass}
+use Rattle.house.proofs.ByTables.{caller_fits}
 use Rattle.house.proofs.Found.{by_test}
-use Rattle.house.proofs.OnItems.{caller_there, item_judged, item_refused, row_there}
+use Rattle.house.proofs.OnItems.{item_judged, item_refused, row_there}
 use Rattle.house.specs.Decided.{IsAccepted, of_terms}
 
 -- a row that is put counts
@@ -81,7 +83,7 @@ answer_given settings h t c i asker number text none are =
     let own : first_failing (rules settings h t c (Answer i asker number text)) ≡ None = own_pass settings h t c (Answer i asker number text) none in
     let waits : Bool = list_any (is_question i asker number) (waiting h c) in
     let public : Bool = list_any (is_question i asker number) (published h) in
-    let pass = item_pass settings.bands h i (answer_rules c text waits public) own in
+    let pass = item_pass settings h i (by_terms (answer_rules c text waits public)) own in
     let any = answer_pass (not (pass.listing.seller == c)) waits public (not (is_text 1 500 text)) pass.pass in
     let IsNumbered : Question → Type 0 = λ q. q.number ≤ asked_count (asked h) q.asker q.item in
     let one = some_has IsNumbered (is_question i asker number) (map (answered (answers h)) (asked h)) (every_map (answered (answers h)) IsNumbered (asked h) are.questions)
@@ -177,7 +179,7 @@ pub ask_refused : (t : Tables) (settings : Settings) (h : History) (moment calle
     → verdict settings h moment caller (Ask item text) ≡ Some refusal
 unfolding verdict
 ask_refused t settings h moment caller item text refusal e told =
-    item_refused t settings h moment caller item refusal (question_rules moment caller text (asked_count (own_questions h caller) caller item)) e told
+    item_refused t settings h moment caller item refusal (λ floor. question_rules moment caller text (asked_count (own_questions h caller) caller item)) e told
 
 -- the verdict by the terms and the count that are kept
 pub ask_judged : (t : Tables) (settings : Settings) (h : History) (moment caller item : ℕ) (text : List ℕ) (terms : Terms) → t ≡ tables_of settings h
@@ -185,7 +187,7 @@ pub ask_judged : (t : Tables) (settings : Settings) (h : History) (moment caller
     → verdict settings h moment caller (Ask item text) ≡ first_failing (question_rules moment caller text (ask_count t caller item) terms)
 unfolding verdict own_questions
 ask_judged t settings h moment caller item text terms e found passed =
-    item_judged t settings h moment caller item terms (question_rules moment caller text (asked_count (own_questions h caller) caller item)) e found passed
+    item_judged t settings h moment caller item terms (λ floor. question_rules moment caller text (asked_count (own_questions h caller) caller item)) e found passed
     ∙ rw (e, count_kept settings h caller item, count_own caller item (asked h)) refl
 
 ask_pass : (a b d fits : Bool) (count : ℕ)
@@ -196,24 +198,53 @@ ask_pass false false true fits count none = cc
 ask_pass false false false false count none = cc
 ask_pass false false false true count none = (refl, grind (arith, nat_tests, none))
 
+pub ask_fits : (t : Tables) (moment caller item : ℕ) (text : List ℕ) (terms : Terms) (member number : ℕ) (told : Bor (List ℕ))
+    → told.now ≡ text → member ≡ caller → number ≡ ask_count t caller item + 1
+    → terms_at t item ≡ Some terms → None ≡ first_failing (common_rules t.clock (length t.members) moment caller false)
+    → None ≡ first_failing (question_rules moment caller text (ask_count t caller item) terms) → QuestionAsked t terms.item member number told.now
+ask_fits t moment caller item text terms member number told same_text same_member next found passed none =
+    let row = row_there t item terms found in
+    let pass = ask_pass (terms.seller == caller) (not (is_open terms.state)) (nat_le terms.end moment) (is_text 1 500 text) (ask_count t caller item) (sym none) in
+    rw (same_member, row.numbered, next) (record {
+      item_there = (row.row, row.there);
+      asker_there = (caller_fits t moment caller false (sym passed)).there refl;
+      numbered = refl;
+      room = pass.1;
+      text_fits = rw same_text pass.0;
+    })
+
+-- no question has a number that wasn't given
+none_asked : (qs given : List Asked) (i asker number : ℕ) (asked : List Asked) → AllByRecursion (IsGiven qs) asked → asked_count qs asker i < number
+    → find (is_question i asker number) (map (answered given) asked) ≡ None
+none_asked qs given i asker number [] all new = refl
+none_asked qs given i asker number (q ∷ asked) all new =
+    elim (by_test (is_question i asker number (answered given q))) [
+      | inl is ↦ absurd (named q all.0 is)
+      | inr not ↦ rw not (none_asked qs given i asker number asked all.1 new)
+    ] where
+      named : (q : Asked) → IsGiven qs q → is_question i asker number (answered given q) ≡ true → ⊥
+      named q le is =
+          let same_item : q.item ≡ i = grind (arith, nat_tests, is) in
+          let same_asker : q.asker ≡ asker = grind (arith, nat_tests, is) in
+          let same_number : q.number ≡ number = grind (arith, nat_tests, is) in
+          let here : number ≤ asked_count qs asker i = rw (same_item, same_asker, same_number) at le in
+          omega arith
+
+ask_free : (settings : Settings) (h : History) (i asker : ℕ) → IsHistory settings h → question_at (tables_of settings h) i asker (asked_count (asked h) asker i + 1) ≡ None
+unfolding tables_of questions
+ask_free settings h i asker is =
+    none_asked (asked h) (answers h) i asker (asked_count (asked h) asker i + 1) (asked h) (all_given settings h is).questions (omega arith)
+
 pub ask_accepts : (t : Tables) (settings : Settings) (h : History) (moment caller item : ℕ) (text : List ℕ) (terms : Terms) (member number : ℕ) (told : Bor (List ℕ)) → IsHistory settings h
     → t ≡ tables_of settings h → told.now ≡ text → member ≡ caller → number ≡ ask_count t caller item + 1
     → terms_at t item ≡ Some terms → None ≡ first_failing (common_rules t.clock (length t.members) moment caller false)
     → None ≡ first_failing (question_rules moment caller text (ask_count t caller item) terms)
     → IsAccepted settings h moment caller (Ask item text) (change.Ask terms.item member number told)
 ask_accepts t settings h moment caller item text terms member number told is e same_text same_member next found passed none =
-    let accepted : verdict settings h moment caller (Ask item text) ≡ None = ask_judged t settings h moment caller item text terms e found passed ∙ sym none in
-    let row = row_there t item terms found in
-    let common = common_pass settings h moment caller (Ask item text) accepted in
-    let pass = ask_pass (terms.seller == caller) (not (is_open terms.state)) (nat_le terms.end moment) (is_text 1 500 text) (ask_count t caller item) (sym none) in
-    rw (same_member, row.numbered, next) (record {
-      accepted = accepted;
-      fits = rw (← e) (record {
-        item_there = (row.row, row.there);
-        asker_there = caller_there t settings h moment caller e common;
-        numbered = refl;
-        room = pass.1;
-        text_fits = rw same_text pass.0;
-      });
+    let named : terms.item ≡ item = (row_there t item terms found).numbered in
+    rw (same_member, named, next) (record {
+      accepted = ask_judged t settings h moment caller item text terms e found passed ∙ sym none;
+      fits = rw (← e) (rw (same_member, named, next) at (ask_fits t moment caller item text terms member number told same_text same_member next found passed none));
+      free = rw (e, count_kept settings h caller item) (ask_free settings h item caller is);
       leads = rw (e, count_kept settings h caller item) (rw (← same_text) (ask_leads settings h moment caller item told is));
     })

@@ -7,7 +7,6 @@ use Rattle.house_rows.specs.declared.item.Terms.{Terms}
 use Rattle.house_rows.specs.declared.refusal.Refusal.{Refusal}
 use Rattle.house_rows.specs.declared.refusal.Refusal.TheVariants.{Unknown}
 use Rattle.house_rows.specs.declared.settings.Settings.{Settings}
-use Rattle.house_rows.specs.Asks.{HasMember}
 use Rattle.house_rows.specs.Changed.{is_item}
 use Rattle.house_rows.specs.Found.{row_at, terms_at}
 use Rattle.house_rows.specs.History.{History, clock}
@@ -16,27 +15,26 @@ use Rattle.house_rows.specs.People.{members}
 use Rattle.house_rows.specs.Tables.{ItemRow, Tables, tables_of}
 use Rattle.house_rows.specs.Verdict.{Rule, common_rules, of_item}
 use Rattle.house_rows.proofs.Every.{found_is}
-use Rattle.house_rows.proofs.Passed.{Common}
 use Rattle.house.proofs.Found.{first_none}
-use Rattle.house.proofs.Items.{terms_shown}
+use Rattle.house.proofs.Items.{at_floor, by_floor, floors_shown}
 use Rattle.house.specs.Decided.{of_terms}
 
 -- what is refused before the item's rules are asked
-pub item_refused : (t : Tables) (settings : Settings) (h : History) (moment caller item : ℕ) (refusal : Refusal) (more : Terms → List Rule) → t ≡ tables_of settings h
+pub item_refused : (t : Tables) (settings : Settings) (h : History) (moment caller item : ℕ) (refusal : Refusal) (more : Option ℕ → Terms → List Rule) → t ≡ tables_of settings h
     → ((rules : Terms → List Rule) → Some refusal ≡ first_failing (common_rules t.clock (length t.members) moment caller false ++ of_terms (terms_at t item) rules))
-    → first_failing (common_rules (clock h) (length (members h)) moment caller false ++ of_item (shown_at (items_shown settings.bands h) item) more) ≡ Some refusal
+    → first_failing (common_rules (clock h) (length (members h)) moment caller false ++ of_item (shown_at (items_shown settings h) item) (by_floor more)) ≡ Some refusal
 unfolding tables_of
-item_refused t settings h moment caller item refusal more e told = rw (terms_shown settings h item more) (sym (rw e at told more))
+item_refused t settings h moment caller item refusal more e told = rw (floors_shown settings h item more) (sym (rw e at told (at_floor settings more)))
 
 -- where the item is there, its rules decide
-pub item_judged : (t : Tables) (settings : Settings) (h : History) (moment caller item : ℕ) (terms : Terms) (more : Terms → List Rule) → t ≡ tables_of settings h
+pub item_judged : (t : Tables) (settings : Settings) (h : History) (moment caller item : ℕ) (terms : Terms) (more : Option ℕ → Terms → List Rule) → t ≡ tables_of settings h
     → terms_at t item ≡ Some terms → None ≡ first_failing (common_rules t.clock (length t.members) moment caller false)
-    → first_failing (common_rules (clock h) (length (members h)) moment caller false ++ of_item (shown_at (items_shown settings.bands h) item) more) ≡ first_failing (more terms)
+    → first_failing (common_rules (clock h) (length (members h)) moment caller false ++ of_item (shown_at (items_shown settings h) item) (by_floor more)) ≡ first_failing (at_floor settings more terms)
 unfolding tables_of
 item_judged t settings h moment caller item terms more e found passed =
     let there : terms_at (tables_of settings h) item ≡ Some terms = rw e at found in
     let common : first_failing (common_rules (clock h) (length (members h)) moment caller false) ≡ None = sym (rw e at passed) in
-    rw (terms_shown settings h item more, there) (first_none (common_rules (clock h) (length (members h)) moment caller false) ((false, Unknown) ∷ more terms) common)
+    rw (floors_shown settings h item more, there) (first_none (common_rules (clock h) (length (members h)) moment caller false) ((false, Unknown) ∷ at_floor settings more terms) common)
 
 -- the row of the terms that were found
 pub record RowThere (t : Tables) (item : ℕ) (terms : Terms) : Type 0 where
@@ -53,8 +51,3 @@ row_there t item terms found = by_row (row_at t item) refl found where
       let same : row.item.terms ≡ terms = cc in
       let here = found_is (is_item item) t.items row is in
       record { row = row; there = is; same = same; numbered = rw (← same) (grind (arith, nat_tests, here)) }
-
--- whoever calls is a member that is there
-pub caller_there : (t : Tables) (settings : Settings) (h : History) (moment caller : ℕ) → t ≡ tables_of settings h → Common h moment caller false → HasMember t caller
-unfolding tables_of
-caller_there t settings h moment caller e common = rw e (common.member_if refl, common.registered)

@@ -1,5 +1,5 @@
 -- Bids: the verdict by the tables, and the tables after them.
-use Rattle.std.proofs.Common.{◌≡◌, ◌≢◌, ℕ, ◌+◌, ◌≤◌, List, [], ◌∷◌, ◌++◌, map, length, Bool, true, false, not, refl, ◌∙◌, ap, sym, arith, inl, inr, Option, Some, None, subst}
+use Rattle.std.proofs.Common.{◌≡◌, ℕ, ◌+◌, ◌≤◌, List, [], ◌∷◌, ◌++◌, map, length, Bool, true, false, not, refl, ◌∙◌, ap, sym, arith, inl, inr, Option, Some, None, subst}
 use Rattle.std.specs.Prelude.{◌==◌, ◌&&◌, find, is_some, nat_le, nat_lt, option_map, unwrap_or}
 use Rattle.std.specs.List.{AllByRecursion, list_any}
 use Rattle.std.proofs.lemmas.Bool.Decides.{nat_tests}
@@ -10,7 +10,8 @@ use Rattle.proxy.specs.Rules.{first_failing}
 use Rattle.proxy.specs.declared.bid.Bid as bid
 use Rattle.proxy.specs.declared.bid.BidRefusal.TheVariants as no_bid
 use Rattle.house_rows.specs.declared.change.Change.TheVariants as change
-use Rattle.house_rows.specs.declared.command.Command.TheVariants.{Bid}
+use Rattle.house_rows.specs.declared.command.Command.{Command}
+use Rattle.house_rows.specs.declared.command.Command.TheVariants.{Register, AddCategory, List as Listing_command, Bid, Buy, Close, Settle, Watch, Unwatch, Ask, Answer, Feedback}
 use Rattle.house_rows.specs.declared.item.Terms.{Terms}
 use Rattle.house_rows.specs.declared.refusal.Refusal.{Refusal}
 use Rattle.house_rows.specs.declared.refusal.Refusal.TheVariants.{OwnItem, NotOpen, Ended, Range, NotHigher, Low, Limit, Unknown}
@@ -18,11 +19,12 @@ use Rattle.house_rows.specs.declared.settings.Settings.{Settings}
 use Rattle.house_rows.specs.declared.state.State.{State}
 use Rattle.house_rows.specs.declared.state.State.TheVariants.{Open, Sold, Unsold, Settled}
 use Rattle.house_rows.specs.Asks.{BidFits}
-use Rattle.house_rows.specs.Bids.{bids_on}
+use Rattle.house_rows.specs.Bids.{BidRow, bid_in, bid_key, bid_rows, bids_on}
 use Rattle.house_rows.specs.Changed.{changed, is_item, with_standing}
 use Rattle.house_rows.specs.Found.{standing_at, terms_at}
 use Rattle.house_rows.specs.History.{History, clock}
-use Rattle.house_rows.specs.Items.{closings, floor_of, is_bought, is_open, is_settled, is_taken, leader_of, purchase_of, state_of, terms_now}
+use Rattle.house_rows.specs.Items.{closings, floor_of, is_bought, is_open, is_settled, is_taken, item_now, leader_of, purchase_of, shown, state_of, terms_now}
+use Rattle.house_rows.specs.Keeping.{AreSound, ItemRowFits}
 use Rattle.house_rows.specs.Limits.{most_bids, most_cents}
 use Rattle.house_rows.specs.Listings.{Listing, listing_at, listings}
 use Rattle.house_rows.specs.People.{members}
@@ -30,14 +32,15 @@ use Rattle.house_rows.specs.Questions.{questions}
 use Rattle.house_rows.specs.Runs.{entry}
 use Rattle.house_rows.specs.Tables.{ItemRow, Tables, row_now, tables_of}
 use Rattle.house_rows.specs.Verdict.{IsHistory, Rule, bid_rules, common_rules, open_rules, verdict}
-use Rattle.house_rows.proofs.AcceptedBids.{bids_are_accepted, floor_is}
-use Rattle.house_rows.proofs.Every.{every_as, found_is}
+use Rattle.house_rows.proofs.AcceptedBids.{floor_is, more_accepted}
+use Rattle.house_rows.proofs.Every.{every_as, every_put, found_has, found_is}
 use Rattle.house_rows.proofs.Numbered.{numbered}
 use Rattle.house_rows.proofs.OpenItems.{not_bought, open_parts}
-use Rattle.house_rows.proofs.Passed.{common_pass, shown_is}
-use Rattle.house_rows.proofs.RangedBids.{listed_more}
+use Rattle.house_rows.proofs.Passed.{shown_is}
+use Rattle.house.proofs.ByTables.{caller_fits, sound_here, standing_same}
 use Rattle.house.proofs.Found.{by_test, first_none, first_some}
-use Rattle.house.proofs.OnItems.{caller_there, item_judged, item_refused}
+use Rattle.house.proofs.OnItems.{item_judged, item_refused, row_there}
+use Rattle.house.proofs.Rows.{apart_from}
 use Rattle.house.specs.Decided.{IsAccepted, of_terms}
 use Rattle.house.specs.Refused.{as_refusal}
 
@@ -45,11 +48,14 @@ use Rattle.house.specs.Refused.{as_refusal}
 abbrev first_rules : ℕ → ℕ → ℕ → Terms → List Rule
 first_rules moment caller maximum terms = open_rules moment caller terms ++ (nat_lt most_cents maximum, Range) ∷ []
 
-abbrev later_rules : List (ℕ × ℕ) → ℕ → ℕ → ℕ → Terms → List Rule
-later_rules bands caller maximum own terms =
+abbrev later_rules : ℕ → ℕ → ℕ → Option ℕ → Terms → List Rule
+later_rules caller maximum own least terms =
     (is_leader terms.leader caller && nat_le maximum own, NotHigher)
-    ∷ (not (is_leader terms.leader caller) && nat_lt maximum (unwrap_or (floor_of bands terms) 0), Low (unwrap_or (floor_of bands terms) 0))
+    ∷ (not (is_leader terms.leader caller) && nat_lt maximum (unwrap_or least 0), Low (unwrap_or least 0))
     ∷ (nat_le most_bids terms.count, Limit) ∷ []
+
+abbrev all_rules : ℕ → ℕ → ℕ → ℕ → Option ℕ → Terms → List Rule
+all_rules moment caller maximum own least terms = first_rules moment caller maximum terms ++ later_rules caller maximum own least terms
 
 open_is : (state : State) → is_open state ≡ true → state ≡ Open
 open_is Open is = refl
@@ -71,26 +77,18 @@ first_passed false true false true none = cc
 first_passed false true false false none = record { own_not = refl; is_open = refl; within = refl }
 
 -- an item on which a bid may be placed
-record Biddable (h : History) (caller maximum : ℕ) (l : Listing) : Type 0 where
-  apart : caller ≢ l.seller
-  within : maximum ≤ most_cents
+record Biddable (h : History) (l : Listing) : Type 0 where
   is_open : state_of h l ≡ Open
   unsold : purchase_of h l.item ≡ None
   untaken : list_any (λ c. nat_le l.item c.listed && nat_le l.end c.moment) (closings h) ≡ false
   unsettled : is_settled h l.item ≡ false
 
-apart_from : (a b : ℕ) → (a == b) ≡ false → b ≢ a
-apart_from a b not e = let f : (a == b) ≡ true = grind (arith, nat_tests) in let g : true ≡ false = sym f ∙ not in cc
-
-biddable : (bands : List (ℕ × ℕ)) (h : History) (moment caller maximum : ℕ) (l : Listing) → first_failing (first_rules moment caller maximum (terms_now bands h l)) ≡ None → Biddable h caller maximum l
+biddable : (bands : List (ℕ × ℕ)) (h : History) (moment caller maximum : ℕ) (l : Listing) → first_failing (first_rules moment caller maximum (terms_now bands h l)) ≡ None → Biddable h l
 biddable bands h moment caller maximum l none =
     let pass = first_passed (l.seller == caller) (is_open (state_of h l)) (nat_le l.end moment) (nat_lt most_cents maximum) none in
     let parts = open_parts (is_bought h l.item) (is_taken h l) (is_some (leader_of h l)) (is_settled h l.item) pass.is_open in
     let unsold : purchase_of h l.item ≡ None = not_bought h l.item (purchase_of h l.item) refl parts.bought_not in
-    let range = pass.within in
     record {
-      apart = apart_from l.seller caller pass.own_not;
-      within = grind (arith, nat_tests, range);
       is_open = open_is (state_of h l) pass.is_open;
       unsold = unsold;
       untaken = rw unsold at parts.taken_not;
@@ -105,8 +103,8 @@ as_by_bids false false true f = refl
 as_by_bids false false false f = refl
 
 -- the later rules are those of the item's bids
-later_is : (bands : List (ℕ × ℕ)) (h : History) (caller maximum : ℕ) (l : Listing) → Biddable h caller maximum l
-    → first_failing (later_rules bands caller maximum (greatest (bids_on h l.item) caller) (terms_now bands h l)) ≡ option_map as_refusal (refusal bands l.start (bids_on h l.item) caller maximum)
+later_is : (bands : List (ℕ × ℕ)) (h : History) (caller maximum : ℕ) (l : Listing) → Biddable h l
+    → first_failing (later_rules caller maximum (greatest (bids_on h l.item) caller) (floor_of bands (terms_now bands h l)) (terms_now bands h l)) ≡ option_map as_refusal (refusal bands l.start (bids_on h l.item) caller maximum)
 later_is bands h caller maximum l can =
     rw (can.is_open, can.unsold) (rw (floor_is bands l.start (bids_on h l.item)) (as_by_bids _ _ _ _))
 
@@ -118,21 +116,21 @@ unfolding verdict
 judged settings h moment caller maximum l listed common first =
     let own : ℕ = greatest (bids_on h l.item) caller in
     let terms : Terms = terms_now settings.bands h l in
-    rw (shown_is settings.bands h l.item, listed) (
-    first_none (common_rules (clock h) (length (members h)) moment caller false) ((false, Unknown) ∷ bid_rules settings.bands moment caller maximum own terms) common
-    ∙ first_none (first_rules moment caller maximum terms) (later_rules settings.bands caller maximum own terms) first
+    rw (shown_is settings h l.item, listed) (
+    first_none (common_rules (clock h) (length (members h)) moment caller false) ((false, Unknown) ∷ bid_rules moment caller maximum own (shown settings (item_now settings.bands h l))) common
+    ∙ first_none (first_rules moment caller maximum terms) (later_rules caller maximum own (floor_of settings.bands terms) terms) first
     ∙ later_is settings.bands h caller maximum l (biddable settings.bands h moment caller maximum l first)
     )
 
 -- the row of the item after the bid
-row_bid : (bands : List (ℕ × ℕ)) (h : History) (moment caller maximum : ℕ) (l : Listing) → Biddable h caller maximum l
+row_bid : (bands : List (ℕ × ℕ)) (h : History) (moment caller maximum : ℕ) (l : Listing) → Biddable h l
     → with_standing l.item (standing_of bands l.start (one_more (bids_on h l.item) caller maximum)) (row_now bands h l) ≡ row_now bands (entry moment caller (Bid l.item maximum) ∷ h) l
 row_bid bands h moment caller maximum l can =
     let here : (l.item == l.item) ≡ true = grind (arith, nat_tests) in
     rw here (simp append-nil (rw (can.unsold, can.untaken, can.unsettled) refl))
 
 -- the rows of items after the bid
-rows_bid : (bands : List (ℕ × ℕ)) (h : History) (moment caller maximum : ℕ) (l : Listing) (ls : List Listing) → Biddable h caller maximum l
+rows_bid : (bands : List (ℕ × ℕ)) (h : History) (moment caller maximum : ℕ) (l : Listing) (ls : List Listing) → Biddable h l
     → AllByRecursion (λ a. (a.item == l.item) ≡ true → a ≡ l) ls
     → map (with_standing l.item (standing_of bands l.start (one_more (bids_on h l.item) caller maximum))) (map (row_now bands h) ls)
     ≡ map (row_now bands (entry moment caller (Bid l.item maximum) ∷ h)) ls
@@ -155,7 +153,7 @@ own_listing h l listed =
     every_as (λ a. listing_at (listings h) a.item ≡ Some a) (λ a. (a.item == l.item) ≡ true → a ≡ l) (listings h)
     (λ a own here. let e : a.item ≡ l.item = grind (arith, nat_tests, here) in let there : listing_at (listings h) l.item ≡ Some a = subst (λ (i : ℕ). listing_at (listings h) i ≡ Some a) e own in some_is a l (sym there ∙ listed)) (numbered h).own
 
-bid_leads : (settings : Settings) (h : History) (moment caller maximum : ℕ) (l : Listing) → listing_at (listings h) l.item ≡ Some l → Biddable h caller maximum l
+bid_leads : (settings : Settings) (h : History) (moment caller maximum : ℕ) (l : Listing) → listing_at (listings h) l.item ≡ Some l → Biddable h l
     → changed (tables_of settings h) (change.Bid moment l.item (record { member = caller; maximum = maximum; no = length (bids_on h l.item) + 1 })
     (standing_of settings.bands l.start (one_more (bids_on h l.item) caller maximum))) ≡ tables_of settings (entry moment caller (Bid l.item maximum) ∷ h)
 unfolding changed tables_of questions
@@ -166,29 +164,51 @@ rows_found : (bands : List (ℕ × ℕ)) (h : History) (i : ℕ) (ls : List List
 rows_found bands h i [] = refl
 rows_found bands h i (l ∷ ls) = elim (by_test (l.item == i)) [ inl here ↦ rw here refl | inr other ↦ rw other (rows_found bands h i ls) ]
 
-bid_fits : (settings : Settings) (h : History) (moment caller maximum : ℕ) (l : Listing) → IsHistory settings h → listing_at (listings h) l.item ≡ Some l → Biddable h caller maximum l
-    → verdict settings h moment caller (Bid l.item maximum) ≡ None
-    → BidFits (tables_of settings h) moment l.item (record { member = caller; maximum = maximum; no = length (bids_on h l.item) + 1 }) (standing_of settings.bands l.start (one_more (bids_on h l.item) caller maximum))
+-- no bid has a number that wasn't given
+given_more : (h : History) (t c : ℕ) (command : Command) (row : BidRow) → row.bid.no ≤ length (bids_on h row.item) → row.bid.no ≤ length (bids_on (entry t c command ∷ h) row.item)
+given_more h t c command row small =
+    let more = length-append (bids_on h row.item) (bid_in row.item (length (bids_on h row.item) + 1) c command) in
+    rw more (omega (arith, small))
+
+given_step : (h : History) (t c : ℕ) (command : Command) → AllByRecursion (λ row. row.bid.no ≤ length (bids_on h row.item)) (bid_rows h)
+    → AllByRecursion (λ row. row.bid.no ≤ length (bids_on (entry t c command ∷ h) row.item)) (bid_rows (entry t c command ∷ h))
+given_step h t c (Bid i maximum) all =
+    let row : BidRow = record { item = i; bid = record { member = c; maximum = maximum; no = length (bids_on h i) + 1 } } in
+    let here : (i == i) ≡ true = grind (arith, nat_tests) in
+    every_put bid_key (λ row. row.bid.no ≤ length (bids_on (entry t c (Bid i maximum) ∷ h) row.item)) row (bid_rows h)
+    (every_as (λ row. row.bid.no ≤ length (bids_on h row.item)) (λ row. row.bid.no ≤ length (bids_on (entry t c (Bid i maximum) ∷ h) row.item)) (bid_rows h) (given_more h t c (Bid i maximum)) all)
+    (rw here (let more = length-append (bids_on h i) (record { member = c; maximum = maximum; no = length (bids_on h i) + 1 } ∷ []) in rw more (omega arith)))
+given_step h t c (Register name) all = every_as _ _ (bid_rows h) (given_more h t c (Register name)) all
+given_step h t c (AddCategory name) all = every_as _ _ (bid_rows h) (given_more h t c (AddCategory name)) all
+given_step h t c (Listing_command category lot title text start buy_now end) all = every_as _ _ (bid_rows h) (given_more h t c (Listing_command category lot title text start buy_now end)) all
+given_step h t c (Buy i) all = every_as _ _ (bid_rows h) (given_more h t c (Buy i)) all
+given_step h t c Close all = every_as _ _ (bid_rows h) (given_more h t c Close) all
+given_step h t c (Settle i) all = every_as _ _ (bid_rows h) (given_more h t c (Settle i)) all
+given_step h t c (Watch i) all = every_as _ _ (bid_rows h) (given_more h t c (Watch i)) all
+given_step h t c (Unwatch i) all = every_as _ _ (bid_rows h) (given_more h t c (Unwatch i)) all
+given_step h t c (Ask i text) all = every_as _ _ (bid_rows h) (given_more h t c (Ask i text)) all
+given_step h t c (Answer i asker number text) all = every_as _ _ (bid_rows h) (given_more h t c (Answer i asker number text)) all
+given_step h t c (Feedback i rating text) all = every_as _ _ (bid_rows h) (given_more h t c (Feedback i rating text)) all
+
+all_given : (h : History) → AllByRecursion (λ row. row.bid.no ≤ length (bids_on h row.item)) (bid_rows h)
+all_given [] = tt
+all_given (e ∷ h) = given_step h e.moment e.caller e.command (all_given h)
+
+none_has : (n i : ℕ) (rows : List BidRow) (counts : ℕ → ℕ) → n ≡ counts i + 1 → AllByRecursion (λ row. row.bid.no ≤ counts row.item) rows
+    → list_any (λ row. (row.item == i) && (row.bid.no == n)) rows ≡ false
+none_has n i [] counts next all = refl
+none_has n i (row ∷ rows) counts next all =
+    elim (by_test (row.item == i)) [
+      | inl here ↦ (let same : row.item ≡ i = grind (arith, nat_tests, here) in
+          let small : row.bid.no ≤ counts i = rw same at (all.0) in
+          let other : (row.bid.no == n) ≡ false = grind (arith, nat_tests, small, next) in
+          rw (other, here) (none_has n i rows counts next all.1))
+      | inr not ↦ rw not (none_has n i rows counts next all.1)
+    ]
+
+number_free : (settings : Settings) (h : History) (i : ℕ) → list_any (λ row. (row.item == i) && (row.bid.no == length (bids_on h i) + 1)) (tables_of settings h).bids ≡ false
 unfolding tables_of
-bid_fits settings h moment caller maximum l is listed can accepted =
-    let common = common_pass settings h moment caller (Bid l.item maximum) accepted in
-    let new = entry moment caller (Bid l.item maximum) in
-    let here : (l.item == l.item) ≡ true = grind (arith, nat_tests) in
-    let after : IsHistory settings (new ∷ h) = (accepted, is) in
-    record {
-      moment_fits = common.moment_fits;
-      row = row_now settings.bands h l;
-      row_there = rows_found settings.bands h l.item (listings h) ∙ ap (option_map (row_now settings.bands h)) listed;
-      is_open = can.is_open;
-      bidder_there = caller_there (tables_of settings h) settings h moment caller refl common;
-      apart = can.apart;
-      maximum_fits = can.within;
-      bids = bids_on h l.item;
-      stands = refl;
-      accepted = rw here at (bids_are_accepted settings (new ∷ h) after l (listed_more h new l.item l listed));
-      numbered = refl;
-      stands_after = refl;
-    }
+number_free settings h i = none_has (length (bids_on h i) + 1) i (bid_rows h) (λ j. length (bids_on h j)) refl (all_given h)
 
 -- what is known of an item that was found with its standing
 record Listed (settings : Settings) (h : History) (item : ℕ) (terms : Terms) (kept : Kept) : Type 0 where
@@ -223,7 +243,7 @@ pub bid_unknown : (t : Tables) (settings : Settings) (h : History) (moment calle
     → verdict settings h moment caller (Bid item maximum) ≡ Some told
 unfolding verdict
 bid_unknown t settings h moment caller item maximum told e so =
-    item_refused t settings h moment caller item told (bid_rules settings.bands moment caller maximum (greatest (bids_on h item) caller)) e so
+    item_refused t settings h moment caller item told (all_rules moment caller maximum (greatest (bids_on h item) caller)) e so
 
 -- what is refused before the item's bids are asked
 pub bid_unfit : (t : Tables) (settings : Settings) (h : History) (moment caller item maximum : ℕ) (terms : Terms) (told : Refusal) → t ≡ tables_of settings h
@@ -232,8 +252,8 @@ pub bid_unfit : (t : Tables) (settings : Settings) (h : History) (moment caller 
 unfolding verdict
 bid_unfit t settings h moment caller item maximum terms told e found common so =
     let own : ℕ = greatest (bids_on h item) caller in
-    item_judged t settings h moment caller item terms (bid_rules settings.bands moment caller maximum own) e found common
-    ∙ first_some (first_rules moment caller maximum terms) (later_rules settings.bands caller maximum own terms) told (sym so)
+    item_judged t settings h moment caller item terms (all_rules moment caller maximum own) e found common
+    ∙ first_some (first_rules moment caller maximum terms) (later_rules caller maximum own (floor_of settings.bands terms) terms) told (sym so)
 
 by_history : (t : Tables) (settings : Settings) (h : History) (moment caller : ℕ) → t ≡ tables_of settings h → None ≡ first_failing (common_rules t.clock (length t.members) moment caller false)
     → first_failing (common_rules (clock h) (length (members h)) moment caller false) ≡ None
@@ -259,6 +279,39 @@ bid_refused t settings given h moment caller item maximum terms kept member amou
     let answer : Some told ≡ option_map as_refusal (refusal settings.bands l.start (bids_on h l.item) caller maximum) =
     (rw (bands', same, equal, f.stands) at so) (bids_on h l.item) refl in
     rw f.numbered_so at (judged settings h moment caller maximum l f.listed now first' ∙ sym answer)
+
+-- the change fits where they take it
+pub bid_fits : (t : Tables) (given : Settings) (moment caller item maximum : ℕ) (terms : Terms) (kept after : Kept) (member amount count : ℕ) → AreSound t
+    → terms_at t item ≡ Some terms → None ≡ first_failing (common_rules t.clock (length t.members) moment caller false) → None ≡ first_failing (first_rules moment caller maximum terms)
+    → standing_at t item ≡ Some kept → given ≡ t.settings → member ≡ caller → amount ≡ maximum → count ≡ after.count
+    → ((bids : List bid.Bid) → kept ≡ standing_of given.bands kept.start bids
+    → (refusal given.bands kept.start bids member amount ≡ None) × (after ≡ standing_of given.bands kept.start (one_more bids member amount)))
+    → BidFits t moment terms.item (record { member = member; maximum = amount; no = count }) after
+bid_fits t given moment caller item maximum terms kept after member amount count sound found common first stands bands same equal counts so =
+    let row = row_there t item terms found in
+    let start : ℕ = row.row.item.terms.start in
+    let fits : ItemRowFits t.settings.bands row.row = found_has (ItemRowFits t.settings.bands) (is_item item) t.items row.row sound.items row.there in
+    let bids : List bid.Bid = fits.bids in
+    let kept_is : kept ≡ standing_of t.settings.bands start bids = standing_same t item row.row kept row.there stands ∙ fits.stands in
+    let answer : (refusal t.settings.bands start bids caller maximum ≡ None) × (after ≡ standing_of t.settings.bands start (one_more bids caller maximum)) =
+    (rw (bands, same, equal, kept_is) at so) bids refl in
+    let caller_is = caller_fits t moment caller false (sym common) in
+    let pass = first_passed (terms.seller == caller) (is_open terms.state) (nat_le terms.end moment) (nat_lt most_cents maximum) (sym first) in
+    let range = pass.within in
+    rw (same, equal, row.numbered) (record {
+      moment_fits = caller_is.moment_fits;
+      row = row.row;
+      row_there = row.there;
+      is_open = rw row.same (open_is terms.state pass.is_open);
+      bidder_there = caller_is.there refl;
+      apart = rw row.same (apart_from terms.seller caller pass.own_not);
+      maximum_fits = grind (arith, nat_tests, range);
+      bids = bids;
+      stands = fits.stands;
+      accepted = more_accepted t.settings.bands start bids (record { member = caller; maximum = maximum; no = length bids + 1 }) fits.accepted (record { accepted = answer.0; numbered = refl });
+      numbered = counts ∙ ap (λ (k : Kept). k.count) answer.1 ∙ length-append bids (record { member = caller; maximum = maximum; no = length bids + 1 } ∷ []);
+      stands_after = answer.1;
+    })
 
 -- the same in other words
 renamed : (settings : Settings) (h : History) (moment caller i item named maximum amount member number count : ℕ) (kept after : Kept)
@@ -286,8 +339,15 @@ bid_accepts t settings given h moment caller item maximum terms kept after membe
     (rw (bands', same, equal, f.stands) at so) bids refl in
     let counted : count ≡ length bids + 1 = counts ∙ ap (λ (k : Kept). k.count) answer.1 ∙ length-append bids (record { member = caller; maximum = maximum; no = length bids + 1 } ∷ []) in
     let can = biddable settings.bands h moment caller maximum l first' in
+    let named : terms.item ≡ l.item = ap (λ (x : Terms). x.item) f.terms_are in
     let accepted : verdict settings h moment caller (Bid l.item maximum) ≡ None = judged settings h moment caller maximum l f.listed now first' ∙ ap (option_map as_refusal) answer.0 in
     let whole : IsAccepted settings h moment caller (Bid l.item maximum) (change.Bid moment l.item (record { member = caller; maximum = maximum; no = length bids + 1 }) (standing_of settings.bands l.start (one_more bids caller maximum))) =
-    record { accepted = accepted; fits = bid_fits settings h moment caller maximum l is f.listed can accepted; leads = bid_leads settings h moment caller maximum l f.listed can } in
+    record {
+      accepted = accepted;
+      fits = rw (e, named, same, equal, counted, answer.1) at
+          (bid_fits t given moment caller item maximum terms kept after member amount count (sound_here t settings h is e) found common first stands bands same equal counts so);
+      free = number_free settings h l.item;
+      leads = bid_leads settings h moment caller maximum l f.listed can;
+    } in
     renamed settings h moment caller l.item item terms.item maximum amount member (length bids + 1) count (standing_of settings.bands l.start (one_more bids caller maximum)) after
-    f.numbered_so (ap (λ (x : Terms). x.item) f.terms_are) same equal counted answer.1 whole
+    f.numbered_so named same equal counted answer.1 whole

@@ -15,7 +15,7 @@ use Rattle.house_rows.specs.declared.state.State.TheVariants.{Open, Sold, Unsold
 use Rattle.house_rows.specs.Asks.{PurchaseFits}
 use Rattle.house_rows.specs.Changed.{changed, with_purchase}
 use Rattle.house_rows.specs.History.{History, clock}
-use Rattle.house_rows.specs.Items.{Purchase, is_bought, is_open, is_settled, is_taken, leader_of, purchases, state_from, state_of, terms_now}
+use Rattle.house_rows.specs.Items.{Purchase, is_bought, is_open, is_settled, is_taken, leader_of, purchases, state_from, state_of}
 use Rattle.house_rows.specs.Listings.{Listing, listing_at, listings}
 use Rattle.house_rows.specs.People.{members}
 use Rattle.house_rows.specs.Questions.{questions}
@@ -23,12 +23,13 @@ use Rattle.house_rows.specs.Runs.{entry}
 use Rattle.house_rows.specs.Tables.{Tables, row_now, tables_of}
 use Rattle.house_rows.specs.Verdict.{common_rules, purchase_rules, verdict}
 use Rattle.house_rows.proofs.Numbered.{numbered}
-use Rattle.house_rows.proofs.Passed.{Common, common_pass}
 use Rattle.house_rows.proofs.Put.{by_test}
 use Rattle.house_rows.proofs.RangedItems.{one_listing}
 use Rattle.house.specs.Decided.{IsAccepted}
 use Rattle.house.specs.Judged.{IsPriced, IsThere, item_rules}
 use Rattle.house.proofs.Items.{terms_shown}
+use Rattle.house.proofs.ByTables.{caller_fits}
+use Rattle.house.proofs.OnItems.{row_there}
 use Rattle.house.proofs.Rows.{Known, apart_from, each_row, known, number_is, other_way, own_told, same_number}
 
 buy_verdict : (t : Tables) (settings : Settings) (h : History) (moment caller item : ℕ) → t ≡ tables_of settings h
@@ -136,32 +137,34 @@ unfolding changed tables_of questions
 buy_leads settings h moment caller i price sold listed is priced =
     rw (bought_rows settings.bands h moment caller i price sold listed is priced) (simp append-nil)
 
-purchase_fits : (settings : Settings) (h : History) (moment caller item price : ℕ) (terms : Terms) → Common h moment caller false
-    → (it : Known settings h item terms) → Passes moment caller (terms_now settings.bands h it.listing) → it.listing.buy_now ≡ Some price
-    → PurchaseFits (tables_of settings h) moment item caller price
-unfolding tables_of
-purchase_fits settings h moment caller item price terms common it pass priced = record {
-  moment_fits = common.moment_fits;
-  row = row_now settings.bands h it.listing;
-  row_there = it.row_there;
-  is_open = pass.is_open;
-  buyer_there = (common.member_if refl, common.registered);
-  apart = pass.apart;
-  no_bid = pass.no_bid;
-  at_price = priced;
-}
+pub buy_fits : (t : Tables) (moment caller item price : ℕ) (terms : Terms) → IsThere t moment caller false item terms → IsPriced moment caller terms price
+    → PurchaseFits t moment terms.item caller price
+buy_fits t moment caller item price terms there told =
+    let row = row_there t item terms there.found in
+    let fits = caller_fits t moment caller false there.passed in
+    let pass = passes moment caller terms told.passed in
+    rw row.numbered (record {
+      moment_fits = fits.moment_fits;
+      row = row.row;
+      row_there = row.there;
+      is_open = rw row.same pass.is_open;
+      buyer_there = fits.there refl;
+      apart = rw row.same pass.apart;
+      no_bid = rw row.same pass.no_bid;
+      at_price = rw row.same told.priced;
+    })
 
 pub buy_accepts : (t : Tables) (settings : Settings) (h : History) (moment caller item price : ℕ) (terms : Terms) → t ≡ tables_of settings h
     → IsThere t moment caller false item terms → IsPriced moment caller terms price
     → IsAccepted settings h moment caller (Buy item) (change.Buy moment terms.item caller price)
 buy_accepts t settings h moment caller item price terms e there told =
-    let accepted : verdict settings h moment caller (Buy item) ≡ None =
-    buy_verdict t settings h moment caller item e ∙ own_told t moment caller false item terms (purchase_rules moment caller) None there (sym told.passed) in
     let it : Known settings h item terms = known settings h item terms (rw e at there.found) in
-    let pass : Passes moment caller (terms_now settings.bands h it.listing) = passes moment caller (terms_now settings.bands h it.listing) (rw it.same at told.passed) in
+    let is_open : state_of h it.listing ≡ Open = rw it.same at (passes moment caller terms told.passed).is_open in
     let priced : it.listing.buy_now ≡ Some price = rw it.same at told.priced in
-    rw (number_is settings h item terms it) (record {
-      accepted = accepted;
-      fits = purchase_fits settings h moment caller item price terms (common_pass settings h moment caller (Buy item) accepted) it pass priced;
-      leads = buy_leads settings h moment caller item price it.listing it.listed pass.is_open priced;
+    let named : terms.item ≡ item = number_is settings h item terms it in
+    rw named (record {
+      accepted = buy_verdict t settings h moment caller item e ∙ own_told t moment caller false item terms (purchase_rules moment caller) None there (sym told.passed);
+      fits = rw (e, named) at (buy_fits t moment caller item price terms there told);
+      free = tt;
+      leads = buy_leads settings h moment caller item price it.listing it.listed is_open priced;
     })

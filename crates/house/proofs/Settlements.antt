@@ -22,12 +22,13 @@ use Rattle.house_rows.specs.Questions.{questions}
 use Rattle.house_rows.specs.Runs.{entry}
 use Rattle.house_rows.specs.Tables.{Tables, row_now, tables_of}
 use Rattle.house_rows.specs.Verdict.{common_rules, is_sold, settlement_rules, verdict}
-use Rattle.house_rows.proofs.Passed.{Common, common_pass}
 use Rattle.house_rows.proofs.Put.{by_test}
 use Rattle.house.specs.Decided.{IsAccepted}
 use Rattle.house.specs.Judged.{IsThere, item_rules}
 use Rattle.house.proofs.Items.{terms_shown}
-use Rattle.house.proofs.Rows.{Known, all_of, each_row, known, number_is, other_way, own_told}
+use Rattle.house.proofs.ByTables.{caller_fits}
+use Rattle.house.proofs.OnItems.{row_there}
+use Rattle.house.proofs.Rows.{all_of, each_row, other_way, own_told}
 
 settle_verdict : (t : Tables) (settings : Settings) (h : History) (moment caller item : ℕ) → t ≡ tables_of settings h
     → verdict settings h moment caller (Settle item) ≡ first_failing (item_rules t moment caller true item settlement_rules)
@@ -78,24 +79,25 @@ sold_state Sold pass = refl
 sold_state Unsold pass = cc
 sold_state Settled pass = cc
 
-settlement_fits : (settings : Settings) (h : History) (moment caller item : ℕ) (terms : Terms) → Common h moment caller true
-    → Known settings h item terms → None ≡ first_failing (settlement_rules terms) → SettlementFits (tables_of settings h) moment item
-settlement_fits settings h moment caller item terms common it told = record {
-  moment_fits = common.moment_fits;
-  row = row_now settings.bands h it.listing;
-  row_there = it.row_there;
-  is_sold = sold_state _ (rw it.same at told);
-}
+pub settle_fits : (t : Tables) (moment caller item : ℕ) (terms : Terms) → IsThere t moment caller true item terms → None ≡ first_failing (settlement_rules terms)
+    → SettlementFits t moment terms.item
+settle_fits t moment caller item terms there told =
+    let row = row_there t item terms there.found in
+    rw row.numbered (record {
+      moment_fits = (caller_fits t moment caller true there.passed).moment_fits;
+      row = row.row;
+      row_there = row.there;
+      is_sold = rw row.same (sold_state terms.state told);
+    })
 
 pub settle_accepts : (t : Tables) (settings : Settings) (h : History) (moment caller item : ℕ) (terms : Terms) → t ≡ tables_of settings h
     → IsThere t moment caller true item terms → None ≡ first_failing (settlement_rules terms)
     → IsAccepted settings h moment caller (Settle item) (change.Settle moment terms.item)
 settle_accepts t settings h moment caller item terms e there told =
-    let accepted : verdict settings h moment caller (Settle item) ≡ None =
-    settle_verdict t settings h moment caller item e ∙ own_told t moment caller true item terms settlement_rules None there told in
-    let it : Known settings h item terms = known settings h item terms (rw e at there.found) in
-    rw (number_is settings h item terms it) (record {
-      accepted = accepted;
-      fits = settlement_fits settings h moment caller item terms (common_pass settings h moment caller (Settle item) accepted) it told;
+    let named : terms.item ≡ item = (row_there t item terms there.found).numbered in
+    rw named (record {
+      accepted = settle_verdict t settings h moment caller item e ∙ own_told t moment caller true item terms settlement_rules None there told;
+      fits = rw (e, named) at (settle_fits t moment caller item terms there told);
+      free = tt;
       leads = settle_leads settings h moment caller item;
     })

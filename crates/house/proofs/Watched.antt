@@ -11,10 +11,11 @@ use Rattle.house_rows.specs.declared.item.Terms.{Terms}
 use Rattle.house_rows.specs.declared.refusal.Refusal.{Refusal}
 use Rattle.house_rows.specs.declared.refusal.Refusal.TheVariants.{Limit}
 use Rattle.house_rows.specs.declared.settings.Settings.{Settings}
-use Rattle.house_rows.specs.Asks.{HasItem}
+use Rattle.house_rows.specs.Asks.{UnwatchFits, WatchFits}
 use Rattle.house_rows.specs.Changed.{changed}
 use Rattle.house_rows.specs.Found.{is_watched, terms_at, watch_count}
 use Rattle.house_rows.specs.History.{History, counted}
+use Rattle.house_rows.specs.Keeping.{AreSound}
 use Rattle.house_rows.specs.Limits.{most_watches}
 use Rattle.house_rows.specs.Listings.{Listing, listings}
 use Rattle.house_rows.specs.Questions.{questions}
@@ -23,10 +24,10 @@ use Rattle.house_rows.specs.Tables.{Tables, row_now, tables_of}
 use Rattle.house_rows.specs.Verdict.{IsHistory, Rule, common_rules, verdict, watch_rules}
 use Rattle.house_rows.specs.Views.{own_watches}
 use Rattle.house_rows.specs.Watches.{WatchRow, is_watch, watches}
-use Rattle.house_rows.proofs.Passed.{common_pass}
 use Rattle.house_rows.proofs.RangedTables.{few_rows}
+use Rattle.house.proofs.ByTables.{caller_fits, sound_here}
 use Rattle.house.proofs.Found.{by_test}
-use Rattle.house.proofs.OnItems.{caller_there, item_judged, item_refused, row_there}
+use Rattle.house.proofs.OnItems.{item_judged, item_refused, row_there}
 use Rattle.house.specs.Decided.{IsAccepted, of_terms}
 
 -- a member's watches of other items than one
@@ -53,13 +54,12 @@ others_fewer c i [] any = cc
 others_fewer c i (w ∷ ws) any = grind (arith, nat_tests, others_fewer c i ws, others_within c i ws, any)
 
 -- fewer than the most others are watched where the item is watched, or there is room
-others_room : (settings : Settings) (h : History) (c i : ℕ) → IsHistory settings h
-    → (list_any (is_watch c i) (watches h) || nat_lt (counted (λ w. w.member == c) (watches h)) most_watches) ≡ nat_lt (others c i (watches h)) most_watches
-others_room settings h c i is =
-    let few = few_rows settings h c is in
-    elim (by_test (list_any (is_watch c i) (watches h))) [
-      | inl any ↦ (let fewer = others_fewer c i (watches h) any in rw any (grind (arith, nat_tests, fewer, few)))
-      | inr none ↦ rw (none, others_all c i (watches h) none) refl
+others_room : (c i : ℕ) (ws : List WatchRow) → counted (λ w. w.member == c) ws ≤ most_watches
+    → (list_any (is_watch c i) ws || nat_lt (counted (λ w. w.member == c) ws) most_watches) ≡ nat_lt (others c i ws) most_watches
+others_room c i ws few =
+    elim (by_test (list_any (is_watch c i) ws)) [
+      | inl any ↦ (let fewer = others_fewer c i ws any in rw any (grind (arith, nat_tests, fewer, few)))
+      | inr none ↦ rw (none, others_all c i ws none) refl
     ]
 
 -- items are as they were
@@ -77,7 +77,7 @@ pub watch_refused : (t : Tables) (settings : Settings) (h : History) (moment cal
     → ((rules : Terms → List Rule) → Some refusal ≡ first_failing (common_rules t.clock (length t.members) moment caller false ++ of_terms (terms_at t item) rules))
     → verdict settings h moment caller (Watch item) ≡ Some refusal
 unfolding verdict
-watch_refused t settings h moment caller item refusal e told = item_refused t settings h moment caller item refusal (watch_rules (own_watches h caller)) e told
+watch_refused t settings h moment caller item refusal e told = item_refused t settings h moment caller item refusal (λ floor. watch_rules (own_watches h caller)) e told
 
 -- the verdict by whether there is room
 watch_judged : (t : Tables) (settings : Settings) (h : History) (moment caller item : ℕ) (terms : Terms) → IsHistory settings h → t ≡ tables_of settings h
@@ -85,8 +85,8 @@ watch_judged : (t : Tables) (settings : Settings) (h : History) (moment caller i
     → verdict settings h moment caller (Watch item) ≡ first_failing ((not (is_watched t caller item || nat_lt (watch_count t caller) most_watches), Limit) ∷ [])
 unfolding verdict own_watches tables_of
 watch_judged t settings h moment caller item terms is e found passed =
-    item_judged t settings h moment caller item terms (watch_rules (own_watches h caller)) e found passed
-    ∙ rw (row_there t item terms found).numbered (rw e (rw (others_own caller item (watches h), others_room settings h caller item is) (by_room (others caller item (watches h))))) where
+    item_judged t settings h moment caller item terms (λ floor. watch_rules (own_watches h caller)) e found passed
+    ∙ rw (row_there t item terms found).numbered (rw e (rw (others_own caller item (watches h), others_room caller item (watches h) (few_rows settings h caller is)) (by_room (others caller item (watches h))))) where
       by_room : (n : ℕ) → first_failing ((nat_le most_watches n, Limit) ∷ []) ≡ first_failing ((not (nat_lt n most_watches), Limit) ∷ [])
       by_room n = grind (arith, nat_tests)
 
@@ -95,22 +95,27 @@ pub watch_full : (t : Tables) (settings : Settings) (h : History) (moment caller
     → (is_watched t caller item || nat_lt (watch_count t caller) most_watches) ≡ false → verdict settings h moment caller (Watch item) ≡ Some Limit
 watch_full t settings h moment caller item terms is e found passed full = watch_judged t settings h moment caller item terms is e found passed ∙ rw full refl
 
+pub watch_fits : (t : Tables) (moment caller item : ℕ) (terms : Terms) (member : ℕ) → AreSound t
+    → member ≡ caller → terms_at t item ≡ Some terms → None ≡ first_failing (common_rules t.clock (length t.members) moment caller false)
+    → (is_watched t caller item || nat_lt (watch_count t caller) most_watches) ≡ true → WatchFits t member terms.item
+watch_fits t moment caller item terms member sound same found passed room =
+    let row = row_there t item terms found in
+    let few : nat_lt (others caller item t.watches) most_watches ≡ true = sym (others_room caller item t.watches (sound.few_watches caller)) ∙ room in
+    rw (same, row.numbered) (record {
+      member_there = (caller_fits t moment caller false (sym passed)).there refl;
+      item_there = (row.row, row.there);
+      room = grind (arith, nat_tests, few);
+    })
+
 pub watch_accepts : (t : Tables) (settings : Settings) (h : History) (moment caller item : ℕ) (terms : Terms) (member : ℕ) → IsHistory settings h → t ≡ tables_of settings h
     → member ≡ caller → terms_at t item ≡ Some terms → None ≡ first_failing (common_rules t.clock (length t.members) moment caller false)
     → (is_watched t caller item || nat_lt (watch_count t caller) most_watches) ≡ true → IsAccepted settings h moment caller (Watch item) (change.Watch member terms.item)
-unfolding tables_of
 watch_accepts t settings h moment caller item terms member is e same found passed room =
-    let accepted : verdict settings h moment caller (Watch item) ≡ None = watch_judged t settings h moment caller item terms is e found passed ∙ rw room refl in
-    let row = row_there t item terms found in
-    let common = common_pass settings h moment caller (Watch item) accepted in
-    let there : HasItem t item = (row.row, row.there) in
-    rw (same, row.numbered) (record {
-      accepted = accepted;
-      fits = record {
-        member_there = rw e at (caller_there t settings h moment caller e common);
-        item_there = rw e at there;
-        room = (let few : nat_lt (others caller item (watches h)) most_watches ≡ true = sym (others_room settings h caller item is) ∙ (rw e at room) in grind (arith, nat_tests, few));
-      };
+    let named : terms.item ≡ item = (row_there t item terms found).numbered in
+    rw (same, named) (record {
+      accepted = watch_judged t settings h moment caller item terms is e found passed ∙ rw room refl;
+      fits = rw (e, same, named) at (watch_fits t moment caller item terms member (sound_here t settings h is e) same found passed room);
+      free = tt;
       leads = watch_leads settings h moment caller item;
     })
 
@@ -128,23 +133,28 @@ pub unwatch_refused : (t : Tables) (settings : Settings) (h : History) (moment c
     → ((rules : Terms → List Rule) → Some refusal ≡ first_failing (common_rules t.clock (length t.members) moment caller false ++ of_terms (terms_at t item) rules))
     → verdict settings h moment caller (Unwatch item) ≡ Some refusal
 unfolding verdict
-unwatch_refused t settings h moment caller item refusal e told = item_refused t settings h moment caller item refusal (λ terms. []) e told
+unwatch_refused t settings h moment caller item refusal e told = item_refused t settings h moment caller item refusal (λ floor terms. []) e told
 
 unwatch_judged : (t : Tables) (settings : Settings) (h : History) (moment caller item : ℕ) (terms : Terms) → t ≡ tables_of settings h
     → terms_at t item ≡ Some terms → None ≡ first_failing (common_rules t.clock (length t.members) moment caller false) → verdict settings h moment caller (Unwatch item) ≡ None
 unfolding verdict
-unwatch_judged t settings h moment caller item terms e found passed = item_judged t settings h moment caller item terms (λ terms. []) e found passed
+unwatch_judged t settings h moment caller item terms e found passed = item_judged t settings h moment caller item terms (λ floor terms. []) e found passed
+
+pub unwatch_fits : (t : Tables) (moment caller item : ℕ) (terms : Terms) (member : ℕ)
+    → member ≡ caller → terms_at t item ≡ Some terms → None ≡ first_failing (common_rules t.clock (length t.members) moment caller false)
+    → UnwatchFits t member terms.item
+unwatch_fits t moment caller item terms member same found passed =
+    let row = row_there t item terms found in
+    rw (same, row.numbered) (record { member_there = (caller_fits t moment caller false (sym passed)).there refl; item_there = (row.row, row.there) })
 
 pub unwatch_accepts : (t : Tables) (settings : Settings) (h : History) (moment caller item : ℕ) (terms : Terms) (member : ℕ) → t ≡ tables_of settings h
     → member ≡ caller → terms_at t item ≡ Some terms → None ≡ first_failing (common_rules t.clock (length t.members) moment caller false)
     → IsAccepted settings h moment caller (Unwatch item) (change.Unwatch member terms.item)
 unwatch_accepts t settings h moment caller item terms member e same found passed =
-    let accepted : verdict settings h moment caller (Unwatch item) ≡ None = unwatch_judged t settings h moment caller item terms e found passed in
-    let row = row_there t item terms found in
-    let common = common_pass settings h moment caller (Unwatch item) accepted in
-    let there : HasItem t item = (row.row, row.there) in
-    rw (same, row.numbered) (record {
-      accepted = accepted;
-      fits = record { member_there = rw e at (caller_there t settings h moment caller e common); item_there = rw e at there };
+    let named : terms.item ≡ item = (row_there t item terms found).numbered in
+    rw (same, named) (record {
+      accepted = unwatch_judged t settings h moment caller item terms e found passed;
+      fits = rw (e, same, named) at (unwatch_fits t moment caller item terms member same found passed);
+      free = tt;
       leads = unwatch_leads settings h moment caller item;
     })

@@ -1,4 +1,5 @@
 pub mod Decided
+pub mod Own
 pub mod Refused
 pub mod Judged
 pub mod Offered

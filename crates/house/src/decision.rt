@@ -1,11 +1,13 @@
 //! Deciding on a command.
 ghost use Rattle.std.specs.Prelude.{◌≡◌, IfOk};
 ghost use Rattle.house_rows.specs.declared.settings.Settings.{Settings as TheSettings};
+ghost use Rattle.house_rows.specs.Asks.{ChangeFits};
 ghost use Rattle.house_rows.specs.History.{History};
-ghost use Rattle.house_rows.specs.Keeping.{Faults, IsRead};
+ghost use Rattle.house_rows.specs.Keeping.{AreSound, Faults, IsRead};
 ghost use Rattle.house_rows.specs.Tables.{tables_of};
 ghost use Rattle.house_rows.specs.Verdict.{IsHistory};
-ghost use Rattle.house.specs.Decided.{IsDecided};
+ghost use Rattle.house.specs.Decided.{IfAccepted, IsDecided};
+ghost use Rattle.house.specs.Own.{IsOf};
 
 use crate::answers::answer;
 use crate::bidding::bid;
@@ -20,7 +22,8 @@ use crate::unwatching::unwatch;
 use crate::watching::watch;
 use house_rows::{Change, Command, Keep, KeepFault, Refusal};
 
-/// Decides on a command: the change that it makes, or why it is refused. Nothing is changed yet.
+/// Decides on a command: the change that it makes, or why it is refused. Nothing is changed yet, and
+/// the change fits the tables wherever these are sound.
 ///
 /// `moment` is in whole seconds since 1970-01-01T00:00:00Z, and `caller` 0 is the house.
 pub fn decide<'c, K: Keep>(
@@ -31,6 +34,9 @@ pub fn decide<'c, K: Keep>(
 ) -> Result<Result<Change<'c>, Refusal>, KeepFault>
     ensures decided { K.is_honest keep.new → (settings : TheSettings) (h : History) → IsHistory settings h
         → K.content keep.old ≡ tables_of settings h → IfOk result (IsDecided settings h moment caller command.now) }
+    ensures fits { K.is_honest keep.new → AreSound (K.content keep.old)
+        → IfAccepted result (ChangeFits (K.content keep.old)) }
+    ensures own { K.is_honest keep.new → IfAccepted result (IsOf moment caller command.now) }
     ensures faults { Faults result (K.is_honest keep.new) (K.is_failed keep.new) (K.content keep.old) }
     ensures read { IsRead K.content K.is_failed K.is_honest K.may_leave keep.old keep.new }
 {

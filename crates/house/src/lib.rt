@@ -1,9 +1,11 @@
 //! What the house decides: each command gets the verdict of its rules, and where it is accepted the one
 //! change that leads to the tables of the history with it.
 //!
-//! Promised of any keep and any history whose tables it keeps, while nothing is changed here. Read
-//! `specs/Decided.antt` first, then `decision`, whose `decide` is the call that matters, `common`, whose
-//! rules every command begins with, and `targets`, which finds the item that a command names.
+//! Promised of any keep and any history whose tables it keeps, while nothing is changed here; and of
+//! any sound tables, with a history or without, that the change is the command's own and fits them.
+//! Read `specs/Decided.antt` and `specs/Own.antt` first, then `decision`, whose `decide` is the call
+//! that matters, `common`, whose rules every command begins with, and `targets`, which finds the item
+//! that a command names.
 #![tactic(auto)]
 
 mod answers;

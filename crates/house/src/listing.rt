@@ -4,13 +4,15 @@ ghost use Rattle.std.specs.List.{list_all, list_any};
 ghost use Rattle.proxy.specs.Rules.{first_failing};
 ghost use Rattle.house_rows.specs.declared.command.Command.TheVariants as command;
 ghost use Rattle.house_rows.specs.declared.settings.Settings.{Settings as TheSettings};
+ghost use Rattle.house_rows.specs.Asks.{ChangeFits};
 ghost use Rattle.house_rows.specs.History.{History};
-ghost use Rattle.house_rows.specs.Keeping.{Faults, IsRead};
+ghost use Rattle.house_rows.specs.Keeping.{AreSound, Faults, IsRead};
 ghost use Rattle.house_rows.specs.Limits.{most_cents};
 ghost use Rattle.house_rows.specs.Tables.{tables_of};
 ghost use Rattle.house_rows.specs.Text.{has_length, is_lot, is_lot_byte, same_text};
 ghost use Rattle.house_rows.specs.Verdict.{IsHistory, are_terms, is_buy_now};
-ghost use Rattle.house.specs.Decided.{IsDecided};
+ghost use Rattle.house.specs.Decided.{IfAccepted, IsDecided};
+ghost use Rattle.house.specs.Own.{IsOf};
 ghost use Rattle.house.specs.Judged.{first_rules};
 ghost use Rattle.house.specs.Offered.{AreOf, offer_rules, terms_rules, told};
 
@@ -58,6 +60,10 @@ pub fn list<'c, K: Keep>(
     ensures decided { K.is_honest keep.new → (settings : TheSettings) (h : History) → IsHistory settings h
         → K.content keep.old ≡ tables_of settings h → IfOk result (IsDecided settings h moment caller
         (command.List offer.now.category offer.now.lot.now offer.now.title.now offer.now.text.now offer.now.start offer.now.buy_now offer.now.end)) }
+    ensures fits { K.is_honest keep.new → AreSound (K.content keep.old)
+        → IfAccepted result (ChangeFits (K.content keep.old)) }
+    ensures own { K.is_honest keep.new → IfAccepted result (IsOf moment caller (command.List offer.now.category
+        offer.now.lot.now offer.now.title.now offer.now.text.now offer.now.start offer.now.buy_now offer.now.end)) }
     ensures faults { Faults result (K.is_honest keep.new) (K.is_failed keep.new) (K.content keep.old) }
     ensures read { IsRead K.content K.is_failed K.is_honest K.may_leave keep.old keep.new }
 {

@@ -2,11 +2,13 @@
 ghost use Rattle.std.specs.Prelude.{◌≡◌, IfOk};
 ghost use Rattle.house_rows.specs.declared.command.Command.TheVariants as command;
 ghost use Rattle.house_rows.specs.declared.settings.Settings.{Settings as TheSettings};
+ghost use Rattle.house_rows.specs.Asks.{ChangeFits};
 ghost use Rattle.house_rows.specs.History.{History};
-ghost use Rattle.house_rows.specs.Keeping.{Faults, IsRead};
+ghost use Rattle.house_rows.specs.Keeping.{AreSound, Faults, IsRead};
 ghost use Rattle.house_rows.specs.Tables.{tables_of};
 ghost use Rattle.house_rows.specs.Verdict.{IsHistory};
-ghost use Rattle.house.specs.Decided.{IsDecided};
+ghost use Rattle.house.specs.Decided.{IfAccepted, IsDecided};
+ghost use Rattle.house.specs.Own.{IsOf};
 ghost use Rattle.house.specs.Judged.{IsPurchase};
 
 use crate::targets::{named_item, open_refused};
@@ -22,6 +24,9 @@ pub fn buy<'c, K: Keep>(
 ) -> Result<Result<Change<'c>, Refusal>, KeepFault>
     ensures decided { K.is_honest keep.new → (settings : TheSettings) (h : History) → IsHistory settings h
         → K.content keep.old ≡ tables_of settings h → IfOk result (IsDecided settings h moment caller (command.Buy item)) }
+    ensures fits { K.is_honest keep.new → AreSound (K.content keep.old)
+        → IfAccepted result (ChangeFits (K.content keep.old)) }
+    ensures own { K.is_honest keep.new → IfAccepted result (IsOf moment caller (command.Buy item)) }
     ensures faults { Faults result (K.is_honest keep.new) (K.is_failed keep.new) (K.content keep.old) }
     ensures read { IsRead K.content K.is_failed K.is_honest K.may_leave keep.old keep.new }
 {

@@ -7,11 +7,12 @@ use Rattle.house_rows.specs.declared.message.Message.{Message}
 use Rattle.house_rows.specs.declared.message.Message.TheVariants.{Broken, Order, Read}
 use Rattle.house_rows.specs.declared.query.Query.{Query}
 use Rattle.house_rows.specs.declared.refusal.Refusal.{Refusal}
+use Rattle.house_rows.specs.declared.reply.Reply.{Reply}
 use Rattle.house_rows.specs.declared.reply.Reply.TheVariants.{Shows}
 use Rattle.house_rows.specs.declared.settings.Settings.{Settings}
 use Rattle.house_rows.specs.declared.told.Told.{Told}
 use Rattle.house_rows.specs.History.{Entry, History}
-use Rattle.house_rows.specs.Runs.{Agrees, Twin, TwinFrom, entered, entry, is_of, next, replies_from, replies_to, reply, reply_if}
+use Rattle.house_rows.specs.Runs.{Agrees, AreTwins, AreTwinsFrom, Twin, entered, entry, is_of, next, rendered_from, rendered_to, replies_to, reply, reply_if}
 use Rattle.house_rows.specs.Told.{told}
 use Rattle.house_rows.specs.Verdict.{verdict}
 use Rattle.house_rows.specs.Views.{own_view, public_view}
@@ -99,25 +100,48 @@ own_next : {F : Type 0} (settings : Settings) (c : ℕ) (h k : History) (m n : M
 own_next settings c h k m n same alike =
     elim same [ inl e ↦ rw (← e) (own_kept settings c h k m alike) | inr others ↦ own_other settings c h m others.0 ∙ alike.own ∙ sym (own_other settings c k n others.1) ]
 
--- what a place adds to the replies
-told_here : {F : Type 0} (settings : Settings) (c : ℕ) (h k : History) (m n : Message F) → (m ≡ n) ⊎ ((is_of c m ≡ false) × (is_of c n ≡ false)) → AreAlike settings c h k
-    → Agrees settings c (next settings h m) (next settings k n) → (if is_of c m then reply settings h m ∷ [] else []) ≡ (if is_of c n then reply settings k n ∷ [] else [])
-told_here settings c h k m n same alike after =
+-- the same of elements, by the messages that they mean
+meant_alike : {A F : Type 0} (meant : A → Message F) (c : ℕ) (x y : A) → (x ≡ y) ⊎ ((is_of c (meant x) ≡ false) × (is_of c (meant y) ≡ false))
+    → (meant x ≡ meant y) ⊎ ((is_of c (meant x) ≡ false) × (is_of c (meant y) ≡ false))
+meant_alike meant c x y (inl e) = inl (ap meant e)
+meant_alike meant c x y (inr others) = inr others
+
+-- what a place adds to the rendered replies
+rendered_here : {A B F : Type 0} (meant : A → Message F) (rendered : A → Reply F → B) (settings : Settings) (c : ℕ) (h k : History) (x y : A)
+    → (x ≡ y) ⊎ ((is_of c (meant x) ≡ false) × (is_of c (meant y) ≡ false)) → AreAlike settings c h k
+    → Agrees settings c (next settings h (meant x)) (next settings k (meant y))
+    → (if is_of c (meant x) then rendered x (reply settings h (meant x)) ∷ [] else []) ≡ (if is_of c (meant y) then rendered y (reply settings k (meant y)) ∷ [] else [])
+rendered_here meant rendered settings c h k x y same alike after =
     elim same [
-      | inl e ↦ rw (← e) (let after' : Agrees settings c (next settings h m) (next settings k m) = rw (← e) at after in
-          elim (by_test (is_of c m)) [ inl is ↦ rw (is, reply_same settings c h k m is alike after'.public) refl | inr other ↦ rw other refl ])
+      | inl e ↦ rw (← e) (let after' : Agrees settings c (next settings h (meant x)) (next settings k (meant x)) = rw (← e) at after in
+          elim (by_test (is_of c (meant x))) [ inl is ↦ rw (is, reply_same settings c h k (meant x) is alike after'.public) refl | inr other ↦ rw other refl ])
       | inr others ↦ rw (others.0, others.1) refl
     ]
 
--- all replies to a member are the same
-pub replies_same : {F : Type 0} (settings : Settings) (c : ℕ) (h k : History) (left right : List (Message F)) → AreAlike settings c h k → TwinFrom settings c h k left right
-    → replies_from settings c h left ≡ replies_from settings c k right
-replies_same settings c h k [] [] alike twin = refl
-replies_same settings c h k [] (n ∷ ns) alike twin = absurd twin
-replies_same settings c h k (m ∷ ms) [] alike twin = absurd twin
-replies_same settings c h k (m ∷ ms) (n ∷ ns) alike twin =
-    let alike' : AreAlike settings c (next settings h m) (next settings k n) = record { public = twin.1.public; own = own_next settings c h k m n twin.0 alike; waiting = twin.1.waiting } in
-    rw (told_here settings c h k m n twin.0 alike twin.1, replies_same settings c (next settings h m) (next settings k n) ms ns alike' twin.2) refl
+-- all rendered replies to a member are the same
+pub rendered_same : {A B F : Type 0} (meant : A → Message F) (rendered : A → Reply F → B) (settings : Settings) (c : ℕ) (h k : History) (left right : List A)
+    → AreAlike settings c h k → AreTwinsFrom meant settings c h k left right
+    → rendered_from meant rendered settings c h left ≡ rendered_from meant rendered settings c k right
+rendered_same meant rendered settings c h k [] [] alike twin = refl
+rendered_same meant rendered settings c h k [] (y ∷ ys) alike twin = absurd twin
+rendered_same meant rendered settings c h k (x ∷ xs) [] alike twin = absurd twin
+rendered_same meant rendered settings c h k (x ∷ xs) (y ∷ ys) alike twin =
+    let alike' : AreAlike settings c (next settings h (meant x)) (next settings k (meant y)) = record {
+      public = twin.1.public;
+      own = own_next settings c h k (meant x) (meant y) (meant_alike meant c x y twin.0) alike;
+      waiting = twin.1.waiting;
+    } in
+    rw (
+      rendered_here meant rendered settings c h k x y twin.0 alike twin.1,
+      rendered_same meant rendered settings c (next settings h (meant x)) (next settings k (meant y)) xs ys alike' twin.2,
+    ) refl
 
-pub isolation : {F : Type 0} (settings : Settings) (c : ℕ) (left right : List (Message F)) → Twin settings c left right → replies_to settings c left ≡ replies_to settings c right
-isolation settings c left right twin = replies_same settings c [] [] left right (record { public = refl; own = refl; waiting = refl }) twin
+pub isolation : {A B F : Type 0} (meant : A → Message F) (rendered : A → Reply F → B) (settings : Settings) (c : ℕ) (left right : List A)
+    → AreTwins meant settings c left right → rendered_to meant rendered settings c left ≡ rendered_to meant rendered settings c right
+isolation meant rendered settings c left right twin =
+    rendered_same meant rendered settings c [] [] left right (record { public = refl; own = refl; waiting = refl }) twin
+
+-- messages mean themselves, and their replies are as they are
+pub message_isolation : {F : Type 0} (settings : Settings) (c : ℕ) (left right : List (Message F)) → Twin settings c left right
+    → replies_to settings c left ≡ replies_to settings c right
+message_isolation settings c left right twin = isolation (λ m. m) (λ m r. r) settings c left right twin

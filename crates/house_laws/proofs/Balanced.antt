@@ -43,21 +43,21 @@ every_append : (P : Sold → Type 0) (xs ys : List Sold) → AllByRecursion P xs
 every_append P [] ys all also = also
 every_append P (x ∷ xs) ys all also = (all.0, every_append P xs ys all.1 also)
 
-sales_fit : (bands : List (ℕ × ℕ)) (h : History) (ls : List Listing) → AllByRecursion (λ l. TermsFit (terms_now bands h l) × (was_sold (state_of h l) ≡ true → is_some (leader_of h l) ≡ true)) ls
-    → AllByRecursion IsSale (all_sales (map (shown bands) (map (item_now bands h) ls)))
-sales_fit bands h [] all = tt
-sales_fit bands h (l ∷ ls) all =
-    every_append IsSale (sale_of (terms_now bands h l)) _ (sale_fits (terms_now bands h l) all.0.0 all.0.1) (sales_fit bands h ls all.1)
+sales_fit : (settings : Settings) (h : History) (ls : List Listing) → AllByRecursion (λ l. TermsFit (terms_now settings.bands h l) × (was_sold (state_of h l) ≡ true → is_some (leader_of h l) ≡ true)) ls
+    → AllByRecursion IsSale (all_sales (map (shown settings) (map (item_now settings.bands h) ls)))
+sales_fit settings h [] all = tt
+sales_fit settings h (l ∷ ls) all =
+    every_append IsSale (sale_of (terms_now settings.bands h l)) _ (sale_fits (terms_now settings.bands h l) all.0.0 all.0.1) (sales_fit settings h ls all.1)
 
-pub sales_are_fit : (settings : Settings) (h : History) → IsHistory settings h → AllByRecursion IsSale (all_sales (items_shown settings.bands h))
+pub sales_are_fit : (settings : Settings) (h : History) → IsHistory settings h → AllByRecursion IsSale (all_sales (items_shown settings h))
 unfolding items_shown items
 sales_are_fit settings h is =
-    sales_fit settings.bands h (listings h)
+    sales_fit settings h (listings h)
     (every_both ListingRanges (λ l. listing_at (listings h) l.item ≡ Some l) (λ l. TermsFit (terms_now settings.bands h l) × (was_sold (state_of h l) ≡ true → is_some (leader_of h l) ≡ true)) (listings h)
     (λ l ranges listed. (terms_fit settings h l is ranges listed, sold_is_led settings h l is listed)) (listings_fit settings h is).all (numbered h).own)
 
 -- over the members that the sales name, what is bought is net plus fees
 pub sales_balance : (settings : Settings) (h : History) (from to : ℕ) (zone : Zone) → IsHistory settings h → settings.rate ≤ 2000
-    → IsBalanced (all_sales (items_shown settings.bands h)) from to zone settings.rate
+    → IsBalanced (all_sales (items_shown settings h)) from to zone settings.rate
 sales_balance settings h from to zone is rate =
-    balanced (all_sales (items_shown settings.bands h)) from to zone settings.rate rate (All-from_recursion IsSale (all_sales (items_shown settings.bands h)) (sales_are_fit settings h is))
+    balanced (all_sales (items_shown settings h)) from to zone settings.rate rate (All-from_recursion IsSale (all_sales (items_shown settings h)) (sales_are_fit settings h is))

@@ -29,7 +29,7 @@ members_same settings h k e = ap (λ (p : Public). p.members) e
 pub categories_same : (settings : Settings) (h k : History) → public_view settings h ≡ public_view settings k → categories h ≡ categories k
 categories_same settings h k e = ap (λ (p : Public). p.categories) e
 
-pub items_same : (settings : Settings) (h k : History) → public_view settings h ≡ public_view settings k → items_shown settings.bands h ≡ items_shown settings.bands k
+pub items_same : (settings : Settings) (h k : History) → public_view settings h ≡ public_view settings k → items_shown settings h ≡ items_shown settings k
 items_same settings h k e = ap (λ (p : Public). p.items) e
 
 pub published_same : (settings : Settings) (h k : History) → public_view settings h ≡ public_view settings k → published h ≡ published k

@@ -173,7 +173,7 @@ page_same settings c h k (query.Questions i from) alike =
 page_same settings c h k (query.Member m) alike = rw (members_same settings h k alike.public, feedback_same settings h k alike.public) refl
 page_same settings c h k (query.FeedbackTo m from) alike = rw (members_same settings h k alike.public, feedback_same settings h k alike.public) refl
 page_same settings c h k (query.MyBids from) alike =
-    rw (members_same settings h k alike.public, items_same settings h k alike.public, own_bids_same h k c (items_shown settings.bands k) alike.own) refl
+    rw (members_same settings h k alike.public, items_same settings h k alike.public, own_bids_same h k c (items_shown settings k) alike.own) refl
 page_same settings c h k query.MyWatches alike =
     rw (members_same settings h k alike.public, items_same settings h k alike.public, watches_same h k c alike.own) refl
 page_same settings c h k (query.MyQuestions from) alike =

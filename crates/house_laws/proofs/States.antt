@@ -16,7 +16,7 @@ use Rattle.house_rows.specs.History.{History}
 use Rattle.house_rows.specs.Items.{Purchase, closings, is_bought, is_open, is_settled, is_taken, leader_of, purchases, settlements, state_from, state_of}
 use Rattle.house_rows.specs.Listings.{Listing, listing_at, listings}
 use Rattle.house_rows.specs.Runs.{entry}
-use Rattle.house_rows.specs.Verdict.{is_sold, rules, settlement_rules, verdict}
+use Rattle.house_rows.specs.Verdict.{by_terms, is_sold, rules, settlement_rules, verdict}
 use Rattle.house_laws.specs.Course.{may_move}
 use Rattle.house_rows.proofs.OpenItems.{bid_led, bought_open, open_parts, rules_of}
 use Rattle.house_rows.proofs.Passed.{item_pass, own_pass, passes}
@@ -68,7 +68,7 @@ settled_sold : (settings : Settings) (h : History) (t c j : ℕ) (l : Listing) �
 settled_sold settings h t c j l listed none here =
     let at : j ≡ l.item = grind (arith, nat_tests) in
     let own : first_failing (rules settings h t c (Settle l.item)) ≡ None = rw at at (own_pass settings h t c (Settle j) none) in
-    let pass = rules_of settings h l _ listed (item_pass settings.bands h l.item settlement_rules own) in
+    let pass = rules_of settings h l _ listed (item_pass settings h l.item (by_terms settlement_rules) own) in
     let e = (passes (not (is_sold (state_of h l))) NotSold [] pass).0 in
     grind (arith, nat_tests, e)
 

@@ -15,7 +15,7 @@ use Rattle.house_rows.specs.Items.{items, items_shown}
 use Rattle.house_rows.specs.Listings.{Listing, is_seller, listing_at, listings}
 use Rattle.house_rows.specs.Questions.{Asked, answer_to, answered, answers, asked, asked_key, names, questions, waiting}
 use Rattle.house_rows.specs.Runs.{entry}
-use Rattle.house_rows.specs.Verdict.{Rule, common_rules, of_item, rules, verdict}
+use Rattle.house_rows.specs.Verdict.{Rule, by_terms, common_rules, of_item, rules, verdict}
 use Rattle.house_rows.proofs.Passed.{find_item, item_from, later_pass}
 use Rattle.house_rows.proofs.Put.{by_test, filter_alike, filter_put_other}
 
@@ -66,17 +66,17 @@ filter_answered ls given a c (q ∷ qs) other =
           ])
     ]
 
-answerer_sells : (o : Option Listing) (bands : List (ℕ × ℕ)) (h : History) (d c : ℕ) (more : Terms → List Rule)
-    → first_failing (of_item (item_from bands h o) (λ terms. (not (terms.seller == d), SellerOnly) ∷ more terms)) ≡ None → (d == c) ≡ false → is_seller o c ≡ false
-answerer_sells None bands h d c more none other = cc
-answerer_sells (Some l) bands h d c more none other = grind (arith, nat_tests)
+answerer_sells : (o : Option Listing) (settings : Settings) (h : History) (d c : ℕ) (more : Terms → List Rule)
+    → first_failing (of_item (item_from settings h o) (by_terms (λ terms. (not (terms.seller == d), SellerOnly) ∷ more terms))) ≡ None → (d == c) ≡ false → is_seller o c ≡ false
+answerer_sells None settings h d c more none other = cc
+answerer_sells (Some l) settings h d c more none other = grind (arith, nat_tests)
 
 answerer_is_seller : (settings : Settings) (h : History) (t d i asker number : ℕ) (text : List ℕ) (c : ℕ) → verdict settings h t d (Answer i asker number text) ≡ None → (d == c) ≡ false
     → is_seller (listing_at (listings h) i) c ≡ false
 unfolding verdict items_shown items
 answerer_is_seller settings h t d i asker number text c none other =
     let all = later_pass (common_rules (clock h) (length (members h)) t d false) (rules settings h t d (Answer i asker number text)) none in
-    answerer_sells (listing_at (listings h) i) settings.bands h d c _ (rw (find_item settings.bands h (listings h) i) at all) other
+    answerer_sells (listing_at (listings h) i) settings h d c _ (rw (find_item settings h (listings h) i) at all) other
 
 waiting_is : (h : History) (c : ℕ) → waiting h c ≡ map (answered (answers h)) (filter (waits (listings h) (answers h) c) (asked h))
 unfolding waiting questions

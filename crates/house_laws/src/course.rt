@@ -74,5 +74,5 @@ pub fn changes_keep_tables_sound()
 #[tactic(auto, using(crate::proofs::Balanced::sales_balance))]
 pub fn sales_balance()
     ensures { (settings : Settings) (h : History) (from to : ℕ) (zone : Zone) → IsHistory settings h → settings.rate ≤ 2000
-        → IsBalanced (all_sales (items_shown settings.bands h)) from to zone settings.rate }
+        → IsBalanced (all_sales (items_shown settings h)) from to zone settings.rate }
 {}

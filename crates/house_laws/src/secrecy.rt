@@ -5,22 +5,30 @@ ghost use Rattle.house_rows.specs.declared.command.Command.{Command};
 ghost use Rattle.house_rows.specs.declared.command.Command.TheVariants.{Ask};
 ghost use Rattle.house_rows.specs.declared.message.Message.{Message};
 ghost use Rattle.house_rows.specs.declared.query.Query.{Query};
+ghost use Rattle.house_rows.specs.declared.reply.Reply.{Reply};
 ghost use Rattle.house_rows.specs.declared.settings.Settings.{Settings};
 ghost use Rattle.house_rows.specs.History.{Entry, History};
 ghost use Rattle.house_rows.specs.Listings.{is_seller, listing_at, listings};
 ghost use Rattle.house_rows.specs.Pages.{page_of};
 ghost use Rattle.house_rows.specs.Questions.{waiting};
-ghost use Rattle.house_rows.specs.Runs.{Twin, entry, replies_to};
+ghost use Rattle.house_rows.specs.Runs.{AreTwins, Twin, entry, rendered_to, replies_to};
 ghost use Rattle.house_rows.specs.Told.{told};
 ghost use Rattle.house_rows.specs.Verdict.{verdict};
 ghost use Rattle.house_rows.specs.Views.{own_view, public_view};
 
 /// For every number `c`, the house's 0 among them: where two runs are twins for it, all replies to it
 /// are the same.
-#[tactic(auto, using(crate::proofs::Alike::isolation))]
-pub fn isolation<F>()
-    ensures { (settings : Settings) (c : ℕ) (left right : List (Message F)) → Twin settings c left right
+///
+/// `messages` says so of lists of messages. `rendered` says it of whatever means a message: of elements
+/// that are equal at the places of `c`, and of the replies as these have them rendered, so that a reply
+/// may depend on more than the message, as its bytes do on whether the connection ends.
+#[tactic(auto, using(crate::proofs::Alike::isolation, crate::proofs::Alike::message_isolation))]
+pub fn isolation<A, B, F>()
+    ensures messages { (settings : Settings) (c : ℕ) (left right : List (Message F)) → Twin settings c left right
         → replies_to settings c left ≡ replies_to settings c right }
+    ensures rendered { (meant : A → Message F) (rendered : A → Reply F → B) (settings : Settings) (c : ℕ) (left right : List A)
+        → AreTwins meant settings c left right
+        → rendered_to meant rendered settings c left ≡ rendered_to meant rendered settings c right }
 {}
 
 /// Local: no accepted entry of another changes what a member has of its own, and of others' entries

@@ -15,3 +15,7 @@ pub mod RangedRows
 pub mod Sound
 pub mod ChangedRows
 pub mod SoundAfter
+pub mod Lists
+pub mod ItemRows
+pub mod OwnBids
+pub mod Replies

@@ -1,5 +1,7 @@
 -- The words and numbers by which answers tell refusals, states and faults.
 use Rattle.std.specs.Prelude.{ℕ, List, codes}
+use Rattle.status.specs.declared.Status.{Status}
+use Rattle.status.specs.declared.Status.TheVariants.{BadRequest, Forbidden, NotFound, Conflict}
 use Rattle.house_rows.specs.declared.fault.KeepFault.{KeepFault}
 use Rattle.house_rows.specs.declared.fault.KeepFault.TheVariants.{Memory, Store, Damaged}
 use Rattle.house_rows.specs.declared.refusal.Refusal.{Refusal}
@@ -54,27 +56,27 @@ refusal_name Limit = codes "Limit"
 refusal_name Range = codes "Range"
 
 -- the status of its answer
-abbrev pub refusal_status : Refusal → ℕ
-refusal_status NoCaller = 403
-refusal_status HouseOnly = 403
-refusal_status SellerOnly = 403
-refusal_status Unknown = 404
-refusal_status MomentBehind = 409
-refusal_status Ended = 409
-refusal_status NotOpen = 409
-refusal_status OwnItem = 403
-refusal_status (Low floor) = 409
-refusal_status NotHigher = 409
-refusal_status HasBids = 409
-refusal_status NoBuyNow = 409
-refusal_status LotExists = 409
-refusal_status NameTaken = 409
-refusal_status AlreadyAnswered = 409
-refusal_status AlreadyGiven = 409
-refusal_status NotParty = 403
-refusal_status NotSold = 409
-refusal_status Limit = 409
-refusal_status Range = 400
+abbrev pub refusal_status : Refusal → Status
+refusal_status NoCaller = Forbidden
+refusal_status HouseOnly = Forbidden
+refusal_status SellerOnly = Forbidden
+refusal_status Unknown = NotFound
+refusal_status MomentBehind = Conflict
+refusal_status Ended = Conflict
+refusal_status NotOpen = Conflict
+refusal_status OwnItem = Forbidden
+refusal_status (Low floor) = Conflict
+refusal_status NotHigher = Conflict
+refusal_status HasBids = Conflict
+refusal_status NoBuyNow = Conflict
+refusal_status LotExists = Conflict
+refusal_status NameTaken = Conflict
+refusal_status AlreadyAnswered = Conflict
+refusal_status AlreadyGiven = Conflict
+refusal_status NotParty = Forbidden
+refusal_status NotSold = Conflict
+refusal_status Limit = Conflict
+refusal_status Range = BadRequest
 
 -- the word for a state
 abbrev pub state_name : State → List ℕ

@@ -58,30 +58,40 @@ is_of c (Order moment caller command) = caller == c
 is_of c (Read caller query) = caller == c
 is_of c (Broken caller fault) = is_caller caller c
 
--- the replies to one member along a list of messages
-abbrev pub replies_from : {F : Type 0} → Settings → ℕ → History → List (Message F) → List (Reply F)
-replies_from settings c h [] = []
-replies_from settings c h (m ∷ ms) =
-    (if is_of c m then reply settings h m ∷ [] else []) ++ replies_from settings c (next settings h m) ms
+-- a run is a list of elements of which each means a message, and has the reply to it rendered: as bytes, or as it is.
+-- The rendered replies to one member, from a history on
+abbrev pub rendered_from : {A B F : Type 0} → (A → Message F) → (A → Reply F → B) → Settings → ℕ → History → List A → List B
+rendered_from meant rendered settings c h [] = []
+rendered_from meant rendered settings c h (x ∷ xs) =
+    (if is_of c (meant x) then rendered x (reply settings h (meant x)) ∷ [] else [])
+    ++ rendered_from meant rendered settings c (next settings h (meant x)) xs
 
+abbrev pub rendered_to : {A B F : Type 0} → (A → Message F) → (A → Reply F → B) → Settings → ℕ → List A → List B
+rendered_to meant rendered settings c xs = rendered_from meant rendered settings c [] xs
+
+-- the replies themselves, along a list of messages
 abbrev pub replies_to : {F : Type 0} → Settings → ℕ → List (Message F) → List (Reply F)
-replies_to settings c ms = replies_from settings c [] ms
+replies_to settings c ms = rendered_to (λ m. m) (λ m r. r) settings c ms
 
 -- what is public and what waits for a member agree
 pub record Agrees (settings : Settings) (c : ℕ) (h k : History) : Type 0 where
   pub public : public_view settings h ≡ public_view settings k
   pub waiting : waiting h c ≡ waiting k c
 
--- twin runs, from two histories on: of equal length; at each place the messages are equal, or neither is the member's; and after
+-- twin runs, from two histories on: of equal length; at each place the elements are equal, or neither is the member's; and after
 -- each place what is public and what waits for the member agree
-abbrev pub TwinFrom : {F : Type 0} → Settings → ℕ → History → History → List (Message F) → List (Message F) → Type 0
-TwinFrom settings c h k [] [] = Unit {0}
-TwinFrom settings c h k (m ∷ ms) (n ∷ ns) =
-    ((m ≡ n) ⊎ ((is_of c m ≡ false) × (is_of c n ≡ false)))
-    × Agrees settings c (next settings h m) (next settings k n)
-    × TwinFrom settings c (next settings h m) (next settings k n) ms ns
-TwinFrom settings c h k [] (n ∷ ns) = ⊥
-TwinFrom settings c h k (m ∷ ms) [] = ⊥
+abbrev pub AreTwinsFrom : {A F : Type 0} → (A → Message F) → Settings → ℕ → History → History → List A → List A → Type 0
+AreTwinsFrom meant settings c h k [] [] = Unit {0}
+AreTwinsFrom meant settings c h k (x ∷ xs) (y ∷ ys) =
+    ((x ≡ y) ⊎ ((is_of c (meant x) ≡ false) × (is_of c (meant y) ≡ false)))
+    × Agrees settings c (next settings h (meant x)) (next settings k (meant y))
+    × AreTwinsFrom meant settings c (next settings h (meant x)) (next settings k (meant y)) xs ys
+AreTwinsFrom meant settings c h k [] (y ∷ ys) = ⊥
+AreTwinsFrom meant settings c h k (x ∷ xs) [] = ⊥
 
+abbrev pub AreTwins : {A F : Type 0} → (A → Message F) → Settings → ℕ → List A → List A → Type 0
+AreTwins meant settings c left right = AreTwinsFrom meant settings c [] [] left right
+
+-- twin runs of messages, which mean themselves
 abbrev pub Twin : {F : Type 0} → Settings → ℕ → List (Message F) → List (Message F) → Type 0
-Twin settings c left right = TwinFrom settings c [] [] left right
+Twin settings c left right = AreTwins (λ m. m) settings c left right

@@ -2,6 +2,8 @@
 ghost use Rattle.std.specs.Prelude.{◌≡◌};
 ghost use Rattle.house_rows.specs.Names.{refusal_name, refusal_number, refusal_status};
 
+use status::Status;
+
 /// Why a command, or a read, is refused: the first rule that fails.
 #[derive(Clone, Copy, Debug, PartialEq, Eq)]
 pub enum Refusal {
@@ -107,8 +109,8 @@ impl Refusal {
         }
     }
 
-    /// The status of its answer (RFC 9110, section 15): 400, 403, 404 or 409.
-    pub fn status(self) -> u16
+    /// The status of its answer: `BadRequest`, `Forbidden`, `NotFound` or `Conflict`.
+    pub fn status(self) -> Status
         ensures { result ≡ refusal_status self }
     {
         match self {
@@ -116,10 +118,10 @@ impl Refusal {
             | Refusal::HouseOnly
             | Refusal::SellerOnly
             | Refusal::OwnItem
-            | Refusal::NotParty => 403,
-            Refusal::Unknown => 404,
-            Refusal::Range => 400,
-            _ => 409,
+            | Refusal::NotParty => Status::Forbidden,
+            Refusal::Unknown => Status::NotFound,
+            Refusal::Range => Status::BadRequest,
+            _ => Status::Conflict,
         }
     }
 }

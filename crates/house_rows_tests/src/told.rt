@@ -31,7 +31,7 @@ const REFUSALS: [Refusal; 20] = [
 pub(crate) fn refusals(alloc: Global) -> Result<String, AllocError> {
     let mut lines = String::new(alloc);
     for refusal in REFUSALS {
-        let (number, name, status) = (refusal.number(), refusal.name(), refusal.status());
+        let (number, name, status) = (refusal.number(), refusal.name(), refusal.status().code());
         write!(lines, "{refusal:?}: {number} {name} {status}\n")?;
     }
     Ok(lines)
@@ -40,7 +40,7 @@ pub(crate) fn refusals(alloc: Global) -> Result<String, AllocError> {
 /// The refusal of a bid under a floor.
 pub(crate) fn low(alloc: Global, floor: u64) -> Result<String, AllocError> {
     let low = Refusal::Low { floor };
-    let (number, name, status) = (low.number(), low.name(), low.status());
+    let (number, name, status) = (low.number(), low.name(), low.status().code());
     format!(in alloc; "{number} {name} {status}")
 }
 

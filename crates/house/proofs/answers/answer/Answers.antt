@@ -1,8 +1,8 @@
-use Rattle.std.proofs.Common.{◌≡◌, ◌≢◌, ℕ, true, false, ◌∙◌, sym, arith}
+use Rattle.std.proofs.Common.{◌≡◌, ◌≢◌, ℕ, true, false, refl, ◌∙◌, sym, arith}
 use Rattle.std.specs.Prelude.{◌==◌}
 use Rattle.std.proofs.lemmas.Bool.Decides.{nat_tests}
 use Rattle.house_rows.specs.Found.{question_at}
-use Rattle.house.proofs.NewAnswers.{answer_accepts, answer_of_other, answer_of_seller, answer_refused}
+use Rattle.house.proofs.NewAnswers.{answer_accepts, answer_fits, answer_of_other, answer_of_seller, answer_refused, question_named}
 use Rattle.house.proofs.Unchanged.{still_there}
 use Rattle.house.proofs.answers.answer.Goals as goal
 use Rattle.house.proofs.answers.answer.Goals.{In_ok-question}
@@ -43,3 +43,16 @@ returns-in-Ok-waiting-clause-decided g c = λ honest settings h is e.
     let asked = rw (found g (goal.at.returns-in-Ok-waiting-clause-decided g c).In_ok-question honest) at c.in-Ok-waiting.ensures in
     answer_accepts (g.K.Keep.content c.args.keep.now) settings h c.args.moment c.args.caller c.args.item c.args.asker c.args.number c.args.text.now c.in-Ok.on.terms c.in-Ok-waiting.question c.as_str.result
     e c.as_str.ensures on.1 on.2 (sells c.from.result c.in-Ok.on.terms.seller c.args.caller c.from.ensures c.if-from-caller.false) asked.0 asked.1
+
+pub returns-in-Ok-waiting-clause-fits : goal.returns-in-Ok-waiting-clause-fits
+returns-in-Ok-waiting-clause-fits g c = λ honest sound.
+    let on = rw c.in-Ok.is at c.in_ok-on.ensures.value (c.in_ok-question.ensures.read.honest honest) in
+    let asked = rw (found g (goal.at.returns-in-Ok-waiting-clause-fits g c).In_ok-question honest) at c.in-Ok-waiting.ensures in
+    answer_fits (g.K.Keep.content c.args.keep.now) c.args.moment c.args.caller c.args.item c.args.asker c.args.number c.args.text.now c.in-Ok-waiting.question c.as_str.result
+    c.as_str.ensures on.2 asked.0 asked.1
+
+pub returns-in-Ok-waiting-clause-own : goal.returns-in-Ok-waiting-clause-own
+returns-in-Ok-waiting-clause-own g c = λ honest.
+    let asked = rw (found g (goal.at.returns-in-Ok-waiting-clause-own g c).In_ok-question honest) at c.in-Ok-waiting.ensures in
+    let named = question_named (g.K.Keep.content c.args.keep.now) c.args.item c.args.asker c.args.number c.in-Ok-waiting.question asked.0 in
+    record { same_command = rw (named.same_item, named.same_asker, named.same_number, c.as_str.ensures) refl; same_caller = tt; same_moment = refl }

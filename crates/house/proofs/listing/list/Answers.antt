@@ -1,4 +1,4 @@
-use Rattle.house.proofs.Listings.{list_accepts, list_refusal}
+use Rattle.house.proofs.Listings.{list_accepts, list_refusal, listing_fits}
 use Rattle.house.proofs.listing.list.Goals as goal
 
 pub returns-in-Err-clause-decided : goal.returns-in-Err-clause-decided
@@ -10,4 +10,10 @@ pub returns-clause-decided : goal.returns-clause-decided
 returns-clause-decided g c = λ honest settings h is e.
     list_accepts (g.K.Keep.content c.args.keep.now) settings h c.args.moment c.args.caller c.args.offer.now c.as_str.result c.as_str-2.result c.as_str-3.result c.in-Ok.taken is
     c.as_str.ensures c.as_str-2.ensures c.as_str-3.ensures e
+    (rw c.in-Ok.is at (c.in_ok-taken.ensures.value honest)) (rw c.in-Ok.is at (c.in_ok-taken.ensures.same honest))
+
+pub returns-clause-fits : goal.returns-clause-fits
+returns-clause-fits g c = λ honest sound.
+    listing_fits (g.K.Keep.content c.args.keep.now) c.args.moment c.args.caller c.args.offer.now c.as_str.result c.as_str-2.result c.as_str-3.result c.in-Ok.taken
+    c.as_str.ensures c.as_str-2.ensures c.as_str-3.ensures
     (rw c.in-Ok.is at (c.in_ok-taken.ensures.value honest)) (rw c.in-Ok.is at (c.in_ok-taken.ensures.same honest))

@@ -1,6 +1,7 @@
-use Rattle.std.proofs.Common.{◌≡◌, ◌∙◌, sym}
+use Rattle.std.proofs.Common.{◌≡◌, refl, ◌∙◌, sym}
 use Rattle.house_rows.specs.Found.{ask_count}
-use Rattle.house.proofs.NewQuestions.{ask_accepts, ask_judged, ask_refused}
+use Rattle.house.proofs.NewQuestions.{ask_accepts, ask_fits, ask_judged, ask_refused}
+use Rattle.house.proofs.OnItems.{row_there}
 use Rattle.house.proofs.Unchanged.{still_there}
 use Rattle.house.proofs.questions.ask.Goals as goal
 use Rattle.house.proofs.questions.ask.Goals.{In_ok-count}
@@ -27,3 +28,15 @@ returns-in-Ok-next_number-clause-decided g c = λ honest settings h is e.
     let next = rw (counted g (goal.at.returns-in-Ok-next_number-clause-decided g c).In_ok-count honest) at c.in-Ok-next_number.ensures in
     ask_accepts (g.K.Keep.content c.args.keep.now) settings h c.args.moment c.args.caller c.args.item c.args.text.now c.in-Ok.on.terms c.in-Ok.on.member c.in-Ok-next_number.number c.as_str.result
     is e c.as_str.ensures on.0 next.0 on.1 on.2 next.1
+
+pub returns-in-Ok-next_number-clause-fits : goal.returns-in-Ok-next_number-clause-fits
+returns-in-Ok-next_number-clause-fits g c = λ honest sound.
+    let on = rw c.in-Ok.is at c.in_ok-on.ensures.value (c.in_ok-count.ensures.read.honest honest) in
+    let next = rw (counted g (goal.at.returns-in-Ok-next_number-clause-fits g c).In_ok-count honest) at c.in-Ok-next_number.ensures in
+    ask_fits (g.K.Keep.content c.args.keep.now) c.args.moment c.args.caller c.args.item c.args.text.now c.in-Ok.on.terms c.in-Ok.on.member c.in-Ok-next_number.number c.as_str.result
+    c.as_str.ensures on.0 next.0 on.1 on.2 next.1
+
+pub returns-in-Ok-next_number-clause-own : goal.returns-in-Ok-next_number-clause-own
+returns-in-Ok-next_number-clause-own g c = λ honest.
+    let on = rw c.in-Ok.is at c.in_ok-on.ensures.value (c.in_ok-count.ensures.read.honest honest) in
+    record { same_command = rw ((row_there (g.K.Keep.content c.args.keep.now) c.args.item c.in-Ok.on.terms on.1).numbered, c.as_str.ensures) refl; same_caller = on.0; same_moment = tt }

@@ -1,6 +1,7 @@
-use Rattle.std.proofs.Common.{◌≡◌, ◌∙◌, sym}
+use Rattle.std.proofs.Common.{◌≡◌, refl, ◌∙◌, sym}
 use Rattle.house_rows.specs.Found.{is_given}
-use Rattle.house.proofs.NewFeedback.{feedback_accepts, feedback_judged, feedback_refused}
+use Rattle.house.proofs.NewFeedback.{feedback_accepts, feedback_fits, feedback_judged, feedback_refused}
+use Rattle.house.proofs.OnItems.{row_there}
 use Rattle.house.proofs.Unchanged.{still_there}
 use Rattle.house.proofs.ratings.feedback.Goals as goal
 use Rattle.house.proofs.ratings.feedback.Goals.{In_ok-is_given}
@@ -27,3 +28,19 @@ returns-in-Ok-taken_rating-clause-decided g c = λ honest settings h is e.
     let taken = rw (given g (goal.at.returns-in-Ok-taken_rating-clause-decided g c).In_ok-is_given honest) at c.in-Ok-taken_rating.ensures in
     feedback_accepts (g.K.Keep.content c.args.keep.now) settings h c.args.moment c.args.caller c.args.item c.args.rating c.args.text.now c.in-Ok.on.terms c.in-Ok.on.member c.other_party.result c.in-Ok-taken_rating.rating c.as_str.result
     e c.as_str.ensures on.0 c.other_party.ensures taken.0 on.1 on.2 taken.1
+
+pub returns-in-Ok-taken_rating-clause-fits : goal.returns-in-Ok-taken_rating-clause-fits
+returns-in-Ok-taken_rating-clause-fits g c = λ honest sound.
+    let on = rw c.in-Ok.is at c.in_ok-on.ensures.value (c.in_ok-is_given.ensures.read.honest honest) in
+    let taken = rw (given g (goal.at.returns-in-Ok-taken_rating-clause-fits g c).In_ok-is_given honest) at c.in-Ok-taken_rating.ensures in
+    feedback_fits (g.K.Keep.content c.args.keep.now) c.args.moment c.args.caller c.args.item c.args.rating c.args.text.now c.in-Ok.on.terms c.in-Ok.on.member c.other_party.result c.as_str.result
+    c.as_str.ensures on.0 c.other_party.ensures on.1 on.2 taken.1
+
+pub returns-in-Ok-taken_rating-clause-own : goal.returns-in-Ok-taken_rating-clause-own
+returns-in-Ok-taken_rating-clause-own g c = λ honest.
+    let on = rw c.in-Ok.is at c.in_ok-on.ensures.value (c.in_ok-is_given.ensures.read.honest honest) in
+    record {
+      same_command = rw ((row_there (g.K.Keep.content c.args.keep.now) c.args.item c.in-Ok.on.terms on.1).numbered, c.as_str.ensures, c.in-Ok-taken_rating.ensures.0) refl;
+      same_caller = on.0;
+      same_moment = refl;
+    }

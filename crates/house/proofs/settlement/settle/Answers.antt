@@ -1,6 +1,8 @@
-use Rattle.std.proofs.Common.{◌∙◌, sym}
+use Rattle.std.proofs.Common.{refl, ◌∙◌, ap, sym}
+use Rattle.house_rows.specs.declared.command.Command.TheVariants.{Settle}
 use Rattle.house_rows.specs.Verdict.{settlement_rules}
-use Rattle.house.proofs.Settlements.{settle_accepts, settle_refusal, settle_unnamed}
+use Rattle.house.proofs.Settlements.{settle_accepts, settle_fits, settle_refusal, settle_unnamed}
+use Rattle.house.proofs.OnItems.{row_there}
 use Rattle.house.proofs.settlement.settle.Goals as goal
 
 pub returns-in-Err-clause-decided : goal.returns-in-Err-clause-decided
@@ -17,3 +19,13 @@ pub returns-in-None-clause-decided : goal.returns-in-None-clause-decided
 returns-in-None-clause-decided g c = λ honest settings h is e.
     settle_accepts (g.K.Keep.content c.args.keep.now) settings h c.args.moment c.args.caller c.args.item c.in-Ok.terms e
     (rw c.in-Ok.is at (c.in_ok-terms.ensures.value honest)) (sym c.in-None.is ∙ c.settlement_refused.ensures)
+
+pub returns-in-None-clause-fits : goal.returns-in-None-clause-fits
+returns-in-None-clause-fits g c = λ honest sound.
+    settle_fits (g.K.Keep.content c.args.keep.now) c.args.moment c.args.caller c.args.item c.in-Ok.terms
+    (rw c.in-Ok.is at (c.in_ok-terms.ensures.value honest)) (sym c.in-None.is ∙ c.settlement_refused.ensures)
+
+pub returns-in-None-clause-own : goal.returns-in-None-clause-own
+returns-in-None-clause-own g c = λ honest.
+    let there = rw c.in-Ok.is at (c.in_ok-terms.ensures.value honest) in
+    record { same_command = ap Settle (row_there (g.K.Keep.content c.args.keep.now) c.args.item c.in-Ok.terms there.found).numbered; same_caller = tt; same_moment = refl }

@@ -1,9 +1,11 @@
-use Rattle.std.proofs.Common.{◌≡◌, ◌∙◌, sym}
+use Rattle.std.proofs.Common.{◌≡◌, ◌∙◌, ap, sym}
 use Rattle.std.specs.Prelude.{◌||◌, nat_lt}
+use Rattle.house_rows.specs.declared.command.Command.TheVariants.{Watch}
 use Rattle.house_rows.specs.Found.{is_watched, watch_count}
 use Rattle.house_rows.specs.Limits.{most_watches}
+use Rattle.house.proofs.OnItems.{row_there}
 use Rattle.house.proofs.Unchanged.{still_there}
-use Rattle.house.proofs.Watched.{watch_accepts, watch_full, watch_refused}
+use Rattle.house.proofs.Watched.{watch_accepts, watch_fits, watch_full, watch_refused}
 use Rattle.house.proofs.watching.watch.Goals as goal
 use Rattle.house.proofs.watching.watch.Goals.{In_ok-may_watch}
 
@@ -29,3 +31,14 @@ returns-clause-decided g c = λ honest settings h is e.
     let on = rw c.in-Ok.is at c.in_ok-on.ensures.value (c.in_ok-may_watch.ensures.read.honest honest) in
     watch_accepts (g.K.Keep.content c.args.keep.now) settings h c.args.moment c.args.caller c.args.item c.in-Ok.on.terms c.in-Ok.on.member is e on.0 on.1 on.2
     (sym (room g (goal.at.returns-clause-decided g c).In_ok-may_watch honest) ∙ c.if-not-branch.false)
+
+pub returns-clause-fits : goal.returns-clause-fits
+returns-clause-fits g c = λ honest sound.
+    let on = rw c.in-Ok.is at c.in_ok-on.ensures.value (c.in_ok-may_watch.ensures.read.honest honest) in
+    watch_fits (g.K.Keep.content c.args.keep.now) c.args.moment c.args.caller c.args.item c.in-Ok.on.terms c.in-Ok.on.member sound on.0 on.1 on.2
+    (sym (room g (goal.at.returns-clause-fits g c).In_ok-may_watch honest) ∙ c.if-not-branch.false)
+
+pub returns-clause-own : goal.returns-clause-own
+returns-clause-own g c = λ honest.
+    let on = rw c.in-Ok.is at c.in_ok-on.ensures.value (c.in_ok-may_watch.ensures.read.honest honest) in
+    record { same_command = ap Watch (row_there (g.K.Keep.content c.args.keep.now) c.args.item c.in-Ok.on.terms on.1).numbered; same_caller = on.0; same_moment = tt }
