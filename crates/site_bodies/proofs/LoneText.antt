@@ -35,31 +35,48 @@ use Rattle.site_bodies.proofs.Readable.{body_read}
 abbrev spaced : List ℕ → List ℕ → ℕ → List (List ℕ × Token)
 spaced name gap n = ([], begin_object) ∷ ([], key name) ∷ (gap, t.number (decimal n)) ∷ ([], end_object) ∷ []
 
-one_member : (p : json.Parse json.Json) (name d : List ℕ) → p (t.number d ∷ end_object ∷ []) ≡ Some (json.number d, end_object ∷ [])
-    → json.members p 3 (key name ∷ t.number d ∷ end_object ∷ []) ≡ Some (json.member name (json.number d) json.no_members, [])
+one_member : (p : json.Parse json.Json) (name d : List ℕ)
+    → p (t.number d ∷ end_object ∷ []) ≡ Some (json.number d, end_object ∷ [])
+    → json.members p 3 (key name ∷ t.number d ∷ end_object ∷ []) ≡ Some (
+      json.member name
+          (json.number d) json.no_members,
+      [],
+    )
 unfolding json.members
-one_member p name d e = ap (λ o. option_and_then (λ q. json.parse_map (json.member name q.0) (json.members p 2 q.1)) o) e
+one_member p name d e = ap (λ o. option_and_then (λ q. json.parse_map (json.member name q.0)
+    (json.members p 2 q.1)) o) e
 
 abbrev of_value : Option (json.Json × List Token) → Option Data
 of_value r = option_and_then of_json (option_and_then (λ p. json.if_last p.0 p.1) r)
 
-of_tokens : (name : List ℕ) (n : ℕ) → n < 2 ^ 64 → (text : List ℕ) → tokens text ≡ begin_object ∷ key name ∷ t.number (decimal n) ∷ end_object ∷ []
+of_tokens : (name : List ℕ) (n : ℕ) → n < 2 ^ 64 → (text : List ℕ)
+    → tokens text ≡ begin_object ∷ key name ∷ t.number (decimal n) ∷ end_object ∷ []
     → read text ≡ Some (object (put name (number (unsigned n)) no_members))
 of_tokens name n small text e =
     let d = decimal n in
     let rest = key name ∷ t.number d ∷ end_object ∷ [] in
     ap (λ ts. of_value (json.value 127 ts)) e ∙ ap of_value (value-begin_object 127 rest (omega arith))
-    ∙ ap (λ o. of_value (json.parse_map json.object o)) (one_member (json.value 126) name d (value_is 126 (t.number d ∷ end_object ∷ [])))
-    ∙ ap (λ o. option_map object (option_and_then (λ x. of_members json.no_members (put name x no_members)) (option_map number o))) (number_of-decimal n small)
+    ∙ ap (λ o. of_value (json.parse_map json.object o)) (one_member (json.value 126) name d (value_is 126
+    (t.number d ∷ end_object ∷ [])))
+    ∙ ap (λ o. option_map object (option_and_then (λ x. of_members json.no_members (put name x no_members))
+    (option_map number o))) (number_of-decimal n small)
 
-pub text_read : (name gap : List ℕ) (n : ℕ) → IsGap gap → n < 2 ^ 64 → read (print_spaced false (spaced name gap n)) ≡ Some (object (put name (number (unsigned n)) no_members))
+pub text_read : (name gap : List ℕ) (n : ℕ) → IsGap gap → n < 2 ^ 64
+    → read (print_spaced false (spaced name gap n)) ≡ Some (object (put name (number (unsigned n)) no_members))
 unfolding ArePrintable
 text_read name gap n is small =
-    of_tokens name n small _ (tokens-print_spaced (spaced name gap n) (tt, (tt, (is, (tt, tt)))) (tt, (tt, (IsNumber-decimal n small, (tt, tt)))))
+    of_tokens name n small _ (tokens-print_spaced (spaced name gap n) (tt, (tt, (is, (tt, tt)))) (
+      tt,
+      (
+        tt,
+        (IsNumber-decimal n small, (tt, tt)),
+      ),
+    ))
 
 -- the same bytes in parts
 parts_same : (name gap : List ℕ) (n : ℕ) → escape name ≡ name
-    → print_spaced false (spaced name gap n) ≡ (123 ∷ 34 ∷ []) ++ (name ++ ((34 ∷ 58 ∷ []) ++ (gap ++ (decimal n ++ 125 ∷ []))))
+    → print_spaced false (spaced name gap n) ≡ (123 ∷ 34 ∷ []) ++ (name ++ ((34 ∷ 58 ∷ []) ++ (gap ++
+    (decimal n ++ 125 ∷ []))))
 unfolding print_spaced
 parts_same name gap n plain =
     let rest = gap ++ (decimal n ++ 125 ∷ []) in
@@ -80,22 +97,29 @@ IsAscii-gap (x ∷ xs) h (suc i) = IsAscii-gap xs h.1 i
 all_ascii : (name gap : List ℕ) (n : ℕ) → IsAscii name → IsGap gap → n < 2 ^ 64
     → IsAscii ((123 ∷ 34 ∷ []) ++ (name ++ ((34 ∷ 58 ∷ []) ++ (gap ++ (decimal n ++ 125 ∷ [])))))
 all_ascii name gap n ascii is small =
-    IsAscii-append (123 ∷ 34 ∷ []) _ (IsAscii-cons 123 (34 ∷ []) (omega arith) (IsAscii-cons 34 [] (omega arith) IsAscii-nil))
-    (IsAscii-append name _ ascii (IsAscii-append (34 ∷ 58 ∷ []) _ (IsAscii-cons 34 (58 ∷ []) (omega arith) (IsAscii-cons 58 [] (omega arith) IsAscii-nil))
+    IsAscii-append (123 ∷ 34 ∷ []) _ (IsAscii-cons 123 (34 ∷ []) (omega arith) (IsAscii-cons 34 []
+    (omega arith) IsAscii-nil))
+    (IsAscii-append name _ ascii (IsAscii-append (34 ∷ 58 ∷ []) _ (IsAscii-cons 34 (58 ∷ []) (omega arith)
+    (IsAscii-cons 58 [] (omega arith) IsAscii-nil))
     (IsAscii-append gap _ (IsAscii-gap gap is) (IsAscii-push (decimal n) 125 (IsAscii-decimal n small) (omega arith)))))
 
-pub lone : (bytes name gap digits : List ℕ) (n : ℕ) → escape name ≡ name → IsAscii name → IsGap gap → Some n ≡ number_in digits
+pub lone : (bytes name gap digits : List ℕ) (n : ℕ) → escape name ≡ name → IsAscii name → IsGap gap
+    → Some n ≡ number_in digits
     → bytes ≡ (123 ∷ 34 ∷ []) ++ (name ++ ((34 ∷ 58 ∷ []) ++ (gap ++ (digits ++ 125 ∷ [])))) → IsLone bytes name n
 lone bytes name gap digits n plain ascii is told same =
     let number = number_is digits n told in
-    let text = same ∙ ap (λ ds. (123 ∷ 34 ∷ []) ++ (name ++ ((34 ∷ 58 ∷ []) ++ (gap ++ (ds ++ 125 ∷ []))))) (sym number.0) in
+    let text = same ∙ ap (λ ds. (123 ∷ 34 ∷ []) ++ (name ++ ((34 ∷ 58 ∷ []) ++ (gap ++ (ds ++ 125 ∷ [])))))
+    (sym number.0) in
     let utf8 = subst IsUtf8 (sym text) (IsUtf8-from_ascii _ (all_ascii name gap n ascii is number.1)) in
     body_read bytes _ utf8 (ap read (text ∙ sym (parts_same name gap n plain)) ∙ text_read name gap n is number.1)
 
-pub lone_told : (bytes name gap digits : List ℕ) (o : Option ℕ) → escape name ≡ name → IsAscii name → IsGap gap → o ≡ number_in digits
-    → bytes ≡ (123 ∷ 34 ∷ []) ++ (name ++ ((34 ∷ 58 ∷ []) ++ (gap ++ (digits ++ 125 ∷ [])))) → IfSome o (IsLone bytes name)
+pub lone_told : (bytes name gap digits : List ℕ) (o : Option ℕ) → escape name ≡ name → IsAscii name
+    → IsGap gap → o ≡ number_in digits
+    → bytes ≡ (123 ∷ 34 ∷ []) ++ (name ++ ((34 ∷ 58 ∷ []) ++ (gap ++ (digits ++ 125 ∷ []))))
+    → IfSome o (IsLone bytes name)
 lone_told bytes name gap digits None plain ascii is told same = tt
-lone_told bytes name gap digits (Some n) plain ascii is told same = lone bytes name gap digits n plain ascii is told same
+lone_told bytes name gap digits (Some n) plain ascii is told same =
+    lone bytes name gap digits n plain ascii is told same
 
 -- the number is the field
 pub whole_lone : (name : List ℕ) (n : ℕ) → whole_at name (put name (number (unsigned n)) no_members) ≡ Some n

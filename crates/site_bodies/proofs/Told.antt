@@ -28,11 +28,13 @@ pub maybe_array : (o : Option Items) → is_some (option_map array o) ≡ true �
 maybe_array None e = cc
 maybe_array (Some ds) e = refl
 
-pub maybe_object : (o : Option Members) → is_some (option_map object o) ≡ true → maybe_whole_in (option_map object o) ≡ None
+pub maybe_object : (o : Option Members) → is_some (option_map object o) ≡ true
+    → maybe_whole_in (option_map object o) ≡ None
 maybe_object None e = cc
 maybe_object (Some ds) e = refl
 
-pub maybe_number : (o : Option Num) → is_some (option_map number o) ≡ true → maybe_whole_in (option_map number o) ≡ option_map Some (option_and_then as_u64 o)
+pub maybe_number : (o : Option Num) → is_some (option_map number o) ≡ true
+    → maybe_whole_in (option_map number o) ≡ option_map Some (option_and_then as_u64 o)
 maybe_number None e = cc
 maybe_number (Some n) e = refl
 

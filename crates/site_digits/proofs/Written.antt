@@ -18,11 +18,14 @@ range_of : (b : ℕ) → is_ascii_digit b ≡ true → IsInRange 48 57 b
 range_of b e = grind (arith, e)
 
 -- what digits write behind those of n
-behind_are : (n m : ℕ) (s : List ℕ) → digits_behind n s ≡ Some m → (all_ascii_digits s ≡ true) × (digits_value_after 10 n s ≡ m)
+behind_are : (n m : ℕ) (s : List ℕ) → digits_behind n s ≡ Some m
+    → (all_ascii_digits s ≡ true) × (digits_value_after 10 n s ≡ m)
 behind_are n m [] e = (refl, cc)
 behind_are n m (b ∷ bs) e = go (behind_are (n * 10 + (b - 48)) m bs) (is_ascii_digit b) refl e where
-  go : (digits_behind (n * 10 + (b - 48)) bs ≡ Some m → (all_ascii_digits bs ≡ true) × (digits_value_after 10 (n * 10 + (b - 48)) bs ≡ m))
-      → (digit : Bool) → is_ascii_digit b ≡ digit → (if digit then digits_behind (n * 10 + (b - 48)) bs else None) ≡ Some m
+  go : (digits_behind (n * 10 + (b - 48)) bs ≡ Some m
+      → (all_ascii_digits bs ≡ true) × (digits_value_after 10 (n * 10 + (b - 48)) bs ≡ m))
+      → (digit : Bool) → is_ascii_digit b ≡ digit
+          → (if digit then digits_behind (n * 10 + (b - 48)) bs else None) ≡ Some m
       → (all_ascii_digits (b ∷ bs) ≡ true) × (digits_value_after 10 n (b ∷ bs) ≡ m)
   go rest false is e = cc
   go rest true is e =
@@ -37,14 +40,16 @@ few_are b bs true n is first e =
     let read = behind_are 0 n s e in
     let few : length s ≤ 10 = grind (arith, is) in
     let small : digits_value 10 s < 2 ^ 64 = omega (arith, digits_value_short own s 10 read.0 few) in
-    let one : get_or s 0 0 ≡ 48 → length s ≡ 1 = λ zero. let t : (b == 48) ≡ true = eq-eqb b 48 zero in let f : true ≡ false = sym t ∙ first in cc in
+    let one : get_or s 0 0 ≡ 48 → length s ≡ 1 = λ zero. let t : (b == 48) ≡ true =
+        eq-eqb b 48 zero in let f : true ≡ false = sym t ∙ first in cc in
     let shown : decimal (digits_value 10 s) ≡ s = decimal-digits_value own s read.0 (omega arith) one small in
     (ap decimal (sym read.1) ∙ shown, subst (λ m. m < 2 ^ 64) read.1 small)
 
 pub number_is : (s : List ℕ) (n : ℕ) → Some n ≡ number_in s → (decimal n ≡ s) × (n < 2 ^ 64)
 number_is [] n e = cc
 number_is (b ∷ bs) n e = go (b == 48) refl e where
-  go : (zero : Bool) → (b == 48) ≡ zero → Some n ≡ (if zero then None else (if nat_le (length (b ∷ bs)) 10 then digits_behind 0 (b ∷ bs) else None))
+  go : (zero : Bool) → (b == 48) ≡ zero
+      → Some n ≡ (if zero then None else (if nat_le (length (b ∷ bs)) 10 then digits_behind 0 (b ∷ bs) else None))
       → (decimal n ≡ b ∷ bs) × (n < 2 ^ 64)
   go true is e = cc
   go false is e = few_are b bs (nat_le (length (b ∷ bs)) 10) n refl is (sym e)

@@ -14,7 +14,8 @@ digits_behind n (b ∷ bs) = if is_ascii_digit b then digits_behind (n * 10 + (b
 -- the number of 1 to 10 digits that don't begin with 0
 abbrev pub number_in : List ℕ → Option ℕ
 number_in [] = None
-number_in (b ∷ bs) = if b == 48 then None else (if nat_le (length (b ∷ bs)) most_digits then digits_behind 0 (b ∷ bs) else None)
+number_in (b ∷ bs) = if b == 48 then None else (if nat_le (length (b ∷ bs)) most_digits then digits_behind 0
+    (b ∷ bs) else None)
 
 -- the same, or 0 by one digit
 abbrev pub count_in : List ℕ → Option ℕ

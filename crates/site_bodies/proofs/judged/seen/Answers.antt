@@ -10,4 +10,5 @@ pub returns-in-Object : goal.returns-in-Object
 returns-in-Object c =
     let r = c.seen_members.result in
     let viewed = ap value_view c.in-Object.is ∙ view-Object c.in-Object.found in
-    subst (λ (j : json.Json). IsJudged r j) (sym viewed) (seen_object r (members_view c.in-Object.found.items) (rw c.deref.ensures.value at c.seen_members.ensures))
+    subst (λ (j : json.Json). IsJudged r j) (sym viewed) (seen_object r (members_view c.in-Object.found.items)
+    (rw c.deref.ensures.value at c.seen_members.ensures))

@@ -4,4 +4,5 @@ use Rattle.site_bodies.specs.Members.{all_readable}
 use Rattle.site_bodies.proofs.judged.seen_members.Given as goal
 
 abbrev pub invariant-loop-member : goal.invariant-loop-member
-invariant-loop-member l = all_readable (members_view (drop l.member-index l.members)) ≡ all_readable (members_view l.members)
+invariant-loop-member l = all_readable (members_view (drop l.member-index l.members)) ≡ all_readable
+    (members_view l.members)

@@ -9,8 +9,10 @@ use Rattle.site_bodies.proofs.body.Body.integer.Goals as goal
 pub returns-in-Some : goal.returns-in-Some
 unfolding fields_of integer_at
 returns-in-Some c =
-    c.integer_of.ensures ∙ told integer_in c.args.name.now (value_view c.args.self.now.tree) (Some (value_view c.in-Some.value.now)) c.args.self.now.read c.in-Some.ensures
+    c.integer_of.ensures ∙ told integer_in c.args.name.now (value_view c.args.self.now.tree) (Some
+    (value_view c.in-Some.value.now)) c.args.self.now.read c.in-Some.ensures
 
 pub returns-in-None : goal.returns-in-None
 unfolding fields_of integer_at
-returns-in-None c = told integer_in c.args.name.now (value_view c.args.self.now.tree) None c.args.self.now.read c.in-None.ensures
+returns-in-None c = told integer_in c.args.name.now
+    (value_view c.args.self.now.tree) None c.args.self.now.read c.in-None.ensures

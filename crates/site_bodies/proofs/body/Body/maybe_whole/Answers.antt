@@ -8,13 +8,16 @@ use Rattle.site_bodies.proofs.Told.{told}
 use Rattle.site_bodies.proofs.body.Body.maybe_whole.Goals as goal
 
 pub maybe_whole_of-requires : goal.maybe_whole_of-requires
-maybe_whole_of-requires c = value_readable c.args.name.now (value_view c.args.self.now.tree) (value_view c.in-Some.value.now) c.args.self.now.read c.in-Some.ensures
+maybe_whole_of-requires c = value_readable c.args.name.now (value_view c.args.self.now.tree)
+    (value_view c.in-Some.value.now) c.args.self.now.read c.in-Some.ensures
 
 pub returns-in-Some : goal.returns-in-Some
 unfolding fields_of maybe_whole_at
 returns-in-Some c =
-    c.maybe_whole_of.ensures ∙ told maybe_whole_in c.args.name.now (value_view c.args.self.now.tree) (Some (value_view c.in-Some.value.now)) c.args.self.now.read c.in-Some.ensures
+    c.maybe_whole_of.ensures ∙ told maybe_whole_in c.args.name.now (value_view c.args.self.now.tree) (Some
+    (value_view c.in-Some.value.now)) c.args.self.now.read c.in-Some.ensures
 
 pub returns-in-None : goal.returns-in-None
 unfolding fields_of maybe_whole_at
-returns-in-None c = told maybe_whole_in c.args.name.now (value_view c.args.self.now.tree) None c.args.self.now.read c.in-None.ensures
+returns-in-None c = told maybe_whole_in c.args.name.now
+    (value_view c.args.self.now.tree) None c.args.self.now.read c.in-None.ensures

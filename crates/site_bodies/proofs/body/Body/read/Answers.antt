@@ -28,10 +28,13 @@ pub returns-in-Readable : goal.returns-in-Readable
 unfolding fields_of
 returns-in-Readable c =
     let j = value_view c.in-Ok-tree_of.tree in
-    tree_means c.args.bytes.now c.in-Ok.text.now j c.in-Ok.ensures.cases.0 c.in-Ok.ensures.cases.1 c.in-Ok-tree_of.ensures ∙ members_are j c.in-Readable.ensures
+    tree_means c.args.bytes.now c.in-Ok.text.now j c.in-Ok.ensures.cases.0 c.in-Ok.ensures.cases.1
+    c.in-Ok-tree_of.ensures ∙ members_are j c.in-Readable.ensures
 
 pub returns-in-Refused : goal.returns-in-Refused
-returns-in-Refused c = tree_means c.args.bytes.now c.in-Ok.text.now (value_view c.in-Ok-tree_of.tree) c.in-Ok.ensures.cases.0 c.in-Ok.ensures.cases.1 c.in-Ok-tree_of.ensures ∙ c.in-Refused.ensures
+returns-in-Refused c = tree_means c.args.bytes.now c.in-Ok.text.now
+    (value_view c.in-Ok-tree_of.tree) c.in-Ok.ensures.cases.0 c.in-Ok.ensures.cases.1 c.in-Ok-tree_of.ensures
+    ∙ c.in-Refused.ensures
 
 pub returns-in-Err-reads : goal.returns-in-Err-reads
 returns-in-Err-reads c = not_read c.args.bytes.now c.in-Err-reads.fault c.in-Err-reads.ensures
@@ -42,5 +45,7 @@ returns-in-Ok-reads c =
     let j = value_view c.in-Ok-tree_of.tree in
     let deep = c.in-Deep.ensures in
     let read = c.in-Ok-reads.ensures in
-    tree_means c.args.bytes.now c.in-Ok.text.now j c.in-Ok.ensures.cases.0 c.in-Ok.ensures.cases.1 c.in-Ok-tree_of.ensures
-    ∙ members_are j (deep_readable c.in-Ok.text.now c.args.bytes.now j deep.0 read.0 c.in-Ok.ensures.cases.0 c.in-Ok-tree_of.ensures deep.1 read.2)
+    tree_means c.args.bytes.now c.in-Ok.text.now j c.in-Ok.ensures.cases.0 c.in-Ok.ensures.cases.1
+    c.in-Ok-tree_of.ensures
+    ∙ members_are j (deep_readable c.in-Ok.text.now c.args.bytes.now j deep.0 read.0 c.in-Ok.ensures.cases.0
+    c.in-Ok-tree_of.ensures deep.1 read.2)

@@ -10,8 +10,10 @@ pub returns-in-Some : goal.returns-in-Some
 unfolding fields_of text_at
 returns-in-Some c =
     let i = value_view c.in-Some.value.now in
-    c.as_str.ensures ∙ sym (text_same i) ∙ told text_in c.args.name.now (value_view c.args.self.now.tree) (Some i) c.args.self.now.read c.in-Some.ensures
+    c.as_str.ensures ∙ sym (text_same i)
+    ∙ told text_in c.args.name.now (value_view c.args.self.now.tree) (Some i) c.args.self.now.read c.in-Some.ensures
 
 pub returns-in-None : goal.returns-in-None
 unfolding fields_of text_at
-returns-in-None c = told text_in c.args.name.now (value_view c.args.self.now.tree) None c.args.self.now.read c.in-None.ensures
+returns-in-None c = told text_in c.args.name.now
+    (value_view c.args.self.now.tree) None c.args.self.now.read c.in-None.ensures
