@@ -1,26 +1,22 @@
 -- What is found of an item in the tables is what became of its listing.
-use Rattle.std.proofs.Common.{◌≡◌, ℕ, List, [], ◌∷◌, map, refl, ◌∙◌, sym, inl, inr, Option, Some, None}
-use Rattle.std.specs.Prelude.{◌==◌, find, option_map}
+use Rattle.std.proofs.Common.{◌≡◌, ℕ, refl, ◌∙◌, ap, sym, Option, Some, None}
+use Rattle.std.specs.Prelude.{◌==◌, option_map}
 use Rattle.house_rows.specs.declared.item.Terms.{Terms}
 use Rattle.house_rows.specs.declared.settings.Settings.{Settings}
-use Rattle.house_rows.specs.Changed.{is_item}
 use Rattle.house_rows.specs.Found.{terms_at}
 use Rattle.house_rows.specs.History.{History}
 use Rattle.house_rows.specs.Items.{terms_now}
 use Rattle.house_rows.specs.Listings.{Listing, is_seller, listing_at, listings}
 use Rattle.house_rows.specs.Ratings.{other_party, party_against}
 use Rattle.house_rows.specs.Tables.{ItemRow, row_now, tables_of}
-use Rattle.house.proofs.Found.{by_test}
-
-terms_of_listing : (bands : List (ℕ × ℕ)) (h : History) (i : ℕ) (ls : List Listing)
-    → option_map (λ (row : ItemRow). row.item.terms) (find (is_item i) (map (row_now bands h) ls)) ≡ option_map (terms_now bands h) (listing_at ls i)
-terms_of_listing bands h i [] = refl
-terms_of_listing bands h i (l ∷ ls) = elim (by_test (l.item == i)) [ inl here ↦ rw here refl | inr other ↦ rw other (terms_of_listing bands h i ls) ]
+use Rattle.house_rows.proofs.Shown.{row_found}
 
 -- what the tables tell of an item
-terms_listed : (settings : Settings) (h : History) (i : ℕ) → terms_at (tables_of settings h) i ≡ option_map (terms_now settings.bands h) (listing_at (listings h) i)
-unfolding tables_of
-terms_listed settings h i = terms_of_listing settings.bands h i (listings h)
+pub terms_listed : (settings : Settings) (h : History) (i : ℕ) → terms_at (tables_of settings h) i ≡ option_map (terms_now settings.bands h) (listing_at (listings h) i)
+terms_listed settings h i = ap (option_map (λ (row : ItemRow). row.item.terms)) (row_found settings h i) ∙ by_listing (listing_at (listings h) i) where
+  by_listing : (o : Option Listing) → option_map (λ (row : ItemRow). row.item.terms) (option_map (row_now settings.bands h) o) ≡ option_map (terms_now settings.bands h) o
+  by_listing None = refl
+  by_listing (Some l) = refl
 
 -- the other party is told by the terms
 pub party_is : (settings : Settings) (h : History) (i c : ℕ) (terms : Terms) → terms_at (tables_of settings h) i ≡ Some terms

@@ -1,6 +1,6 @@
 -- Bids: the verdict by the tables, and the tables after them.
 use Rattle.std.proofs.Common.{◌≡◌, ℕ, ◌+◌, ◌≤◌, List, [], ◌∷◌, ◌++◌, map, length, Bool, true, false, not, refl, ◌∙◌, ap, sym, arith, inl, inr, Option, Some, None, subst}
-use Rattle.std.specs.Prelude.{◌==◌, ◌&&◌, find, is_some, nat_le, nat_lt, option_map, unwrap_or}
+use Rattle.std.specs.Prelude.{◌==◌, ◌&&◌, is_some, nat_le, nat_lt, option_map, unwrap_or}
 use Rattle.std.specs.List.{AllByRecursion, list_any}
 use Rattle.std.proofs.lemmas.Bool.Decides.{nat_tests}
 use Rattle.std.proofs.lemmas.List.{append-nil, length-append}
@@ -37,6 +37,7 @@ use Rattle.house_rows.proofs.Every.{every_as, every_put, found_has, found_is}
 use Rattle.house_rows.proofs.Numbered.{numbered}
 use Rattle.house_rows.proofs.OpenItems.{not_bought, open_parts}
 use Rattle.house_rows.proofs.Passed.{shown_is}
+use Rattle.house_rows.proofs.Shown.{row_found}
 use Rattle.house.proofs.ByTables.{caller_fits, sound_here, standing_same}
 use Rattle.house.proofs.Found.{by_test, first_none, first_some}
 use Rattle.house.proofs.OnItems.{item_judged, item_refused, row_there}
@@ -160,10 +161,6 @@ unfolding changed tables_of questions
 bid_leads settings h moment caller maximum l listed can =
     rw (rows_bid settings.bands h moment caller maximum l (listings h) can (own_listing h l listed)) (simp append-nil)
 
-rows_found : (bands : List (ℕ × ℕ)) (h : History) (i : ℕ) (ls : List Listing) → find (is_item i) (map (row_now bands h) ls) ≡ option_map (row_now bands h) (listing_at ls i)
-rows_found bands h i [] = refl
-rows_found bands h i (l ∷ ls) = elim (by_test (l.item == i)) [ inl here ↦ rw here refl | inr other ↦ rw other (rows_found bands h i ls) ]
-
 -- no bid has a number that wasn't given
 given_more : (h : History) (t c : ℕ) (command : Command) (row : BidRow) → row.bid.no ≤ length (bids_on h row.item) → row.bid.no ≤ length (bids_on (entry t c command ∷ h) row.item)
 given_more h t c command row small =
@@ -220,9 +217,8 @@ record Listed (settings : Settings) (h : History) (item : ℕ) (terms : Terms) (
 
 found_listing : (settings : Settings) (h : History) (item : ℕ) (terms : Terms) (kept : Kept)
     → terms_at (tables_of settings h) item ≡ Some terms → standing_at (tables_of settings h) item ≡ Some kept → Listed settings h item terms kept
-unfolding tables_of
 found_listing settings h item terms kept found stands =
-    by_listing (listing_at (listings h) item) refl (rw (rows_found settings.bands h item (listings h)) at found) (rw (rows_found settings.bands h item (listings h)) at stands) where
+    by_listing (listing_at (listings h) item) refl (rw (row_found settings h item) at found) (rw (row_found settings h item) at stands) where
       by_listing : (o : Option Listing) → listing_at (listings h) item ≡ o → option_map (λ (row : ItemRow). row.item.terms) (option_map (row_now settings.bands h) o) ≡ Some terms
           → option_map (λ (row : ItemRow). row.standing) (option_map (row_now settings.bands h) o) ≡ Some kept → Listed settings h item terms kept
       by_listing None is none stands = cc

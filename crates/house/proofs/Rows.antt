@@ -1,24 +1,23 @@
 -- The rows of items, one by one.
-use Rattle.std.proofs.Common.{◌≡◌, ◌≢◌, ℕ, List, [], ◌∷◌, ◌++◌, map, Bool, true, false, not, refl, ◌∙◌, ap, sym, arith, inl, inr, Option, Some, None}
-use Rattle.std.specs.Prelude.{◌==◌, find, option_map}
+use Rattle.std.proofs.Common.{◌≡◌, ◌≢◌, ℕ, List, [], ◌∷◌, ◌++◌, map, Bool, true, false, not, refl, ◌∙◌, ap, sym, arith, Option, Some, None}
+use Rattle.std.specs.Prelude.{◌==◌, option_map}
 use Rattle.std.specs.List.{AllByRecursion}
 use Rattle.std.proofs.lemmas.Bool.Decides.{nat_tests}
 use Rattle.proxy.specs.Rules.{first_failing}
 use Rattle.house_rows.specs.declared.item.Terms.{Terms}
 use Rattle.house_rows.specs.declared.refusal.Refusal.{Refusal}
 use Rattle.house_rows.specs.declared.settings.Settings.{Settings}
-use Rattle.house_rows.specs.Changed.{is_item}
-use Rattle.house_rows.specs.Found.{row_at, terms_at}
+use Rattle.house_rows.specs.Found.{terms_at}
 use Rattle.house_rows.specs.History.{History}
 use Rattle.house_rows.specs.Items.{terms_now}
 use Rattle.house_rows.specs.Listings.{Listing, listing_at, listings}
-use Rattle.house_rows.specs.Tables.{ItemRow, Tables, row_now, tables_of}
+use Rattle.house_rows.specs.Tables.{Tables, tables_of}
 use Rattle.house_rows.specs.Verdict.{Rule}
 use Rattle.house_rows.proofs.Every.{found_is}
-use Rattle.house_rows.proofs.Put.{by_test}
 use Rattle.house.specs.Decided.{of_terms}
 use Rattle.house.specs.Judged.{IsThere, first_rules, item_rules}
 use Rattle.house.proofs.Found.{first_none}
+use Rattle.house.proofs.ListedTerms.{terms_listed}
 
 cons_both : {A : Type 0} (x y : A) (xs ys : List A) → x ≡ y → xs ≡ ys → x ∷ xs ≡ y ∷ ys
 cons_both x y xs ys first rest = cc
@@ -39,24 +38,10 @@ pub all_of : {A : Type 0} (P : A → Type 0) (xs : List A) → ((x : A) → P x)
 all_of P [] each = tt
 all_of P (x ∷ xs) each = (each x, all_of P xs each)
 
--- a row is found where its listing is
-abbrev pub row_from : List (ℕ × ℕ) → History → Option Listing → Option ItemRow
-row_from bands h None = None
-row_from bands h (Some l) = Some (row_now bands h l)
-
-rows_found : (bands : List (ℕ × ℕ)) (h : History) (i : ℕ) (ls : List Listing) → find (is_item i) (map (row_now bands h) ls) ≡ row_from bands h (listing_at ls i)
-rows_found bands h i [] = refl
-rows_found bands h i (l ∷ ls) = elim (by_test (l.item == i)) [ inl here ↦ rw here refl | inr other ↦ rw other (rows_found bands h i ls) ]
-
-row_found : (settings : Settings) (h : History) (i : ℕ) → row_at (tables_of settings h) i ≡ row_from settings.bands h (listing_at (listings h) i)
-unfolding tables_of
-row_found settings h i = rows_found settings.bands h i (listings h)
-
 -- the listing of an item whose terms are found in the tables
 pub record Known (settings : Settings) (h : History) (i : ℕ) (terms : Terms) : Type 0 where
   pub listing : Listing
   pub listed : listing_at (listings h) i ≡ Some listing
-  pub row_there : row_at (tables_of settings h) i ≡ Some (row_now settings.bands h listing)
   pub same : terms ≡ terms_now settings.bands h listing
 
 terms_same : (a b : Terms) → Some a ≡ Some b → b ≡ a
@@ -67,14 +52,10 @@ nothing_found terms e = cc
 
 pub known : (settings : Settings) (h : History) (i : ℕ) (terms : Terms) → terms_at (tables_of settings h) i ≡ Some terms → Known settings h i terms
 known settings h i terms found =
-    let there = row_found settings h i in
-    let all : option_map (λ (row : ItemRow). row.item.terms) (row_from settings.bands h (listing_at (listings h) i)) ≡ Some terms =
-    sym (ap (λ (o : Option ItemRow). option_map (λ (row : ItemRow). row.item.terms) o) there) ∙ found in
-    by_listing (listing_at (listings h) i) refl there all where
-      by_listing : (o : Option Listing) → listing_at (listings h) i ≡ o → row_at (tables_of settings h) i ≡ row_from settings.bands h o
-          → option_map (λ (row : ItemRow). row.item.terms) (row_from settings.bands h o) ≡ Some terms → Known settings h i terms
-      by_listing None is there all = absurd (nothing_found terms all)
-      by_listing (Some l) is there all = record { listing = l; listed = is; row_there = there; same = terms_same (terms_now settings.bands h l) terms all }
+    by_listing (listing_at (listings h) i) refl (sym (terms_listed settings h i) ∙ found) where
+      by_listing : (o : Option Listing) → listing_at (listings h) i ≡ o → option_map (terms_now settings.bands h) o ≡ Some terms → Known settings h i terms
+      by_listing None is all = absurd (nothing_found terms all)
+      by_listing (Some l) is all = record { listing = l; listed = is; same = terms_same (terms_now settings.bands h l) terms all }
 
 pub same_number : (a b : ℕ) → (a == b) ≡ true → a ≡ b
 same_number a b is = grind (arith, nat_tests, is)
