@@ -18,5 +18,5 @@ pub mod Sound
 pub mod ChangedRows
 pub mod SoundAfter
 pub mod Lists
-pub mod AllItems
+pub mod ItemRows
 pub mod OwnBids

@@ -1,8 +1,8 @@
 -- A close, item by item, in the order of their ends.
-use Rattle.std.specs.Prelude.{◌≡◌, ◌<◌, ◌≤◌, ◌⊎◌, ◌&&◌, if◌then◌else◌, ℕ, Bool, true, not, is_some}
+use Rattle.std.specs.Prelude.{◌≡◌, ◌<◌, ◌≤◌, ◌⊎◌, ◌&&◌, if◌then◌else◌, ℕ, Bool, true, not}
 use Rattle.std.specs.BTreeSet.{BTreeSet, btree_set_len}
 use Rattle.house_rows.specs.Changed.{is_item, with_close}
-use Rattle.house_rows.specs.Items.{is_due}
+use Rattle.house_rows.specs.Items.{close_sells, is_due}
 use Rattle.house_rows.specs.Tables.{ItemRow}
 use Rattle.list_items.specs.Groups.{has_end}
 
@@ -21,6 +21,7 @@ pub record TakesEnd (old new : BTreeSet (ℕ × ℕ)) (number moment : ℕ) : Ty
 abbrev pub AllAfter : BTreeSet (ℕ × ℕ) → ℕ → Type 0
 AllAfter ends moment = (e n : ℕ) → has_end ends e n ≡ true → moment < e
 
--- whether an item is due at the moment, and has a leader or has none
+-- whether an item is due at the moment, and the close sells it or doesn't
 abbrev pub is_due_with : ℕ → Bool → ItemRow → Bool
-is_due_with moment led row = is_due moment row.item.terms && (if led then is_some row.item.terms.leader else not (is_some row.item.terms.leader))
+is_due_with moment sells row =
+    is_due moment row.item.terms && (if sells then close_sells row.item.terms.leader else not (close_sells row.item.terms.leader))
