@@ -1,8 +1,9 @@
 -- What bidders pay, and who leads.
-use Rattle.std.proofs.Common.{◌≡◌, ◌≢◌, ℕ, ◌≤◌, ◌<◌, List, [], ◌∷◌, false, not, refl, arith, inl, inr, Option, Some, None, ◌∙◌, ap}
-use Rattle.std.specs.Prelude.{◌==◌, unwrap_or}
+use Rattle.std.proofs.Common.{◌≡◌, ◌≢◌, ℕ, ◌≤◌, ◌<◌, List, [], ◌∷◌, max, false, not, refl, arith, inl, inr, Option, Some, None, ◌∙◌, ap}
+use Rattle.std.specs.Prelude.{◌==◌, unwrap_or, MatchOption}
 use Rattle.std.proofs.lemmas.Bool.{cases_eq}
 use Rattle.std.proofs.lemmas.Bool.Decides.{nat_tests}
+use Rattle.steps.specs.Table.{over}
 use Rattle.proxy.specs.declared.bid.Bid.{Bid}
 use Rattle.proxy.specs.Bids.{bids_by, bids_not_by, greatest, greatest_of, leader, maxima, price, price_from, second, top}
 use Rattle.proxy.proofs.Leads.{or_zero, others_below, somebody_leads}
@@ -75,3 +76,16 @@ leader_covers settings h l k is listed not led =
     let free : purchase_of h l.item ≡ None = not_bought h l.item (purchase_of h l.item) refl not in
     let by_bids : leader (bids_on h l.item) ≡ Some k = rw free at led in
     rw not (price_covered settings.bands l.start (bids_on h l.item) k (bids_are_accepted settings h is l listed) by_bids)
+
+from_step : (bands : List (ℕ × ℕ)) (start t : ℕ) (o : Option ℕ) → MatchOption o (price_from bands start t o ≡ start) (λ s. price_from bands start t o ≤ max start (over bands s))
+from_step bands start t None = refl
+from_step bands start t (Some s) = omega arith
+
+by_step : (bands : List (ℕ × ℕ)) (start : ℕ) (bids : List Bid) → MatchOption (second bids) (price bands start bids ≡ start) (λ s. price bands start bids ≤ max start (over bands s))
+unfolding price
+by_step bands start bids = from_step bands start (top bids) (second bids)
+
+-- and pays the start, or at most one step over the others
+pub price_one_step : (bands : List (ℕ × ℕ)) (h : History) (l : Listing) → is_bought h l.item ≡ false
+    → MatchOption (second (bids_on h l.item)) (price_of bands h l ≡ l.start) (λ s. price_of bands h l ≤ max l.start (over bands s))
+price_one_step bands h l not = rw not (by_step bands l.start (bids_on h l.item))

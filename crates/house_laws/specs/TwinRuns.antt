@@ -9,7 +9,8 @@ use Rattle.house_rows.specs.declared.message.Message.{Message}
 use Rattle.house_rows.specs.declared.message.Message.TheVariants.{Order, Read}
 use Rattle.house_rows.specs.Runs.{Twin, replies_to}
 use Rattle.house_rows.specs.declared.told.Told.TheVariants.{Placed}
-use Rattle.house_laws.specs.Examples.{lists, settings}
+use Rattle.house_laws.specs.Examples.{and_bid, lists, settings, setup}
+use Rattle.house_laws.specs.WorkedRows.{Tells}
 
 -- the house registers Ana, Ben and Cid and adds Books, and Ana lists item 1 from 5.00 until 5000
 abbrev pub setup_messages : {F : Type 0} → List (Message F)
@@ -57,7 +58,13 @@ TwinsGetTheseReplies F = replies_to {F = F} settings 2 (run_with 8000) ≡
       floor = Some 1100;
     })) ∷ []
 
--- a maximum of 10.40 caps the price there, which everybody sees
+-- one step over Ben's 10.00 is 10.50, and a maximum of 10.40 caps the price there
+abbrev pub LowMaximumCapsThePrice : Type 0
+LowMaximumCapsThePrice =
+    Tells (and_bid 1001 2 1000 setup) 1002 3 (Bid 1 3000) (Placed 2 1100 (Some 3) 1050)
+    × Tells (and_bid 1001 2 1000 setup) 1002 3 (Bid 1 1040) (Placed 2 1090 (Some 3) 1040)
+
+-- so Ben can tell 10.40 from 30.00: everybody sees the price
 abbrev pub CappedPriceMakesNoTwin : Type 0 → Type 0
 CappedPriceMakesNoTwin F = Twin {F = F} settings 2 (run_with 3000) (run_with 1040) → ⊥
 

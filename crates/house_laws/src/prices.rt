@@ -1,7 +1,7 @@
 //! What the price of an item is by, and what bidders can rely on.
-ghost use Rattle.std.specs.Prelude.{◌≡◌, ◌≤◌, ◌<◌, ◌++◌, ℕ, List, length, false, Some};
-ghost use Rattle.steps.specs.Table.{IsBandTable};
-ghost use Rattle.proxy.specs.Bids.{greatest};
+ghost use Rattle.std.specs.Prelude.{◌≡◌, ◌≤◌, ◌<◌, ◌++◌, ℕ, List, length, max, false, Some, MatchOption};
+ghost use Rattle.steps.specs.Table.{IsBandTable, over};
+ghost use Rattle.proxy.specs.Bids.{greatest, second};
 ghost use Rattle.house_rows.specs.declared.settings.Settings.{Settings};
 ghost use Rattle.house_rows.specs.Bids.{bids_on};
 ghost use Rattle.house_rows.specs.History.{Entry, History};
@@ -21,9 +21,10 @@ pub fn prices_never_fall()
 {}
 
 /// Of an item that wasn't bought at once, whoever has offered more than the price leads, and the
-/// leader has offered at least the price. So nobody who would have paid more loses, and nobody pays
-/// more than it offered.
-#[tactic(auto, using(crate::proofs::Bidders::above_price_leads, crate::proofs::Bidders::leader_covers))]
+/// leader has offered at least the price: nobody who would have paid more loses, and nobody pays more
+/// than it offered. The price is the start where nobody but the leader has bid, and else at most the
+/// start or one step over the best offer of the others.
+#[tactic(auto, using(crate::proofs::Bidders::above_price_leads, crate::proofs::Bidders::leader_covers, crate::proofs::Bidders::price_one_step))]
 pub fn best_offer_leads()
     ensures above { (bands : List (ℕ × ℕ)) (h : History) (l : Listing) (member : ℕ)
         → is_bought h l.item ≡ false → price_of bands h l < greatest (bids_on h l.item) member
@@ -32,6 +33,9 @@ pub fn best_offer_leads()
         → IsHistory settings h → listing_at (listings h) l.item ≡ Some l
         → is_bought h l.item ≡ false → leader_of h l ≡ Some member
         → price_of settings.bands h l ≤ greatest (bids_on h l.item) member }
+    ensures one_step { (bands : List (ℕ × ℕ)) (h : History) (l : Listing) → is_bought h l.item ≡ false
+        → MatchOption (second (bids_on h l.item)) (price_of bands h l ≡ l.start)
+        (λ offer. price_of bands h l ≤ max l.start (over bands offer)) }
 {}
 
 /// Leader, price and count of bids of an item depend on its bids and its purchase alone, and the

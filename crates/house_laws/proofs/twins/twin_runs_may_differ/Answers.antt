@@ -64,6 +64,10 @@ returns-clause-sealed_maxima_make_twins g c = (
   ),
 )
 
+pub returns-clause-low_maximum_caps_the_price : goal.returns-clause-low_maximum_caps_the_price
+unfolding verdict items items_shown greatest leader price second top step_at
+returns-clause-low_maximum_caps_the_price g c = ((refl, refl), (refl, refl))
+
 pub returns-clause-capped_price_makes_no_twin : goal.returns-clause-capped_price_makes_no_twin
 unfolding next verdict items items_shown greatest leader price second top step_at questions published waiting
 returns-clause-capped_price_makes_no_twin g c = λ twin.
