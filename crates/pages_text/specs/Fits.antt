@@ -16,8 +16,3 @@ pub record AreSales (sales : List Sold) : Type 0 where
 abbrev pub PageFits : Page → Type 0
 PageFits (page.Statement member from to sales) = (member < 2 ^ 32) × AreSales sales
 PageFits _ = Unit {0}
-
--- every page but a statement has a text here
-abbrev pub HasText : Page → Type 0
-HasText (page.Statement member from to sales) = ⊥
-HasText _ = Unit {0}

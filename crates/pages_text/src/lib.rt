@@ -9,6 +9,7 @@ mod entries;
 mod item;
 mod page;
 mod refused;
+mod statement;
 mod told;
 
 pub use entries::{AsBands, AsCategories, AsFeedback, AsMembers, AsOwnBids, AsQuestions};

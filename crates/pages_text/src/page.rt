@@ -1,12 +1,13 @@
 //! Pages.
 ghost use Rattle.std.specs.Prelude.{◌≡◌, ◌++◌, OnErr, OnOk};
 ghost use Rattle.pages_json.specs.Words.{text_of, tokens_of};
-ghost use Rattle.pages_text.specs.Fits.{HasText};
+ghost use Rattle.pages_text.specs.Fits.{PageFits};
 ghost use Rattle.pages_text.specs.Trees.{house_tree, page_tree, rated_tree};
 
 use crate::entries::{AsBands, AsCategories, AsFeedback, AsOwnBids, AsQuestions};
 use crate::item::AsItems;
 use crate::refused::AsRefusals;
+use crate::statement::put_statement;
 use house_rows::{Counts, Member, Page, Rate, Ratings};
 use json::Writer;
 use pages_json::{Field, Shows, finish, put_list, put_object};
@@ -65,7 +66,7 @@ fn put_page(
     rate: Rate,
     page: &Page,
 ) -> Result<(), AllocError>
-    requires { HasText page.now }
+    requires { PageFits page.now }
     ensures tokens { OnOk result (w.new.tokens ≡ w.old.tokens
         ++ tokens_of (page_tree zone.now rate page.now)) }
     ensures before { w.new.before ≡ w.old.before }
@@ -86,11 +87,25 @@ fn put_page(
         Page::OneMember { member, ratings } => put_rated(w, member, ratings),
         Page::Feedbacks(rows) => put_list(w, "feedback", &AsFeedback, rows.as_slice()),
         Page::Bids(bids) => put_list(w, "bids", &AsOwnBids, bids.as_slice()),
-        Page::Statement { .. } => unreachable!(),
+        Page::Statement {
+            member,
+            from,
+            to,
+            sales,
+        } => put_statement(
+            alloc,
+            w,
+            zone,
+            rate,
+            *member,
+            *from,
+            *to,
+            sales.as_slice(),
+        ),
     }
 }
 
-/// Appends the text of a page that is no statement to a buffer. After an `Err`
+/// Appends the text of a page to a buffer; a statement is by the zone and the rate. After an `Err`
 /// the buffer has what it had.
 #[tactic(auto, using(pages_json::proofs::Tokens::print_tree))]
 pub fn append_page(
@@ -100,7 +115,7 @@ pub fn append_page(
     rate: Rate,
     page: &Page,
 ) -> Result<(), AllocError>
-    requires { HasText page.now }
+    requires { PageFits page.now }
     ensures ok { OnOk result
         (out.new.items ≡ out.old.items ++ text_of (page_tree zone.now rate page.now)) }
     ensures err { OnErr result (out.new.items ≡ out.old.items) }
