@@ -30,7 +30,8 @@ use Rattle.house_rows.specs.Questions.{published, questions, waiting}
 use Rattle.house_rows.specs.Tables.{ItemRow, row_now, tables_of}
 use Rattle.house_rows.specs.Views.{own_watches}
 use Rattle.house_rows.specs.Watches.{WatchRow, is_watch, watches}
-use Rattle.house_rows.proofs.ItemRows.{items_are, row_is, shown_by_row, shown_row}
+use Rattle.house_rows.proofs.AllItems.{items_are}
+use Rattle.house_rows.proofs.Shown.{row_found, shown_by_row, shown_row}
 use Rattle.house_rows.proofs.Lists.{any_of_filtered, filter_made, filter_twice, find_made, map_same, map_twice, some_found}
 use Rattle.house_rows.proofs.OwnBids.{best_is}
 use Rattle.house_rows.proofs.Put.{filter_alike}
@@ -132,7 +133,7 @@ unfolding shown_by tables_of waiting
 waiting_same settings h c =
     ap (λ (qs : List Question). page.Questions (take most_shown qs))
     (filter_alike _ _ (questions h) (λ (q : Question). ap (λ (sells_it : Bool). not (is_some q.answer) && sells_it)
-    (ap (λ (o : Option ItemRow). sells o c) (row_is settings h q.item) ∙ seller_is settings h c (listing_at (listings h) q.item))))
+    (ap (λ (o : Option ItemRow). sells o c) (row_found settings h q.item) ∙ seller_is settings h c (listing_at (listings h) q.item))))
 
 statement_same : (settings : Settings) (h : History) (c from to : ℕ) → shown_by (tables_of settings h) c (query.MyStatement from to)
     ≡ page.Statement c from to (pages.sales_of (items_shown settings h) c)

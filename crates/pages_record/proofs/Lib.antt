@@ -1,0 +1,4 @@
+pub mod Parts
+pub mod Mapped
+pub mod Public
+pub mod Same
