@@ -1,0 +1,19 @@
+//! What the definitions mean. No code runs here.
+ghost use Rattle.std.specs.Prelude.{◌≡◌, List, ℕ, None, Err};
+ghost use Rattle.wire.specs.Message.{Message};
+ghost use Rattle.wire.specs.declared.fault.WireFault.{WireFault};
+ghost use Rattle.site_asks.specs.Asked.{IsAsked, asked_of, caller_of, message_of};
+ghost use Rattle.site_asks.specs.Heads.{caller_in};
+ghost use Rattle.site_asks.specs.declared.asked.Asked.{Asked as TheAsked};
+
+/// A text asks for at most one thing.
+pub fn texts_have_one_meaning()
+    ensures { (text : List ℕ) (asked other : TheAsked) → IsAsked text asked → IsAsked text other → asked ≡ other }
+{}
+
+/// A whole message is the caller's whom its `x-member` names, whatever else it says; what is no
+/// message is nobody's.
+pub fn messages_are_their_callers()
+    ensures whole { (m : Message) → caller_of (message_of m) ≡ caller_in m }
+    ensures broken { (f : WireFault) → caller_of (asked_of (Err f)).message ≡ None }
+{}

@@ -1,0 +1,20 @@
+//! What one message asks of the house: the first step of every answer.
+//!
+//! Promised: a text asks for one thing, which follows from its bytes alone: a command or a read with
+//! its caller, or nothing, for the first fault in the order in which faults are judged; and a whole
+//! message is its caller's whatever is wrong behind that. Read `specs/Asked.antt` first, and then
+//! `reading`.
+#![tactic(auto)]
+
+mod asked;
+mod days;
+mod fault;
+mod heads;
+mod laws;
+mod reading;
+mod wanted;
+
+pub use asked::{Asked, NoMemory};
+pub use fault::Fault;
+pub use laws::{messages_are_their_callers, texts_have_one_meaning};
+pub use reading::{read, read_request};
