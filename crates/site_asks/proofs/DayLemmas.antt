@@ -37,7 +37,7 @@ unfolding day_among
 none_found zero text others = refl
 none_found (suc n) text others =
     none_more n text (none_found n text (λ d lt. others d (omega arith))) (others n (omega arith))
-        (bytes_eq text (day_text n)) refl
+    (bytes_eq text (day_text n)) refl
 
 -- ---- as a text is read
 

@@ -13,7 +13,7 @@ pub returns-in-Err-read : goal.returns-in-Err-read
 returns-in-Err-read c =
     let text = c.in-Ok.ensures.cases in
     no_day c.args.text.now c.in-Ok.text.now text.0 text.1 (λ d le spelt. let read =
-        (c.in-Err-read.ensures.ok d).1 (le, spelt) in cc)
+    (c.in-Err-read.ensures.ok d).1 (le, spelt) in cc)
 
 pub returns-in-Err : goal.returns-in-Err
 returns-in-Err c = no_text c.args.text.now c.in-Err.ensures.cases.0
