@@ -11,6 +11,11 @@ pub fn texts_have_one_meaning()
     ensures { (text : List ℕ) (asked other : TheAsked) → IsAsked text asked → IsAsked text other → asked ≡ other }
 {}
 
+/// A text asks for something, whatever it is: no text is left out.
+pub fn every_text_has_a_meaning()
+    ensures { (text : List ℕ) → (asked : TheAsked) × IsAsked text asked }
+{}
+
 /// A whole message is the caller's whom its `x-member` names, whatever else it says; what is no
 /// message is nobody's.
 pub fn messages_are_their_callers()

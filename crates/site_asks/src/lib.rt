@@ -16,5 +16,5 @@ mod wanted;
 
 pub use asked::{Asked, NoMemory};
 pub use fault::Fault;
-pub use laws::{messages_are_their_callers, texts_have_one_meaning};
+pub use laws::{every_text_has_a_meaning, messages_are_their_callers, texts_have_one_meaning};
 pub use reading::{read, read_request};

@@ -2,3 +2,4 @@ pub mod Table
 pub mod Segments
 pub mod Numbers
 pub mod Routes
+pub mod Fits

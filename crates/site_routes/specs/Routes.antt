@@ -16,7 +16,7 @@ use Rattle.site_routes.specs.declared.route.Route.TheVariants as route
 unfoldable pub path_in : List ℕ → Option Path
 path_in target = if is_utf8 target then path_of target else None
 
--- the route of a path, if the method is one of these; a path whose numbers can't be read is none
+-- a route, if the method is its own; where a number of the path can't be read there is no such path
 abbrev pub by_method : Option Route → Bool → Methods → Result Route RouteFault
 by_method None is_method methods = Err fault.Path
 by_method (Some route) is_method methods = if is_method then Ok route else Err (fault.Method methods)

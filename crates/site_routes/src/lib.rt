@@ -7,6 +7,7 @@
 #![tactic(auto)]
 
 mod fault;
+mod laws;
 mod numbers;
 mod path;
 mod route;
@@ -15,6 +16,7 @@ mod segment;
 mod table;
 
 pub use fault::RouteFault;
+pub use laws::no_target_fits_two_patterns;
 pub use route::Route;
 pub use routes::Routes;
 pub use segment::Segment;

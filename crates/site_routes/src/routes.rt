@@ -24,7 +24,7 @@ pub struct Routes {
     ghost whole: { router ≡ rows },
 }
 
-// The route of the method, where the path has that method alone.
+// A route, if the method is its own. With none the target has no path.
 fn by_method<'t>(
     route: Option<Route<'t>>,
     is_method: bool,

@@ -7,7 +7,7 @@ use Rattle.wire.specs.Fields.{Pair}
 use Rattle.wire.specs.Frame.{IsFront, IsMessageAt, alone, announced, fields_of, message_of, with_body}
 use Rattle.wire.specs.Front.{EndsInBody, EndsInHead, IsKnownFault}
 use Rattle.wire.specs.Look.{IsFaultOf}
-use Rattle.wire.specs.Head.{BeginsHead, NeverHead}
+use Rattle.wire.specs.Head.{BeginsHead, NeverHead, NoHead}
 use Rattle.wire.specs.Message.{Message}
 use Rattle.wire.specs.declared.fault.WireFault.{WireFault}
 use Rattle.wire.specs.declared.fault.WireFault.TheVariants as fault
@@ -132,10 +132,9 @@ message_stays stream more m rest (inl (h, after, b, e)) =
     inl (h, after ++ more, begins_more stream h after more b, body_stays h after more m rest (announced h.minor (fields_of h)) e)
 message_stays stream more m rest (inr (none, e)) = cc
 
--- nothing stands at the front of nothing
-pub nothing_begins : (m : Message) (rest : List ℕ) → IsMessageAt [] m rest → ⊥
-unfolding IsFront
-nothing_begins m rest (inl (h, after, b, e)) = absurd (omega (arith, length_split [] h after b, some_head h b.reads.0))
+-- no head is without bytes
+pub nothing_begins_head : NoHead []
+nothing_begins_head h after b = omega (arith, length_split [] h after b, some_head h b.reads.0)
   where
     some_head : (h : RequestHead) → IsRequestHead h → 0 < length (print_request h)
     some_head h is =
@@ -151,4 +150,9 @@ nothing_begins m rest (inl (h, after, b, e)) = absurd (omega (arith, length_spli
               (print_version h.minor ++ (print_end h.line_end ++ (print_section h.fields h.last ++ []))))),
           is.method.0,
         )
+
+-- nothing stands at the front of nothing
+pub nothing_begins : (m : Message) (rest : List ℕ) → IsMessageAt [] m rest → ⊥
+unfolding IsFront
+nothing_begins m rest (inl (h, after, b, e)) = nothing_begins_head h after b
 nothing_begins m rest (inr (none, e)) = cc

@@ -6,3 +6,6 @@ pub mod OneFrame
 pub mod Fronts
 pub mod Rooms
 pub mod OneCut
+pub mod Deciding
+pub mod SomeFrame
+pub mod Nothing

@@ -27,7 +27,10 @@ pub use fault::WireFault;
 pub use fixed::{broken_frame, damaged_row, failed_store, no_memory};
 pub use frame::whole;
 pub use inbox::{Inbox, ROOM};
-pub use laws::{a_message_stays, streams_have_one_cut, texts_have_one_frame};
+pub use laws::{
+    a_message_stays, every_stream_has_a_cut, every_text_has_a_frame, streams_have_one_cut,
+    texts_have_one_frame,
+};
 pub use look::Look;
 pub use methods::Methods;
 pub use request::Request;

@@ -14,7 +14,7 @@ pub enum Look<'b> {
     More,
     /// Nothing is held, and the input has ended.
     Clean,
-    /// No message ever stands there.
+    /// Something is held, and no message ever stands there.
     Fault(WireFault),
 }
 
@@ -22,8 +22,8 @@ pub enum Look<'b> {
 pub(crate) fn look_at<'b>(held: &'b [u8], ended: bool) -> Look<'b>
     ensures { IsLook held.now ended result }
 {
-    if ended && held.is_empty() {
-        return Look::Clean;
+    if held.is_empty() {
+        return if ended { Look::Clean } else { Look::More };
     }
     match front(held) {
         Ok(request) => Look::Whole(request),

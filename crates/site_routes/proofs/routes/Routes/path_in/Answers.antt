@@ -1,4 +1,4 @@
-use Rattle.std.specs.Prelude.{◌≡◌, false, true}
+use Rattle.std.specs.Prelude.{◌≡◌, true}
 use Rattle.std.specs.Str.{is_utf8}
 use Rattle.std.proofs.Common.{refl, inl, inr}
 use Rattle.std.proofs.lemmas.Bool.{cases_Bool}
