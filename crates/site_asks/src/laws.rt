@@ -11,7 +11,7 @@ pub fn texts_have_one_meaning()
     ensures { (text : List ℕ) (asked other : TheAsked) → IsAsked text asked → IsAsked text other → asked ≡ other }
 {}
 
-/// A text asks for something, or has a first fault: no text is left out.
+/// A text asks for something, whatever it is: no text is left out.
 pub fn every_text_has_a_meaning()
     ensures { (text : List ℕ) → (asked : TheAsked) × IsAsked text asked }
 {}

@@ -4,6 +4,4 @@ use Rattle.wire.proofs.SomeFrame.{some_frame}
 use Rattle.site_asks.proofs.laws.every_text_has_a_meaning.Goals as goal
 
 pub returns : goal.returns
-returns c = λ text.
-    let (frame, is) = some_frame text in
-    (asked_of frame, (frame, is, refl))
+returns c = λ text. let (frame, is) = some_frame text in (asked_of frame, (frame, is, refl))
