@@ -21,9 +21,9 @@ pub fn prices_never_fall()
 {}
 
 /// Of an item that wasn't bought at once, whoever has offered more than the price leads, and the
-/// leader has offered at least the price: nobody who would have paid more loses, and nobody pays more
-/// than it offered. The price is the start where nobody but the leader has bid, and else at most the
-/// start or one step over the best offer of the others.
+/// leader has offered at least the price: nobody who would have paid more loses, and nobody pays
+/// more than it offered. The price is the start where nobody but the leader has bid, and else at
+/// most the start or one step over the best offer of the others.
 #[tactic(auto, using(crate::proofs::Bidders::above_price_leads, crate::proofs::Bidders::leader_covers, crate::proofs::Bidders::price_one_step))]
 pub fn best_offer_leads()
     ensures above { (bands : List (ℕ × ℕ)) (h : History) (l : Listing) (member : ℕ)
@@ -33,7 +33,8 @@ pub fn best_offer_leads()
         → IsHistory settings h → listing_at (listings h) l.item ≡ Some l
         → is_bought h l.item ≡ false → leader_of h l ≡ Some member
         → price_of settings.bands h l ≤ greatest (bids_on h l.item) member }
-    ensures one_step { (bands : List (ℕ × ℕ)) (h : History) (l : Listing) → is_bought h l.item ≡ false
+    ensures one_step { (bands : List (ℕ × ℕ)) (h : History) (l : Listing)
+        → is_bought h l.item ≡ false
         → MatchOption (second (bids_on h l.item)) (price_of bands h l ≡ l.start)
         (λ offer. price_of bands h l ≤ max l.start (over bands offer)) }
 {}
