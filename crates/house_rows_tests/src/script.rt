@@ -3,9 +3,10 @@
 //! `refusals`, `states`, `faults` and `queries` have a line for each that there is. `low FLOOR` tells the
 //! number, the name and the status of the refusal of a low bid. `text T` tells the length of a text in bytes,
 //! whether it is plain, and the text, of a copy of it; `\20ac;` in it is the character of that number. `rate N`
-//! tells the rate of that number, or `-`. An empty line, and one that begins with `--`, has no answer.
+//! tells the rate of that number, or `-`, and `rows N..` the rows of a page with these numbers. An empty line,
+//! and one that begins with `--`, has no answer.
 use crate::told;
-use house_rows::{Rate, Text};
+use house_rows::{Rate, Rows, Text};
 use std::alloc::{AllocError, Global};
 use thiserror::Error;
 
@@ -41,6 +42,7 @@ pub(crate) fn play(alloc: Global, line: &str) -> Result<Option<String>, Fault> {
         "low" => told::low(alloc, rest.parse().map_err(|_| Fault::Script)?)?,
         "text" => text(alloc, rest)?,
         "rate" => rate(alloc, rest)?,
+        "rows" => rows(alloc, rest)?,
         _ => return Err(Fault::Script),
     };
     Ok(Some(answer))
@@ -78,4 +80,14 @@ fn rate(alloc: Global, line: &str) -> Result<String, Fault> {
         Some(rate) => Ok(format!(in alloc; "{}", rate.value())?),
         None => Ok(format!(in alloc; "-")?),
     }
+}
+
+fn rows(alloc: Global, line: &str) -> Result<String, Fault> {
+    let mut numbers: Vec<u64> = Vec::new(alloc);
+    for number in line.split_whitespace() {
+        let number = number.parse().map_err(|_| Fault::Script)?;
+        numbers.push(number).map_err(|_| Fault::Memory)?;
+    }
+    let rows = Rows::new(numbers);
+    Ok(format!(in alloc; "{:?}", rows.as_slice())?)
 }
