@@ -5,5 +5,4 @@ ghost use Rattle.pages_laws.specs.Laws.{PagesAreSame};
 #[tactic(auto, using(crate::proofs::Same::page_same))]
 pub fn pages_are_same_by_tables()
     ensures { PagesAreSame }
-{
-}
+{}

@@ -11,13 +11,11 @@ pub fn the_record_is_of_the_public_view()
     ensures { (settings : Settings) (h k : History)
         → public_view settings h ≡ public_view settings k
         → record_text settings h ≡ record_text settings k }
-{
-}
+{}
 
 /// Histories with the same lists, of which the record is made, have the same public view.
 #[tactic(auto, using(crate::proofs::Same::view_same))]
 pub fn the_lists_tell_the_public_view()
     ensures { (settings : Settings) (h k : History) → HaveSameLists settings h k
         → public_view settings h ≡ public_view settings k }
-{
-}
+{}

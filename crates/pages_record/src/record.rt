@@ -188,7 +188,11 @@ fn put_record<K: Keep>(keep: &mut K, w: &mut Writer) -> Result<(), KeepFault>
 
 /// Appends the public record to a buffer. After an `Err` the buffer has what it had.
 #[tactic(auto, using(pages_json::proofs::Tokens::print_tree, crate::proofs::Public::record_same))]
-pub fn append_record<K: Keep>(alloc: Global, keep: &mut K, out: &mut Vec<u8>) -> Result<(), KeepFault>
+pub fn append_record<K: Keep>(
+    alloc: Global,
+    keep: &mut K,
+    out: &mut Vec<u8>,
+) -> Result<(), KeepFault>
     ensures shown { K.is_honest keep.new → (settings : TheSettings) (h : History)
         → K.content keep.old ≡ tables_of settings h
         → OnOk result (out.new.items ≡ out.old.items ++ record_text settings h) }

@@ -92,16 +92,7 @@ fn put_page(
             from,
             to,
             sales,
-        } => put_statement(
-            alloc,
-            w,
-            zone,
-            rate,
-            *member,
-            *from,
-            *to,
-            sales.as_slice(),
-        ),
+        } => put_statement(alloc, w, zone, rate, *member, *from, *to, sales.as_slice()),
     }
 }
 

@@ -1,0 +1,21 @@
+-- The text of a page, and what a buffer has once it is shown.
+use Rattle.std.specs.Prelude.{◌≡◌, ◌++◌, ℕ, List, Result, Ok, Err}
+use Rattle.settle.specs.declared.zone.Zone.{Zone}
+use Rattle.house_rows.specs.declared.page.Page.{Page}
+use Rattle.house_rows.specs.declared.page.Page.TheVariants.{Refused}
+use Rattle.house_rows.specs.declared.query.Query.{Query}
+use Rattle.house_rows.specs.declared.refusal.Refusal.{Refusal}
+use Rattle.house_rows.specs.declared.settings.Settings.{Settings}
+use Rattle.house_rows.specs.History.{History}
+use Rattle.house_rows.specs.Pages.{page_of}
+use Rattle.pages_json.specs.Words.{text_of}
+use Rattle.pages_text.specs.Trees.{page_tree}
+
+-- the text of what a read shows
+abbrev pub shown_text : Settings → Zone → History → ℕ → Query → List ℕ
+shown_text settings zone h caller query = text_of (page_tree zone settings.rate (page_of settings h caller query))
+
+-- the text of the page stands behind what was there, or the read is refused and nothing does
+abbrev pub IsTold : Zone → ℕ → Page → Result (Unit {0}) Refusal → List ℕ → List ℕ → Type 0
+IsTold zone rate page (Ok u) old new = new ≡ old ++ text_of (page_tree zone rate page)
+IsTold zone rate page (Err refusal) old new = (page ≡ Refused refusal) × (new ≡ old)

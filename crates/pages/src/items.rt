@@ -1,0 +1,85 @@
+//! Pages of items, each with the floor that is shown of it.
+ghost use Rattle.std.specs.Prelude.{◌≡◌, IfOk, map};
+ghost use Rattle.house_rows.specs.declared.query.Query.TheVariants as query;
+ghost use Rattle.house_rows.specs.Keeping.{Faults, IsRead};
+ghost use Rattle.pages_laws.specs.ByTables.{shown_by};
+ghost use Rattle.pages_text.specs.Fits.{PageFits};
+ghost use Rattle.house_rows.specs.Items.{shown};
+
+use house_rows::{Item, ItemShown, Keep, KeepFault, Page, Refusal, Rows, Settings};
+use pages_text::floor;
+use std::alloc::{AllocError, Global};
+
+// An item as pages show it.
+fn with_floor(settings: &Settings, item: Item) -> ItemShown
+    ensures { result ≡ shown settings.now item }
+{
+    let floor = floor(&settings.bands, &item.terms);
+    ItemShown { item, floor }
+}
+
+// Items likewise.
+fn with_floors(
+    alloc: Global,
+    settings: &Settings,
+    items: Vec<Item>,
+) -> Result<Rows<ItemShown>, AllocError>
+    ensures { IfOk result (λ rows. rows ≡ map (shown settings.now) items.items) }
+{
+    let rows: Vec<ItemShown> = items
+        .into_iter()
+        .map(|item| with_floor(settings, item))
+        .collect(alloc)?;
+    Ok(Rows::new(rows))
+}
+
+// The items of a category.
+#[tactic(auto, unfolding(pages_laws::specs::ByTables::shown_by))]
+pub(crate) fn items_in<K: Keep>(
+    alloc: Global,
+    keep: &mut K,
+    category: u64,
+    from: u64,
+) -> Result<Page, KeepFault>
+    ensures page { K.is_honest keep.new → IfOk result (λ page.
+        page ≡ shown_by (K.content keep.old) 0 (query.ItemsIn category from)) }
+    ensures fits { IfOk result PageFits }
+    ensures faults { Faults result (K.is_honest keep.new) (K.is_failed keep.new) (K.content keep.old) }
+    ensures read { IsRead K.content K.is_failed K.is_honest K.may_leave keep.old keep.new }
+{
+    if keep.category(category)?.is_none() {
+        return Ok(Page::Refused(Refusal::Unknown));
+    }
+    let items = keep.items_in(category, from)?;
+    let items = with_floors(alloc, keep.settings()?, items)?;
+    Ok(Page::Items(items))
+}
+
+// One item.
+#[tactic(auto, unfolding(pages_laws::specs::ByTables::shown_by))]
+pub(crate) fn item<K: Keep>(keep: &mut K, item: u64) -> Result<Page, KeepFault>
+    ensures page { K.is_honest keep.new → IfOk result (λ page.
+        page ≡ shown_by (K.content keep.old) 0 (query.Item item)) }
+    ensures fits { IfOk result PageFits }
+    ensures faults { Faults result (K.is_honest keep.new) (K.is_failed keep.new) (K.content keep.old) }
+    ensures read { IsRead K.content K.is_failed K.is_honest K.may_leave keep.old keep.new }
+{
+    let Some(found) = keep.item(item)? else {
+        return Ok(Page::Refused(Refusal::Unknown));
+    };
+    Ok(Page::OneItem(with_floor(keep.settings()?, found)))
+}
+
+// The items that the caller watches.
+#[tactic(auto, unfolding(pages_laws::specs::ByTables::shown_by))]
+pub(crate) fn watches<K: Keep>(alloc: Global, keep: &mut K, caller: u64) -> Result<Page, KeepFault>
+    ensures page { K.is_honest keep.new → IfOk result (λ page.
+        page ≡ shown_by (K.content keep.old) caller query.MyWatches) }
+    ensures fits { IfOk result PageFits }
+    ensures faults { Faults result (K.is_honest keep.new) (K.is_failed keep.new) (K.content keep.old) }
+    ensures read { IsRead K.content K.is_failed K.is_honest K.may_leave keep.old keep.new }
+{
+    let items = keep.watches_of(caller)?;
+    let items = with_floors(alloc, keep.settings()?, items)?;
+    Ok(Page::Items(items))
+}

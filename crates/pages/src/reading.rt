@@ -1,0 +1,110 @@
+//! The page of a read, by the tables of a keep.
+ghost use Rattle.std.specs.Prelude.{◌≡◌, ◌<◌, ◌^◌, IfOk, IsTrue, false, length};
+ghost use Rattle.house_rows.specs.declared.settings.Settings.{Settings as TheSettings};
+ghost use Rattle.house_rows.specs.History.{History};
+ghost use Rattle.house_rows.specs.Keeping.{Faults, IsRead};
+ghost use Rattle.house_rows.specs.Pages.{page_of};
+ghost use Rattle.house_rows.specs.Tables.{tables_of};
+ghost use Rattle.pages_laws.specs.ByTables.{is_own, may_read, page_by, shown_by};
+ghost use Rattle.pages_text.specs.Fits.{PageFits};
+
+use crate::bidding::{bids, statement};
+use crate::items::{item, items_in, watches};
+use crate::people::{categories, feedback_to, member};
+use crate::settings::{bands, house};
+use crate::talk::{published, questions, waiting};
+use house_rows::{Keep, KeepFault, Page, Query, Refusal};
+use std::alloc::Global;
+
+/// What a read shows, or that it is refused.
+#[tactic(auto, using(pages_laws::proofs::Same::page_same))]
+pub fn read<K: Keep>(
+    alloc: Global,
+    keep: &mut K,
+    caller: u64,
+    query: &Query,
+) -> Result<Page, KeepFault>
+    ensures page { K.is_honest keep.new → (settings : TheSettings) (h : History)
+        → K.content keep.old ≡ tables_of settings h
+        → IfOk result (λ page. page ≡ page_of settings h caller query.now) }
+    ensures fits { IfOk result PageFits }
+    ensures faults { Faults result (K.is_honest keep.new) (K.is_failed keep.new) (K.content keep.old) }
+    ensures read { IsRead K.content K.is_failed K.is_honest K.may_leave keep.old keep.new }
+{
+    read_tables(alloc, keep, caller, query)
+}
+
+// The same by the tables.
+#[tactic(auto, unfolding(pages_laws::specs::ByTables::page_by))]
+pub(crate) fn read_tables<K: Keep>(
+    alloc: Global,
+    keep: &mut K,
+    caller: u64,
+    query: &Query,
+) -> Result<Page, KeepFault>
+    ensures page { K.is_honest keep.new → IfOk result (λ page.
+        page ≡ page_by (K.content keep.old) caller query.now) }
+    ensures fits { IfOk result PageFits }
+    ensures faults { Faults result (K.is_honest keep.new) (K.is_failed keep.new) (K.content keep.old) }
+    ensures read { IsRead K.content K.is_failed K.is_honest K.may_leave keep.old keep.new }
+{
+    let members = keep.counts()?.members;
+    if !may_read(members, caller, is_own(query)) {
+        return Ok(Page::Refused(Refusal::NoCaller));
+    }
+    admitted(alloc, keep, caller, query)
+}
+
+// What whoever may read it is shown.
+#[tactic(auto, unfolding(pages_laws::specs::ByTables::shown_by))]
+fn admitted<K: Keep>(
+    alloc: Global,
+    keep: &mut K,
+    caller: u64,
+    query: &Query,
+) -> Result<Page, KeepFault>
+    requires { caller < 2 ^ 32 }
+    ensures page { K.is_honest keep.new → IfOk result (λ page.
+        page ≡ shown_by (K.content keep.old) caller query.now) }
+    ensures fits { IfOk result PageFits }
+    ensures faults { Faults result (K.is_honest keep.new) (K.is_failed keep.new) (K.content keep.old) }
+    ensures read { IsRead K.content K.is_failed K.is_honest K.may_leave keep.old keep.new }
+{
+    match *query {
+        Query::House => house(alloc, keep),
+        Query::Bands => bands(alloc, keep),
+        Query::Categories => categories(keep),
+        Query::ItemsIn { category, from } => items_in(alloc, keep, category, from),
+        Query::Item { item: number } => item(keep, number),
+        Query::Questions { item, from } => published(keep, item, from),
+        Query::Member { member: number } => member(keep, number),
+        Query::FeedbackTo { member, from } => feedback_to(keep, member, from),
+        Query::MyBids { from } => bids(keep, caller, from),
+        Query::MyWatches => watches(alloc, keep, caller),
+        Query::MyQuestions { from } => questions(keep, caller, from),
+        Query::MyWaiting => waiting(keep, caller),
+        Query::MyStatement { from, to } => statement(keep, caller, from, to),
+    }
+}
+
+// Whether it is a page of the caller's own.
+fn is_own(query: &Query) -> bool
+    ensures { result ≡ is_own query.now }
+{
+    matches!(
+        query,
+        Query::MyBids { .. }
+            | Query::MyWatches
+            | Query::MyQuestions { .. }
+            | Query::MyWaiting
+            | Query::MyStatement { .. }
+    )
+}
+
+// Whether a caller may read, by how many members there are: the house has no pages of its own.
+fn may_read(members: u32, caller: u64, own: bool) -> bool
+    ensures told { result ≡ may_read members caller own }
+    ensures number { IsTrue result → caller < 2 ^ 32 }
+{
+    (!own || caller >= 1) && caller <= u64::from(members)
+}

@@ -1,0 +1,63 @@
+//! The page of a read, as text.
+ghost use Rattle.std.specs.Prelude.{◌≡◌, IfOk, OnErr};
+ghost use Rattle.house_rows.specs.declared.settings.Settings.{Settings as TheSettings};
+ghost use Rattle.house_rows.specs.History.{History};
+ghost use Rattle.house_rows.specs.Keeping.{Faults, IsRead};
+ghost use Rattle.house_rows.specs.Pages.{page_of};
+ghost use Rattle.house_rows.specs.Tables.{tables_of};
+ghost use Rattle.pages_laws.specs.ByTables.{page_by};
+ghost use Rattle.pages.specs.Showing.{IsTold};
+
+use crate::reading::read_tables;
+use house_rows::{Keep, KeepFault, Page, Query, Refusal};
+use pages_text::append_page;
+use settle::Zone;
+use std::alloc::Global;
+
+/// Appends the page of a read to a buffer, or tells why it is refused. A statement goes by the
+/// zone that is handed in. After an `Err`, and where the read is refused, the buffer has what it had.
+#[tactic(auto, using(crate::proofs::Told::told_by))]
+pub fn show<K: Keep>(
+    alloc: Global,
+    keep: &mut K,
+    zone: &Zone,
+    caller: u64,
+    query: &Query,
+    out: &mut Vec<u8>,
+) -> Result<Result<(), Refusal>, KeepFault>
+    ensures shown { K.is_honest keep.new → (settings : TheSettings) (h : History)
+        → K.content keep.old ≡ tables_of settings h
+        → IfOk result (λ told. IsTold zone.now settings.rate
+        (page_of settings h caller query.now) told out.old.items out.new.items) }
+    ensures err { OnErr result (out.new.items ≡ out.old.items) }
+    ensures faults { Faults result (K.is_honest keep.new) (K.is_failed keep.new) (K.content keep.old) }
+    ensures read { IsRead K.content K.is_failed K.is_honest K.may_leave keep.old keep.new }
+{
+    show_tables(alloc, keep, zone, caller, query, out)
+}
+
+// The same by the tables.
+fn show_tables<K: Keep>(
+    alloc: Global,
+    keep: &mut K,
+    zone: &Zone,
+    caller: u64,
+    query: &Query,
+    out: &mut Vec<u8>,
+) -> Result<Result<(), Refusal>, KeepFault>
+    ensures shown { K.is_honest keep.new → IfOk result (λ told.
+        IsTold zone.now (K.content keep.old).settings.rate
+        (page_by (K.content keep.old) caller query.now) told out.old.items out.new.items) }
+    ensures err { OnErr result (out.new.items ≡ out.old.items) }
+    ensures faults { Faults result (K.is_honest keep.new) (K.is_failed keep.new) (K.content keep.old) }
+    ensures read { IsRead K.content K.is_failed K.is_honest K.may_leave keep.old keep.new }
+{
+    let page = read_tables(alloc, keep, caller, query)?;
+    if let Page::Refused(refusal) = &page {
+        return Ok(Err(*refusal));
+    }
+    match append_page(alloc, out, zone, keep.settings()?.rate, &page) {
+        Ok(()) => Ok(Ok(())),
+        Err(_) => Err(KeepFault::Memory),
+    }
+}
