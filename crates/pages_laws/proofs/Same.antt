@@ -30,7 +30,7 @@ use Rattle.house_rows.specs.Questions.{published, questions, waiting}
 use Rattle.house_rows.specs.Tables.{ItemRow, row_now, tables_of}
 use Rattle.house_rows.specs.Views.{own_watches}
 use Rattle.house_rows.specs.Watches.{WatchRow, is_watch, watches}
-use Rattle.house_rows.proofs.AllItems.{items_are}
+use Rattle.house_rows.proofs.ItemRows.{items_are}
 use Rattle.house_rows.proofs.Shown.{row_found, shown_by_row, shown_row}
 use Rattle.house_rows.proofs.Lists.{any_of_filtered, filter_made, filter_twice, find_made, map_same, map_twice, some_found}
 use Rattle.house_rows.proofs.OwnBids.{best_is}

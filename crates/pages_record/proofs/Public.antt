@@ -17,7 +17,7 @@ use Rattle.pages_json.specs.Words.{array_of, object_of, whole}
 use Rattle.pages_text.specs.Trees.{band_tree, category_tree, feedback_tree, item_tree, member_tree, question_tree}
 use Rattle.pages_record.proofs.Mapped.{trees_mapped}
 use Rattle.pages_record.specs.Record.{back_by, front_by, middle_by, record_by, record_tree}
-use Rattle.house_rows.proofs.AllItems.{items_are}
+use Rattle.house_rows.proofs.ItemRows.{items_are}
 
 items_same : (settings : Settings) (h : History) → array_of (λ (it : Item). item_tree (shown settings it)) (all_items (tables_of settings h)) ≡ array_of item_tree (items_shown settings h)
 unfolding items_shown
