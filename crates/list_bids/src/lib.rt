@@ -1,7 +1,9 @@
 //! Bids in memory, and what each member has bid on each item.
 //!
-//! Promised: a `Bids` is the plain list of all bids, by item and number; what a member has bid is
-//! told without a look at others' bids; a bid is placed whole or not at all. Read `bids`.
+//! Promised: a `Bids` is the plain list of all bids, by item and number; a bid is placed whole or
+//! not at all. Read `bids`.
+//!
+//! What a member has bid is told without a look at others' bids, which no clause says.
 #![tactic(auto)]
 
 mod bids;
