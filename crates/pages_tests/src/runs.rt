@@ -99,7 +99,11 @@ pub fn a_list_of_fifty(rt: &impl Print, alloc: Global) -> Result<(), Fault> {
     let mut stage = setup(alloc)?;
     for number in 2..=51u64 {
         let lot = format!(in alloc; "L{number}")?;
-        stage.order(1000, 1, &list(alloc, lot.as_str(), "Globe", 100, None, 5000)?)?;
+        stage.order(
+            1000,
+            1,
+            &list(alloc, lot.as_str(), "Globe", 100, None, 5000)?,
+        )?;
     }
     for item in 1..=51u64 {
         let text = format!(in alloc; "Is {item} red?")?;

@@ -25,7 +25,7 @@ behind_are n m (b ∷ bs) e = go (behind_are (n * 10 + (b - 48)) m bs) (is_ascii
   go : (digits_behind (n * 10 + (b - 48)) bs ≡ Some m
       → (all_ascii_digits bs ≡ true) × (digits_value_after 10 (n * 10 + (b - 48)) bs ≡ m))
       → (digit : Bool) → is_ascii_digit b ≡ digit
-          → (if digit then digits_behind (n * 10 + (b - 48)) bs else None) ≡ Some m
+      → (if digit then digits_behind (n * 10 + (b - 48)) bs else None) ≡ Some m
       → (all_ascii_digits (b ∷ bs) ≡ true) × (digits_value_after 10 n (b ∷ bs) ≡ m)
   go rest false is e = cc
   go rest true is e =
@@ -41,7 +41,7 @@ few_are b bs true n is first e =
     let few : length s ≤ 10 = grind (arith, is) in
     let small : digits_value 10 s < 2 ^ 64 = omega (arith, digits_value_short own s 10 read.0 few) in
     let one : get_or s 0 0 ≡ 48 → length s ≡ 1 = λ zero. let t : (b == 48) ≡ true =
-        eq-eqb b 48 zero in let f : true ≡ false = sym t ∙ first in cc in
+    eq-eqb b 48 zero in let f : true ≡ false = sym t ∙ first in cc in
     let shown : decimal (digits_value 10 s) ≡ s = decimal-digits_value own s read.0 (omega arith) one small in
     (ap decimal (sym read.1) ∙ shown, subst (λ m. m < 2 ^ 64) read.1 small)
 

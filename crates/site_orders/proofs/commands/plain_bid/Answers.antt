@@ -18,4 +18,4 @@ returns-in-Some c =
     ap (λ o. command_of o c.args.bytes.now) c.in-Bid.is
     ∙ ap (λ o. or_no_object o >>= fields_in (order.Bid c.in-Bid.item)) c.in-Some.ensures
     ∙ ap (λ o. or_wrong field.Maximum o >>= (λ maximum. Ok (command.Bid c.in-Bid.item maximum))) (whole_lone
-        (codes "maximum") c.in-Some.maximum)
+    (codes "maximum") c.in-Some.maximum)
