@@ -1,9 +1,9 @@
 //! Where bytes come from and where they go.
 //!
 //! Promised: a call says how many bytes moved, in their order and none twice, and answers `Failure`
-//! exactly where the device is failed as the call ends; a device that failed stays failed. No call
-//! but a `MemorySink`'s takes memory. Read `source` and `sink` first, the two traits, and then
-//! `writing`, which gathers what it is given.
+//! exactly where the device is failed as the call ends; a device that failed stays failed. A flush
+//! that goes well hands on all that was taken. No call but a `MemorySink`'s takes memory. Read
+//! `source` and `sink` first, the two traits, and then `writing`, which gathers what it is given.
 #![tactic(auto)]
 
 mod calls;

@@ -2,6 +2,7 @@
 ghost use Rattle.std.specs.Prelude.{◌≡◌, ◌≤◌, ◌<◌, ◌-◌, ◌↔◌, ◌⊎◌, ℕ, List, [], Option, Some, None, true, false, length, min, IfOk, OnOk, IsErr};
 ghost use Rattle.std.specs.Io.KnownBytes.{Keeps, WriteAppends};
 ghost use Rattle.device.specs.Calls.{one_less};
+ghost use Rattle.device.specs.Given.{IsBeginning};
 
 use crate::calls::one_less;
 use crate::failure::Failure;
@@ -71,9 +72,12 @@ impl MemorySink {
 }
 
 impl Sink for MemorySink {
+    ghost use Rattle.std.proofs.KnownBytes.{Appends-nil};
     ghost use Rattle.device.specs.MemorySink.{bytes_taken, good_calls, has_failed, piece_of};
 
     ghost taken = { λ s. Some (bytes_taken s) };
+
+    ghost handed_on = { λ s. Some (bytes_taken s) };
 
     ghost has_failed = { λ s. s.failed };
 
@@ -81,6 +85,7 @@ impl Sink for MemorySink {
         ensures bound { IfOk result (λ n. n ≤ length bytes.now) }
         ensures some { IfOk result (λ n. 0 < length bytes.now → 0 < n) }
         ensures bytes { WriteAppends (Some (bytes_taken self.old)) (Some (bytes_taken self.new)) result bytes.now }
+        ensures front { IsBeginning (Some (bytes_taken self.old)) (Some (bytes_taken self.new)) }
         ensures failed { IsErr result ↔ (has_failed self.new ≡ true) }
         ensures stays { has_failed self.old ≡ true → has_failed self.new ≡ true }
         ensures fails { good_calls self.old ≡ Some 0 → IsErr result }
@@ -103,10 +108,13 @@ impl Sink for MemorySink {
 
     fn flush(&mut self) -> Result<(), Failure>
         ensures bytes { Keeps (Some (bytes_taken self.old)) (Some (bytes_taken self.new)) }
+        ensures front { IsBeginning (Some (bytes_taken self.old)) (Some (bytes_taken self.new)) }
         ensures failed { IsErr result ↔ (has_failed self.new ≡ true) }
         ensures stays { has_failed self.old ≡ true → has_failed self.new ≡ true }
         ensures same { self.new ≡ self.old }
     {
         if self.failed { Err(Failure) } else { Ok(()) }
     }
+
+    ghost ordered = { λ s. ([], Appends-nil (Some (bytes_taken s))) };
 }

@@ -1,6 +1,7 @@
 //! The bytes that a gathering sink holds, in an array of its own.
 ghost use Rattle.std.specs.Prelude.{◌≡◌, ◌+◌, ◌≤◌, ◌↔◌, ℕ, List, [], ◌++◌, length, take, drop, min, OnOk, IsTrue};
 ghost use Rattle.std.specs.Io.KnownBytes.{Keeps, append_known};
+ghost use Rattle.device.specs.Given.{IsBeginning};
 
 use crate::failure::Failure;
 use std::io::Write;
@@ -76,6 +77,7 @@ impl Room {
         ensures room { OnOk result (room self.new ≡ 8192) }
         ensures bytes { Keeps (append_known (W.contents writer.old) (items self.old))
             (append_known (W.contents writer.new) (items self.new)) }
+        ensures front { IsBeginning (W.contents writer.old) (W.contents writer.new) }
     {
         while !self.is_empty() {
             match writer.write(self.as_slice()) {

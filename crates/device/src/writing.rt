@@ -1,6 +1,7 @@
 //! A writer of std as a gathering sink.
 ghost use Rattle.std.specs.Prelude.{◌≡◌, ◌+◌, ◌≤◌, ◌<◌, ℕ, List, [], Option, Ok, true, false, length, OnOk, IfOk, IsErr, ◌↔◌};
 ghost use Rattle.std.specs.Io.KnownBytes.{Keeps, WriteAppends, append_known};
+ghost use Rattle.device.specs.Given.{IsBeginning};
 
 use crate::failure::Failure;
 use crate::room::{Room, SIZE};
@@ -19,7 +20,7 @@ pub struct Writing<W: Write> {
 }
 
 impl<W: Write> Writing<W> {
-    ghost use Rattle.device.specs.Writing.{held_of, room_of, taken_of, writer_of, writing_has_failed};
+    ghost use Rattle.device.specs.Writing.{handed_on_of, held_of, room_of, taken_of, writer_of, writing_has_failed};
 
     /// The writer as a sink that holds nothing and has not failed.
     pub fn new(writer: W) -> Writing<W>
@@ -41,6 +42,8 @@ impl<W: Write> Writing<W> {
         ensures held { OnOk result (held_of self.new ≡ []) }
         ensures room { OnOk result (room_of self.new ≡ 8192) }
         ensures bytes { Keeps (taken_of W.contents self.old) (taken_of W.contents self.new) }
+        ensures front { IsBeginning (handed_on_of W.contents self.old)
+            (handed_on_of W.contents self.new) }
         ensures failed { IsErr result ↔ (writing_has_failed self.new ≡ true) }
     {
         let outcome = self.held.write_to(&mut self.writer);
@@ -56,6 +59,8 @@ impl<W: Write> Writing<W> {
         ensures bound { IfOk result (λ n. n ≤ length bytes.now) }
         ensures some { IfOk result (λ n. 0 < n) }
         ensures bytes { WriteAppends (taken_of W.contents self.old) (taken_of W.contents self.new) result bytes.now }
+        ensures front { IsBeginning (handed_on_of W.contents self.old)
+            (handed_on_of W.contents self.new) }
         ensures failed { IsErr result ↔ (writing_has_failed self.new ≡ true) }
     {
         match self.writer.write(bytes) {
@@ -69,9 +74,11 @@ impl<W: Write> Writing<W> {
 }
 
 impl<W: Write> Sink for Writing<W> {
-    ghost use Rattle.device.specs.Writing.{Gathers, held_of, room_of, taken_of, writing_has_failed};
+    ghost use Rattle.device.specs.Writing.{Gathers, handed_on_of, held_of, room_of, taken_of, taken_of-held, writing_has_failed};
 
     ghost taken = { taken_of W.contents };
+
+    ghost handed_on = { handed_on_of W.contents };
 
     ghost has_failed = { λ s. s.failed };
 
@@ -79,6 +86,8 @@ impl<W: Write> Sink for Writing<W> {
         ensures bound { IfOk result (λ n. n ≤ length bytes.now) }
         ensures some { IfOk result (λ n. 0 < length bytes.now → 0 < n) }
         ensures bytes { WriteAppends (taken_of W.contents self.old) (taken_of W.contents self.new) result bytes.now }
+        ensures front { IsBeginning (handed_on_of W.contents self.old)
+            (handed_on_of W.contents self.new) }
         ensures failed { IsErr result ↔ (writing_has_failed self.new ≡ true) }
         ensures stays { writing_has_failed self.old ≡ true → writing_has_failed self.new ≡ true }
 
@@ -99,7 +108,11 @@ impl<W: Write> Sink for Writing<W> {
     }
 
     fn flush(&mut self) -> Result<(), Failure>
+        ensures all { OnOk result
+            (handed_on_of W.contents self.new ≡ taken_of W.contents self.new) }
         ensures bytes { Keeps (taken_of W.contents self.old) (taken_of W.contents self.new) }
+        ensures front { IsBeginning (handed_on_of W.contents self.old)
+            (handed_on_of W.contents self.new) }
         ensures failed { IsErr result ↔ (writing_has_failed self.new ≡ true) }
         ensures stays { writing_has_failed self.old ≡ true → writing_has_failed self.new ≡ true }
         ensures held { OnOk result (held_of self.new ≡ []) }
@@ -112,4 +125,6 @@ impl<W: Write> Sink for Writing<W> {
         self.failed = self.writer.flush().is_err();
         if self.failed { Err(Failure) } else { Ok(()) }
     }
+
+    ghost ordered = { λ s. (held_of s, taken_of-held W.contents s) };
 }
