@@ -1,5 +1,5 @@
 -- The text of a page, and what a buffer has once it is shown.
-use Rattle.std.specs.Prelude.{◌≡◌, ◌++◌, ℕ, List, Result, Ok, Err}
+use Rattle.std.specs.Prelude.{◌≡◌, ◌++◌, ℕ, List, Bool, true, false, Result, Ok, Err}
 use Rattle.settle.specs.declared.zone.Zone.{Zone}
 use Rattle.house_rows.specs.declared.page.Page.{Page}
 use Rattle.house_rows.specs.declared.page.Page.TheVariants.{Refused}
@@ -8,6 +8,8 @@ use Rattle.house_rows.specs.declared.refusal.Refusal.{Refusal}
 use Rattle.house_rows.specs.declared.settings.Settings.{Settings}
 use Rattle.house_rows.specs.History.{History}
 use Rattle.house_rows.specs.Pages.{page_of}
+use Rattle.serde_json.specs.View.{view}
+use Rattle.serde_json.specs.declared.value.Value.{Value}
 use Rattle.pages_json.specs.Words.{text_of}
 use Rattle.pages_text.specs.Trees.{page_tree}
 
@@ -15,7 +17,18 @@ use Rattle.pages_text.specs.Trees.{page_tree}
 abbrev pub shown_text : Settings → Zone → History → ℕ → Query → List ℕ
 shown_text settings zone h caller query = text_of (page_tree zone settings.rate (page_of settings h caller query))
 
+-- whether a page tells why nothing is shown
+abbrev pub is_refused : Page → Bool
+is_refused (Refused refusal) = true
+is_refused _ = false
+
 -- the text of the page stands behind what was there, or the read is refused and nothing does
 abbrev pub IsTold : Zone → ℕ → Page → Result (Unit {0}) Refusal → List ℕ → List ℕ → Type 0
-IsTold zone rate page (Ok u) old new = new ≡ old ++ text_of (page_tree zone rate page)
+IsTold zone rate page (Ok u) old new =
+    (is_refused page ≡ false) × (new ≡ old ++ text_of (page_tree zone rate page))
 IsTold zone rate page (Err refusal) old new = (page ≡ Refused refusal) × (new ≡ old)
+
+-- what is made is the tree of the page, or the read is refused
+abbrev pub IsGrown : Zone → ℕ → Page → Result Value Refusal → Type 0
+IsGrown zone rate page (Ok v) = (is_refused page ≡ false) × (view v ≡ page_tree zone rate page)
+IsGrown zone rate page (Err refusal) = page ≡ Refused refusal

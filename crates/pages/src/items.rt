@@ -47,7 +47,7 @@ pub(crate) fn items_in<K: Keep>(
     ensures faults { Faults result (K.is_honest keep.new) (K.is_failed keep.new) (K.content keep.old) }
     ensures read { IsRead K.content K.is_failed K.is_honest K.may_leave keep.old keep.new }
 {
-    if keep.category(category)?.is_none() {
+    if !keep.has_category(category)? {
         return Ok(Page::Refused(Refusal::Unknown));
     }
     let items = keep.items_in(category, from)?;

@@ -47,7 +47,7 @@ pub(crate) fn feedback_to<K: Keep>(keep: &mut K, member: u64, from: u64) -> Resu
     ensures faults { Faults result (K.is_honest keep.new) (K.is_failed keep.new) (K.content keep.old) }
     ensures read { IsRead K.content K.is_failed K.is_honest K.may_leave keep.old keep.new }
 {
-    if keep.member(member)?.is_none() {
+    if !keep.has_member(member)? {
         return Ok(Page::Refused(Refusal::Unknown));
     }
     Ok(Page::Feedbacks(Rows::new(keep.feedback_for(member, from)?)))

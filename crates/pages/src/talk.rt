@@ -7,9 +7,6 @@ ghost use Rattle.pages_text.specs.Fits.{PageFits};
 
 use house_rows::{Keep, KeepFault, Page, Refusal, Rows};
 
-// How many entries a list shows at most.
-const MOST_SHOWN: usize = 50;
-
 // The published questions on an item.
 #[tactic(auto, unfolding(pages_laws::specs::ByTables::shown_by))]
 pub(crate) fn published<K: Keep>(keep: &mut K, item: u64, from: u64) -> Result<Page, KeepFault>
@@ -46,7 +43,5 @@ pub(crate) fn waiting<K: Keep>(keep: &mut K, caller: u64) -> Result<Page, KeepFa
     ensures faults { Faults result (K.is_honest keep.new) (K.is_failed keep.new) (K.content keep.old) }
     ensures read { IsRead K.content K.is_failed K.is_honest K.may_leave keep.old keep.new }
 {
-    let mut questions = keep.waiting_for(caller)?;
-    questions.truncate(MOST_SHOWN);
-    Ok(Page::Questions(Rows::new(questions)))
+    Ok(Page::Questions(Rows::new(keep.first_waiting(caller)?)))
 }

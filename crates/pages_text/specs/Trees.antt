@@ -1,5 +1,5 @@
 -- The tree of everything that is shown. Keys stand in byte order.
-use Rattle.std.specs.Prelude.{ℕ, ℤ, pos, negsuc, List, [], ◌∷◌, ◌++◌, Bool, if◌then◌else◌, codes, Option, Some, None}
+use Rattle.std.specs.Prelude.{ℕ, ℤ, pos, negsuc, List, [], ◌∷◌, Bool, if◌then◌else◌, codes, Option, Some, None}
 use Rattle.serde_json.specs.Data.{Data, boolean, string}
 use Rattle.settle.specs.Calendar.{day_text}
 use Rattle.settle.specs.Statement.{Account, statement_of, totals_of}
@@ -111,18 +111,17 @@ rated_tree m r = object_of (
 unfoldable pub role_of : Bool → List ℕ
 role_of sell = if sell then codes "sell" else codes "buy"
 
-abbrev pub numbers_of : Line → List (List ℕ × Data)
-numbers_of line =
-    (codes "fee", whole line.fee)
+-- a line, whose day and role are written so
+abbrev pub line_with : List ℕ → List ℕ → Line → Data
+line_with day role line = object_of (
+    (codes "day", string day)
+    ∷ (codes "fee", whole line.fee)
     ∷ (codes "item", whole line.item)
     ∷ (codes "net", whole line.net)
     ∷ (codes "other", whole line.other)
-    ∷ (codes "price", whole line.price) ∷ []
-
--- a line, whose day and role are written so
-abbrev pub line_with : List ℕ → List ℕ → Line → Data
-line_with day role line =
-    object_of ((codes "day", string day) ∷ [] ++ (numbers_of line ++ (codes "role", string role) ∷ []))
+    ∷ (codes "price", whole line.price)
+    ∷ (codes "role", string role) ∷ []
+    )
 
 abbrev pub line_tree : Line → Data
 line_tree line = line_with (day_text line.day) (role_of line.sell) line

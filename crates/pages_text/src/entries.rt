@@ -1,11 +1,25 @@
 //! Entries that stand on pages as they are.
-ghost use Rattle.std.specs.Prelude.{◌≡◌};
-ghost use Rattle.pages_text.specs.Trees.{rating_value};
+ghost use Rattle.std.specs.Prelude.{◌≡◌, map};
+ghost use Rattle.pages_json.specs.Fields.{member_of};
+ghost use Rattle.pages_json.specs.Words.{AreInOrder, object_of};
+ghost use Rattle.pages_text.specs.Trees.{band_tree, category_tree, feedback_tree, member_tree, own_bid_tree, question_tree, rating_value};
 
 use house_rows::{Category, Feedback, Member, OwnBid, Question, Rating, Text};
 use json::Writer;
-use pages_json::{Field, Shows, put_object};
-use std::alloc::AllocError;
+use pages_json::{Field, Grows, Shows, grow_object, put_object};
+use serde_json::Value;
+use std::alloc::{AllocError, Global};
+
+// The keys of a band, and what they have.
+fn band_fields(band: &(u64, u64)) -> [(&'static str, Field<'_>); 2]
+    ensures tree { object_of (map member_of result) ≡ band_tree band.now }
+    ensures order { AreInOrder (map member_of result) }
+{
+    [
+        ("at", Field::Number(band.0)),
+        ("step", Field::Number(band.1)),
+    ]
+}
 
 /// Bands, each as (at, step).
 #[derive(Clone, Copy)]
@@ -17,14 +31,25 @@ impl Shows<(u64, u64)> for AsBands {
     ghost tree = { λ _ band. band_tree band };
 
     fn put(&self, w: &mut Writer, band: &(u64, u64)) -> Result<(), AllocError> {
-        put_object(
-            w,
-            &[
-                ("at", Field::Number(band.0)),
-                ("step", Field::Number(band.1)),
-            ],
-        )
+        put_object(w, &band_fields(band))
     }
+}
+
+impl Grows<(u64, u64)> for AsBands {
+    fn grow(&self, alloc: Global, band: &(u64, u64)) -> Result<Value, AllocError> {
+        grow_object(alloc, &band_fields(band))
+    }
+}
+
+// The keys of a category, and what they have.
+fn category_fields(category: &Category) -> [(&'static str, Field<'_>); 2]
+    ensures tree { object_of (map member_of result) ≡ category_tree category.now }
+    ensures order { AreInOrder (map member_of result) }
+{
+    [
+        ("category", Field::Number(u64::from(category.category))),
+        ("name", Field::Text(category.name.as_str())),
+    ]
 }
 
 /// Categories.
@@ -37,14 +62,25 @@ impl Shows<Category> for AsCategories {
     ghost tree = { λ _ k. category_tree k };
 
     fn put(&self, w: &mut Writer, category: &Category) -> Result<(), AllocError> {
-        put_object(
-            w,
-            &[
-                ("category", Field::Number(u64::from(category.category))),
-                ("name", Field::Text(category.name.as_str())),
-            ],
-        )
+        put_object(w, &category_fields(category))
     }
+}
+
+impl Grows<Category> for AsCategories {
+    fn grow(&self, alloc: Global, category: &Category) -> Result<Value, AllocError> {
+        grow_object(alloc, &category_fields(category))
+    }
+}
+
+// The keys of a member, as the record shows it, and what they have.
+fn member_fields(member: &Member) -> [(&'static str, Field<'_>); 2]
+    ensures tree { object_of (map member_of result) ≡ member_tree member.now }
+    ensures order { AreInOrder (map member_of result) }
+{
+    [
+        ("member", Field::Number(u64::from(member.member))),
+        ("name", Field::Text(member.name.as_str())),
+    ]
 }
 
 /// Members, as the record shows them.
@@ -57,14 +93,29 @@ impl Shows<Member> for AsMembers {
     ghost tree = { λ _ m. member_tree m };
 
     fn put(&self, w: &mut Writer, member: &Member) -> Result<(), AllocError> {
-        put_object(
-            w,
-            &[
-                ("member", Field::Number(u64::from(member.member))),
-                ("name", Field::Text(member.name.as_str())),
-            ],
-        )
+        put_object(w, &member_fields(member))
     }
+}
+
+impl Grows<Member> for AsMembers {
+    fn grow(&self, alloc: Global, member: &Member) -> Result<Value, AllocError> {
+        grow_object(alloc, &member_fields(member))
+    }
+}
+
+// The keys of what a member has bid on an item, and what they have.
+fn own_bid_fields(bid: &OwnBid) -> [(&'static str, Field<'_>); 6]
+    ensures tree { object_of (map member_of result) ≡ own_bid_tree bid.now }
+    ensures order { AreInOrder (map member_of result) }
+{
+    [
+        ("item", Field::Number(u64::from(bid.item))),
+        ("leading", Field::Flag(bid.leading)),
+        ("maximum", Field::Number(bid.maximum.value())),
+        ("mine", Field::Number(bid.mine)),
+        ("price", Field::Number(bid.price.value())),
+        ("state", Field::Text(bid.state.name())),
+    ]
 }
 
 /// What a member has bid, an item each.
@@ -77,18 +128,31 @@ impl Shows<OwnBid> for AsOwnBids {
     ghost tree = { λ _ b. own_bid_tree b };
 
     fn put(&self, w: &mut Writer, bid: &OwnBid) -> Result<(), AllocError> {
-        put_object(
-            w,
-            &[
-                ("item", Field::Number(u64::from(bid.item))),
-                ("leading", Field::Flag(bid.leading)),
-                ("maximum", Field::Number(bid.maximum.value())),
-                ("mine", Field::Number(bid.mine)),
-                ("price", Field::Number(bid.price.value())),
-                ("state", Field::Text(bid.state.name())),
-            ],
-        )
+        put_object(w, &own_bid_fields(bid))
     }
+}
+
+impl Grows<OwnBid> for AsOwnBids {
+    fn grow(&self, alloc: Global, bid: &OwnBid) -> Result<Value, AllocError> {
+        grow_object(alloc, &own_bid_fields(bid))
+    }
+}
+
+// The keys of a question, and what they have.
+fn question_fields(question: &Question) -> [(&'static str, Field<'_>); 5]
+    ensures tree { object_of (map member_of result) ≡ question_tree question.now }
+    ensures order { AreInOrder (map member_of result) }
+{
+    [
+        (
+            "answer",
+            Field::MaybeText(question.answer.as_ref().map(Text::as_str)),
+        ),
+        ("asker", Field::Number(u64::from(question.asker))),
+        ("item", Field::Number(u64::from(question.item))),
+        ("number", Field::Number(u64::from(question.number))),
+        ("text", Field::Text(question.text.as_str())),
+    ]
 }
 
 /// Questions.
@@ -101,19 +165,13 @@ impl Shows<Question> for AsQuestions {
     ghost tree = { λ _ q. question_tree q };
 
     fn put(&self, w: &mut Writer, question: &Question) -> Result<(), AllocError> {
-        put_object(
-            w,
-            &[
-                (
-                    "answer",
-                    Field::MaybeText(question.answer.as_ref().map(Text::as_str)),
-                ),
-                ("asker", Field::Number(u64::from(question.asker))),
-                ("item", Field::Number(u64::from(question.item))),
-                ("number", Field::Number(u64::from(question.number))),
-                ("text", Field::Text(question.text.as_str())),
-            ],
-        )
+        put_object(w, &question_fields(question))
+    }
+}
+
+impl Grows<Question> for AsQuestions {
+    fn grow(&self, alloc: Global, question: &Question) -> Result<Value, AllocError> {
+        grow_object(alloc, &question_fields(question))
     }
 }
 
@@ -128,6 +186,20 @@ pub(crate) fn rating_value(rating: Rating) -> i64
     }
 }
 
+// The keys of feedback, and what they have.
+fn feedback_fields(feedback: &Feedback) -> [(&'static str, Field<'_>); 5]
+    ensures tree { object_of (map member_of result) ≡ feedback_tree feedback.now }
+    ensures order { AreInOrder (map member_of result) }
+{
+    [
+        ("from", Field::Number(u64::from(feedback.from))),
+        ("item", Field::Number(u64::from(feedback.item))),
+        ("rating", Field::Integer(rating_value(feedback.rating))),
+        ("text", Field::Text(feedback.text.as_str())),
+        ("to", Field::Number(u64::from(feedback.to))),
+    ]
+}
+
 /// Feedback.
 #[derive(Clone, Copy)]
 pub struct AsFeedback;
@@ -138,15 +210,12 @@ impl Shows<Feedback> for AsFeedback {
     ghost tree = { λ _ f. feedback_tree f };
 
     fn put(&self, w: &mut Writer, feedback: &Feedback) -> Result<(), AllocError> {
-        put_object(
-            w,
-            &[
-                ("from", Field::Number(u64::from(feedback.from))),
-                ("item", Field::Number(u64::from(feedback.item))),
-                ("rating", Field::Integer(rating_value(feedback.rating))),
-                ("text", Field::Text(feedback.text.as_str())),
-                ("to", Field::Number(u64::from(feedback.to))),
-            ],
-        )
+        put_object(w, &feedback_fields(feedback))
+    }
+}
+
+impl Grows<Feedback> for AsFeedback {
+    fn grow(&self, alloc: Global, feedback: &Feedback) -> Result<Value, AllocError> {
+        grow_object(alloc, &feedback_fields(feedback))
     }
 }

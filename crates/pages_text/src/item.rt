@@ -1,14 +1,16 @@
 //! Items.
-ghost use Rattle.std.specs.Prelude.{◌≡◌, ◌++◌, OnOk};
+ghost use Rattle.std.specs.Prelude.{◌≡◌, map};
 ghost use Rattle.house_rows.specs.Items.{floor_of};
-ghost use Rattle.pages_json.specs.Words.{tokens_of};
+ghost use Rattle.pages_json.specs.Fields.{member_of};
+ghost use Rattle.pages_json.specs.Words.{AreInOrder, object_of};
 ghost use Rattle.pages_text.specs.Trees.{item_tree};
 
 use cents::Cents;
 use house_rows::{Item, ItemShown, Settings, State, Terms};
 use json::Writer;
-use pages_json::{Field, Shows, put_object};
-use std::alloc::AllocError;
+use pages_json::{Field, Grows, Shows, grow_object, put_object};
+use serde_json::Value;
+use std::alloc::{AllocError, Global};
 use steps::Bands;
 
 /// The floor that is shown, in cents: none unless the item is open.
@@ -24,33 +26,30 @@ pub fn floor(bands: &Bands, terms: &Terms) -> Option<u64>
     Some(bands.over(terms.price))
 }
 
-// Appends an item with the floor that is shown of it.
-fn put_item(w: &mut Writer, item: &Item, floor: Option<u64>) -> Result<(), AllocError>
-    ensures tokens { OnOk result (w.new.tokens ≡ w.old.tokens
-        ++ tokens_of (item_tree (record { item = item.now; floor = floor }))) }
-    ensures before { w.new.before ≡ w.old.before }
+// The keys of an item with the floor that is shown of it, and what they have.
+fn item_fields(item: &Item, floor: Option<u64>) -> [(&'static str, Field<'_>); 15]
+    ensures tree { object_of (map member_of result)
+        ≡ item_tree (record { item = item.now; floor = floor }) }
+    ensures order { AreInOrder (map member_of result) }
 {
     let terms = &item.terms;
-    put_object(
-        w,
-        &[
-            ("buy_now", Field::Maybe(terms.buy_now.map(Cents::value))),
-            ("category", Field::Number(u64::from(terms.category))),
-            ("closed", Field::Maybe(terms.closed)),
-            ("count", Field::Number(u64::from(terms.count))),
-            ("end", Field::Number(terms.end)),
-            ("floor", Field::Maybe(floor)),
-            ("item", Field::Number(u64::from(terms.item))),
-            ("leader", Field::Maybe(terms.leader.map(u64::from))),
-            ("lot", Field::Text(item.lot.as_str())),
-            ("price", Field::Number(terms.price.value())),
-            ("seller", Field::Number(u64::from(terms.seller))),
-            ("start", Field::Number(terms.start.value())),
-            ("state", Field::Text(terms.state.name())),
-            ("text", Field::Text(item.text.as_str())),
-            ("title", Field::Text(item.title.as_str())),
-        ],
-    )
+    [
+        ("buy_now", Field::Maybe(terms.buy_now.map(Cents::value))),
+        ("category", Field::Number(u64::from(terms.category))),
+        ("closed", Field::Maybe(terms.closed)),
+        ("count", Field::Number(u64::from(terms.count))),
+        ("end", Field::Number(terms.end)),
+        ("floor", Field::Maybe(floor)),
+        ("item", Field::Number(u64::from(terms.item))),
+        ("leader", Field::Maybe(terms.leader.map(u64::from))),
+        ("lot", Field::Text(item.lot.as_str())),
+        ("price", Field::Number(terms.price.value())),
+        ("seller", Field::Number(u64::from(terms.seller))),
+        ("start", Field::Number(terms.start.value())),
+        ("state", Field::Text(terms.state.name())),
+        ("text", Field::Text(item.text.as_str())),
+        ("title", Field::Text(item.title.as_str())),
+    ]
 }
 
 /// Items with the floor that is shown of each.
@@ -63,7 +62,13 @@ impl Shows<ItemShown> for AsItems {
     ghost tree = { λ _ it. item_tree it };
 
     fn put(&self, w: &mut Writer, shown: &ItemShown) -> Result<(), AllocError> {
-        put_item(w, &shown.item, shown.floor)
+        put_object(w, &item_fields(&shown.item, shown.floor))
+    }
+}
+
+impl Grows<ItemShown> for AsItems {
+    fn grow(&self, alloc: Global, shown: &ItemShown) -> Result<Value, AllocError> {
+        grow_object(alloc, &item_fields(&shown.item, shown.floor))
     }
 }
 
@@ -81,6 +86,14 @@ impl Shows<Item> for BySettings<'_> {
     ghost tree = { λ by it. item_tree (shown by.settings.now it) };
 
     fn put(&self, w: &mut Writer, item: &Item) -> Result<(), AllocError> {
-        put_item(w, item, floor(&self.settings.bands, &item.terms))
+        let floor = floor(&self.settings.bands, &item.terms);
+        put_object(w, &item_fields(item, floor))
+    }
+}
+
+impl Grows<Item> for BySettings<'_> {
+    fn grow(&self, alloc: Global, item: &Item) -> Result<Value, AllocError> {
+        let floor = floor(&self.settings.bands, &item.terms);
+        grow_object(alloc, &item_fields(item, floor))
     }
 }

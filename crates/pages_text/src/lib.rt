@@ -1,11 +1,12 @@
-//! What the house shows, as JSON: the tree of everything that is shown, and its text, which is
-//! written with no tree in memory. No keep is known here.
+//! What the house shows, as JSON: the tree of everything that is shown, its text, which is written
+//! with no tree in memory, and of a page the tree itself. No keep is known here.
 //!
-//! Promised: what is appended is the compact text of its tree, whole or not at all. Read
-//! `specs/Trees.antt` first.
+//! Promised: what is appended is the compact text of its tree, whole or not at all, and what is
+//! grown is the tree. Read `specs/Trees.antt` first.
 #![tactic(auto)]
 
 mod entries;
+mod fault;
 mod item;
 mod page;
 mod refused;
@@ -13,7 +14,8 @@ mod statement;
 mod told;
 
 pub use entries::{AsBands, AsCategories, AsFeedback, AsMembers, AsOwnBids, AsQuestions};
+pub use fault::PageFault;
 pub use item::{AsItems, BySettings, floor};
-pub use page::append_page;
+pub use page::{append_page, grow_page};
 pub use refused::{AsFaults, AsRefusals};
 pub use told::AsTold;

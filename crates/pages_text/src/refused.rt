@@ -1,11 +1,15 @@
 //! Why nothing is shown or done.
-ghost use Rattle.std.specs.Prelude.{◌≡◌};
-ghost use Rattle.pages_text.specs.Trees.{fault_word, floor_told};
+ghost use Rattle.std.specs.Prelude.{◌≡◌, map, Some, None};
+ghost use Rattle.house_rows.specs.Names.{refusal_name, refusal_number};
+ghost use Rattle.pages_json.specs.Fields.{member_of};
+ghost use Rattle.pages_json.specs.Words.{AreInOrder, object_of};
+ghost use Rattle.pages_text.specs.Trees.{fault_word, floor_told, refused_with};
 
 use house_rows::{KeepFault, Refusal};
 use json::Writer;
-use pages_json::{Field, Shows, put_object};
-use std::alloc::AllocError;
+use pages_json::{Field, Grows, Shows, grow_object, put_object};
+use serde_json::Value;
+use std::alloc::{AllocError, Global};
 
 // The floor that is told of a bid under it, in cents.
 fn floor_told(refusal: Refusal) -> Option<u64>
@@ -15,6 +19,31 @@ fn floor_told(refusal: Refusal) -> Option<u64>
         Refusal::Low { floor } => Some(floor),
         _ => None,
     }
+}
+
+// The keys of a refusal that tells no floor, and what they have.
+fn plain_fields(refusal: Refusal) -> [(&'static str, Field<'static>); 2]
+    ensures tree { object_of (map member_of result)
+        ≡ refused_with (refusal_name refusal) (refusal_number refusal) None }
+    ensures order { AreInOrder (map member_of result) }
+{
+    [
+        ("error", Field::Text(refusal.name())),
+        ("number", Field::Number(u64::from(refusal.number()))),
+    ]
+}
+
+// And those of one that tells it.
+fn fields_with(refusal: Refusal, floor: u64) -> [(&'static str, Field<'static>); 3]
+    ensures tree { object_of (map member_of result)
+        ≡ refused_with (refusal_name refusal) (refusal_number refusal) (Some floor) }
+    ensures order { AreInOrder (map member_of result) }
+{
+    [
+        ("error", Field::Text(refusal.name())),
+        ("floor", Field::Number(floor)),
+        ("number", Field::Number(u64::from(refusal.number()))),
+    ]
 }
 
 /// Refusals.
@@ -27,24 +56,18 @@ impl Shows<Refusal> for AsRefusals {
     ghost tree = { λ _ refusal. refusal_tree refusal };
 
     fn put(&self, w: &mut Writer, refusal: &Refusal) -> Result<(), AllocError> {
-        let name = refusal.name();
-        let number = u64::from(refusal.number());
         match floor_told(*refusal) {
-            None => put_object(
-                w,
-                &[
-                    ("error", Field::Text(name)),
-                    ("number", Field::Number(number)),
-                ],
-            ),
-            Some(floor) => put_object(
-                w,
-                &[
-                    ("error", Field::Text(name)),
-                    ("floor", Field::Number(floor)),
-                    ("number", Field::Number(number)),
-                ],
-            ),
+            None => put_object(w, &plain_fields(*refusal)),
+            Some(floor) => put_object(w, &fields_with(*refusal, floor)),
+        }
+    }
+}
+
+impl Grows<Refusal> for AsRefusals {
+    fn grow(&self, alloc: Global, refusal: &Refusal) -> Result<Value, AllocError> {
+        match floor_told(*refusal) {
+            None => grow_object(alloc, &plain_fields(*refusal)),
+            Some(floor) => grow_object(alloc, &fields_with(*refusal, floor)),
         }
     }
 }

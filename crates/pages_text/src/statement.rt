@@ -1,14 +1,18 @@
 //! Statements.
-ghost use Rattle.std.specs.Prelude.{◌≡◌, ◌++◌, ◌∷◌, [], ◌<◌, ◌^◌, OnOk};
-ghost use Rattle.serde_json.specs.Data.{string};
+ghost use Rattle.std.specs.Prelude.{◌≡◌, ◌++◌, ◌∷◌, [], ◌<◌, ◌^◌, IfOk, OnOk, codes, map};
+ghost use Rattle.serde_json.specs.View.{view};
 ghost use Rattle.settle.specs.Statement.{statement_of};
-ghost use Rattle.pages_json.specs.Words.{members_tokens, tokens_of};
-ghost use Rattle.pages_text.specs.Trees.{line_with, numbers_of, role_of, statement_from, statement_tree};
+ghost use Rattle.pages_json.specs.Fields.{member_of};
+ghost use Rattle.pages_json.specs.Words.{AreInOrder, object_of, tokens_of, whole};
+ghost use Rattle.pages_text.specs.Trees.{line_with, role_of, statement_from, statement_tree};
 ghost use Rattle.pages_text.specs.Fits.{AreSales};
 
 use house_rows::Rate;
 use json::Writer;
-use pages_json::{Field, Shows, put_members, put_object_around};
+use pages_json::{
+    Field, Grows, Shows, grow_object, grow_object_around, put_object, put_object_around,
+};
+use serde_json::Value;
 use settle::{Day, Line, Sold, Totals, Zone, lines};
 use std::alloc::{AllocError, Global};
 
@@ -26,47 +30,21 @@ fn role(sell: bool) -> &'static str
     if sell { "sell" } else { "buy" }
 }
 
-// Appends a key that has a text, without the brackets.
-#[tactic(auto, using(pages_json::proofs::Tokens::one_member), unfolding(pages_json::specs::Words::tokens_of))]
-fn put_text(w: &mut Writer, name: &str, text: &str) -> Result<(), AllocError>
-    ensures tokens { OnOk result
-        (w.new.tokens ≡ w.old.tokens ++ members_tokens ((name.now, string text.now) ∷ [])) }
-    ensures before { w.new.before ≡ w.old.before }
+// The keys of a line, whose day is written so, and what they have.
+fn line_fields<'d>(day: &'d str, line: &Line) -> [(&'static str, Field<'d>); 7]
+    ensures tree { object_of (map member_of result)
+        ≡ line_with day.now (role_of line.now.sell) line.now }
+    ensures order { AreInOrder (map member_of result) }
 {
-    w.key(name)?;
-    w.string(text)?;
-    Ok(())
-}
-
-// Appends a line, whose day is written so.
-fn put_line(w: &mut Writer, day: &str, line: &Line) -> Result<(), AllocError>
-    ensures tokens { OnOk result (w.new.tokens ≡ w.old.tokens
-        ++ tokens_of (line_with day.now (role_of line.now.sell) line.now)) }
-    ensures before { w.new.before ≡ w.old.before }
-{
-    w.begin_object()?;
-    put_text(w, "day", day)?;
-    put_numbers(w, line)?;
-    put_text(w, "role", role(line.sell))?;
-    w.end_object()?;
-    Ok(())
-}
-
-// Appends the numbers of a line, without the brackets.
-fn put_numbers(w: &mut Writer, line: &Line) -> Result<(), AllocError>
-    ensures tokens { OnOk result (w.new.tokens ≡ w.old.tokens ++ members_tokens (numbers_of line.now)) }
-    ensures before { w.new.before ≡ w.old.before }
-{
-    put_members(
-        w,
-        &[
-            ("fee", Field::Number(line.fee)),
-            ("item", Field::Number(u64::from(line.item))),
-            ("net", Field::Number(line.net)),
-            ("other", Field::Number(u64::from(line.other))),
-            ("price", Field::Number(line.price.value())),
-        ],
-    )
+    [
+        ("day", Field::Text(day)),
+        ("fee", Field::Number(line.fee)),
+        ("item", Field::Number(u64::from(line.item))),
+        ("net", Field::Number(line.net)),
+        ("other", Field::Number(u64::from(line.other))),
+        ("price", Field::Number(line.price.value())),
+        ("role", Field::Text(role(line.sell))),
+    ]
 }
 
 impl Shows<Line> for AsLines {
@@ -76,8 +54,39 @@ impl Shows<Line> for AsLines {
 
     fn put(&self, w: &mut Writer, line: &Line) -> Result<(), AllocError> {
         let day = format!(in self.alloc; "{}", line.day)?;
-        put_line(w, day.as_str(), line)
+        put_object(w, &line_fields(day.as_str(), line))
     }
+}
+
+impl Grows<Line> for AsLines {
+    fn grow(&self, alloc: Global, line: &Line) -> Result<Value, AllocError> {
+        let day = format!(in alloc; "{}", line.day)?;
+        grow_object(alloc, &line_fields(day.as_str(), line))
+    }
+}
+
+// The keys before the lines of a statement, and what they have.
+fn front_fields(totals: Totals) -> [(&'static str, Field<'static>); 2]
+    ensures { map member_of result
+        ≡ (codes "bought", whole totals.bought) ∷ (codes "fees", whole totals.fees) ∷ [] }
+{
+    [
+        ("bought", Field::Number(totals.bought)),
+        ("fees", Field::Number(totals.fees)),
+    ]
+}
+
+// And those behind them.
+fn back_fields(member: u64, totals: Totals) -> [(&'static str, Field<'static>); 3]
+    ensures { map member_of result
+        ≡ (codes "member", whole member) ∷ (codes "net", whole totals.net)
+        ∷ (codes "sold", whole totals.sold) ∷ [] }
+{
+    [
+        ("member", Field::Number(member)),
+        ("net", Field::Number(totals.net)),
+        ("sold", Field::Number(totals.sold)),
+    ]
 }
 
 // Appends a statement of these lines and totals.
@@ -94,18 +103,25 @@ fn put_rows(
 {
     put_object_around(
         w,
-        &[
-            ("bought", Field::Number(totals.bought)),
-            ("fees", Field::Number(totals.fees)),
-        ],
+        &front_fields(totals),
         "lines",
         &AsLines { alloc },
         rows,
-        &[
-            ("member", Field::Number(member)),
-            ("net", Field::Number(totals.net)),
-            ("sold", Field::Number(totals.sold)),
-        ],
+        &back_fields(member, totals),
+    )
+}
+
+// Makes a statement of these lines and totals.
+fn grow_rows(alloc: Global, member: u64, rows: &[Line], totals: Totals) -> Result<Value, AllocError>
+    ensures { IfOk result (λ v. view v ≡ statement_from member rows.now totals) }
+{
+    grow_object_around(
+        alloc,
+        &front_fields(totals),
+        "lines",
+        &AsLines { alloc },
+        rows,
+        &back_fields(member, totals),
     )
 }
 
@@ -133,6 +149,31 @@ pub(crate) fn put_statement(
     }
     match lines(alloc, sales, member as u32, from, to, zone, rate.value()) {
         Ok(statement) => put_rows(alloc, w, member, statement.rows(), statement.totals()),
+        Err(_) => Err(AllocError),
+    }
+}
+
+/// Makes the tree of the statement of a member for a period, made of its sales, likewise.
+#[tactic(auto, using(crate::proofs::Periods::no_rows))]
+pub(crate) fn grow_statement(
+    alloc: Global,
+    zone: &Zone,
+    rate: Rate,
+    member: u64,
+    from: Day,
+    to: Day,
+    sales: &[Sold],
+) -> Result<Value, AllocError>
+    requires member { member < 2 ^ 32 }
+    requires sales { AreSales sales.now }
+    ensures { IfOk result (λ v. view v
+        ≡ statement_tree (statement_of sales.now member from to zone.now rate)) }
+{
+    if to < from {
+        return grow_rows(alloc, member, &[], Totals::of(&[]));
+    }
+    match lines(alloc, sales, member as u32, from, to, zone, rate.value()) {
+        Ok(statement) => grow_rows(alloc, member, statement.rows(), statement.totals()),
         Err(_) => Err(AllocError),
     }
 }

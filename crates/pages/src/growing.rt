@@ -1,0 +1,58 @@
+//! The page of a read, as a tree.
+ghost use Rattle.std.specs.Prelude.{◌≡◌, IfOk};
+ghost use Rattle.house_rows.specs.declared.settings.Settings.{Settings as TheSettings};
+ghost use Rattle.house_rows.specs.History.{History};
+ghost use Rattle.house_rows.specs.Keeping.{IsRead};
+ghost use Rattle.house_rows.specs.Pages.{page_of};
+ghost use Rattle.house_rows.specs.Tables.{tables_of};
+ghost use Rattle.pages_laws.specs.ByTables.{page_by};
+ghost use Rattle.pages_text.specs.Faults.{PageFaults};
+ghost use Rattle.pages.specs.Showing.{IsGrown};
+
+use crate::reading::read_tables;
+use house_rows::{Keep, Page, Query, Refusal};
+use pages_text::{PageFault, grow_page};
+use serde_json::Value;
+use settle::Zone;
+use std::alloc::Global;
+
+/// Makes the tree of the page of a read, or tells why it is refused. A statement goes by the zone
+/// that is handed in.
+pub fn page<K: Keep>(
+    alloc: Global,
+    keep: &mut K,
+    zone: &Zone,
+    caller: u64,
+    query: &Query,
+) -> Result<Result<Value, Refusal>, PageFault>
+    ensures shown { K.is_honest keep.new → (settings : TheSettings) (h : History)
+        → K.content keep.old ≡ tables_of settings h
+        → IfOk result (λ told. IsGrown zone.now settings.rate
+        (page_of settings h caller query.now) told) }
+    ensures faults { PageFaults result (K.is_honest keep.new) (K.is_failed keep.new) (K.content keep.old) }
+    ensures read { IsRead K.content K.is_failed K.is_honest K.may_leave keep.old keep.new }
+{
+    page_tables(alloc, keep, zone, caller, query)
+}
+
+// The same by the tables.
+fn page_tables<K: Keep>(
+    alloc: Global,
+    keep: &mut K,
+    zone: &Zone,
+    caller: u64,
+    query: &Query,
+) -> Result<Result<Value, Refusal>, PageFault>
+    ensures shown { K.is_honest keep.new → IfOk result (λ told.
+        IsGrown zone.now (K.content keep.old).settings.rate
+        (page_by (K.content keep.old) caller query.now) told) }
+    ensures faults { PageFaults result (K.is_honest keep.new) (K.is_failed keep.new) (K.content keep.old) }
+    ensures read { IsRead K.content K.is_failed K.is_honest K.may_leave keep.old keep.new }
+{
+    let page = read_tables(alloc, keep, caller, query)?;
+    if let Page::Refused(refusal) = &page {
+        return Ok(Err(*refusal));
+    }
+    let rate = keep.settings()?.rate;
+    Ok(Ok(grow_page(alloc, zone, rate, &page)?))
+}
