@@ -1,0 +1,164 @@
+-- The status that a text tells, and that no reply is told with 500 or 503.
+use Rattle.std.proofs.Common.{◌≡◌, ℕ, List, Bool, Option, None, refl}
+use Rattle.std.specs.Prelude.{codes, false, true}
+use Rattle.std.specs.Str.{bytes_eq}
+use Rattle.house_rows.specs.declared.fault.KeepFault.TheVariants as keep_fault
+use Rattle.house_rows.specs.declared.page.Page.{Page}
+use Rattle.house_rows.specs.declared.page.Page.TheVariants as page
+use Rattle.house_rows.specs.declared.refusal.Refusal.{Refusal}
+use Rattle.house_rows.specs.declared.refusal.Refusal.TheVariants as refusal
+use Rattle.house_rows.specs.declared.reply.Reply.{Reply}
+use Rattle.house_rows.specs.declared.reply.Reply.TheVariants.{Done, Denied, Shows, Faulty}
+use Rattle.house_rows.specs.declared.told.Told.{Told}
+use Rattle.house_rows.specs.declared.told.Told.TheVariants as told
+use Rattle.house_rows.specs.Names.{refusal_status}
+use Rattle.settle.specs.declared.zone.Zone.{Zone}
+use Rattle.site_asks.specs.Faults.{status_of}
+use Rattle.site_asks.specs.declared.fault.Fault.{Fault}
+use Rattle.site_asks.specs.declared.fault.Fault.TheVariants as fault
+use Rattle.site_replies.specs.Texts.{IsServed, digits_in, fault_text, is_failure, is_refusal_of_memory, page_status, reply_status, reply_text, told_status}
+use Rattle.status.specs.declared.Status.{Status}
+use Rattle.status.specs.declared.Status.TheVariants.{Success, Created, BadRequest, Forbidden, NotFound, MethodNotAllowed, Conflict, ContentTooLarge, InternalServerError, NotImplemented, ServiceUnavailable}
+use Rattle.wire.specs.Answer.{answer_bytes, head_start, status_line}
+use Rattle.wire.specs.Fault as frame
+use Rattle.wire.specs.declared.fault.WireFault.{WireFault}
+use Rattle.wire.specs.declared.fault.WireFault.TheVariants as wire
+use Rattle.wire.specs.declared.methods.Methods.{Methods}
+
+-- the digits of a status
+abbrev digits_of : Status → List ℕ
+digits_of Success = codes "200"
+digits_of Created = codes "201"
+digits_of BadRequest = codes "400"
+digits_of Forbidden = codes "403"
+digits_of NotFound = codes "404"
+digits_of MethodNotAllowed = codes "405"
+digits_of Conflict = codes "409"
+digits_of ContentTooLarge = codes "413"
+digits_of InternalServerError = codes "500"
+digits_of NotImplemented = codes "501"
+digits_of ServiceUnavailable = codes "503"
+
+-- an answer has them at their place
+digits : (s : Status) (allow : Option Methods) (closes : Bool) (body : List ℕ)
+    → digits_in (answer_bytes s allow closes body) ≡ digits_of s
+unfolding digits_in answer_bytes head_start status_line
+digits Success allow closes body = refl
+digits Created allow closes body = refl
+digits BadRequest allow closes body = refl
+digits Forbidden allow closes body = refl
+digits NotFound allow closes body = refl
+digits MethodNotAllowed allow closes body = refl
+digits Conflict allow closes body = refl
+digits ContentTooLarge allow closes body = refl
+digits InternalServerError allow closes body = refl
+digits NotImplemented allow closes body = refl
+digits ServiceUnavailable allow closes body = refl
+
+-- neither 500 nor 503
+abbrev Serves : Status → Type 0
+Serves s =
+    (bytes_eq (digits_of s) (codes "500") ≡ false) × (bytes_eq (digits_of s) (codes "503") ≡ false)
+
+by_status : (s : Status) (allow : Option Methods) (closes : Bool) (body : List ℕ) → Serves s
+    → IsServed (answer_bytes s allow closes body)
+by_status s allow closes body serves = record {
+  not_failed = rw (digits s allow closes body) serves.0;
+  not_wanting = rw (digits s allow closes body) serves.1;
+}
+
+refusals : (r : Refusal) → Serves (refusal_status r)
+refusals refusal.NoCaller = (refl, refl)
+refusals refusal.HouseOnly = (refl, refl)
+refusals refusal.SellerOnly = (refl, refl)
+refusals refusal.Unknown = (refl, refl)
+refusals refusal.MomentBehind = (refl, refl)
+refusals refusal.Ended = (refl, refl)
+refusals refusal.NotOpen = (refl, refl)
+refusals refusal.OwnItem = (refl, refl)
+refusals (refusal.Low floor) = (refl, refl)
+refusals refusal.NotHigher = (refl, refl)
+refusals refusal.HasBids = (refl, refl)
+refusals refusal.NoBuyNow = (refl, refl)
+refusals refusal.LotExists = (refl, refl)
+refusals refusal.NameTaken = (refl, refl)
+refusals refusal.AlreadyAnswered = (refl, refl)
+refusals refusal.AlreadyGiven = (refl, refl)
+refusals refusal.NotParty = (refl, refl)
+refusals refusal.NotSold = (refl, refl)
+refusals refusal.Limit = (refl, refl)
+refusals refusal.Range = (refl, refl)
+
+frames : (f : WireFault) → Serves (frame.status_of f)
+frames wire.Head = (refl, refl)
+frames wire.Host = (refl, refl)
+frames wire.Transfer = (refl, refl)
+frames wire.Length = (refl, refl)
+frames wire.Size = (refl, refl)
+frames wire.End = (refl, refl)
+frames wire.Excess = (refl, refl)
+
+faults : (f : Fault) → Serves (status_of f)
+faults (fault.Frame f) = frames f
+faults fault.Path = (refl, refl)
+faults (fault.Method methods) = (refl, refl)
+faults fault.Member = (refl, refl)
+faults fault.Moment = (refl, refl)
+faults fault.Json = (refl, refl)
+faults (fault.Field f) = (refl, refl)
+faults fault.Date = (refl, refl)
+faults fault.Order = (refl, refl)
+
+tolds : (t : Told) → Serves (told_status t)
+tolds (told.Registered member) = (refl, refl)
+tolds (told.Added category) = (refl, refl)
+tolds (told.Listing item) = (refl, refl)
+tolds (told.Placed count floor leader price) = (refl, refl)
+tolds (told.Bought item price) = (refl, refl)
+tolds (told.Closed sold unsold) = (refl, refl)
+tolds (told.Settlement fee item net price) = (refl, refl)
+tolds (told.Watched item watched) = (refl, refl)
+tolds (told.Question asker item number) = (refl, refl)
+tolds (told.Rated item rating to) = (refl, refl)
+tolds told.Nothing = (refl, refl)
+
+pages : (p : Page) → Serves (page_status p)
+pages (page.Refused r) = refusals r
+pages (page.House counts clock rate zone) = (refl, refl)
+pages (page.Bands rows) = (refl, refl)
+pages (page.Categories rows) = (refl, refl)
+pages (page.Items rows) = (refl, refl)
+pages (page.OneItem it) = (refl, refl)
+pages (page.Questions rows) = (refl, refl)
+pages (page.OneMember m ratings) = (refl, refl)
+pages (page.Feedbacks rows) = (refl, refl)
+pages (page.Bids rows) = (refl, refl)
+pages (page.Statement member from to sales) = (refl, refl)
+
+replies : (r : Reply Fault) → Serves (reply_status r)
+replies (Done t) = tolds t
+replies (Denied r) = refusals r
+replies (Shows p) = pages p
+replies (Faulty f) = faults f
+
+-- no reply is told with 500 or 503
+pub reply_served : (zone : Zone) (rate : ℕ) (closes : Bool) (r : Reply Fault)
+    → IsServed (reply_text zone rate closes r)
+unfolding reply_text
+reply_served zone rate closes r = by_status (reply_status r) _ closes _ (replies r)
+
+-- want of memory is told with 503
+pub memory_told : (closes : Bool)
+    → is_refusal_of_memory (fault_text keep_fault.Memory closes) ≡ true
+unfolding fault_text
+memory_told closes = rw (digits ServiceUnavailable None closes _) refl
+
+-- a store that failed is told with 500
+pub store_told : (closes : Bool) → is_failure (fault_text keep_fault.Store closes) ≡ true
+unfolding fault_text
+store_told closes = rw (digits InternalServerError None closes _) refl
+
+-- and so is one with a row that doesn't fit
+pub damage_told : (closes : Bool) → is_failure (fault_text keep_fault.Damaged closes) ≡ true
+unfolding fault_text
+damage_told closes = rw (digits InternalServerError None closes _) refl

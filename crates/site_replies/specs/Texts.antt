@@ -1,0 +1,87 @@
+-- The text of a reply. Start here.
+use Rattle.std.specs.Prelude.{◌≡◌, ℕ, List, Bool, false, Option, None, take, drop, codes}
+use Rattle.std.specs.Str.{bytes_eq}
+use Rattle.house_rows.specs.declared.fault.KeepFault.{KeepFault}
+use Rattle.house_rows.specs.declared.fault.KeepFault.TheVariants as keep_fault
+use Rattle.house_rows.specs.declared.page.Page.{Page}
+use Rattle.house_rows.specs.declared.page.Page.TheVariants.{Refused}
+use Rattle.house_rows.specs.declared.reply.Reply.{Reply}
+use Rattle.house_rows.specs.declared.reply.Reply.TheVariants.{Done, Denied, Shows, Faulty}
+use Rattle.house_rows.specs.declared.told.Told.{Told}
+use Rattle.house_rows.specs.declared.told.Told.TheVariants.{Closed, Settlement, Watched}
+use Rattle.house_rows.specs.Names.{refusal_status}
+use Rattle.pages_json.specs.Words.{text_of}
+use Rattle.pages_text.specs.Fits.{PageFits}
+use Rattle.pages_text.specs.Trees.{page_tree, refusal_tree, told_tree}
+use Rattle.settle.specs.declared.zone.Zone.{Zone}
+use Rattle.site_asks.specs.Faults.{allow_of, body_of, status_of}
+use Rattle.site_asks.specs.declared.fault.Fault.{Fault}
+use Rattle.status.specs.declared.Status.{Status}
+use Rattle.status.specs.declared.Status.TheVariants.{Created, InternalServerError, ServiceUnavailable, Success}
+use Rattle.wire.specs.Answer.{answer_bytes, error_body}
+use Rattle.wire.specs.declared.methods.Methods.{Methods}
+
+-- a command that makes a row is answered 201, one that only changes rows 200
+abbrev pub told_status : Told → Status
+told_status (Closed sold unsold) = Success
+told_status (Settlement fee item net price) = Success
+told_status (Watched item watched) = Success
+told_status _ = Created
+
+abbrev pub page_status : Page → Status
+page_status (Refused refusal) = refusal_status refusal
+page_status _ = Success
+
+abbrev pub reply_status : Reply Fault → Status
+reply_status (Done told) = told_status told
+reply_status (Denied refusal) = refusal_status refusal
+reply_status (Shows page) = page_status page
+reply_status (Faulty fault) = status_of fault
+
+-- the methods that an answer allows
+abbrev pub reply_allow : Reply Fault → Option Methods
+reply_allow (Faulty fault) = allow_of fault
+reply_allow _ = None
+
+-- the body: days are those of the zone, and fees are by the rate
+abbrev pub reply_body : Zone → ℕ → Reply Fault → List ℕ
+reply_body zone rate (Done told) = text_of (told_tree told)
+reply_body zone rate (Denied refusal) = text_of (refusal_tree refusal)
+reply_body zone rate (Shows page) = text_of (page_tree zone rate page)
+reply_body zone rate (Faulty fault) = body_of fault
+
+-- the one text of a reply; the connection ends behind it or not
+unfoldable pub reply_text : Zone → ℕ → Bool → Reply Fault → List ℕ
+reply_text zone rate closes reply =
+    answer_bytes (reply_status reply) (reply_allow reply) closes (reply_body zone rate reply)
+
+-- a reply that can be written: its page can
+abbrev pub ReplyFits : Reply Fault → Type 0
+ReplyFits (Shows page) = PageFits page
+ReplyFits _ = Unit {0}
+
+-- the text where memory was refused, the store failed, or a row doesn't fit
+unfoldable pub fault_text : KeepFault → Bool → List ℕ
+fault_text keep_fault.Memory closes =
+    answer_bytes ServiceUnavailable None closes (error_body (codes "memory"))
+fault_text keep_fault.Store closes =
+    answer_bytes InternalServerError None closes (error_body (codes "store"))
+fault_text keep_fault.Damaged closes =
+    answer_bytes InternalServerError None closes (error_body (codes "damaged"))
+
+-- the three digits of the status of an answer
+unfoldable pub digits_in : List ℕ → List ℕ
+digits_in text = take 3 (drop 9 text)
+
+-- whether an answer is 503: memory was refused
+abbrev pub is_refusal_of_memory : List ℕ → Bool
+is_refusal_of_memory text = bytes_eq (digits_in text) (codes "503")
+
+-- whether it is 500: the store failed, or a row doesn't fit
+abbrev pub is_failure : List ℕ → Bool
+is_failure text = bytes_eq (digits_in text) (codes "500")
+
+-- an answer that is neither
+pub record IsServed (text : List ℕ) : Type 0 where
+  pub not_failed : is_failure text ≡ false
+  pub not_wanting : is_refusal_of_memory text ≡ false
