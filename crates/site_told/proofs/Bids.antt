@@ -1,0 +1,73 @@
+-- What a bid is told: how its item stands after it.
+use Rattle.std.proofs.Common.{◌≡◌, ℕ, List, true, refl, ◌∙◌, ap, sym, Some}
+use Rattle.std.specs.Prelude.{Result, IfOk, ◌==◌}
+use Rattle.proxy.specs.Bids.{floor, one_more, standing_of}
+use Rattle.proxy.specs.Kept.{Kept}
+use Rattle.proxy.specs.declared.bid.Bid as bid
+use Rattle.house.specs.Decided.{IsAccepted}
+use Rattle.house.specs.Own.{IsOf}
+use Rattle.house_rows.specs.declared.change.Change.TheVariants as change
+use Rattle.house_rows.specs.declared.command.Command.{Command}
+use Rattle.house_rows.specs.declared.command.Command.TheVariants as command
+use Rattle.house_rows.specs.declared.fault.KeepFault.{KeepFault}
+use Rattle.house_rows.specs.declared.settings.Settings.{Settings}
+use Rattle.house_rows.specs.declared.state.State.TheVariants.{Open}
+use Rattle.house_rows.specs.declared.told.Told.{Told}
+use Rattle.house_rows.specs.declared.told.Told.TheVariants.{Placed}
+use Rattle.house_rows.specs.Changed.{changed, is_item, with_standing}
+use Rattle.house_rows.specs.Found.{row_at}
+use Rattle.house_rows.specs.History.{History}
+use Rattle.house_rows.specs.Items.{shown}
+use Rattle.house_rows.specs.Tables.{ItemRow, Tables, tables_of}
+use Rattle.house_rows.specs.Told.{told_placed}
+use Rattle.house_rows.proofs.AcceptedBids.{floor_is}
+use Rattle.house_rows.proofs.ChangedRows.{standing_number, there_is}
+use Rattle.site_told.proofs.Seen.{IsTold, accepted_as, ok_as, row_changed, seen_after, told_as}
+
+-- the row of the item after the bid
+row_after : (t : Tables) (at' i : ℕ) (placed : bid.Bid) (kept : Kept) (row : ItemRow) → row_at t i ≡ Some row
+    → row_at (changed t (change.Bid at' i placed kept)) i ≡ Some (with_standing i kept row)
+unfolding changed
+row_after t at' i placed kept row found = row_changed i (with_standing i kept) row t.items (λ r. ap (λ n. n == i) (standing_number i kept r)) found
+
+-- what its row tells
+placed_now : (settings : Settings) (i : ℕ) (kept : Kept) (row : ItemRow) (start : ℕ) (bids : List bid.Bid) → is_item i row ≡ true → row.item.terms.state ≡ Open
+    → row.item.terms.start ≡ start → kept ≡ standing_of settings.bands start bids
+    → told_placed (Some (shown settings (with_standing i kept row).item)) ≡ Placed kept.count (floor settings.bands start bids) kept.leader kept.price
+placed_now settings i kept row start bids here opened same stands =
+    rw (here, opened, same, stands) (rw (floor_is settings.bands start bids) refl)
+
+-- a standing that a bid leaves is one of bids, and what it tells of them is told
+record IsTelling (settings : Settings) (h : History) (moment caller i maximum : ℕ) (kept : Kept) : Type 0 where
+  bids : List bid.Bid
+  stands : kept ≡ standing_of settings.bands kept.start bids
+  tells : IsTold settings h moment caller (command.Bid i maximum) (Placed kept.count (floor settings.bands kept.start bids) kept.leader kept.price)
+
+telling : (settings : Settings) (h : History) (moment caller at' i : ℕ) (placed : bid.Bid) (kept : Kept)
+    → IsAccepted settings h moment caller (command.Bid i placed.maximum) (change.Bid at' i placed kept) → IsTelling settings h moment caller i placed.maximum kept
+unfolding tables_of
+telling settings h moment caller at' i placed kept is =
+    let fits = is.fits in
+    let bids : List bid.Bid = one_more fits.bids placed.member placed.maximum in
+    let start : fits.row.item.terms.start ≡ kept.start = sym (ap (λ (k : Kept). k.start) fits.stands_after) in
+    let stands : kept ≡ standing_of settings.bands kept.start bids = rw start at fits.stands_after in
+    let here : is_item i fits.row ≡ true = there_is (tables_of settings h) i fits.row fits.row_there in
+    let now = row_after (tables_of settings h) at' i placed kept fits.row fits.row_there in
+    record {
+      bids = bids;
+      stands = stands;
+      tells =
+          sym (placed_now settings i kept fits.row kept.start bids here fits.is_open start stands)
+          ∙ ap told_placed (sym (seen_after settings h moment caller i (command.Bid i placed.maximum) (change.Bid at' i placed kept) (with_standing i kept fits.row) is now));
+    }
+
+pub bid_told : (t : Tables) (settings : Settings) (h : History) (moment caller : ℕ) (k : Command) (result : Result Told KeepFault) (at' i : ℕ) (placed : bid.Bid) (kept : Kept) → t ≡ tables_of settings h
+    → IsAccepted settings h moment caller k (change.Bid at' i placed kept) → IsOf moment caller k (change.Bid at' i placed kept)
+    → ((bids : List bid.Bid) → kept ≡ standing_of t.settings.bands kept.start bids → IfOk result (λ r. r ≡ Placed kept.count (floor t.settings.bands kept.start bids) kept.leader kept.price))
+    → IfOk result (IsTold settings h moment caller k)
+unfolding tables_of
+bid_told t settings h moment caller k result at' i placed kept e is own value =
+    let known = telling settings h moment caller at' i placed kept (accepted_as settings h moment caller (command.Bid i placed.maximum) k (change.Bid at' i placed kept) own.same_command is) in
+    ok_as (λ r. r ≡ Placed kept.count (floor settings.bands kept.start known.bids) kept.leader kept.price) (IsTold settings h moment caller k) result
+    (λ r v. told_as settings h moment caller (command.Bid i placed.maximum) k r own.same_command (v ∙ known.tells))
+    ((rw e at value) known.bids known.stands)

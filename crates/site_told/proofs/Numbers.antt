@@ -1,0 +1,71 @@
+-- What a registration, a new category and a listing are told: a number.
+use Rattle.std.proofs.Common.{Bor, ◌≡◌, ◌∷◌, ◌<◌, ◌+◌, ℕ, List, [], length, map, ◌∙◌, Option}
+use Rattle.std.specs.Prelude.{Result, IfOk}
+use Rattle.std.proofs.lemmas.List.{length-append, length-map}
+use Rattle.house.specs.Decided.{IsAccepted}
+use Rattle.house.specs.Own.{IsOf}
+use Rattle.house_rows.specs.declared.change.Change.TheVariants as change
+use Rattle.house_rows.specs.declared.command.Command.{Command}
+use Rattle.house_rows.specs.declared.command.Command.TheVariants as command
+use Rattle.house_rows.specs.declared.fault.KeepFault.{KeepFault}
+use Rattle.house_rows.specs.declared.settings.Settings.{Settings}
+use Rattle.house_rows.specs.declared.told.Told.{Told}
+use Rattle.house_rows.specs.declared.told.Told.TheVariants.{Registered, Added, Listing}
+use Rattle.house_rows.specs.History.{History}
+use Rattle.house_rows.specs.Items.{item_now, items, items_shown, shown}
+use Rattle.house_rows.specs.Limits.{most_categories, most_items, most_members}
+use Rattle.house_rows.specs.Listings.{listings}
+use Rattle.house_rows.specs.People.{categories, members}
+use Rattle.house_rows.specs.Runs.{entry}
+use Rattle.house_rows.specs.Tables.{Tables, row_now, tables_of}
+use Rattle.site_told.proofs.Seen.{IsTold, ok_as, told_as}
+
+member_told : (settings : Settings) (h : History) (moment caller : ℕ) (name : List ℕ) (r : Told)
+    → r ≡ Registered (length (tables_of settings h).members + 1) → IsTold settings h moment caller (command.Register name) r
+unfolding tables_of
+member_told settings h moment caller name r is =
+    rw (length-append (members h) (record { member = length (members h) + 1; name = name } ∷ [])) is
+
+pub register_told : (t : Tables) (settings : Settings) (h : History) (moment caller : ℕ) (k : Command) (result : Result Told KeepFault) (at' : ℕ) (name : Bor (List ℕ)) → t ≡ tables_of settings h
+    → IsAccepted settings h moment caller k (change.Register at' name) → IsOf moment caller k (change.Register at' name)
+    → (length t.members < most_members → IfOk result (λ r. r ≡ Registered (length t.members + 1))) → IfOk result (IsTold settings h moment caller k)
+register_told t settings h moment caller k result at' name e is own value =
+    ok_as (λ r. r ≡ Registered (length (tables_of settings h).members + 1)) (IsTold settings h moment caller k) result
+    (λ r v. told_as settings h moment caller (command.Register name.now) k r own.same_command (member_told settings h moment caller name.now r v))
+    ((rw e at value) is.fits.room)
+
+category_told : (settings : Settings) (h : History) (moment caller : ℕ) (name : List ℕ) (r : Told)
+    → r ≡ Added (length (tables_of settings h).categories + 1) → IsTold settings h moment caller (command.AddCategory name) r
+unfolding tables_of
+category_told settings h moment caller name r is =
+    rw (length-append (categories h) (record { category = length (categories h) + 1; name = name } ∷ [])) is
+
+pub add_told : (t : Tables) (settings : Settings) (h : History) (moment caller : ℕ) (k : Command) (result : Result Told KeepFault) (at' : ℕ) (name : Bor (List ℕ)) → t ≡ tables_of settings h
+    → IsAccepted settings h moment caller k (change.AddCategory at' name) → IsOf moment caller k (change.AddCategory at' name)
+    → (length t.categories < most_categories → IfOk result (λ r. r ≡ Added (length t.categories + 1))) → IfOk result (IsTold settings h moment caller k)
+add_told t settings h moment caller k result at' name e is own value =
+    ok_as (λ r. r ≡ Added (length (tables_of settings h).categories + 1)) (IsTold settings h moment caller k) result
+    (λ r v. told_as settings h moment caller (command.AddCategory name.now) k r own.same_command (category_told settings h moment caller name.now r v))
+    ((rw e at value) is.fits.room)
+
+-- as many items are seen as were listed
+seen_count : (settings : Settings) (h : History) → length (items_shown settings h) ≡ length (listings h)
+unfolding items_shown items
+seen_count settings h = length-map (map (item_now settings.bands h) (listings h)) (shown settings) ∙ length-map (listings h) (item_now settings.bands h)
+
+item_told : (settings : Settings) (h : History) (moment caller category : ℕ) (lot title text : List ℕ) (start : ℕ) (buy_now : Option ℕ) (end' : ℕ) (r : Told)
+    → r ≡ Listing (length (tables_of settings h).items + 1) → IsTold settings h moment caller (command.List category lot title text start buy_now end') r
+unfolding tables_of
+item_told settings h moment caller category lot title text start buy_now end' r is =
+    let before : length (map (row_now settings.bands h) (listings h)) ≡ length (listings h) = length-map (listings h) (row_now settings.bands h) in
+    rw (seen_count settings (entry moment caller (command.List category lot title text start buy_now end') ∷ h)) (
+    rw (length-append (listings h) (record { item = length (listings h) + 1; seller = caller; category = category; lot = lot; title = title; text = text; start = start; buy_now = buy_now; end = end' } ∷ []))
+    (rw before at is))
+
+pub list_told : (t : Tables) (settings : Settings) (h : History) (moment caller : ℕ) (k : Command) (result : Result Told KeepFault) (at' seller category : ℕ) (lot title text : Bor (List ℕ)) (start : ℕ) (buy_now : Option ℕ) (end' : ℕ) → t ≡ tables_of settings h
+    → IsAccepted settings h moment caller k (change.List at' seller category lot title text start buy_now end') → IsOf moment caller k (change.List at' seller category lot title text start buy_now end')
+    → (length t.items < most_items → IfOk result (λ r. r ≡ Listing (length t.items + 1))) → IfOk result (IsTold settings h moment caller k)
+list_told t settings h moment caller k result at' seller category lot title text start buy_now end' e is own value =
+    ok_as (λ r. r ≡ Listing (length (tables_of settings h).items + 1)) (IsTold settings h moment caller k) result
+    (λ r v. told_as settings h moment caller (command.List category lot.now title.now text.now start buy_now end') k r own.same_command (item_told settings h moment caller category lot.now title.now text.now start buy_now end' r v))
+    ((rw e at value) is.fits.room)

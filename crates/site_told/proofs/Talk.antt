@@ -1,0 +1,95 @@
+-- What a question and feedback are told.
+use Rattle.std.proofs.Common.{Bor, ◌≡◌, ◌∷◌, ◌+◌, ℕ, List, [], map, true, refl, ◌∙◌, ap, sym, inl, inr, arith, Some}
+use Rattle.std.specs.Prelude.{◌==◌, ◌&&◌}
+use Rattle.std.proofs.lemmas.Bool.Decides.{nat_tests}
+use Rattle.house.specs.Decided.{IsAccepted}
+use Rattle.house.specs.Own.{IsOf}
+use Rattle.house_rows.specs.declared.change.Change.TheVariants as change
+use Rattle.house_rows.specs.declared.command.Command.{Command}
+use Rattle.house_rows.specs.declared.command.Command.TheVariants as command
+use Rattle.house_rows.specs.declared.rating.Rating.{Rating}
+use Rattle.house_rows.specs.declared.settings.Settings.{Settings}
+use Rattle.house_rows.specs.declared.talk.Question.{Question as AQuestion}
+use Rattle.house_rows.specs.declared.told.Told.TheVariants.{Question, Rated}
+use Rattle.house_rows.specs.Changed.{changed, is_item}
+use Rattle.house_rows.specs.Found.{ask_count, row_at}
+use Rattle.house_rows.specs.History.{History, counted, is_less, put_by}
+use Rattle.house_rows.specs.Items.{shown}
+use Rattle.house_rows.specs.Questions.{Asked, answered, answers, ask_count as asked_count, asked, asked_key, questions}
+use Rattle.house_rows.specs.Ratings.{other_party}
+use Rattle.house_rows.specs.Runs.{entry}
+use Rattle.house_rows.specs.Tables.{ItemRow, Tables, tables_of}
+use Rattle.house_rows.specs.Told.{told_rated}
+use Rattle.house_rows.specs.Views.{own_questions}
+use Rattle.house_rows.proofs.ChangedRows.{there_is}
+use Rattle.house_rows.proofs.Own.{count_own}
+use Rattle.house_rows.proofs.Put.{by_test}
+use Rattle.site_told.proofs.Seen.{IsTold, accepted_as, seen_after, told_as}
+
+-- questions are as many with their answers as without
+count_answered : (given : List Asked) (c i : ℕ) (qs : List Asked) → counted (λ (q : AQuestion). (q.asker == c) && (q.item == i)) (map (answered given) qs) ≡ asked_count qs c i
+count_answered given c i [] = refl
+count_answered given c i (q ∷ qs) = grind (arith, nat_tests, count_answered given c i qs)
+
+count_kept : (settings : Settings) (h : History) (c i : ℕ) → ask_count (tables_of settings h) c i ≡ asked_count (asked h) c i
+unfolding tables_of questions
+count_kept settings h c i = count_answered (answers h) c i (asked h)
+
+-- one that is put counts
+count_put : (x : Asked) (c i : ℕ) (qs : List Asked) → x.asker ≡ c → x.item ≡ i → asked_count (put_by asked_key x qs) c i ≡ asked_count qs c i + 1
+count_put x c i [] by on = grind (arith, nat_tests, by, on)
+count_put x c i (q ∷ qs) by on =
+    elim (by_test (is_less (asked_key x) (asked_key q))) [
+      | inl less ↦ rw less (grind (arith, nat_tests, by, on))
+      | inr not ↦ rw not (grind (arith, nat_tests, count_put x c i qs by on))
+    ]
+
+-- the number of a question is the count of its asker's own
+number_told : (h : History) (moment caller i number : ℕ) (text : List ℕ) → number ≡ asked_count (asked h) caller i + 1
+    → number ≡ asked_count (own_questions (entry moment caller (command.Ask i text) ∷ h) caller) caller i
+unfolding own_questions
+number_told h moment caller i number text next =
+    let x : Asked = record { item = i; asker = caller; number = asked_count (asked h) caller i + 1; text = text } in
+    next ∙ sym (count_put x caller i (asked h) refl refl) ∙ count_own caller i (put_by asked_key x (asked h))
+
+pub ask_told : (settings : Settings) (h : History) (moment caller : ℕ) (k : Command) (i asker number : ℕ) (text : Bor (List ℕ))
+    → IsAccepted settings h moment caller k (change.Ask i asker number text) → IsOf moment caller k (change.Ask i asker number text)
+    → IsTold settings h moment caller k (Question asker i number)
+ask_told settings h moment caller k i asker number text is own =
+    let fits = is.fits in
+    let same : asker ≡ caller = own.same_caller in
+    let next : number ≡ asked_count (asked h) caller i + 1 = fits.numbered ∙ ap (λ n. n + 1) (count_kept settings h asker i) ∙ ap (λ c. asked_count (asked h) c i + 1) same in
+    told_as settings h moment caller (command.Ask i text.now) k (Question asker i number) own.same_command
+    (ap (λ c. Question c i number) same ∙ ap (λ n. Question caller i n) (number_told h moment caller i number text.now next))
+
+-- feedback leaves the rows of items
+row_rated : (t : Tables) (at' i from to : ℕ) (rating : Rating) (text : Bor (List ℕ)) (row : ItemRow) → row_at t i ≡ Some row
+    → row_at (changed t (change.Feedback at' i from to rating text)) i ≡ Some row
+unfolding changed
+row_rated t at' i from to rating text row found = found
+
+rated_now : (settings : Settings) (i caller : ℕ) (rating : Rating) (row : ItemRow) → is_item i row ≡ true
+    → told_rated caller (Some rating) (Some (shown settings row.item)) ≡ Rated i rating (other_party row.item.terms.seller row.item.terms.leader caller)
+rated_now settings i caller rating row here =
+    let same : row.item.terms.item ≡ i = grind (arith, nat_tests, here) in
+    ap (λ n. Rated n rating (other_party row.item.terms.seller row.item.terms.leader caller)) same
+
+rating_told : (settings : Settings) (h : History) (moment caller at' i to : ℕ) (rating : Rating) (text : Bor (List ℕ))
+    → IsAccepted settings h moment caller (command.Feedback i (Some rating) text.now) (change.Feedback at' i caller to rating text)
+    → IsTold settings h moment caller (command.Feedback i (Some rating) text.now) (Rated i rating to)
+rating_told settings h moment caller at' i to rating text is =
+    let fits = is.fits in
+    let here = there_is (tables_of settings h) i fits.row fits.row_there in
+    let now = row_rated (tables_of settings h) at' i caller to rating text fits.row fits.row_there in
+    ap (Rated i rating) fits.receiver
+    ∙ sym (rated_now settings i caller rating fits.row here)
+    ∙ ap (told_rated caller (Some rating)) (sym (seen_after settings h moment caller i (command.Feedback i (Some rating) text.now) (change.Feedback at' i caller to rating text) fits.row is now))
+
+pub feedback_told : (settings : Settings) (h : History) (moment caller : ℕ) (k : Command) (at' i from to : ℕ) (rating : Rating) (text : Bor (List ℕ))
+    → IsAccepted settings h moment caller k (change.Feedback at' i from to rating text) → IsOf moment caller k (change.Feedback at' i from to rating text)
+    → IsTold settings h moment caller k (Rated i rating to)
+feedback_told settings h moment caller k at' i from to rating text is own =
+    let same : from ≡ caller = own.same_caller in
+    told_as settings h moment caller (command.Feedback i (Some rating) text.now) k (Rated i rating to) own.same_command
+    (rating_told settings h moment caller at' i to rating text
+    (rw same at (accepted_as settings h moment caller (command.Feedback i (Some rating) text.now) k (change.Feedback at' i from to rating text) own.same_command is)))

@@ -1,0 +1,26 @@
+//! What a bid is told: how its item stands after it, by no maximum.
+ghost use Rattle.std.specs.Prelude.{◌≡◌, List, IfOk};
+ghost use Rattle.proxy.specs.Bids.{floor, standing_of};
+ghost use Rattle.proxy.specs.declared.bid.Bid.{Bid as TheBid};
+ghost use Rattle.house_rows.specs.Keeping.{Faults};
+
+use house_rows::{Keep, KeepFault, Told};
+use proxy::Standing;
+
+/// What a bid is told that leaves this standing. The clauses speak of whatever bids this is the
+/// standing of.
+pub(crate) fn placed<K: Keep>(keep: &K, standing: &Standing) -> Result<Told, KeepFault>
+    ensures value { K.is_honest keep.now → (bids : List TheBid)
+        → standing.now ≡ standing_of (K.content keep.now).settings.bands standing.now.start bids
+        → IfOk result (λ r. r ≡ Told.Placed standing.now.count
+        (floor (K.content keep.now).settings.bands standing.now.start bids) standing.now.leader standing.now.price) }
+    ensures faults { Faults result (K.is_honest keep.now) (K.is_failed keep.now) (K.content keep.now) }
+{
+    let floor = standing.floor(&keep.settings()?.bands);
+    Ok(Told::Placed {
+        count: standing.count(),
+        floor,
+        leader: standing.leader(),
+        price: standing.price(),
+    })
+}

@@ -1,0 +1,38 @@
+//! What a settlement is told: the price, the house's fee and what is left to the seller.
+ghost use Rattle.std.specs.Prelude.{◌≡◌, ◌≤◌, ◌-◌, Some, IfOk};
+ghost use Rattle.settle.specs.Fee.{fee_of};
+ghost use Rattle.house_rows.specs.declared.item.Terms.{Terms as TheTerms};
+ghost use Rattle.house_rows.specs.Found.{terms_at};
+ghost use Rattle.house_rows.specs.Keeping.{Faults, IsRead};
+
+use cents::Cents;
+use house_rows::{Keep, KeepFault, Told};
+
+/// What the settlement of an item's sale is told. Of an item that isn't there it is nothing.
+pub(crate) fn settled<K: Keep>(keep: &mut K, item: u32) -> Result<Told, KeepFault>
+    ensures value { K.is_honest keep.new → (terms : TheTerms) → terms_at (K.content keep.old) item ≡ Some terms
+        → IfOk result (λ r. r ≡ Told.Settlement (fee_of terms.price (K.content keep.old).settings.rate) item
+        (terms.price - fee_of terms.price (K.content keep.old).settings.rate) terms.price) }
+    ensures faults { Faults result (K.is_honest keep.new) (K.is_failed keep.new) (K.content keep.old) }
+    ensures read { IsRead K.content K.is_failed K.is_honest K.may_leave keep.old keep.new }
+{
+    let rate = keep.settings()?.rate.value();
+    match keep.terms(u64::from(item))? {
+        Some(terms) => Ok(shared(item, terms.price, rate)),
+        None => Ok(Told::Nothing),
+    }
+}
+
+// The price of a sale in its two parts, by a rate in ten-thousandths.
+fn shared(item: u32, price: Cents, rate: u64) -> Told
+    requires { rate ≤ 2000 }
+    ensures { result ≡ Told.Settlement (fee_of price rate) item (price - fee_of price rate) price }
+{
+    let fee = settle::fee(price, rate);
+    Told::Settlement {
+        fee,
+        item,
+        net: price.value() - fee,
+        price,
+    }
+}
