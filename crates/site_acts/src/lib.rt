@@ -1,0 +1,13 @@
+//! What one message does to a keep, and what it is replied.
+//!
+//! Promised of any keep and any history whose tables it has: the reply is the definition's, and the
+//! tables are then those of the next history; a call that fails has not acted, unless the store
+//! failed. Read `specs/Acted.antt` first, and then `acting`, whose `act` is the call that matters.
+#![tactic(auto)]
+
+mod acting;
+mod ordering;
+mod reading;
+mod writing;
+
+pub use acting::act;
