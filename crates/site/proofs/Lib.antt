@@ -1,0 +1,4 @@
+mod Steps
+mod Turns
+mod Stops
+mod Bare

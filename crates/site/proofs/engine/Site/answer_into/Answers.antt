@@ -1,0 +1,22 @@
+use Rattle.std.proofs.Common.{refl, Ok}
+use Rattle.house_rows.specs.declared.fault.KeepFault.TheVariants.{Memory}
+use Rattle.site_asks.specs.Asked.{asked_of}
+use Rattle.site_replies.specs.Texts.{fault_text}
+use Rattle.site.proofs.Steps.{step_acted, step_unread}
+use Rattle.site.proofs.engine.Site.answer_into.Goals as goal
+
+pub returns-in-Ok-clause-step : goal.returns-in-Ok-clause-step
+returns-in-Ok-clause-step g c =
+    let k = g.K.Keep in
+    rw (← c.in-Ok.ensures) (step_acted k.content k.is_failed k.is_honest k.may_leave c.args.self.now.writer.zone c.in-Ok.asked
+    c.act-acted.result c.told.result c.args.out.now.items c.act-acted.new.out.items c.args.self.now.keep c.act-acted.new.keep c.act-acted.ensures.acted c.told.ensures)
+
+pub returns-in-Err-clause-step : goal.returns-in-Err-clause-step
+unfolding asked_of
+returns-in-Err-clause-step g c =
+    let k = g.K.Keep in (
+      fault_text Memory c.in-Err.refused.closes,
+      (c.fault_text.ensures, refl),
+      step_unread k.content k.is_failed k.is_honest k.may_leave c.args.self.now.writer.zone (asked_of (Ok c.args.request.now))
+          c.in-Err.refused.closes c.args.self.now.keep c.in-Err.ensures,
+    )

@@ -1,0 +1,173 @@
+//! The engine over a keep.
+ghost use Rattle.std.specs.Prelude.{◌≡◌, ◌↔◌, [], ℕ, List, Ok, Err, IfErr, IfOk, IsOk, true};
+ghost use Rattle.std.specs.Cow.{cow_slice_items};
+ghost use Rattle.house_rows.specs.declared.settings.Settings.{Settings as TheSettings};
+ghost use Rattle.house_rows.specs.History.{History};
+ghost use Rattle.house_rows.specs.Keeping.{Faults, IsRead};
+ghost use Rattle.house_rows.specs.Tables.{tables_of};
+ghost use Rattle.house_rows.specs.Verdict.{IsHistory};
+ghost use Rattle.pages_record.specs.Record.{record_text};
+ghost use Rattle.settle.specs.Zoned.{IsZoneOf};
+ghost use Rattle.site_asks.specs.Asked.{IsAsked, asked_of};
+ghost use Rattle.site_asks.specs.declared.asked.Asked.{Asked as TheAsked};
+ghost use Rattle.wire.specs.Frame.{IsFrame};
+ghost use Rattle.wire.specs.declared.fault.WireFault.{WireFault};
+ghost use Rattle.site.specs.Answers.{IsAppended, IsBegun, IsReadable, IsStep, IsTold, broken_text, zone_of};
+
+use house_rows::{Counts, Keep, KeepFault, Settings};
+use json::Scratch;
+use pages_record::append_record;
+use settle::Zone;
+use site_acts::act;
+use site_asks::read_request;
+use site_replies::{ReplyWriter, fault_text};
+use site_routes::Routes;
+use std::alloc::Global;
+use std::borrow::CowSlice;
+use wire::{Request, broken_frame, whole};
+
+/// The bytes of an answer. Those that tell of want of memory or of a failure take none.
+pub type Reply = CowSlice<'static, u8>;
+
+/// The engine over a keep.
+#[derive(Drop)]
+pub struct Site<K: Drop> {
+    pub(crate) alloc: Global,
+    routes: Routes,
+    scratch: Scratch,
+    pub(crate) writer: ReplyWriter,
+    pub(crate) keep: K,
+}
+
+// The zone that is kept.
+fn read_zone(settings: &Settings) -> Result<Zone, KeepFault>
+    ensures ok { IsOk result ↔ IsReadable settings.now.zone }
+    ensures zone { IfOk result (IsZoneOf settings.now.zone) }
+    ensures err { IfErr result (λ fault. fault ≡ KeepFault.Damaged) }
+{
+    match Zone::read(settings.zone.as_str()) {
+        Ok(zone) => Ok(zone),
+        Err(_) => Err(KeepFault::Damaged),
+    }
+}
+
+// The text of a fault stands ready.
+fn told(acted: Result<(), KeepFault>, closes: bool) -> Result<(), &'static [u8]>
+    ensures { IsTold closes acted result }
+{
+    match acted {
+        Ok(()) => Ok(()),
+        Err(fault) => Err(fault_text(fault, closes)),
+    }
+}
+
+// Whether there is no row to count, and the clock hasn't moved.
+fn are_blank(counts: Counts, clock: u64) -> bool
+    ensures { (result ≡ true) ↔ ((counts.members ≡ 0) × (counts.categories ≡ 0)
+        × (counts.items ≡ 0) × (clock ≡ 0)) }
+{
+    counts.members == 0 && counts.categories == 0 && counts.items == 0 && clock == 0
+}
+
+impl<K: Keep + Drop> Site<K> {
+    /// The engine over a keep, by the zone that is kept, which is read once.
+    ///
+    /// Damaged is answered where the kept zone is no rule that can be read, and Memory where memory
+    /// was refused.
+    pub fn new(alloc: Global, keep: K) -> Result<Site<K>, KeepFault>
+        ensures keep { IfOk result (λ site. site.keep ≡ keep) }
+        ensures zone { K.is_honest keep → IfOk result (λ site.
+            IsZoneOf (K.content keep).settings.zone (zone_of site)) }
+        ensures faults { IsBegun result (K.is_honest keep) (K.is_failed keep) (K.content keep) }
+    {
+        let zone = read_zone(keep.settings()?)?;
+        let routes = Routes::new(alloc)?;
+        Ok(Site {
+            alloc,
+            routes,
+            scratch: Scratch::new(alloc),
+            writer: ReplyWriter::new(alloc, zone),
+            keep,
+        })
+    }
+
+    /// Answers a message, behind what the buffer holds. Where memory was refused or the keep fails,
+    /// the buffer has what it had, and the answer is a text that stands ready.
+    pub fn answer_into(
+        &mut self,
+        request: &Request<'_>,
+        out: &mut Vec<u8>,
+    ) -> Result<(), &'static [u8]>
+        ensures step { (reply : List ℕ) × IsAppended result out.old.items out.new.items reply
+            × IsStep K.content K.is_failed K.is_honest K.may_leave (zone_of self.old)
+            (asked_of (Ok request.now)) reply self.old.keep self.new.keep }
+        ensures zone { zone_of self.new ≡ zone_of self.old }
+    {
+        match read_request(self.alloc, &self.routes, request, &mut self.scratch) {
+            Ok(asked) => {
+                let acted = act(&mut self.keep, &mut self.writer, &asked, out);
+                told(acted, asked.closes)
+            }
+            Err(refused) => Err(fault_text(KeepFault::Memory, refused.closes)),
+        }
+    }
+
+    // Answers a message by bytes of its own.
+    fn answer_whole(&mut self, request: &Request<'_>) -> Reply
+        ensures step { IsStep K.content K.is_failed K.is_honest K.may_leave (zone_of self.old)
+            (asked_of (Ok request.now)) (cow_slice_items result) self.old.keep self.new.keep }
+        ensures zone { zone_of self.new ≡ zone_of self.old }
+    {
+        let mut text = Vec::new(self.alloc);
+        match self.answer_into(request, &mut text) {
+            Ok(()) => CowSlice::Owned(text),
+            Err(ready) => CowSlice::Borrowed(ready),
+        }
+    }
+
+    /// Answers a text that is to be one message. The answer to a broken frame takes no memory.
+    pub fn answer(&mut self, message: &[u8]) -> Reply
+        ensures step { (asked : TheAsked) × IsAsked message.now asked
+            × IsStep K.content K.is_failed K.is_honest K.may_leave (zone_of self.old)
+            asked (cow_slice_items result) self.old.keep self.new.keep }
+        ensures broken { (fault : WireFault) → IsFrame message.now (Err fault)
+            → (cow_slice_items result ≡ broken_text fault) × (self.new.keep ≡ self.old.keep) }
+        ensures zone { zone_of self.new ≡ zone_of self.old }
+    {
+        match whole(message) {
+            Ok(request) => self.answer_whole(&request),
+            Err(fault) => CowSlice::Borrowed(broken_frame(fault)),
+        }
+    }
+
+    /// The public record.
+    pub fn record(&mut self) -> Result<Vec<u8>, KeepFault>
+        ensures shown { K.is_honest self.new.keep → (settings : TheSettings) (h : History)
+            → K.content self.old.keep ≡ tables_of settings h
+            → IfOk result (λ text. text.items ≡ record_text settings h) }
+        ensures faults { Faults result (K.is_honest self.new.keep) (K.is_failed self.new.keep)
+            (K.content self.old.keep) }
+        ensures read { IsRead K.content K.is_failed K.is_honest K.may_leave self.old.keep self.new.keep }
+        ensures zone { zone_of self.new ≡ zone_of self.old }
+    {
+        let mut text = Vec::new(self.alloc);
+        append_record(self.alloc, &mut self.keep, &mut text)?;
+        Ok(text)
+    }
+
+    /// Whether no command was accepted yet, but closes of an empty house at moment 0, which leave no
+    /// trace.
+    pub fn is_new(&mut self) -> Result<bool, KeepFault>
+        ensures told { K.is_honest self.new.keep → (settings : TheSettings) (h : History)
+            → IsHistory settings h → K.content self.old.keep ≡ tables_of settings h
+            → IfOk result (λ new. (new ≡ true) ↔ (K.content self.old.keep ≡ tables_of settings [])) }
+        ensures faults { Faults result (K.is_honest self.new.keep) (K.is_failed self.new.keep)
+            (K.content self.old.keep) }
+        ensures read { IsRead K.content K.is_failed K.is_honest K.may_leave self.old.keep self.new.keep }
+        ensures zone { zone_of self.new ≡ zone_of self.old }
+    {
+        let counts = self.keep.counts()?;
+        let clock = self.keep.clock()?;
+        Ok(are_blank(counts, clock))
+    }
+}

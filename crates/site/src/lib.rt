@@ -1,0 +1,16 @@
+//! The site: the bytes of a request in, the bytes of its answer out, over any keep.
+//!
+//! Promised: the site is a small machine over the list of accepted commands. Over the tables of
+//! any history each message gets the answer that the definitions give it, and leaves the tables of
+//! the next history; or it is answered 503 and has not acted, or 500 and the keep has failed. Of
+//! two runs that are twins for a member all answers to it are the same. Read `specs/Answers.antt`
+//! and `specs/Runs.antt` first, and then `engine`.
+#![tactic(auto)]
+
+mod engine;
+mod laws;
+mod runs;
+
+pub use engine::{Reply, Site};
+pub use laws::isolation;
+pub use runs::RunFault;

@@ -1,0 +1,69 @@
+//! Runs: a list of messages, answered in turn.
+ghost use Rattle.std.specs.Prelude.{◌≡◌, [], List, ℕ, IfOk, IsErr, map, length};
+ghost use Rattle.std.specs.Cow.{cow_slice_items};
+ghost use Rattle.std.specs.List.{AllByRecursion, AllZip};
+ghost use Rattle.house_rows.specs.declared.settings.Settings.{Settings as TheSettings};
+ghost use Rattle.house_rows.specs.History.{History};
+ghost use Rattle.house_rows.specs.Tables.{tables_of};
+ghost use Rattle.house_rows.specs.Verdict.{IsHistory};
+ghost use Rattle.site.specs.Answers.{IsStep, zone_of};
+ghost use Rattle.site.specs.Runs.{InTurn, IsGoing, Ran, Stopped, TwinRuns, answers_to, at_places};
+ghost use Rattle.site_asks.specs.Asked.{IsAsked};
+ghost use Rattle.site_asks.specs.declared.asked.Asked.{Asked as TheAsked};
+ghost use Rattle.site_replies.specs.Texts.{IsServed};
+
+use crate::engine::{Reply, Site};
+use house_rows::Keep;
+
+/// Why a run was not begun.
+#[derive(Clone, Copy, Debug, PartialEq, Eq)]
+pub enum RunFault {
+    /// Memory was refused, before the first message was looked at.
+    Memory,
+}
+
+impl<K: Keep + Drop> Site<K> {
+    /// Answers each message in turn. Where a run of a new house met neither want of memory nor a
+    /// failure, a member's replies are those of any run that is a twin of it for the member.
+    pub fn run(&mut self, messages: &[Vec<u8>]) -> Result<Vec<Reply>, RunFault>
+        ensures steps { IfOk result (λ v. (asked : List TheAsked)
+            × AllZip IsAsked (map (λ m. m.items) messages.now) asked
+            × InTurn (IsStep K.content K.is_failed K.is_honest K.may_leave (zone_of self.old))
+            asked (map cow_slice_items v.items) self.old.keep self.new.keep) }
+        ensures ran { K.is_honest self.new.keep
+            → (settings : TheSettings) (h : History) → IsHistory settings h
+            → K.content self.old.keep ≡ tables_of settings h
+            → (asked : List TheAsked) → AllZip IsAsked (map (λ m. m.items) messages.now) asked
+            → IfOk result (λ v. AllByRecursion IsGoing (map cow_slice_items v.items)
+            → Ran K.content K.is_failed K.may_leave settings (zone_of self.old) h
+            asked (map cow_slice_items v.items) self.old.keep self.new.keep) }
+        ensures stopped { K.is_honest self.new.keep
+            → (settings : TheSettings) (h : History) → IsHistory settings h
+            → K.content self.old.keep ≡ tables_of settings h
+            → (asked : List TheAsked) → AllZip IsAsked (map (λ m. m.items) messages.now) asked
+            → IfOk result (λ v. ¬ (AllByRecursion IsGoing (map cow_slice_items v.items))
+            → Stopped K.content K.is_failed K.may_leave settings (zone_of self.old) h
+            asked (map cow_slice_items v.items) self.old.keep self.new.keep) }
+        ensures isolation { K.is_honest self.new.keep
+            → (settings : TheSettings) → K.content self.old.keep ≡ tables_of settings []
+            → IfOk result (λ v. AllByRecursion IsServed (map cow_slice_items v.items)
+            → (c : ℕ) (second : List (List ℕ)) (firsts seconds : List TheAsked)
+            → AllZip IsAsked (map (λ m. m.items) messages.now) firsts → AllZip IsAsked second seconds
+            → TwinRuns settings c firsts seconds
+            → at_places c firsts (map cow_slice_items v.items)
+            ≡ answers_to settings (zone_of self.old) c seconds) }
+        ensures as_many { IfOk result (λ v. length v.items ≡ length messages.now) }
+        ensures memory { IsErr result → self.new.keep ≡ self.old.keep }
+        ensures zone { zone_of self.new ≡ zone_of self.old }
+    {
+        let mut replies = match Vec::with_capacity(self.alloc, messages.len()) {
+            Ok(replies) => replies,
+            Err(_) => return Err(RunFault::Memory),
+        };
+        for message in messages {
+            let reply = self.answer(message);
+            replies.push_reserved(reply);
+        }
+        Ok(replies)
+    }
+}
