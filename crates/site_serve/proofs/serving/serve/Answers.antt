@@ -1,0 +1,172 @@
+-- Each exit ends the run so far.
+use Rattle.std.proofs.Common.{◌≡◌, ◌∙◌, ap, sym, refl, arith, drop, inl}
+use Rattle.site_serve.specs.Serving.{fault_bytes}
+use Rattle.site_serve.proofs.Runs.{all_ok, at_err, failed_behind, failed_in_answer, failed_in_fault, flushed_on, if_ok, in_zone, is_zero, on_ok, read_failed, served_broken, served_clean, served_closed, served_limit, serving_more, serving_none, serving_read, whole_begins}
+use Rattle.site_serve.proofs.serving.serve.Goals as goal
+
+pub loop-messages-init : goal.loop-messages-init
+loop-messages-init g c = record {
+  run = serving_none _ (g.R.Source.left c.args.source.now) (g.W.Sink.taken c.args.sink.now) _ c.in-Ok.inbox.held c.in-Ok.ensures.0;
+  few = omega arith;
+  end = λ e. absurd cc;
+  some = λ e. absurd cc;
+  flushed = λ e. inl refl;
+  zone = refl;
+}
+
+-- where the writer failed in an answer
+pub returns-then-is_err-clause-write : goal.returns-then-is_err-clause-write
+returns-then-is_err-clause-write g c = λ e.
+    let (r, step, wrote, part) = c.answer.ensures.step in (
+      c.answer.ensures.failed (sym c.is_err.ensures.value ∙ c.if-is_err.true),
+      failed_in_answer _ _ _ _ _ _ _ _ _ _ _ r c.in-Whole.request c.loop-messages.messages c.args.most
+          c.loop-messages.invariant.run c.loop-messages-test.true c.in-Whole.ensures.0
+          (in_zone _ _ _ _ _ _ _ _ _ _ c.loop-messages.invariant.zone step) part,
+    )
+
+pub returns-then-closes-clause-served : goal.returns-then-closes-clause-served
+returns-then-closes-clause-served g c =
+    let (r, step, wrote, part) = c.answer.ensures.step in
+    let whole = on_ok c.answer.result (sym c.is_err.ensures.value ∙ c.if-is_err.false) wrote in
+    if_ok c.finish.result c.finish.ensures.served (λ served told.
+    served_closed _ _ _ _ _ _ _ _ _ _ _ _ r c.in-Whole.request c.loop-messages.messages c.args.most served
+    c.loop-messages.invariant.run c.loop-messages-test.true c.in-Whole.ensures.0 (sym c.closes-closes.ensures ∙ c.if-closes.true)
+    (in_zone _ _ _ _ _ _ _ _ _ _ c.loop-messages.invariant.zone step) whole
+    c.finish.ensures.bytes told.0 told.1)
+
+pub returns-then-closes-clause-write : goal.returns-then-closes-clause-write
+returns-then-closes-clause-write g c = λ e.
+    let (r, step, wrote, part) = c.answer.ensures.step in
+    let whole = on_ok c.answer.result (sym c.is_err.ensures.value ∙ c.if-is_err.false) wrote in
+    let fault = at_err _ c.finish.result _ e c.finish.ensures.fault in (
+      fault.2,
+      failed_in_answer _ _ _ _ _ _ _ _ _ _ _ r c.in-Whole.request c.loop-messages.messages c.args.most
+          c.loop-messages.invariant.run c.loop-messages-test.true c.in-Whole.ensures.0
+          (in_zone _ _ _ _ _ _ _ _ _ _ c.loop-messages.invariant.zone step)
+          (whole_begins _ _ _ r whole c.finish.ensures.bytes),
+    )
+
+pub loop-messages-preserved-in-Whole : goal.loop-messages-preserved-in-Whole
+loop-messages-preserved-in-Whole g c =
+    let (r, step, wrote, part) = c.answer.ensures.step in
+    let whole = on_ok c.answer.result (sym c.is_err.ensures.value ∙ c.if-is_err.false) wrote in
+    record {
+      run = serving_more _ _ _ _ _ _ _ _ _ _ _ c.done.new.self.held r c.in-Whole.request c.loop-messages.messages
+          c.loop-messages.invariant.run c.in-Whole.ensures.0
+          (c.done.ensures.held ∙ ap (λ n. drop n c.loop-messages.inbox.held) c.length-length.ensures)
+          (sym c.closes-closes.ensures ∙ c.if-closes.false) (in_zone _ _ _ _ _ _ _ _ _ _ c.loop-messages.invariant.zone step) whole;
+      few = omega (arith, c.loop-messages-test.true);
+      end = c.loop-messages.invariant.end;
+      some = λ e. omega arith;
+      flushed = λ e. absurd cc;
+      zone = c.answer.ensures.zone ∙ c.loop-messages.invariant.zone;
+    }
+
+-- where it failed as the answers so far were handed on
+pub returns-then-is_err-2-clause-write : goal.returns-then-is_err-2-clause-write
+returns-then-is_err-2-clause-write g c = λ e.
+    let failed = c.hand_on.ensures.failed (sym c.is_err-in-More.ensures.value ∙ c.if-is_err-2.true) in (
+      failed.1,
+      failed_behind _ _ _ _ _ _ _ _ _ c.loop-messages.messages c.args.most
+          c.loop-messages.invariant.run (c.loop-messages.invariant.some failed.0) c.loop-messages.invariant.few c.hand_on.ensures.bytes,
+    )
+
+pub loop-messages-preserved : goal.loop-messages-preserved
+loop-messages-preserved g c =
+    let bytes = c.in-Ok-fill.ensures.bytes in
+    record {
+      run = serving_read _ _ _ _ _ _ _ _ _ _ bytes.0 c.fill.new.inbox.held c.loop-messages.messages
+          c.loop-messages.invariant.run bytes.2 bytes.3 c.hand_on.ensures.bytes;
+      few = c.loop-messages.invariant.few;
+      end = λ e. c.in-Ok-fill.ensures.end (is_zero c.in-Ok-fill.count e);
+      some = λ e. absurd cc;
+      flushed = λ e. flushed_on g.W.Sink.handed_on g.W.Sink.taken _ _ _ _ c.loop-messages.invariant.flushed
+          (on_ok c.hand_on.result (sym c.is_err-in-More.ensures.value ∙ c.if-is_err-2.false) c.hand_on.ensures.flushed);
+      zone = c.loop-messages.invariant.zone;
+    }
+
+-- where the reader failed, all had been handed on
+pub returns-in-Err-clause-read : goal.returns-in-Err-clause-read
+returns-in-Err-clause-read g c = λ e. (
+  c.in-Err.ensures.failed refl,
+  read_failed _ _ _ _ _ _ _ _ _ _ c.loop-messages.messages c.args.most
+      c.loop-messages.invariant.run c.loop-messages-test.true c.in-More.ensures.1 c.in-Err.ensures.err c.hand_on.ensures.bytes,
+)
+
+pub returns-in-Err-clause-waits : goal.returns-in-Err-clause-waits
+returns-in-Err-clause-waits g c = λ e. flushed_on g.W.Sink.handed_on g.W.Sink.taken _ _ _ _ c.loop-messages.invariant.flushed
+    (on_ok c.hand_on.result (sym c.is_err-in-More.ensures.value ∙ c.if-is_err-2.false) c.hand_on.ensures.flushed)
+
+pub returns-in-Clean-clause-served : goal.returns-in-Clean-clause-served
+returns-in-Clean-clause-served g c =
+    if_ok c.finish-in-Clean.result c.finish-in-Clean.ensures.served (λ served told.
+    served_clean _ _ _ _ _ _ _ _ _ c.loop-messages.messages c.args.most served
+    c.loop-messages.invariant.run c.loop-messages-test.true c.in-Clean.ensures.1 (c.loop-messages.invariant.end c.in-Clean.ensures.0)
+    c.finish-in-Clean.ensures.bytes told.0 told.1)
+
+pub returns-in-Clean-clause-handed_on : goal.returns-in-Clean-clause-handed_on
+returns-in-Clean-clause-handed_on g c = all_ok c.finish-in-Clean.result c.finish-in-Clean.ensures.flushed
+    (flushed_on g.W.Sink.handed_on g.W.Sink.taken _ _ _ _ c.loop-messages.invariant.flushed)
+
+pub returns-in-Clean-clause-write : goal.returns-in-Clean-clause-write
+returns-in-Clean-clause-write g c = λ e.
+    let fault = at_err _ c.finish-in-Clean.result _ e c.finish-in-Clean.ensures.fault in (
+      fault.2,
+      failed_behind _ _ _ _ _ _ _ _ _ c.loop-messages.messages c.args.most
+          c.loop-messages.invariant.run (c.loop-messages.invariant.some fault.1) c.loop-messages.invariant.few c.finish-in-Clean.ensures.bytes,
+    )
+
+-- where the rest is broken
+pub returns-then-is_err-3-clause-write : goal.returns-then-is_err-3-clause-write
+returns-then-is_err-3-clause-write g c = λ e. (
+  c.give_all.ensures.failed.0 (sym c.is_err-in-Fault.ensures.value ∙ c.if-is_err-3.true),
+  failed_in_fault _ _ _ _ _ _ _ _ _ c.loop-messages.messages c.args.most c.loop-messages.ended c.in-Fault.fault
+      c.loop-messages.invariant.run c.loop-messages-test.true c.loop-messages.invariant.end c.in-Fault.ensures.0 c.in-Fault.ensures.1
+      (rw c.broken_frame.ensures at c.give_all.ensures.part),
+)
+
+pub returns-in-Fault-clause-served : goal.returns-in-Fault-clause-served
+returns-in-Fault-clause-served g c =
+    let whole = on_ok c.give_all.result (sym c.is_err-in-Fault.ensures.value ∙ c.if-is_err-3.false) c.give_all.ensures.whole in
+    if_ok c.finish-in-Fault.result c.finish-in-Fault.ensures.served (λ served told.
+    served_broken _ _ _ _ _ _ _ _ _ _ c.loop-messages.messages c.args.most served c.loop-messages.ended c.in-Fault.fault
+    c.loop-messages.invariant.run c.loop-messages-test.true c.loop-messages.invariant.end c.in-Fault.ensures.0 c.in-Fault.ensures.1
+    (rw c.broken_frame.ensures at whole) c.finish-in-Fault.ensures.bytes told.0 told.1)
+
+pub returns-in-Fault-clause-write : goal.returns-in-Fault-clause-write
+returns-in-Fault-clause-write g c = λ e.
+    let whole = on_ok c.give_all.result (sym c.is_err-in-Fault.ensures.value ∙ c.if-is_err-3.false) c.give_all.ensures.whole in
+    let fault = at_err _ c.finish-in-Fault.result _ e c.finish-in-Fault.ensures.fault in (
+      fault.2,
+      failed_in_fault _ _ _ _ _ _ _ _ _ c.loop-messages.messages c.args.most c.loop-messages.ended c.in-Fault.fault
+          c.loop-messages.invariant.run c.loop-messages-test.true c.loop-messages.invariant.end c.in-Fault.ensures.0 c.in-Fault.ensures.1
+          (whole_begins _ _ _ (fault_bytes c.in-Fault.fault) (rw c.broken_frame.ensures at whole) c.finish-in-Fault.ensures.bytes),
+    )
+
+-- where as many messages came as were asked for
+pub returns-clause-served : goal.returns-clause-served
+returns-clause-served g c =
+    let all : c.loop-messages.messages ≡ c.args.most = omega (arith, c.loop-messages.invariant.few) in
+    if_ok c.finish-2.result c.finish-2.ensures.served (λ served told.
+    served_limit _ _ _ _ _ _ _ _ _ c.loop-messages.messages c.args.most served
+    c.loop-messages.invariant.run all c.finish-2.ensures.bytes told.0 told.1)
+
+pub returns-clause-handed_on : goal.returns-clause-handed_on
+returns-clause-handed_on g c = all_ok c.finish-2.result c.finish-2.ensures.flushed
+    (flushed_on g.W.Sink.handed_on g.W.Sink.taken _ _ _ _ c.loop-messages.invariant.flushed)
+
+pub returns-clause-write : goal.returns-clause-write
+returns-clause-write g c = λ e.
+    let fault = at_err _ c.finish-2.result _ e c.finish-2.ensures.fault in (
+      fault.2,
+      failed_behind _ _ _ _ _ _ _ _ _ c.loop-messages.messages c.args.most
+          c.loop-messages.invariant.run (c.loop-messages.invariant.some fault.1) c.loop-messages.invariant.few c.finish-2.ensures.bytes,
+    )
+
+pub returns-then-closes-clause-handed_on : goal.returns-then-closes-clause-handed_on
+returns-then-closes-clause-handed_on g c = all_ok c.finish.result c.finish.ensures.flushed
+    (flushed_on g.W.Sink.handed_on g.W.Sink.taken _ _ _ _ (λ e. absurd cc))
+
+pub returns-in-Fault-clause-handed_on : goal.returns-in-Fault-clause-handed_on
+returns-in-Fault-clause-handed_on g c = all_ok c.finish-in-Fault.result c.finish-in-Fault.ensures.flushed
+    (flushed_on g.W.Sink.handed_on g.W.Sink.taken _ _ _ _ (λ e. absurd cc))

@@ -1,0 +1,15 @@
+//! What the definitions mean. No code runs here.
+ghost use Rattle.std.specs.Prelude.{◌≡◌, Err};
+ghost use Rattle.house_rows.specs.declared.settings.Settings.{Settings};
+ghost use Rattle.house_rows.specs.History.{History};
+ghost use Rattle.settle.specs.declared.zone.Zone.{Zone};
+ghost use Rattle.site.specs.Answers.{answer_of};
+ghost use Rattle.site_asks.specs.Asked.{asked_of};
+ghost use Rattle.site_serve.specs.Serving.{fault_bytes};
+ghost use Rattle.wire.specs.declared.fault.WireFault.{WireFault};
+
+/// A broken rest is told what a text is told whose frame has that fault.
+pub fn broken_rests_are_answered()
+    ensures { (settings : Settings) (zone : Zone) (h : History) (f : WireFault)
+        → answer_of settings zone h (asked_of (Err f)) ≡ fault_bytes f }
+{}

@@ -1,0 +1,12 @@
+//! A stream of messages in, their answers out, over the site.
+//!
+//! Promised: what is written follows from the bytes of the stream, however reads are cut: the
+//! answers of the messages of its cut, and then that of a broken rest. All of it is handed on before
+//! each wait for more bytes and at the end. Read `specs/Serving.antt` first, and then `serve`.
+#![tactic(auto)]
+
+mod laws;
+mod serving;
+
+pub use laws::broken_rests_are_answered;
+pub use serving::{Ending, ServeFault, Served, serve};
