@@ -2,7 +2,7 @@
 
 # Conformance cases that lie beside the checkout, and the suites of today.
 CASES ?= ../shared/conformance
-SUITES = first-path money
+SUITES = site
 
 .PHONY: help demo test auction program cases memory statement random file wrong
 

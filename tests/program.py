@@ -14,17 +14,26 @@ import tempfile
 READ = b"GET /items/1 HTTP/1.1\r\nhost: h\r\nx-member: 2\r\n\r\n"
 REPLAY = ["replay", "--preset"]
 
+# The public record of a new house.
+EMPTY_RECORD = (b'{"bands":[{"at":0,"step":5},{"at":100,"step":25}],"categories":[],"clock":0,"feedback":[],'
+                b'"items":[],"members":[],"questions":[],"rate":2000,"zone":"CET-1"}\n')
+
 # Words that are no command line.
 REFUSED_WORDS = [
     [],
-    ["replay"],
-    ["replay", "--bands", "table.csv"],
-    [*REPLAY, "more"],
-    [*REPLAY, "--bands"],
-    [*REPLAY, "--rate", "1000"],
-    [*REPLAY, "--preset"],
     ["sell"],
     ["--preset"],
+    ["replay", "more"],
+    ["replay", "--bands"],
+    ["replay", "--rate"],
+    ["replay", "--rate", "2001"],
+    ["replay", "--rate=-1"],
+    ["replay", "--rate", "1.5"],
+    ["replay", "--rate", "1000", "--rate", "1000"],
+    ["replay", "--zone"],
+    ["replay", "--port", "80"],
+    [*REPLAY, "--preset"],
+    [*REPLAY, "--record", "--record"],
 ]
 
 # The text of a band table, and how its fault is told.
@@ -76,10 +85,18 @@ def cases(folder, full):
 
     table = folder / "good.csv"
     table.write_text("at,step\n0,5\n100,25\n")
-    yield over_memory(REPLAY, ended(0, b"", b""))
-    yield over_memory([*REPLAY, "--bands", str(table)], ended(0, b"", b""))
-    yield over_memory(["--help"], helped)
-    yield over_memory(["replay", "--help"], helped)
+    for words in (["replay"], REPLAY, [*REPLAY, "--bands", str(table)], ["replay", "--rate", "0"],
+                  ["replay", "--rate", "2000", "--zone", "CET-1CEST,M3.5.0,M10.5.0/3"]):
+        yield over_memory(words, ended(0, b"", b""))
+    yield over_memory(["replay", "--record", "--bands", str(table), "--rate", "2000", "--zone", "CET-1"],
+                      ended(0, EMPTY_RECORD, b""))
+    for words in (["--help"], ["help"], ["replay", "--help"], ["help", "replay"]):
+        yield over_memory(words, helped)
+    for rule in ("", "UTC", "CET-1\n", "CET-25", "Europe/Berlin"):
+        yield over_memory(["replay", "--zone", rule], fault("zone"), READ)
+    # A table's fault is told before a zone's.
+    yield over_memory(["replay", "--zone", "", "--bands", str(folder / "missing.csv")],
+                      fault("bands: Device"), READ)
     for words in REFUSED_WORDS:
         yield over_memory(words, refused, READ)
     for words in ([b"\xff"], [*REPLAY, b"\xff"], [*REPLAY, "--bands", b"table\xc3.csv"]):

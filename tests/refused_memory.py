@@ -1,10 +1,10 @@
 #!/usr/bin/env python3
 """Refuses each allocation of a run of three messages in turn: `refused_memory.py PROGRAM`.
 
-The run is two bids and a read, by the example table and by one of a file. Each message has to be
-answered 503, and has then not acted, or as in the run of the messages that were not answered 503; or
-the run ends with `auction: memory` and has written nothing. It needs a C compiler, `cc`. The last
-line is 'N runs, M wrong'.
+The run is two bids and a read, by the example table and by one of a file, and with the public record.
+Each message has to be answered 503, and has then not acted, or as in the run of the messages that were
+not answered 503, whose record follows; or the run ends with `auction: memory`, and has written nothing,
+or these answers and no record. It needs a C compiler, `cc`. The last line is 'N runs, M wrong'.
 """
 import itertools
 import pathlib
@@ -29,25 +29,30 @@ MESSAGES = [bid(2, 1001, 500), bid(3, 1002, 1000),
 
 
 def allowed_outputs(command):
-    """For each set of messages that find memory: their answers, and 503 for the others."""
+    """For each set of messages that find memory: their answers, and 503 for the others; and the record."""
     outputs = set()
     for kept in itertools.product([True, False], repeat=len(MESSAGES)):
-        written = run(command, b"".join(itertools.compress(MESSAGES, kept))).stdout
+        given = b"".join(itertools.compress(MESSAGES, kept))
+        written = run([word for word in command if word != "--record"], given).stdout
+        record = run(command, given).stdout[len(written):]
         answers = iter(re.findall(rb"HTTP/1\.1 .*?(?=HTTP/1\.1 |\Z)", written, re.S))
-        outputs.add(b"".join(next(answers) if keep else REFUSED for keep in kept))
+        outputs.add((b"".join(next(answers) if keep else REFUSED for keep in kept), record))
     return outputs
 
 
 def refuse_each(command, library):
     """Refuses each allocation of a command in turn: how many runs there were, and how many wrong."""
     allowed = allowed_outputs(command)
+    done = {(0, answers + record, b"") for answers, record in allowed}
+    stopped = {(1, output, b"auction: memory\n")
+               for output in [b"", *(answers for answers, record in allowed if record)]}
     runs = wrong = told = ended = 0
     for number, result in refused_runs(command, library, b"".join(MESSAGES)):
         runs += 1
         told += REFUSED in result.stdout
-        stopped = (result.returncode, result.stdout, result.stderr) == (1, b"", b"auction: memory\n")
-        ended += stopped
-        if not stopped and (result.returncode != 0 or result.stdout not in allowed):
+        ending = (result.returncode, result.stdout, result.stderr)
+        ended += ending in stopped
+        if ending not in done | stopped:
             wrong += 1
             print(f"allocation {number}: {result}")
     print(f"{told} told 503, {ended} ended with auction: memory")
@@ -60,7 +65,7 @@ def main():
         table.write(b"at,step\n0,100\n2000,100\n")
         table.flush()
         results = [refuse_each([program, "replay", "--preset", *more], library)
-                   for more in ([], ["--bands", table.name])]
+                   for more in ([], ["--bands", table.name], ["--record"])]
     runs, wrong = (sum(column) for column in zip(*results))
     print(f"{runs} runs, {wrong} wrong")
     return 1 if wrong else 0

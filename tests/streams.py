@@ -1,8 +1,8 @@
 #!/usr/bin/env python3
 """Runs the program over streams that are whole, cut, in pieces or fail: `streams.py PROGRAM`.
 
-Each has to be answered what the house's rules say, worked out by hand, and 400 `head` where it goes on
-with what is no message. Reads are made short, and failed in turn, by short_reads.c, which needs a C
+Each has to be answered what the house's rules say, worked out by hand, and by the fault of its frame where
+it goes on with what is no message. Reads are made short, and failed in turn, by short_reads.c, which needs a C
 compiler, `cc`. The last line is 'N streams, M wrong'.
 """
 import contextlib
@@ -13,10 +13,6 @@ import sys
 import tempfile
 
 HERE = pathlib.Path(__file__).resolve().parent
-
-HEAD = (b"HTTP/1.1 400 Bad Request\r\ncontent-type: application/json\r\ncontent-length: 16\r\n"
-        b'connection: close\r\n\r\n{"error":"head"}')
-
 
 def bid(member, moment, maximum):
     body = b'{"maximum":%d}' % maximum
@@ -30,6 +26,13 @@ def read(member):
 
 def answer(status, body):
     return (b"HTTP/1.1 %s\r\ncontent-type: application/json\r\ncontent-length: %d\r\n\r\n%s"
+            % (status, len(body), body))
+
+
+def fault(status, word):
+    """The answer to a broken frame, which ends the stream."""
+    body = b'{"error":"%s"}' % word
+    return (b"HTTP/1.1 %s\r\ncontent-type: application/json\r\ncontent-length: %d\r\nconnection: close\r\n\r\n%s"
             % (status, len(body), body))
 
 
@@ -47,34 +50,42 @@ def page(count):
 
 FIRST, TOLD = bid(2, 1001, 500), placed(1, 550, 2, 500)
 
-# Texts that are no message, whatever follows them, and where a whole message does.
+HEAD, END = fault(b"400 Bad Request", b"head"), fault(b"400 Bad Request", b"end")
+
+# Texts that are no message, whatever follows them, and what is answered to each.
 NO_MESSAGES = [
-    b"GET /items/2 HTTP/1.1\r\nhost: h\r\nx-member: 2\r\n\r\n",
-    b"GET /items/1 HTTP/1.1\nhost: h\nx-member: 2\n\n",
-    b"GET /items/1 HTTP/1.1\r\nhost: h\r\nx-member: 02\r\n\r\n",
-    b"GET /items/1 HTTP/1.1\r\nhost: h\r\nx-member: 12345678901\r\n\r\n",
-    b"GET /items/1 HTTP/1.1\r\nhost: h\r\nx-member: \r\n\r\n",
-    b"DELETE /items/1 HTTP/1.1\r\nhost: h\r\nx-member: 2\r\n\r\n",
-    b"POST /items/1/bids HTTP/1.1\r\nhost: h\r\nx-member: 2\r\nx-moment: 1001\r\n"
-    b'content-length: 16\r\n\r\n{"maximum":500}',
-    b"POST /items/1/bids HTTP/1.1\r\nhost: h\r\nx-member: 2\r\nx-moment: 1001\r\n"
-    b'content-length: 16\r\n\r\n{"maximum":0500}',
-    b"POST /items/1/bids HTTP/1.1\r\nhost: h\r\nx-member: 2\r\nx-moment: 1001\r\n"
-    b'content-length: 14\r\n\r\n{"maximum":500',
-    b"\r\n",
+    (b"GET  /items/1 HTTP/1.1\r\nhost: h\r\n\r\n", HEAD),
+    (b"GET /items/1 HTTP/2.0\r\nhost: h\r\n\r\n", HEAD),
+    (b"GET /items/1 HTTP/1.1\r\nhost : h\r\n\r\n", HEAD),
+    (b"GET /items/1 HTTP/1.1\r\nhost: h\r\n" + b"a: b\r\n" * 64 + b"\r\n", HEAD),
+    (b"GET /items/1 HTTP/1.1\r\nhost: h\r\na: " + b"b" * 8192 + b"\r\n\r\n", HEAD),
+    (b"GET /items/1 HTTP/1.1\r\nx-member: 2\r\n\r\n", fault(b"400 Bad Request", b"host")),
+    (b"GET /items/1 HTTP/1.1\r\nhost: h\r\ntransfer-encoding: chunked\r\n\r\n",
+     fault(b"501 Not Implemented", b"transfer")),
+    (b"POST /close HTTP/1.1\r\nhost: h\r\ncontent-length: -1\r\n\r\n",
+     fault(b"400 Bad Request", b"length")),
+    (b"POST /close HTTP/1.1\r\nhost: h\r\ncontent-length: 16385\r\n\r\n",
+     fault(b"413 Content Too Large", b"size")),
 ]
+
+
+def cut_short(message, cut):
+    """What is answered where a message is cut short."""
+    return END if cut >= message.index(b"\r\n\r\n") + 4 else HEAD
 
 
 def whole_streams():
     """Streams and what is answered to them."""
     yield "nothing", b"", b""
-    for text in NO_MESSAGES:
-        yield f"no message {text}", text + read(2), HEAD
-    # Cut inside the second message, or inside the first.
-    stream = FIRST + bid(3, 1002, 549)
-    for cut in range(1, len(stream)):
-        told = TOLD if cut >= len(FIRST) else b""
-        yield f"cut at {cut}", stream[:cut], told + (b"" if cut == len(FIRST) else HEAD)
+    for text, told in NO_MESSAGES:
+        yield f"no message {text[:100]}", text + read(2), told
+        yield f"a bid and no message {text[:100]}", FIRST + text + read(2), TOLD + told
+    # Cut inside the second message, or inside the first: in its head, or in its body.
+    first, second = FIRST, bid(3, 1002, 549)
+    for cut in range(1, len(first)):
+        yield f"cut at {cut}", first[:cut], cut_short(first, cut)
+    for cut in range(len(second)):
+        yield f"second cut at {cut}", first + second[:cut], TOLD + (cut_short(second, cut) if cut else b"")
     bids = b"".join(bid(2, 1001, maximum) for maximum in range(500, 10_501))
     counts = b"".join(placed(count, 550, 2, 500) for count in range(1, 10_001))
     yield "10001 bids", bids, counts + answer(b"409 Conflict", b'{"error":"Limit","number":19}')
@@ -106,7 +117,7 @@ def cases(library, table):
     yield ("a table of one band", ["--bands", table], FIRST + bid(3, 1002, 1000), {},
            (0, placed(1, 600, 2, 500) + placed(2, 700, 3, 600), b""))
     stream, told = pieces()
-    for most in (1, 2, 7, 104, 4095, 4096, 4097):
+    for most in (1, 2, 7, 104, 4096, 8191, 8192, 24575, 24576):
         yield (f"pieces of {most}", [], stream, {"LD_PRELOAD": library, "READ_MOST": str(most)},
                (0, told, b""))
     # The bid comes in so many reads, and one more finds the end.

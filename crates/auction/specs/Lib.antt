@@ -1,11 +1,2 @@
-pub mod Reading
-pub mod Message
-pub mod Unread
-pub mod History
-pub mod Verdict
-pub mod Page
-pub mod Answer
-pub mod House
-pub mod Stream
-pub mod Preset
-pub mod WorkedRows
+pub mod Faults
+pub mod Lines

@@ -1,26 +1,145 @@
 //! The words that the program takes.
-use clap::{Arg, ArgAction, Command};
+use clap::{Arg, ArgAction, ArgMatches, Command, Error, value_parser};
+use house_rows::Rate;
 use std::alloc::{AllocError, Global};
 
-// `replay` asks for the preset house, since there is no other yet.
-fn replay<'a>(alloc: Global) -> Result<Command<'a>, AllocError> {
-    let preset = Arg::new(alloc, "preset")
-        .long("preset")
-        .action(ArgAction::SetTrue)
-        .required(true);
-    let bands = Arg::new(alloc, "bands")
-        .long("bands")
-        .value_name("CSV")
-        .action(ArgAction::Set);
-    Command::new(alloc, "replay")
-        .about("Answers the messages on standard input")
-        .arg(preset)?
-        .arg(bands)
+const EXAMPLE: &str = "Example:\n  auction replay --preset --record < messages.http > answers.http";
+
+const LINES: &str = "Exit status: 0 where it is done, 1 at a fault, which a line on standard error \
+tells, and 2 where the command line is refused.";
+
+/// What a house is set up with, as the words name it.
+#[derive(Clone, Copy, Debug, PartialEq, Eq)]
+pub struct HouseWords<'a> {
+    /// The file of the band table; without one it is the example table.
+    pub bands: Option<&'a str>,
+    /// The rate of the fee.
+    pub rate: Rate,
+    /// The rule of the zone.
+    pub zone: &'a str,
 }
 
-/// The command line: one subcommand, `replay --preset`, which takes `--bands CSV`.
+/// What a replay is asked for.
+#[derive(Clone, Copy, Debug, PartialEq, Eq)]
+pub struct Replay {
+    /// To begin with three members, a category and an item.
+    pub preset: bool,
+    /// To append the public record.
+    pub record: bool,
+}
+
+/// What the words ask for.
+#[derive(Clone, Copy, Debug, PartialEq, Eq)]
+pub enum Task<'a> {
+    /// To answer standard input over a new house in memory.
+    Replay(HouseWords<'a>, Replay),
+}
+
+// The band table's file.
+fn bands<'a>(alloc: Global) -> Arg<'a> {
+    Arg::new(alloc, "bands")
+        .long("bands")
+        .value_name("CSV")
+        .action(ArgAction::Set)
+        .help(
+            "The band table: a file of CSV whose first record is at,step, and then 1 to 50 bands, \
+             each an amount and a step in cents [default: a table of ten bands]",
+        )
+}
+
+// The rate of the fee.
+fn rate<'a>(alloc: Global) -> Arg<'a> {
+    Arg::new(alloc, "rate")
+        .long("rate")
+        .value_name("N")
+        .action(ArgAction::Set)
+        .value_parser(value_parser!(u64).range(0..=2000))
+        .help("The fee of a sale, in ten-thousandths of its price, 0 to 2000")
+}
+
+// The rule of the zone.
+fn zone<'a>(alloc: Global) -> Arg<'a> {
+    Arg::new(alloc, "zone")
+        .long("zone")
+        .value_name("RULE")
+        .action(ArgAction::Set)
+        .help(
+            "The time zone by which days are counted, a POSIX rule such as CET-1CEST,M3.5.0,M10.5.0/3",
+        )
+}
+
+// A flag.
+fn flag<'a>(alloc: Global, name: &'a str, help: &'a str) -> Arg<'a> {
+    Arg::new(alloc, name)
+        .long(name)
+        .action(ArgAction::SetTrue)
+        .help(help)
+}
+
+// `replay`, which sets its house up by three words that each have a default.
+fn replay_command<'a>(alloc: Global) -> Result<Command<'a>, AllocError> {
+    Command::new(alloc, "replay")
+        .about("Answers the messages on standard input over a new house in memory")
+        .after_help(EXAMPLE)
+        .arg(flag(
+            alloc,
+            "preset",
+            "Begin with the members Ana, Ben and Cid, one category and one item",
+        ))?
+        .arg(flag(
+            alloc,
+            "record",
+            "Append the public record and a newline behind the last answer",
+        ))?
+        .arg(bands(alloc))?
+        .arg(rate(alloc).default_value("1000"))?
+        .arg(zone(alloc).default_value("UTC0"))
+}
+
+/// The command line: one subcommand.
 pub fn command<'a>(alloc: Global) -> Result<Command<'a>, AllocError> {
     Command::new(alloc, "auction")
+        .about("An auction house: HTTP/1.1 messages with JSON in, their answers out")
+        .after_help(LINES)
         .subcommand_required(true)
-        .subcommand(replay(alloc)?)
+        .subcommand(replay_command(alloc)?)
+}
+
+// What the words of a subcommand say of the house. None is answered for no words that were taken.
+fn house_words<'a>(words: &ArgMatches<'a>) -> Option<HouseWords<'a>> {
+    Some(HouseWords {
+        bands: words.get_str("bands"),
+        rate: Rate::new(words.get_one("rate")?)?,
+        zone: words.get_str("zone")?,
+    })
+}
+
+// What the words of `replay` ask for.
+fn replay_task<'a>(words: &ArgMatches<'a>) -> Option<Task<'a>> {
+    let asked = Replay {
+        preset: words.get_flag("preset"),
+        record: words.get_flag("record"),
+    };
+    match house_words(words) {
+        Some(house) => Some(Task::Replay(house, asked)),
+        None => None,
+    }
+}
+
+// What the words of a subcommand ask for.
+fn task_of<'a>(name: &str, words: &ArgMatches<'a>) -> Option<Task<'a>> {
+    match name {
+        "replay" => replay_task(words),
+        _ => None,
+    }
+}
+
+/// What words ask for, the first of them the program's own name. An error is for words that are
+/// refused, for those that ask for help, and for want of memory.
+pub fn read<'a>(alloc: Global, words: &'a [String]) -> Result<Option<Task<'a>>, Error> {
+    let matches = command(alloc)?.try_get_matches_from(words)?;
+    Ok(match matches.subcommand() {
+        Some((name, words)) => task_of(name, words),
+        None => None,
+    })
 }

@@ -1,119 +1,75 @@
 //! The program's run: words in, an exit status out.
-use crate::command_line::command;
-use crate::first_run::{FirstFault, first_run};
+use crate::command_line::{self, HouseWords, Replay, Task};
+use crate::fault::{Fault, ended};
+use crate::replay::replay_run;
+use crate::settings::settings;
 use clap::Error;
-use clap::error::ErrorKind;
+use device::{Reading, Writing};
 use std::alloc::Global;
-use std::fs::File;
-use std::io;
-use std::rt::Files;
-use steps::{Bands, BandsFault};
+use std::env;
+use std::io::{self, ErrorKind, Write};
+use store_list::ListKeep;
 
-/// The exit status of a run that did what its words ask.
-const DONE: u8 = 0;
-
-/// The exit status of a run that a fault ended.
-const FAULT: u8 = 1;
-
-/// The exit status of words that are no command line.
+// The exit status of words that are no command line.
 const REFUSED: u8 = 2;
 
-/// Runs the program on its words, and gives its exit status. A fault is told in a line on standard
-/// error.
-pub fn run<R: Input + Print + Eprint + Files>(rt: &R, alloc: Global, words: &[String]) -> u8 {
-    let command = match command(alloc) {
-        Ok(command) => command,
-        Err(_) => return no_memory(rt),
-    };
-    let matches = match command.try_get_matches_from(words) {
-        Ok(matches) => matches,
-        Err(error) => return refuse(rt, &error),
-    };
-    match matches.subcommand() {
-        Some((_, replay_words)) => replay(rt, alloc, replay_words.get_str("bands")),
-        // Words without a subcommand are refused above, since the command asks for one.
-        None => REFUSED,
+/// Runs the program on its words, and gives its exit status.
+pub fn run(rt: &HostRuntime) -> u8 {
+    let alloc = rt.alloc();
+    match words(rt, alloc) {
+        Ok(words) => start(rt, alloc, words.as_slice()),
+        Err(error) if error.kind() == ErrorKind::OutOfMemory => no_memory(rt),
+        Err(_) => {
+            let _ = writeln!(rt.stderr(), "auction: command line");
+            REFUSED
+        }
+    }
+}
+
+// The words of the command line. A word that is not UTF-8 is an error.
+fn words(rt: &HostRuntime, alloc: Global) -> io::Result<Vec<String>> {
+    Ok(env::args(rt)?.collect(alloc)?)
+}
+
+// The end of a run that found no memory.
+fn no_memory(rt: &HostRuntime) -> u8 {
+    ended(&mut rt.stderr(), Err(Fault::Memory))
+}
+
+// Does what the words ask for.
+fn start(rt: &HostRuntime, alloc: Global, words: &[String]) -> u8 {
+    match command_line::read(alloc, words) {
+        Ok(Some(Task::Replay(house, asked))) => replay_input(rt, alloc, &house, asked),
+        // Words that ask for nothing are refused there.
+        Ok(None) => REFUSED,
+        Err(error) => refuse(rt, &error),
     }
 }
 
 // The end of a run whose words are refused, or ask for help.
-fn refuse<R: Print + Eprint>(rt: &R, error: &Error) -> u8 {
-    if error.kind() == ErrorKind::OutOfMemory {
+fn refuse(rt: &HostRuntime, error: &Error) -> u8 {
+    if error.kind() == clap::error::ErrorKind::OutOfMemory {
         return no_memory(rt);
     }
     let _ = error.print(rt);
-    if error.exit_code() == 0 {
-        DONE
-    } else {
-        REFUSED
+    if error.exit_code() == 0 { 0 } else { REFUSED }
+}
+
+// A new house in memory.
+fn new_house(rt: &HostRuntime, alloc: Global, words: &HouseWords<'_>) -> Result<ListKeep, Fault> {
+    let settings = settings(rt, alloc, words)?;
+    Ok(ListKeep::create(alloc, settings)?)
+}
+
+// Answers standard input over a new house in memory.
+fn replay_input(rt: &HostRuntime, alloc: Global, words: &HouseWords<'_>, asked: Replay) -> u8 {
+    let mut errors = rt.stderr();
+    match new_house(rt, alloc, words) {
+        Ok(keep) => {
+            let mut source = Reading::new(rt.reader());
+            let mut sink = Writing::new(rt.stdout());
+            replay_run(alloc, &mut source, &mut sink, &mut errors, keep, asked)
+        }
+        Err(fault) => ended(&mut errors, Err(fault)),
     }
-}
-
-/// The end of a run whose words can't be had, for one of them is not UTF-8, or for want of memory.
-pub fn no_words(rt: &impl Eprint, error: &io::Error) -> u8 {
-    if error.kind() == io::ErrorKind::OutOfMemory {
-        return no_memory(rt);
-    }
-    tell(rt, "auction: command line");
-    REFUSED
-}
-
-// The end of a run that found no memory.
-fn no_memory(rt: &impl Eprint) -> u8 {
-    fault(rt, "auction: memory")
-}
-
-// Answers standard input over the preset house. Nothing is read of it before the table stands.
-fn replay<R: Input + Print + Eprint + Files>(rt: &R, alloc: Global, path: Option<&str>) -> u8 {
-    match table(rt, alloc, path) {
-        Ok(bands) => answer_input(rt, alloc, &bands),
-        Err(fault) => bands_fault(rt, fault),
-    }
-}
-
-// The band table of a file, or the example table.
-fn table<R: Files>(rt: &R, alloc: Global, path: Option<&str>) -> Result<Bands, BandsFault> {
-    let Some(path) = path else {
-        return Bands::example(alloc);
-    };
-    match File::open(rt, path) {
-        Ok(file) => Bands::read(alloc, file),
-        Err(error) if error.kind() == io::ErrorKind::OutOfMemory => Err(BandsFault::Memory),
-        Err(_) => Err(BandsFault::Device),
-    }
-}
-
-// Answers standard input by a table.
-fn answer_input<R: Input + Print + Eprint>(rt: &R, alloc: Global, bands: &Bands) -> u8 {
-    let mut reader = rt.reader();
-    let mut writer = io::writer(rt);
-    match first_run(alloc, &mut reader, &mut writer, bands, u64::MAX) {
-        Ok(_) => DONE,
-        Err(FirstFault::Read) => fault(rt, "auction: input: Read"),
-        Err(FirstFault::Write) => fault(rt, "auction: output: Write"),
-    }
-}
-
-// Tells why there is no table.
-fn bands_fault(rt: &impl Eprint, fault: BandsFault) -> u8 {
-    if fault == BandsFault::Memory {
-        return no_memory(rt);
-    }
-    let name = fault.name();
-    let _ = match fault.row() {
-        Some(row) => eprintln!(rt; "auction: bands: {name} {row}"),
-        None => eprintln!(rt; "auction: bands: {name}"),
-    };
-    FAULT
-}
-
-// The end of a run at a fault.
-fn fault(rt: &impl Eprint, line: &str) -> u8 {
-    tell(rt, line);
-    FAULT
-}
-
-// Tells a line. Where standard error fails too there is nobody left to tell.
-fn tell(rt: &impl Eprint, line: &str) {
-    let _ = rt.eprintln(line);
 }

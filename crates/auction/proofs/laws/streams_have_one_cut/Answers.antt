@@ -1,5 +1,0 @@
-use Rattle.auction.proofs.OneCut.{one_cut}
-use Rattle.auction.proofs.laws.streams_have_one_cut.Goals as goal
-
-pub returns : goal.returns
-returns c = λ stream most messages others rest other cut also. one_cut stream most messages others rest other cut also

@@ -1,0 +1,88 @@
+//! Why the program ends at a fault: the lines on standard error and the exit statuses.
+ghost use Rattle.std.specs.Prelude.{◌≡◌, ◌≤◌, ◌↔◌, Some, IsErr, IsOk};
+ghost use Rattle.auction.specs.Faults.{fault_of_keep, fault_of_serving};
+ghost use Rattle.auction.specs.Lines.{line_of};
+
+use house_rows::KeepFault;
+use site_serve::ServeFault;
+use std::fmt;
+use std::io::Write;
+use steps::BandsFault;
+
+/// Why the program ends at a fault.
+#[derive(Clone, Copy, Debug, PartialEq, Eq)]
+pub enum Fault {
+    /// Memory was refused.
+    Memory,
+    /// The database or its file failed.
+    Store,
+    /// The file is not a house of this version.
+    Damaged,
+    /// The band table has a fault, or its file can't be read.
+    Bands(BandsFault),
+    /// The zone is no rule.
+    Zone,
+    /// The input failed.
+    Read,
+    /// The output failed.
+    Write,
+}
+
+impl fmt::Display for Fault {
+    ghost output = { λ fault. Some (line_of fault) };
+
+    fn fmt<W: fmt::Write>(&self, f: &mut fmt::Formatter<W>) -> fmt::Result {
+        match self {
+            Fault::Memory | Fault::Bands(BandsFault::Memory) => write!(f, "auction: memory"),
+            Fault::Store => write!(f, "auction: file: Store"),
+            Fault::Damaged => write!(f, "auction: file: Damaged"),
+            Fault::Bands(fault) => match fault.row() {
+                Some(row) => write!(f, "auction: bands: {} {row}", fault.name()),
+                None => write!(f, "auction: bands: {}", fault.name()),
+            },
+            Fault::Zone => write!(f, "auction: zone"),
+            Fault::Read => write!(f, "auction: input: Read"),
+            Fault::Write => write!(f, "auction: output: Write"),
+        }
+    }
+}
+
+impl From<KeepFault> for Fault {
+    ghost from_gives = { λ fault told. told ≡ fault_of_keep fault };
+
+    fn from(fault: KeepFault) -> Fault {
+        match fault {
+            KeepFault::Memory => Fault::Memory,
+            KeepFault::Store => Fault::Store,
+            KeepFault::Damaged => Fault::Damaged,
+        }
+    }
+}
+
+impl From<ServeFault> for Fault {
+    ghost from_gives = { λ fault told. told ≡ fault_of_serving fault };
+
+    fn from(fault: ServeFault) -> Fault {
+        match fault {
+            ServeFault::Read => Fault::Read,
+            ServeFault::Write => Fault::Write,
+            ServeFault::Memory => Fault::Memory,
+        }
+    }
+}
+
+/// Ends a run, and gives its exit status: 0, or 1 for a fault, which is told in its line.
+pub fn ended<E: Write>(errors: &mut E, outcome: Result<(), Fault>) -> u8
+    ensures done { (result ≡ 0) ↔ IsOk outcome }
+    ensures fault { (result ≡ 1) ↔ IsErr outcome }
+    ensures within { result ≤ 1 }
+{
+    match outcome {
+        Ok(()) => 0,
+        Err(fault) => {
+            // Where standard error fails too there is nobody left to tell.
+            let _ = writeln!(errors, "{fault}");
+            1
+        }
+    }
+}
