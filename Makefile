@@ -4,7 +4,11 @@
 CASES ?= ../shared/conformance
 SUITES = site
 
-.PHONY: help demo test auction program cases memory statement random file wrong
+# How many messages the fuzz sends at least, and the seed that chooses them.
+MESSAGES ?= 5000
+SEED ?= 2026
+
+.PHONY: help demo test auction program cases fuzz memory statement random file wrong
 
 help:
 	@echo "make demo      answers examples/first-bid.http, without waiting for the proofs"
@@ -12,6 +16,7 @@ help:
 	@echo "make auction   proves and builds the program, as bin/auction"
 	@echo "make program   runs the program that make test has left on words, tables and streams (needs cc)"
 	@echo "make cases     runs the conformance cases on the program that make test has left"
+	@echo "make fuzz      sends MESSAGES random ones to that program, and compares answers with plain lists and in twin runs"
 	@echo "make memory    refuses each allocation of that program and of the crates below it (needs cc)"
 	@echo "make statement compares statements with those that Python makes"
 	@echo "make random    compares houses with plain lists, on random commands and on long lists, and with one another"
@@ -37,6 +42,9 @@ cases:
 	for suite in $(SUITES); do \
 		python3 $(CASES)/compare.py --program crates/auction/out/auction $(CASES)/$$suite || exit 1; \
 	done
+
+fuzz:
+	python3 tests/fuzz.py crates/auction/out/auction $(MESSAGES) $(SEED)
 
 memory:
 	python3 tests/refused_memory.py crates/auction/out/auction
