@@ -15,9 +15,9 @@ import random
 import re
 import sys
 
-from plain_site import AHEAD, COMMANDS, FIELDS, MOST_BODY, MOST_FIELDS, MOST_HEAD, NUMBERS, READS, SHORT, Site, setup
-from random_house import NEVER, Chance
-from sent import Answer, Malformed, Request, answers_in, command, compact, lengthened, read, replayed, value_of
+from plain_site import AHEAD, COMMANDS, FIELDS, MOST_BODY, MOST_FIELDS, MOST_HEAD, NUMBERS, READS, SHORT, Site
+from random_house import Chance
+from sent import Answer, Malformed, answers_in, command, compact, lengthened, read, replayed, value_of
 
 SEED = 2026
 LONGEST = 200
