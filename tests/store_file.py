@@ -7,8 +7,10 @@ answer has to be that of `stdout`. Then Python's sqlite3, and SQLite's shell whe
 and for keys that lead nowhere, and read the tables, which have to be those of the script's commands. A house
 isn't made in a file that has one. A file that is no house, or a damaged one, answers nothing and stays as it
 is: an empty one, one cut short, one with a page overwritten, and one with other tables or another version. One
-with a row that has a column out of its range is opened, and doesn't answer when that row is asked for. The
-last line is 'N checks, M wrong'.
+with a row that has a column out of its range, or whose columns don't fit together, is opened, and doesn't
+answer when that row is asked for. Then each column of each row of every table is spoiled in turn, and every
+look-up and every list is asked: each is refused, or answers as before, or as if the row weren't there where the
+column is one by which rows are found. The last line is 'N checks, M wrong'.
 """
 import contextlib
 import pathlib
@@ -90,6 +92,70 @@ SPOILED = [
     ("UPDATE feedback SET rating = -2 WHERE giver = 1", "? ratings 3"),
 ]
 
+# What leaves an item as no bids and no purchase do, each column in its range; and the item.
+UNSTANDING = [
+    ("second = 1001", 1),
+    ("top = 999", 1),
+    ("top = NULL, second = NULL, count = 0", 1),
+    ("second = NULL", 1),
+    ("count = 1", 1),
+    ("price = 777", 1),
+    ("leader = 2, top = NULL", 1),
+    ("price = 901", 2),
+    ("buy_now = 901", 2),
+    ("buy_now = NULL", 2),
+    ("state = 0, closed = NULL", 2),
+    ("state = 2", 2),
+    ("count = 1", 2),
+    ("second = 500", 2),
+    ("second = 600", 3),
+    ("price = 777", 3),
+    ("price = 777", 5),
+    ("leader = 2", 5),
+    ("state = 0, closed = NULL, leader = 2", 5),
+    ("state = 1, leader = 2", 5),
+    ("count = 1", 5),
+    ("top = 500", 5),
+    ("second = 500", 5),
+]
+
+
+def numbers(table):
+    """The numbers of a table's rows."""
+    return [row[0] for row in TABLES[table]]
+
+
+def every_question():
+    """Every look-up and every list, of each item, member and category."""
+    yield CLOCK
+    yield from ("? counts", "? members", "? categories", "? items", "? all_published", "? all_feedback")
+    yield from ("? due 4999", "? due 7000", "? due 4294967296")
+    for number, name in TABLES["member"]:
+        yield f"? member_named {name}"
+        yield from (f"? member {number}", f"? has_member {number}", f"? sales {number}", f"? ratings {number}")
+        yield from (f"? watches {number}", f"? watch_count {number}")
+        yield from (f"? waiting {number}", f"? first_waiting {number}")
+        yield from (f"? bids {number} 0", f"? questions {number} 0", f"? feedback {number} 0")
+    for number, name in TABLES["category"]:
+        yield from (f"? category_named {name}", f"? category {number}", f"? has_category {number}")
+        yield f"? items_in {number} 0"
+    for item in TABLES["item"]:
+        number = item[0]
+        yield from (f"? item {number}", f"? state {number}", f"? standing {number}", f"? published {number} 0")
+        yield f"? item_of {item[1]} {item[3]}"
+        for member in numbers("member"):
+            yield from (f"? own {number} {member}", f"? watched {member} {number}", f"? given {number} {member}")
+            yield from (f"? ask_count {number} {member}", f"? question {number} {member} 1")
+
+
+def readers(number):
+    """The questions that read the row of an item, by the tables."""
+    item = next(row for row in TABLES["item"] if row[0] == number)
+    yield from ("? items", "? due 4294967296", f"? item {number}", f"? state {number}", f"? items_in {item[2]} 0")
+    yield from (f"? sales {item[1]}", f"? waiting {item[1]}", f"? first_waiting {item[1]}")
+    yield from (f"? watches {member}" for member, watched in TABLES["watch"] if watched == number)
+    yield from {f"? bids {bid[2]} 0" for bid in TABLES["bid"] if bid[0] == number}
+
 
 def answered():
     """The lines of the script, each with its answer or None for a line that has none."""
@@ -148,6 +214,66 @@ def refused(program, whole, folder):
         yield what, (ended, path.read_bytes() == content), ((1, [MOMENT for _ in before]), True)
 
 
+def answers(program, path, questions):
+    """The answer to each question, or None where it is refused; None to all if the house isn't opened."""
+    found = {question: None for question in questions}
+    left = list(questions)
+    while left:
+        _, lines = played(program, "ask", path, [(line, "") for line in left])
+        if not lines and left[0] == CLOCK:
+            break
+        found.update(zip(left, lines))
+        left = left[len(lines) + 1:]
+    return found
+
+
+def changed(whole, path, statement):
+    """Lays a file out that a statement has changed; whether SQLite took it."""
+    path.write_bytes(whole)
+    with contextlib.closing(sqlite3.connect(path)) as tables:
+        try:
+            tables.execute(statement)
+        except sqlite3.IntegrityError:
+            return False
+        tables.commit()
+    return True
+
+
+def columns(path):
+    """Each column of each row: its table, the row, its name, its type, and whether rows are found by it."""
+    with contextlib.closing(sqlite3.connect(path)) as tables:
+        for table in TABLES:
+            for row, in tables.execute(f"SELECT rowid FROM {table}").fetchall():
+                for _, name, kind, _, _, key in tables.execute(f"PRAGMA table_info({table})").fetchall():
+                    yield table, f"rowid = {row}", name, kind, key > 0
+
+
+def all_columns(program, whole, folder):
+    """The checks of a file with one column spoiled: that no question is answered by it."""
+    path = folder / "column.db"
+    path.write_bytes(whole)
+    questions = list(every_question())
+    before = answers(program, str(path), questions)
+    yield "every question", [each for each in questions if before[each] is None], []
+    asked = {line.split()[1] for line, _ in answered() if line.startswith("?")}
+    yield "every word", asked - {each.split()[1] for each in questions}, set()
+    for table, row, name, kind, is_key in list(columns(path)):
+        gone = {question: None for question in questions}
+        if is_key and changed(whole, path, f"DELETE FROM {table} WHERE {row}"):
+            gone = answers(program, str(path), questions)
+        for value in ("-2", "1099511627776") if kind == "INTEGER" else ("char(10)", "printf('%.3000c', 'x')"):
+            if changed(whole, path, f"UPDATE {table} SET {name} = {value} WHERE {row}"):
+                now = answers(program, str(path), questions)
+                wrong = [each for each in questions if now[each] not in (None, before[each], gone[each])]
+                yield f"{table}.{name} = {value} where {row}", (wrong, now == before), ([], False)
+    for change, number in UNSTANDING:
+        changed(whole, path, f"UPDATE item SET {change} WHERE id = {number}")
+        now = answers(program, str(path), questions)
+        wrong = [each for each in questions if now[each] not in (None, before[each])]
+        read = [each for each in readers(number) if now[each] is not None]
+        yield f"{change} of item {number}", (wrong, read), ([], [])
+
+
 def tables_checked(path):
     """The checks of the tables by sqlite3, which leaves all in the one file."""
     with contextlib.closing(sqlite3.connect(path)) as tables:
@@ -184,6 +310,7 @@ def checks(program, folder):
     yield from read_by_shell(path)
     yield from tables_checked(path)
     yield from refused(program, path.read_bytes(), folder)
+    yield from all_columns(program, path.read_bytes(), folder)
     yield "asked at last", played(program, "ask", str(path), questions), told(questions)
 
 

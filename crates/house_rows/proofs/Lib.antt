@@ -20,3 +20,4 @@ pub mod SoundAfter
 pub mod Lists
 pub mod ItemRows
 pub mod OwnBids
+pub mod Standing

@@ -1,11 +1,13 @@
 -- What every call of a keep promises beside its answer. A keep that rests on a disk promises of its rows only while the disk
 -- has returned what was written: while it is honest.
-use Rattle.std.specs.Prelude.{◌≡◌, ◌≤◌, ◌+◌, ◌⊎◌, length, ◌↔◌, ℕ, List, [], ◌∷◌, Bool, true, false, Some, IfSome, Result, OnOk, IsErrOf, ◌==◌}
+use Rattle.std.specs.Prelude.{◌≡◌, ◌≤◌, ◌+◌, ◌⊎◌, length, ◌↔◌, ℕ, List, [], ◌∷◌, Bool, true, false, Option, Some, IfSome, Result, OnOk, IsErrOf, ◌==◌}
 use Rattle.std.specs.List.{AllByRecursion}
 use Rattle.proxy.specs.Accepted.{AreAccepted}
 use Rattle.proxy.specs.Bids.{standing_of}
 use Rattle.proxy.specs.declared.bid.Bid.{Bid}
+use Rattle.proxy.specs.Rows.{is_shape}
 use Rattle.house_rows.specs.declared.change.Change.{Change}
+use Rattle.house_rows.specs.declared.item.Terms.{Terms}
 use Rattle.house_rows.specs.declared.fault.KeepFault.{KeepFault}
 use Rattle.house_rows.specs.declared.fault.KeepFault.TheVariants.{Store, Damaged}
 use Rattle.house_rows.specs.Asks.{IsFree}
@@ -25,6 +27,21 @@ pub record IsBought (row : ItemRow) : Type 0 where
   pub sold : was_sold row.item.terms.state ≡ true
   pub no_bid : row.standing.count ≡ 0
   pub price : row.item.terms.buy_now ≡ Some row.item.terms.price
+
+-- what an item's row shows of its bids is what a standing shows by these bands, whatever is sealed of it
+pub record IsByStanding (bands : List (ℕ × ℕ)) (t : Terms) : Type 0 where
+  pub top : Option ℕ
+  pub second : Option ℕ
+  pub shape : is_shape bands t.start t.price t.count t.leader top second ≡ true
+
+-- or it was bought at once: nobody has bid, and the price is the buy-now price
+pub record IsPurchase (t : Terms) : Type 0 where
+  pub sold : was_sold t.state ≡ true
+  pub no_bid : t.count ≡ 0
+  pub price : t.buy_now ≡ Some t.price
+
+abbrev pub Stands : List (ℕ × ℕ) → Terms → Type 0
+Stands bands t = IsByStanding bands t ⊎ IsPurchase t
 
 -- the rows of an item fit: the item itself, and its standing, which is that of some accepted bids in range
 pub record ItemRowFits (bands : List (ℕ × ℕ)) (row : ItemRow) : Type 0 where
@@ -60,6 +77,11 @@ pub record AreSound (t : Tables) : Type 0 where
   pub few_watches : (m : ℕ) → counted (λ w. w.member == m) t.watches ≤ most_watches
   pub questions : AllByRecursion QuestionFits t.questions
   pub feedback : AllByRecursion FeedbackFits t.feedback
+
+-- the tables are sound, and these are their bands
+pub record AreSoundBy (bands : List (ℕ × ℕ)) (t : Tables) : Type 0 where
+  pub sound : AreSound t
+  pub same : bands ≡ t.settings.bands
 
 -- Store comes exactly where the keep is failed as the call ends, and Damaged only where a row doesn't fit
 pub record Faults {A : Type 0} (result : Result A KeepFault) (is_honest : Type 0) (is_failed : Bool) (content : Tables) : Type 0 where

@@ -4,3 +4,5 @@ pub mod Nothing
 pub mod Sound
 pub mod Moves
 pub mod Begins
+pub mod Known
+pub mod Closed

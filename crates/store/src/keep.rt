@@ -177,7 +177,7 @@ impl<S: Alter> Keep for SqlKeep<S> {
         }
     }
 
-    #[tactic(auto, using(store_answers::proofs::Sound::items_fit, store_items::proofs::Small::no_item), unfolding(store_lists::specs::Tables::tables_in))]
+    #[tactic(auto, using(store_items::proofs::Small::no_item), unfolding(store_lists::specs::Tables::tables_in))]
     fn item(&mut self, item: u64) -> Result<Option<Item>, KeepFault> {
         if self.failed {
             return Err(KeepFault::Store);
@@ -185,13 +185,13 @@ impl<S: Alter> Keep for SqlKeep<S> {
         if item > LAST_NUMBER {
             return Ok(None);
         }
-        match item_at(&mut self.conn, item as u32) {
+        match item_at(&mut self.conn, &self.settings.bands, item as u32) {
             Ok(found) => Ok(found),
             Err(fault) => Err(told_fault(&mut self.conn, &mut self.failed, fault)),
         }
     }
 
-    #[tactic(auto, using(store_answers::proofs::Sound::items_fit, store_items::proofs::Small::no_item), unfolding(store_lists::specs::Tables::tables_in))]
+    #[tactic(auto, using(store_items::proofs::Small::no_item), unfolding(store_lists::specs::Tables::tables_in))]
     fn terms(&mut self, item: u64) -> Result<Option<Terms>, KeepFault> {
         if self.failed {
             return Err(KeepFault::Store);
@@ -199,7 +199,7 @@ impl<S: Alter> Keep for SqlKeep<S> {
         if item > LAST_NUMBER {
             return Ok(None);
         }
-        match terms_at(&mut self.conn, item as u32) {
+        match terms_at(&mut self.conn, &self.settings.bands, item as u32) {
             Ok(found) => Ok(found),
             Err(fault) => Err(told_fault(&mut self.conn, &mut self.failed, fault)),
         }
@@ -367,13 +367,13 @@ impl<S: Alter> Keep for SqlKeep<S> {
         if self.failed {
             return Err(KeepFault::Store);
         }
-        match due(self.alloc, &mut self.conn, moment) {
+        match due(self.alloc, &mut self.conn, &self.settings.bands, moment) {
             Ok(due) => Ok(due),
             Err(fault) => Err(told_fault(&mut self.conn, &mut self.failed, fault)),
         }
     }
 
-    #[tactic(auto, using(crate::proofs::AbsentLists::no_items, store_answers::proofs::Sound::items_fit))]
+    #[tactic(auto, using(crate::proofs::AbsentLists::no_items))]
     fn items_in(&mut self, category: u64, from: u64) -> Result<Vec<Item>, KeepFault> {
         if self.failed {
             return Err(KeepFault::Store);
@@ -381,7 +381,8 @@ impl<S: Alter> Keep for SqlKeep<S> {
         if category > LAST_NUMBER {
             return Ok(Vec::new(self.alloc));
         }
-        match items_in(self.alloc, &mut self.conn, category as u32, from) {
+        let bands = &self.settings.bands;
+        match items_in(self.alloc, &mut self.conn, bands, category as u32, from) {
             Ok(all) => Ok(all),
             Err(fault) => Err(told_fault(&mut self.conn, &mut self.failed, fault)),
         }
@@ -395,7 +396,8 @@ impl<S: Alter> Keep for SqlKeep<S> {
         if member > LAST_NUMBER {
             return Ok(Vec::new(self.alloc));
         }
-        match own_bids(self.alloc, &mut self.conn, member as u32, from) {
+        let bands = &self.settings.bands;
+        match own_bids(self.alloc, &mut self.conn, bands, member as u32, from) {
             Ok(all) => Ok(all),
             Err(fault) => Err(told_fault(&mut self.conn, &mut self.failed, fault)),
         }
@@ -465,12 +467,12 @@ impl<S: Alter> Keep for SqlKeep<S> {
         }
     }
 
-    #[tactic(auto, using(store_answers::proofs::Sound::items_fit), unfolding(store_lists::specs::Tables::tables_in))]
+    #[tactic(auto, unfolding(store_lists::specs::Tables::tables_in))]
     fn items(&mut self) -> Result<Vec<Item>, KeepFault> {
         if self.failed {
             return Err(KeepFault::Store);
         }
-        match all_items(self.alloc, &mut self.conn) {
+        match all_items(self.alloc, &mut self.conn, &self.settings.bands) {
             Ok(all) => Ok(all),
             Err(fault) => Err(told_fault(&mut self.conn, &mut self.failed, fault)),
         }
@@ -506,7 +508,8 @@ impl<S: Alter> Keep for SqlKeep<S> {
         if member > LAST_NUMBER {
             return Ok(Vec::new(self.alloc));
         }
-        match items_watched(self.alloc, &mut self.conn, member as u32) {
+        let bands = &self.settings.bands;
+        match items_watched(self.alloc, &mut self.conn, bands, member as u32) {
             Ok(all) => Ok(all),
             Err(fault) => Err(told_fault(&mut self.conn, &mut self.failed, fault)),
         }
@@ -520,7 +523,8 @@ impl<S: Alter> Keep for SqlKeep<S> {
         if member > LAST_NUMBER {
             return Ok(Vec::new(self.alloc));
         }
-        match waiting_for(self.alloc, &mut self.conn, member as u32) {
+        let bands = &self.settings.bands;
+        match waiting_for(self.alloc, &mut self.conn, bands, member as u32) {
             Ok(all) => Ok(all),
             Err(fault) => Err(told_fault(&mut self.conn, &mut self.failed, fault)),
         }
@@ -534,7 +538,8 @@ impl<S: Alter> Keep for SqlKeep<S> {
         if member > LAST_NUMBER {
             return Ok(Vec::new(self.alloc));
         }
-        match first_waiting(self.alloc, &mut self.conn, member as u32) {
+        let bands = &self.settings.bands;
+        match first_waiting(self.alloc, &mut self.conn, bands, member as u32) {
             Ok(all) => Ok(all),
             Err(fault) => Err(told_fault(&mut self.conn, &mut self.failed, fault)),
         }
@@ -548,7 +553,8 @@ impl<S: Alter> Keep for SqlKeep<S> {
         if member > LAST_NUMBER {
             return Ok(Vec::new(self.alloc));
         }
-        match sales_to(self.alloc, &mut self.conn, member as u32) {
+        let bands = &self.settings.bands;
+        match sales_to(self.alloc, &mut self.conn, bands, member as u32) {
             Ok(all) => Ok(all),
             Err(fault) => Err(told_fault(&mut self.conn, &mut self.failed, fault)),
         }

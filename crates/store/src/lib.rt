@@ -13,6 +13,7 @@
 
 mod after;
 mod changes;
+mod closing;
 mod keep;
 mod making;
 mod numbers;

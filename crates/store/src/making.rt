@@ -81,7 +81,7 @@ pub(crate) fn make_change<S: Alter>(
             buyer,
             price,
         } => buy(conn, bands, moment, item, buyer, price),
-        Change::Settle { moment, item } => settle(conn, moment, item),
+        Change::Settle { moment, item } => settle(conn, bands, moment, item),
         Change::Watch { member, item } => watch(conn, member, item),
         Change::Unwatch { member, item } => unwatch(conn, member, item),
         Change::Ask {
@@ -105,6 +105,6 @@ pub(crate) fn make_change<S: Alter>(
             rating,
             text,
         } => give_feedback(conn, moment, item, from, to, rating, text),
-        Change::Close { moment } => close(conn, alloc, moment),
+        Change::Close { moment } => close(conn, bands, alloc, moment),
     }
 }

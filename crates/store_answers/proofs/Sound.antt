@@ -1,5 +1,5 @@
 -- Of sound tables every stored row fits.
-use Rattle.std.proofs.Common.{List}
+use Rattle.std.proofs.Common.{◌≡◌, ℕ, List}
 use Rattle.std.specs.List.{AllByRecursion}
 use Rattle.std.proofs.lemmas.List.Elements.{All-from_recursion, recursion_from_All}
 use Rattle.std.proofs.lemmas.List.Sorted.{All-permutation}
@@ -8,7 +8,7 @@ use Rattle.house_rows.specs.Bids.{bid_key}
 use Rattle.house_rows.specs.Changed.{question_key}
 use Rattle.house_rows.specs.Fits.{BidRowFits, FeedbackFits, ItemFits, QuestionFits, WatchRowFits}
 use Rattle.house_rows.specs.History.{Key}
-use Rattle.house_rows.specs.Keeping.{AreSound, ItemRowFits}
+use Rattle.house_rows.specs.Keeping.{AreSound, AreSoundBy, ItemRowFits}
 use Rattle.house_rows.specs.Ratings.{feedback_key}
 use Rattle.house_rows.specs.Tables.{ItemRow}
 use Rattle.house_rows.specs.Watches.{watch_key}
@@ -41,6 +41,10 @@ module _ (db : Trees) (sound : AreSound (tables_in db)) where
   unfolding tables_in
   feedback_fits = every_stored feedback_key FeedbackFits (feedback_in db) sound.feedback
 
-  pub items_fit : AllByRecursion (λ (row : ItemRow). ItemFits row.item) (items_in db)
-  unfolding tables_in
-  items_fit = every_as (ItemRowFits (settings_in db).bands) (λ (row : ItemRow). ItemFits row.item) (items_in db) (λ row fits. fits.item) sound.items
+pub items_fit : (db : Trees) → AreSound (tables_in db) → AllByRecursion (λ (row : ItemRow). ItemFits row.item) (items_in db)
+unfolding tables_in
+items_fit db sound = every_as (ItemRowFits (settings_in db).bands) (λ (row : ItemRow). ItemFits row.item) (items_in db) (λ row fits. fits.item) sound.items
+
+pub rows_fit : (db : Trees) (bands : List (ℕ × ℕ)) → AreSoundBy bands (tables_in db) → AllByRecursion (ItemRowFits bands) (items_in db)
+unfolding tables_in
+rows_fit db bands sound = rw sound.same sound.sound.items

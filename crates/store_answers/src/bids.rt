@@ -5,7 +5,7 @@ ghost use Rattle.sqlite.specs.State.{HasCleanDisk, IsUnchanged, Survives};
 ghost use Rattle.sqlite.specs.Held.{state};
 ghost use Rattle.house_rows.specs.Fits.{OwnBidFits, TermsFit};
 ghost use Rattle.house_rows.specs.Found.{own_bids};
-ghost use Rattle.house_rows.specs.Keeping.{AreSound};
+ghost use Rattle.house_rows.specs.Keeping.{AreSoundBy};
 ghost use Rattle.house_rows.specs.Limits.{most_shown};
 ghost use Rattle.house_rows.specs.declared.fault.KeepFault.TheVariants.{Damaged};
 ghost use Rattle.store_rows.specs.House.{Serves, KeepsCommitted};
@@ -18,6 +18,7 @@ use house_rows::{KeepFault, OwnBest, OwnBid, Terms};
 use list_rows::{MOST_SHOWN, push};
 use sqlite::{Alter, Connection};
 use std::alloc::Global;
+use steps::Bands;
 use store_finds::{PlacedBid, own_bid_rows};
 use store_items::terms_at;
 
@@ -61,19 +62,20 @@ fn own_bid(terms: Option<Terms>, best: OwnBest, member: u32) -> Option<OwnBid>
 fn own_bid_at<S: Alter>(
     alloc: Global,
     conn: &mut Connection<S>,
+    bands: &Bands,
     item: u32,
     member: u32,
 ) -> Result<Option<OwnBid>, KeepFault>
     requires { Serves (state S.Store conn.old) }
     ensures value { HasCleanDisk (state S.Store conn.new) → IfOk result (λ bid. found_of bid ≡ own_found (tables_in (state S.Store conn.old).now.trees) member item) }
     ensures fits { IfOk result (λ bid. IfSome bid OwnBidFits) }
-    ensures damaged { HasCleanDisk (state S.Store conn.new) → AreSound (tables_in (state S.Store conn.old).now.trees) → ¬ (IsErrOf result Damaged) }
+    ensures damaged { HasCleanDisk (state S.Store conn.new) → AreSoundBy bands.now (tables_in (state S.Store conn.old).now.trees) → ¬ (IsErrOf result Damaged) }
     ensures same { HasCleanDisk (state S.Store conn.new) → OnOk result (IsUnchanged (state S.Store conn.old) (state S.Store conn.new)) }
     ensures err { HasCleanDisk (state S.Store conn.new) → OnErr result (KeepsCommitted (state S.Store conn.old) (state S.Store conn.new)) }
     ensures mode { conn.old.in_transaction ≡ false → conn.new.in_transaction ≡ false }
     ensures crash { Survives (state S.Store conn.old) (state S.Store conn.new) (λ _. ⊥) }
 {
-    let terms = terms_at(conn, item)?;
+    let terms = terms_at(conn, bands, item)?;
     let best = own_best(alloc, conn, item, member)?;
     Ok(own_bid(terms, best, member))
 }
@@ -82,6 +84,7 @@ fn own_bid_at<S: Alter>(
 fn add_own_bid<S: Alter>(
     alloc: Global,
     conn: &mut Connection<S>,
+    bands: &Bands,
     item: u32,
     member: u32,
     found: &mut Vec<OwnBid>,
@@ -90,13 +93,13 @@ fn add_own_bid<S: Alter>(
     ensures value { HasCleanDisk (state S.Store conn.new) → OnOk result (found.new.items ≡ found.old.items ++ own_found (tables_in (state S.Store conn.old).now.trees) member item) }
     ensures few { OnOk result (length found.new.items ≤ length found.old.items + 1) }
     ensures fits { AllByRecursion OwnBidFits found.old.items → OnOk result (AllByRecursion OwnBidFits found.new.items) }
-    ensures damaged { HasCleanDisk (state S.Store conn.new) → AreSound (tables_in (state S.Store conn.old).now.trees) → ¬ (IsErrOf result Damaged) }
+    ensures damaged { HasCleanDisk (state S.Store conn.new) → AreSoundBy bands.now (tables_in (state S.Store conn.old).now.trees) → ¬ (IsErrOf result Damaged) }
     ensures same { HasCleanDisk (state S.Store conn.new) → OnOk result (IsUnchanged (state S.Store conn.old) (state S.Store conn.new)) }
     ensures err { HasCleanDisk (state S.Store conn.new) → OnErr result (KeepsCommitted (state S.Store conn.old) (state S.Store conn.new)) }
     ensures mode { conn.old.in_transaction ≡ false → conn.new.in_transaction ≡ false }
     ensures crash { Survives (state S.Store conn.old) (state S.Store conn.new) (λ _. ⊥) }
 {
-    match own_bid_at(alloc, conn, item, member)? {
+    match own_bid_at(alloc, conn, bands, item, member)? {
         Some(bid) => push(found, bid),
         None => Ok(()),
     }
@@ -106,13 +109,14 @@ fn add_own_bid<S: Alter>(
 fn own_bids_at<S: Alter>(
     alloc: Global,
     conn: &mut Connection<S>,
+    bands: &Bands,
     numbers: &[u32],
     member: u32,
 ) -> Result<Vec<OwnBid>, KeepFault>
     requires { Serves (state S.Store conn.old) }
     ensures value { HasCleanDisk (state S.Store conn.new) → IfOk result (λ found. found.items ≡ take most_shown (flat_map (own_found (tables_in (state S.Store conn.old).now.trees) member) numbers.now)) }
     ensures fits { IfOk result (λ found. AllByRecursion OwnBidFits found.items) }
-    ensures damaged { HasCleanDisk (state S.Store conn.new) → AreSound (tables_in (state S.Store conn.old).now.trees) → ¬ (IsErrOf result Damaged) }
+    ensures damaged { HasCleanDisk (state S.Store conn.new) → AreSoundBy bands.now (tables_in (state S.Store conn.old).now.trees) → ¬ (IsErrOf result Damaged) }
     ensures same { HasCleanDisk (state S.Store conn.new) → OnOk result (IsUnchanged (state S.Store conn.old) (state S.Store conn.new)) }
     ensures err { HasCleanDisk (state S.Store conn.new) → OnErr result (KeepsCommitted (state S.Store conn.old) (state S.Store conn.new)) }
     ensures mode { conn.old.in_transaction ≡ false → conn.new.in_transaction ≡ false }
@@ -123,7 +127,7 @@ fn own_bids_at<S: Alter>(
         if found.len() >= MOST_SHOWN {
             return Ok(found);
         }
-        match add_own_bid(alloc, conn, *number, member, &mut found) {
+        match add_own_bid(alloc, conn, bands, *number, member, &mut found) {
             Ok(()) => {}
             Err(fault) => return Err(fault),
         }
@@ -135,13 +139,14 @@ fn own_bids_at<S: Alter>(
 pub fn own_bids<S: Alter>(
     alloc: Global,
     conn: &mut Connection<S>,
+    bands: &Bands,
     member: u32,
     from: u64,
 ) -> Result<Vec<OwnBid>, KeepFault>
     requires { Serves (state S.Store conn.old) }
     ensures value { HasCleanDisk (state S.Store conn.new) → IfOk result (λ found. found.items ≡ own_bids (tables_in (state S.Store conn.old).now.trees) member from) }
     ensures fits { IfOk result (λ found. AllByRecursion OwnBidFits found.items) }
-    ensures damaged { HasCleanDisk (state S.Store conn.new) → AreSound (tables_in (state S.Store conn.old).now.trees) → ¬ (IsErrOf result Damaged) }
+    ensures damaged { HasCleanDisk (state S.Store conn.new) → AreSoundBy bands.now (tables_in (state S.Store conn.old).now.trees) → ¬ (IsErrOf result Damaged) }
     ensures same { HasCleanDisk (state S.Store conn.new) → OnOk result (IsUnchanged (state S.Store conn.old) (state S.Store conn.new)) }
     ensures err { HasCleanDisk (state S.Store conn.new) → OnErr result (KeepsCommitted (state S.Store conn.old) (state S.Store conn.new)) }
     ensures mode { conn.old.in_transaction ≡ false → conn.new.in_transaction ≡ false }
@@ -149,5 +154,5 @@ pub fn own_bids<S: Alter>(
 {
     let bids = own_bid_rows(alloc, conn, member)?;
     let numbers = items_from(alloc, &bids, from)?;
-    own_bids_at(alloc, conn, &numbers, member)
+    own_bids_at(alloc, conn, bands, &numbers, member)
 }

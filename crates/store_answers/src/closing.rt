@@ -1,11 +1,11 @@
 //! What a close would take.
-ghost use Rattle.std.specs.Prelude.{◌≡◌, ◌&&◌, false, not, is_some, IfOk, OnOk, OnErr, IsErrOf};
+ghost use Rattle.std.specs.Prelude.{◌≡◌, ◌&&◌, false, not, IfOk, OnOk, OnErr, IsErrOf};
 ghost use Rattle.sqlite.specs.State.{HasCleanDisk, IsUnchanged, Survives};
 ghost use Rattle.sqlite.specs.Held.{state};
 ghost use Rattle.house_rows.specs.Found.{due_at};
 ghost use Rattle.house_rows.specs.History.{counted};
-ghost use Rattle.house_rows.specs.Items.{is_due};
-ghost use Rattle.house_rows.specs.Keeping.{AreSound};
+ghost use Rattle.house_rows.specs.Items.{close_sells, is_due};
+ghost use Rattle.house_rows.specs.Keeping.{AreSoundBy};
 ghost use Rattle.house_rows.specs.declared.fault.KeepFault.TheVariants.{Damaged};
 ghost use Rattle.store_rows.specs.House.{Serves, KeepsCommitted};
 ghost use Rattle.store_lists.specs.Tables.{tables_in};
@@ -13,13 +13,14 @@ ghost use Rattle.store_lists.specs.Tables.{tables_in};
 use house_rows::{Due, Item, KeepFault, State, Terms};
 use sqlite::{Alter, Connection};
 use std::alloc::Global;
+use steps::Bands;
 use store_finds::due_terms;
 use store_items::all_items;
 
 // How many of the items somebody leads, and how many nobody.
 fn counts_of(due: &[Terms]) -> Due
-    ensures sold { result.sold ≡ counted (λ t. is_some t.leader) due.now }
-    ensures unsold { result.unsold ≡ counted (λ t. not (is_some t.leader)) due.now }
+    ensures sold { result.sold ≡ counted (λ t. close_sells t.leader) due.now }
+    ensures unsold { result.unsold ≡ counted (λ t. not (close_sells t.leader)) due.now }
 {
     let mut sold = 0;
     let mut unsold = 0;
@@ -35,8 +36,8 @@ fn counts_of(due: &[Terms]) -> Due
 
 // The same of those among all items that are due.
 fn due_counts_of(items: &[Item], moment: u64) -> Due
-    ensures sold { result.sold ≡ counted (λ it. is_due moment it.terms && is_some it.terms.leader) items.now }
-    ensures unsold { result.unsold ≡ counted (λ it. is_due moment it.terms && not (is_some it.terms.leader)) items.now }
+    ensures sold { result.sold ≡ counted (λ it. is_due moment it.terms && close_sells it.terms.leader) items.now }
+    ensures unsold { result.unsold ≡ counted (λ it. is_due moment it.terms && not (close_sells it.terms.leader)) items.now }
 {
     let mut sold = 0;
     let mut unsold = 0;
@@ -54,16 +55,21 @@ fn due_counts_of(items: &[Item], moment: u64) -> Due
 }
 
 // The items that are due at a moment of the house.
-fn due_by<S: Alter>(alloc: Global, conn: &mut Connection<S>, moment: u32) -> Result<Due, KeepFault>
+fn due_by<S: Alter>(
+    alloc: Global,
+    conn: &mut Connection<S>,
+    bands: &Bands,
+    moment: u32,
+) -> Result<Due, KeepFault>
     requires { Serves (state S.Store conn.old) }
     ensures value { HasCleanDisk (state S.Store conn.new) → IfOk result (λ due. due ≡ due_at (tables_in (state S.Store conn.old).now.trees) moment) }
-    ensures damaged { HasCleanDisk (state S.Store conn.new) → AreSound (tables_in (state S.Store conn.old).now.trees) → ¬ (IsErrOf result Damaged) }
+    ensures damaged { HasCleanDisk (state S.Store conn.new) → AreSoundBy bands.now (tables_in (state S.Store conn.old).now.trees) → ¬ (IsErrOf result Damaged) }
     ensures same { HasCleanDisk (state S.Store conn.new) → OnOk result (IsUnchanged (state S.Store conn.old) (state S.Store conn.new)) }
     ensures err { HasCleanDisk (state S.Store conn.new) → OnErr result (KeepsCommitted (state S.Store conn.old) (state S.Store conn.new)) }
     ensures mode { conn.old.in_transaction ≡ false → conn.new.in_transaction ≡ false }
     ensures crash { Survives (state S.Store conn.old) (state S.Store conn.new) (λ _. ⊥) }
 {
-    let due = due_terms(alloc, conn, moment)?;
+    let due = due_terms(alloc, conn, bands, moment)?;
     Ok(counts_of(&due))
 }
 
@@ -71,33 +77,39 @@ fn due_by<S: Alter>(alloc: Global, conn: &mut Connection<S>, moment: u32) -> Res
 fn due_among_all<S: Alter>(
     alloc: Global,
     conn: &mut Connection<S>,
+    bands: &Bands,
     moment: u64,
 ) -> Result<Due, KeepFault>
     requires { Serves (state S.Store conn.old) }
     ensures value { HasCleanDisk (state S.Store conn.new) → IfOk result (λ due. due ≡ due_at (tables_in (state S.Store conn.old).now.trees) moment) }
-    ensures damaged { HasCleanDisk (state S.Store conn.new) → AreSound (tables_in (state S.Store conn.old).now.trees) → ¬ (IsErrOf result Damaged) }
+    ensures damaged { HasCleanDisk (state S.Store conn.new) → AreSoundBy bands.now (tables_in (state S.Store conn.old).now.trees) → ¬ (IsErrOf result Damaged) }
     ensures same { HasCleanDisk (state S.Store conn.new) → OnOk result (IsUnchanged (state S.Store conn.old) (state S.Store conn.new)) }
     ensures err { HasCleanDisk (state S.Store conn.new) → OnErr result (KeepsCommitted (state S.Store conn.old) (state S.Store conn.new)) }
     ensures mode { conn.old.in_transaction ≡ false → conn.new.in_transaction ≡ false }
     ensures crash { Survives (state S.Store conn.old) (state S.Store conn.new) (λ _. ⊥) }
 {
-    let items = all_items(alloc, conn)?;
+    let items = all_items(alloc, conn, bands)?;
     Ok(due_counts_of(&items, moment))
 }
 
 /// How many items a close at a moment would leave sold, and how many unsold. The moment is in
 /// seconds since 1970-01-01T00:00:00Z. One from 2^32 on, which no house reaches, reads every item.
-pub fn due<S: Alter>(alloc: Global, conn: &mut Connection<S>, moment: u64) -> Result<Due, KeepFault>
+pub fn due<S: Alter>(
+    alloc: Global,
+    conn: &mut Connection<S>,
+    bands: &Bands,
+    moment: u64,
+) -> Result<Due, KeepFault>
     requires { Serves (state S.Store conn.old) }
     ensures value { HasCleanDisk (state S.Store conn.new) → IfOk result (λ due. due ≡ due_at (tables_in (state S.Store conn.old).now.trees) moment) }
-    ensures damaged { HasCleanDisk (state S.Store conn.new) → AreSound (tables_in (state S.Store conn.old).now.trees) → ¬ (IsErrOf result Damaged) }
+    ensures damaged { HasCleanDisk (state S.Store conn.new) → AreSoundBy bands.now (tables_in (state S.Store conn.old).now.trees) → ¬ (IsErrOf result Damaged) }
     ensures same { HasCleanDisk (state S.Store conn.new) → OnOk result (IsUnchanged (state S.Store conn.old) (state S.Store conn.new)) }
     ensures err { HasCleanDisk (state S.Store conn.new) → OnErr result (KeepsCommitted (state S.Store conn.old) (state S.Store conn.new)) }
     ensures mode { conn.old.in_transaction ≡ false → conn.new.in_transaction ≡ false }
     ensures crash { Survives (state S.Store conn.old) (state S.Store conn.new) (λ _. ⊥) }
 {
     match u32::try_from(moment) {
-        Ok(moment) => due_by(alloc, conn, moment),
-        Err(_) => due_among_all(alloc, conn, moment),
+        Ok(moment) => due_by(alloc, conn, bands, moment),
+        Err(_) => due_among_all(alloc, conn, bands, moment),
     }
 }

@@ -5,7 +5,7 @@ ghost use Rattle.sqlite.specs.State.{HasCleanDisk, IsUnchanged, Survives};
 ghost use Rattle.sqlite.specs.Held.{state};
 ghost use Rattle.settle.specs.Statement.{IsSale};
 ghost use Rattle.house_rows.specs.Found.{sales_to};
-ghost use Rattle.house_rows.specs.Keeping.{AreSound};
+ghost use Rattle.house_rows.specs.Keeping.{AreSoundBy};
 ghost use Rattle.house_rows.specs.Limits.{most_items};
 ghost use Rattle.house_rows.specs.Pages.{sale_of};
 ghost use Rattle.house_rows.specs.declared.fault.KeepFault.TheVariants.{Damaged};
@@ -20,6 +20,7 @@ use list_rows::push;
 use settle::Sold;
 use sqlite::{Alter, Connection};
 use std::alloc::Global;
+use steps::Bands;
 use store_finds::{terms_led_by, terms_of_seller};
 use store_items::all_items;
 
@@ -98,6 +99,7 @@ fn by_number(mut sold: Vec<Terms>, mut led: Vec<Terms>) -> Result<Vec<Terms>, Ke
 fn sales_of_member<S: Alter>(
     alloc: Global,
     conn: &mut Connection<S>,
+    bands: &Bands,
     member: u32,
 ) -> Result<Vec<Sold>, KeepFault>
     requires serves { Serves (state S.Store conn.old) }
@@ -106,14 +108,14 @@ fn sales_of_member<S: Alter>(
     ensures fits { IfOk result (λ sales. All IsSale sales.items) }
     ensures apart { IfOk result (λ sales. AllPairs (λ a b. a.item ≢ b.item) sales.items) }
     ensures few { IfOk result (λ sales. length sales.items ≤ most_items) }
-    ensures damaged { HasCleanDisk (state S.Store conn.new) → AreSound (tables_in (state S.Store conn.old).now.trees) → ¬ (IsErrOf result Damaged) }
+    ensures damaged { HasCleanDisk (state S.Store conn.new) → AreSoundBy bands.now (tables_in (state S.Store conn.old).now.trees) → ¬ (IsErrOf result Damaged) }
     ensures same { HasCleanDisk (state S.Store conn.new) → OnOk result (IsUnchanged (state S.Store conn.old) (state S.Store conn.new)) }
     ensures err { HasCleanDisk (state S.Store conn.new) → OnErr result (KeepsCommitted (state S.Store conn.old) (state S.Store conn.new)) }
     ensures mode { conn.old.in_transaction ≡ false → conn.new.in_transaction ≡ false }
     ensures crash { Survives (state S.Store conn.old) (state S.Store conn.new) (λ _. ⊥) }
 {
-    let sold = terms_of_seller(alloc, conn, member)?;
-    let led = terms_led_by(alloc, conn, member)?;
+    let sold = terms_of_seller(alloc, conn, bands, member)?;
+    let led = terms_led_by(alloc, conn, bands, member)?;
     let items = by_number(sold, led)?;
     // Items with one number have no place of their own: no statement shows such.
     if !rise(&items) {
@@ -126,19 +128,20 @@ fn sales_of_member<S: Alter>(
 fn sales_of_nobody<S: Alter>(
     alloc: Global,
     conn: &mut Connection<S>,
+    bands: &Bands,
 ) -> Result<Vec<Sold>, KeepFault>
     requires { Serves (state S.Store conn.old) }
     ensures value { HasCleanDisk (state S.Store conn.new) → IfOk result (λ sales. sales.items ≡ sales_to (tables_in (state S.Store conn.old).now.trees) 0) }
     ensures fits { IfOk result (λ sales. All IsSale sales.items) }
     ensures apart { IfOk result (λ sales. AllPairs (λ a b. a.item ≢ b.item) sales.items) }
     ensures few { IfOk result (λ sales. length sales.items ≤ most_items) }
-    ensures damaged { HasCleanDisk (state S.Store conn.new) → AreSound (tables_in (state S.Store conn.old).now.trees) → ¬ (IsErrOf result Damaged) }
+    ensures damaged { HasCleanDisk (state S.Store conn.new) → AreSoundBy bands.now (tables_in (state S.Store conn.old).now.trees) → ¬ (IsErrOf result Damaged) }
     ensures same { HasCleanDisk (state S.Store conn.new) → OnOk result (IsUnchanged (state S.Store conn.old) (state S.Store conn.new)) }
     ensures err { HasCleanDisk (state S.Store conn.new) → OnErr result (KeepsCommitted (state S.Store conn.old) (state S.Store conn.new)) }
     ensures mode { conn.old.in_transaction ≡ false → conn.new.in_transaction ≡ false }
     ensures crash { Survives (state S.Store conn.old) (state S.Store conn.new) (λ _. ⊥) }
 {
-    all_items(alloc, conn)?;
+    all_items(alloc, conn, bands)?;
     Ok(Vec::new(alloc))
 }
 
@@ -147,6 +150,7 @@ fn sales_of_nobody<S: Alter>(
 pub fn sales_to<S: Alter>(
     alloc: Global,
     conn: &mut Connection<S>,
+    bands: &Bands,
     member: u32,
 ) -> Result<Vec<Sold>, KeepFault>
     requires { Serves (state S.Store conn.old) }
@@ -154,15 +158,15 @@ pub fn sales_to<S: Alter>(
     ensures fits { IfOk result (λ sales. All IsSale sales.items) }
     ensures apart { IfOk result (λ sales. AllPairs (λ a b. a.item ≢ b.item) sales.items) }
     ensures few { IfOk result (λ sales. length sales.items ≤ most_items) }
-    ensures damaged { HasCleanDisk (state S.Store conn.new) → AreSound (tables_in (state S.Store conn.old).now.trees) → ¬ (IsErrOf result Damaged) }
+    ensures damaged { HasCleanDisk (state S.Store conn.new) → AreSoundBy bands.now (tables_in (state S.Store conn.old).now.trees) → ¬ (IsErrOf result Damaged) }
     ensures same { HasCleanDisk (state S.Store conn.new) → OnOk result (IsUnchanged (state S.Store conn.old) (state S.Store conn.new)) }
     ensures err { HasCleanDisk (state S.Store conn.new) → OnErr result (KeepsCommitted (state S.Store conn.old) (state S.Store conn.new)) }
     ensures mode { conn.old.in_transaction ≡ false → conn.new.in_transaction ≡ false }
     ensures crash { Survives (state S.Store conn.old) (state S.Store conn.new) (λ _. ⊥) }
 {
     if member == 0 {
-        sales_of_nobody(alloc, conn)
+        sales_of_nobody(alloc, conn, bands)
     } else {
-        sales_of_member(alloc, conn, member)
+        sales_of_member(alloc, conn, bands, member)
     }
 }

@@ -5,7 +5,7 @@ ghost use Rattle.sqlite.specs.State.{HasCleanDisk, IsUnchanged, Survives};
 ghost use Rattle.sqlite.specs.Held.{state};
 ghost use Rattle.house_rows.specs.Fits.{QuestionFits};
 ghost use Rattle.house_rows.specs.Found.{first_waiting, waiting_for};
-ghost use Rattle.house_rows.specs.Keeping.{AreSound};
+ghost use Rattle.house_rows.specs.Keeping.{AreSoundBy};
 ghost use Rattle.house_rows.specs.Limits.{most_shown};
 ghost use Rattle.house_rows.specs.declared.item.Terms.{Terms as TermsRow};
 ghost use Rattle.house_rows.specs.declared.fault.KeepFault.TheVariants.{Damaged};
@@ -18,6 +18,7 @@ use house_rows::{KeepFault, Question, Terms};
 use list_rows::MOST_SHOWN;
 use sqlite::{Alter, Connection};
 use std::alloc::Global;
+use steps::Bands;
 use store_finds::terms_of_seller;
 use store_lists::waiting_on;
 use store_pages::first_waiting_on;
@@ -74,18 +75,19 @@ fn waiting_on_each<S: Alter>(
 pub fn waiting_for<S: Alter>(
     alloc: Global,
     conn: &mut Connection<S>,
+    bands: &Bands,
     member: u32,
 ) -> Result<Vec<Question>, KeepFault>
     requires { Serves (state S.Store conn.old) }
     ensures value { HasCleanDisk (state S.Store conn.new) → IfOk result (λ asked. asked.items ≡ waiting_for (tables_in (state S.Store conn.old).now.trees) member) }
     ensures fits { IfOk result (λ asked. AllByRecursion QuestionFits asked.items) }
-    ensures damaged { HasCleanDisk (state S.Store conn.new) → AreSound (tables_in (state S.Store conn.old).now.trees) → ¬ (IsErrOf result Damaged) }
+    ensures damaged { HasCleanDisk (state S.Store conn.new) → AreSoundBy bands.now (tables_in (state S.Store conn.old).now.trees) → ¬ (IsErrOf result Damaged) }
     ensures same { HasCleanDisk (state S.Store conn.new) → OnOk result (IsUnchanged (state S.Store conn.old) (state S.Store conn.new)) }
     ensures err { HasCleanDisk (state S.Store conn.new) → OnErr result (KeepsCommitted (state S.Store conn.old) (state S.Store conn.new)) }
     ensures mode { conn.old.in_transaction ≡ false → conn.new.in_transaction ≡ false }
     ensures crash { Survives (state S.Store conn.old) (state S.Store conn.new) (λ _. ⊥) }
 {
-    let own = terms_of_seller(alloc, conn, member)?;
+    let own = terms_of_seller(alloc, conn, bands, member)?;
     waiting_on_each(alloc, conn, &own)
 }
 
@@ -152,17 +154,18 @@ fn first_on_each<S: Alter>(
 pub fn first_waiting<S: Alter>(
     alloc: Global,
     conn: &mut Connection<S>,
+    bands: &Bands,
     member: u32,
 ) -> Result<Vec<Question>, KeepFault>
     requires { Serves (state S.Store conn.old) }
     ensures value { HasCleanDisk (state S.Store conn.new) → IfOk result (λ asked. asked.items ≡ first_waiting (tables_in (state S.Store conn.old).now.trees) member) }
     ensures fits { IfOk result (λ asked. AllByRecursion QuestionFits asked.items) }
-    ensures damaged { HasCleanDisk (state S.Store conn.new) → AreSound (tables_in (state S.Store conn.old).now.trees) → ¬ (IsErrOf result Damaged) }
+    ensures damaged { HasCleanDisk (state S.Store conn.new) → AreSoundBy bands.now (tables_in (state S.Store conn.old).now.trees) → ¬ (IsErrOf result Damaged) }
     ensures same { HasCleanDisk (state S.Store conn.new) → OnOk result (IsUnchanged (state S.Store conn.old) (state S.Store conn.new)) }
     ensures err { HasCleanDisk (state S.Store conn.new) → OnErr result (KeepsCommitted (state S.Store conn.old) (state S.Store conn.new)) }
     ensures mode { conn.old.in_transaction ≡ false → conn.new.in_transaction ≡ false }
     ensures crash { Survives (state S.Store conn.old) (state S.Store conn.new) (λ _. ⊥) }
 {
-    let own = terms_of_seller(alloc, conn, member)?;
+    let own = terms_of_seller(alloc, conn, bands, member)?;
     first_on_each(alloc, conn, &own)
 }

@@ -5,7 +5,7 @@ ghost use Rattle.sqlite.specs.State.{HasCleanDisk, IsUnchanged, Survives};
 ghost use Rattle.sqlite.specs.Held.{state};
 ghost use Rattle.house_rows.specs.Fits.{ItemFits};
 ghost use Rattle.house_rows.specs.Found.{items_watched, watch_count};
-ghost use Rattle.house_rows.specs.Keeping.{AreSound};
+ghost use Rattle.house_rows.specs.Keeping.{AreSound, AreSoundBy, ItemRowFits, Stands};
 ghost use Rattle.house_rows.specs.Tables.{ItemRow};
 ghost use Rattle.house_rows.specs.declared.fault.KeepFault.TheVariants.{Damaged};
 ghost use Rattle.store_rows.specs.House.{Serves, KeepsCommitted};
@@ -17,6 +17,7 @@ use house_rows::{Item, KeepFault};
 use list_rows::push;
 use sqlite::{Alter, Connection};
 use std::alloc::Global;
+use steps::Bands;
 use store_items::item_at;
 use store_lists::watched_by;
 
@@ -41,19 +42,21 @@ pub fn watch_count<S: Alter>(
 // Adds the item with a number to those found, if it is there.
 fn add_item<S: Alter>(
     conn: &mut Connection<S>,
+    bands: &Bands,
     number: u32,
     items: &mut Vec<Item>,
 ) -> Result<(), KeepFault>
     requires { Serves (state S.Store conn.old) }
     ensures items { HasCleanDisk (state S.Store conn.new) → OnOk result (items.new.items ≡ items.old.items ++ item_found (state S.Store conn.old).now.trees number) }
     ensures fits { AllByRecursion ItemFits items.old.items → OnOk result (AllByRecursion ItemFits items.new.items) }
-    ensures damaged { HasCleanDisk (state S.Store conn.new) → AllByRecursion (λ (row : ItemRow). ItemFits row.item) (items_in (state S.Store conn.old).now.trees) → ¬ (IsErrOf result Damaged) }
+    ensures stands { AllByRecursion (λ it. Stands bands.now it.terms) items.old.items → OnOk result (AllByRecursion (λ it. Stands bands.now it.terms) items.new.items) }
+    ensures damaged { HasCleanDisk (state S.Store conn.new) → AllByRecursion (ItemRowFits bands.now) (items_in (state S.Store conn.old).now.trees) → ¬ (IsErrOf result Damaged) }
     ensures same { HasCleanDisk (state S.Store conn.new) → OnOk result (IsUnchanged (state S.Store conn.old) (state S.Store conn.new)) }
     ensures err { HasCleanDisk (state S.Store conn.new) → OnErr result (KeepsCommitted (state S.Store conn.old) (state S.Store conn.new)) }
     ensures mode { conn.old.in_transaction ≡ false → conn.new.in_transaction ≡ false }
     ensures crash { Survives (state S.Store conn.old) (state S.Store conn.new) (λ _. ⊥) }
 {
-    match item_at(conn, number)? {
+    match item_at(conn, bands, number)? {
         Some(item) => push(items, item),
         None => Ok(()),
     }
@@ -63,13 +66,15 @@ fn add_item<S: Alter>(
 fn items_at<S: Alter>(
     alloc: Global,
     conn: &mut Connection<S>,
+    bands: &Bands,
     numbers: &[u32],
 ) -> Result<Vec<Item>, KeepFault>
     requires { Serves (state S.Store conn.old) }
     ensures items { HasCleanDisk (state S.Store conn.new) → IfOk result (λ items. items.items ≡ flat_map (item_found (state S.Store conn.old).now.trees) numbers.now) }
     ensures fits { IfOk result (λ items. AllByRecursion ItemFits items.items) }
+    ensures stands { IfOk result (λ items. AllByRecursion (λ it. Stands bands.now it.terms) items.items) }
     ensures small { AllByRecursion (λ n. n < 2 ^ 64) numbers.now }
-    ensures damaged { HasCleanDisk (state S.Store conn.new) → AllByRecursion (λ (row : ItemRow). ItemFits row.item) (items_in (state S.Store conn.old).now.trees) → ¬ (IsErrOf result Damaged) }
+    ensures damaged { HasCleanDisk (state S.Store conn.new) → AllByRecursion (ItemRowFits bands.now) (items_in (state S.Store conn.old).now.trees) → ¬ (IsErrOf result Damaged) }
     ensures same { HasCleanDisk (state S.Store conn.new) → OnOk result (IsUnchanged (state S.Store conn.old) (state S.Store conn.new)) }
     ensures err { HasCleanDisk (state S.Store conn.new) → OnErr result (KeepsCommitted (state S.Store conn.old) (state S.Store conn.new)) }
     ensures mode { conn.old.in_transaction ≡ false → conn.new.in_transaction ≡ false }
@@ -77,7 +82,7 @@ fn items_at<S: Alter>(
 {
     let mut items = Vec::new(alloc);
     for number in numbers {
-        match add_item(conn, *number, &mut items) {
+        match add_item(conn, bands, *number, &mut items) {
             Ok(()) => {}
             Err(fault) => return Err(fault),
         }
@@ -89,17 +94,19 @@ fn items_at<S: Alter>(
 pub fn items_watched<S: Alter>(
     alloc: Global,
     conn: &mut Connection<S>,
+    bands: &Bands,
     member: u32,
 ) -> Result<Vec<Item>, KeepFault>
     requires { Serves (state S.Store conn.old) }
     ensures value { HasCleanDisk (state S.Store conn.new) → IfOk result (λ items. items.items ≡ items_watched (tables_in (state S.Store conn.old).now.trees) member) }
     ensures fits { IfOk result (λ items. AllByRecursion ItemFits items.items) }
-    ensures damaged { HasCleanDisk (state S.Store conn.new) → AreSound (tables_in (state S.Store conn.old).now.trees) → ¬ (IsErrOf result Damaged) }
+    ensures stands { IfOk result (λ items. AllByRecursion (λ it. Stands bands.now it.terms) items.items) }
+    ensures damaged { HasCleanDisk (state S.Store conn.new) → AreSoundBy bands.now (tables_in (state S.Store conn.old).now.trees) → ¬ (IsErrOf result Damaged) }
     ensures same { HasCleanDisk (state S.Store conn.new) → OnOk result (IsUnchanged (state S.Store conn.old) (state S.Store conn.new)) }
     ensures err { HasCleanDisk (state S.Store conn.new) → OnErr result (KeepsCommitted (state S.Store conn.old) (state S.Store conn.new)) }
     ensures mode { conn.old.in_transaction ≡ false → conn.new.in_transaction ≡ false }
     ensures crash { Survives (state S.Store conn.old) (state S.Store conn.new) (λ _. ⊥) }
 {
     let numbers = watched_by(alloc, conn, member)?;
-    items_at(alloc, conn, &numbers)
+    items_at(alloc, conn, bands, &numbers)
 }

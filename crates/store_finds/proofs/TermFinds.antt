@@ -15,13 +15,13 @@ use Rattle.sqlite_sql.specs.Ops.{binary, is_true}
 use Rattle.sqlite_sql.specs.Program.{overlay}
 use Rattle.sqlite_sql.specs.Term.{Term}
 use Rattle.sqlite_trees.specs.View.{is_int}
-use Rattle.sqlite_keyed.proofs.ListLemmas.{all-filter, all_both}
+use Rattle.sqlite_keyed.proofs.ListLemmas.{all_both}
 use Rattle.sqlite_keyed.proofs.RuleLemmas.{first_of_both}
 use Rattle.sqlite.specs.Effect.{Database}
 use Rattle.sqlite.specs.State.{State, Shown}
 use Rattle.sqlite.proofs.Callers.{reads_as}
 use Rattle.proxy.specs.Bids.{is_leader}
-use Rattle.house_rows.specs.Fits.{ItemFits, TermsFit}
+use Rattle.house_rows.specs.Keeping.{ItemRowFits}
 use Rattle.house_rows.specs.Items.{is_due, is_open}
 use Rattle.house_rows.specs.Tables.{ItemRow}
 use Rattle.house_rows.proofs.Put.{by_test}
@@ -33,8 +33,9 @@ use Rattle.store_rows.specs.Rows.{number_in}
 use Rattle.store_rows.proofs.ColumnLemmas.{holds_all}
 use Rattle.store_rows.proofs.RowLemmas.{int_if, equals_number, alone}
 use Rattle.store_rows.proofs.Select.{by_rowid, equals, in_order, listed, typed_part}
-use Rattle.store_rows.proofs.ShownRows.{parts_fit}
 use Rattle.store_rows.proofs.Update.{IsStrict}
+use Rattle.store_items.specs.Standing.{TermsHold}
+use Rattle.store_items.proofs.Holding.{rows_hold, terms_row}
 use Rattle.store_items.proofs.ItemMeaning.{terms_shown}
 use Rattle.store_finds.proofs.ColumnKinds.{kinds_of}
 use Rattle.store_finds.proofs.Ordered.{equals_maybe, within}
@@ -81,11 +82,11 @@ module _ (sql : List ℕ) (test : List Term) (is : AsksTerms sql test) (params :
       let order = in_order test terms_shown params rows answer house.shaped.1.1.1.1.0.0 (listed 6 test terms_shown by_rowid (overlay old.now.trees []) params answer (read.answer Null)) in
       typed_part terms_of item_row_in (λ (row : ItemRow). row.item.terms) keep IsRow test terms_shown params rows answer (λ r. refl) tests (are_rows old.now house) order
 
-  pub terms_fit : (keep : ItemRow → Bool) → ((r : Row) → IsRow r → passes test params r ≡ keep (item_row_in r)) → AllByRecursion (λ (row : ItemRow). ItemFits row.item) (items_in old.now.trees)
-      → AllByRecursion TermsFit (map terms_of answer)
-  terms_fit keep tests fits =
-      let kept = all-filter (λ (row : ItemRow). ItemFits row.item) keep (items_in old.now.trees) fits in
-      subst (AllByRecursion TermsFit) (sym (terms_found keep tests)) (parts_fit (λ (row : ItemRow). ItemFits row.item) TermsFit (λ (row : ItemRow). row.item.terms) (λ row h. h.terms) _ kept)
+  pub terms_held : (bands : List (ℕ × ℕ)) → AllByRecursion (ItemRowFits bands) (items_in old.now.trees) → AllByRecursion (TermsHold bands) answer
+  terms_held bands fit =
+      let read = reads_as sql params old new house_schema house.schema _ is.0 is.2 is.1 answer h in
+      let order = in_order test terms_shown params (old.now.trees 6) answer house.shaped.1.1.1.1.0.0 (listed 6 test terms_shown by_rowid (overlay old.now.trees []) params answer (read.answer Null)) in
+      rows_hold bands (TermsHold bands) terms_shown test params (old.now.trees 6) answer (terms_row bands params) order fit
 
 -- ---- the tests
 

@@ -16,7 +16,8 @@ use Rattle.store_items.proofs.ItemMeaning.{terms_shown}
 
 abbrev terms_names : List (List ℕ)
 terms_names =
-    codes "id" ∷ codes "seller" ∷ codes "category" ∷ codes "start" ∷ codes "buy_now" ∷ codes "ending" ∷ codes "state" ∷ codes "closed" ∷ codes "price" ∷ codes "leader" ∷ codes "count" ∷ []
+    codes "id" ∷ codes "seller" ∷ codes "category" ∷ codes "start" ∷ codes "buy_now" ∷ codes "ending" ∷ codes "state" ∷ codes "closed" ∷ codes "price" ∷ codes "leader" ∷ codes "count"
+    ∷ codes "top" ∷ codes "second" ∷ []
 
 -- a query over the items without their texts, by number
 abbrev pub AsksTerms : List ℕ → List Term → Type 0
@@ -28,13 +29,13 @@ abbrev pub ended_by : List Term
 ended_by = op2 (Compare Eq Binary) (col 1 10) (lit (Int (pos 0))) ∷ op2 (Compare Ge Binary) (col 1 9) (lit (Int (pos 0))) ∷ op2 (Compare Le Binary) (col 1 9) (col 0 0) ∷ []
 
 abbrev pub terms_of_seller_text : List ℕ
-terms_of_seller_text = codes "SELECT id, seller, category, start, buy_now, ending, state, closed, price, leader, count FROM item WHERE seller = ?1 ORDER BY id"
+terms_of_seller_text = codes "SELECT id, seller, category, start, buy_now, ending, state, closed, price, leader, count, top, second FROM item WHERE seller = ?1 ORDER BY id"
 
 abbrev pub terms_led_by_text : List ℕ
-terms_led_by_text = codes "SELECT id, seller, category, start, buy_now, ending, state, closed, price, leader, count FROM item WHERE leader = ?1 ORDER BY id"
+terms_led_by_text = codes "SELECT id, seller, category, start, buy_now, ending, state, closed, price, leader, count, top, second FROM item WHERE leader = ?1 ORDER BY id"
 
 abbrev pub due_terms_text : List ℕ
-due_terms_text = codes "SELECT id, seller, category, start, buy_now, ending, state, closed, price, leader, count FROM item WHERE state = 0 AND ending >= 0 AND ending <= ?1 ORDER BY id"
+due_terms_text = codes "SELECT id, seller, category, start, buy_now, ending, state, closed, price, leader, count, top, second FROM item WHERE state = 0 AND ending >= 0 AND ending <= ?1 ORDER BY id"
 
 pub terms_of_seller_is : AsksTerms terms_of_seller_text (equals 2 ∷ [])
 unfolding understood everything

@@ -4,8 +4,9 @@ ghost use Rattle.std.specs.List.{AllByRecursion};
 ghost use Rattle.sqlite.specs.State.{HasCleanDisk, IsUnchanged, Survives};
 ghost use Rattle.sqlite.specs.Held.{state};
 ghost use Rattle.proxy.specs.Bids.{is_leader};
-ghost use Rattle.house_rows.specs.Fits.{ItemFits, TermsFit};
+ghost use Rattle.house_rows.specs.Fits.{TermsFit};
 ghost use Rattle.house_rows.specs.Items.{is_due};
+ghost use Rattle.house_rows.specs.Keeping.{ItemRowFits, Stands};
 ghost use Rattle.house_rows.specs.Tables.{ItemRow};
 ghost use Rattle.house_rows.specs.declared.fault.KeepFault.TheVariants.{Damaged};
 ghost use Rattle.store_rows.specs.House.{Serves, KeepsCommitted};
@@ -14,18 +15,22 @@ ghost use Rattle.store_rows.specs.ItemRows.{items_in};
 use house_rows::{KeepFault, Terms};
 use sqlite::{Alter, Connection, params};
 use std::alloc::Global;
-use store_rows::{all_of, rows_shown};
+use steps::Bands;
+use store_items::terms_list;
+use store_rows::rows_shown;
 
 /// The items that a member sells, without their texts.
 pub fn terms_of_seller<S: Alter>(
     alloc: Global,
     conn: &mut Connection<S>,
+    bands: &Bands,
     seller: u32,
 ) -> Result<Vec<Terms>, KeepFault>
     requires { Serves (state S.Store conn.old) }
     ensures terms { HasCleanDisk (state S.Store conn.new) → IfOk result (λ terms. terms.items ≡ map (λ (row : ItemRow). row.item.terms) (filter (λ row. row.item.terms.seller == seller) (items_in (state S.Store conn.old).now.trees))) }
     ensures fits { IfOk result (λ terms. AllByRecursion TermsFit terms.items) }
-    ensures damaged { HasCleanDisk (state S.Store conn.new) → AllByRecursion (λ (row : ItemRow). ItemFits row.item) (items_in (state S.Store conn.old).now.trees) → ¬ (IsErrOf result Damaged) }
+    ensures stands { IfOk result (λ terms. AllByRecursion (Stands bands.now) terms.items) }
+    ensures damaged { HasCleanDisk (state S.Store conn.new) → AllByRecursion (ItemRowFits bands.now) (items_in (state S.Store conn.old).now.trees) → ¬ (IsErrOf result Damaged) }
     ensures same { HasCleanDisk (state S.Store conn.new) → OnOk result (IsUnchanged (state S.Store conn.old) (state S.Store conn.new)) }
     ensures err { HasCleanDisk (state S.Store conn.new) → OnErr result (KeepsCommitted (state S.Store conn.old) (state S.Store conn.new)) }
     ensures mode { conn.old.in_transaction ≡ false → conn.new.in_transaction ≡ false }
@@ -33,22 +38,24 @@ pub fn terms_of_seller<S: Alter>(
 {
     let rows = rows_shown(
         conn,
-        "SELECT id, seller, category, start, buy_now, ending, state, closed, price, leader, count FROM item WHERE seller = ?1 ORDER BY id",
+        "SELECT id, seller, category, start, buy_now, ending, state, closed, price, leader, count, top, second FROM item WHERE seller = ?1 ORDER BY id",
         params![seller],
     )?;
-    all_of(alloc, &rows)
+    terms_list(alloc, bands, &rows)
 }
 
 /// The items that a member leads, or has bought, without their texts.
 pub fn terms_led_by<S: Alter>(
     alloc: Global,
     conn: &mut Connection<S>,
+    bands: &Bands,
     member: u32,
 ) -> Result<Vec<Terms>, KeepFault>
     requires { Serves (state S.Store conn.old) }
     ensures terms { HasCleanDisk (state S.Store conn.new) → IfOk result (λ terms. terms.items ≡ map (λ (row : ItemRow). row.item.terms) (filter (λ row. is_leader row.item.terms.leader member) (items_in (state S.Store conn.old).now.trees))) }
     ensures fits { IfOk result (λ terms. AllByRecursion TermsFit terms.items) }
-    ensures damaged { HasCleanDisk (state S.Store conn.new) → AllByRecursion (λ (row : ItemRow). ItemFits row.item) (items_in (state S.Store conn.old).now.trees) → ¬ (IsErrOf result Damaged) }
+    ensures stands { IfOk result (λ terms. AllByRecursion (Stands bands.now) terms.items) }
+    ensures damaged { HasCleanDisk (state S.Store conn.new) → AllByRecursion (ItemRowFits bands.now) (items_in (state S.Store conn.old).now.trees) → ¬ (IsErrOf result Damaged) }
     ensures same { HasCleanDisk (state S.Store conn.new) → OnOk result (IsUnchanged (state S.Store conn.old) (state S.Store conn.new)) }
     ensures err { HasCleanDisk (state S.Store conn.new) → OnErr result (KeepsCommitted (state S.Store conn.old) (state S.Store conn.new)) }
     ensures mode { conn.old.in_transaction ≡ false → conn.new.in_transaction ≡ false }
@@ -56,10 +63,10 @@ pub fn terms_led_by<S: Alter>(
 {
     let rows = rows_shown(
         conn,
-        "SELECT id, seller, category, start, buy_now, ending, state, closed, price, leader, count FROM item WHERE leader = ?1 ORDER BY id",
+        "SELECT id, seller, category, start, buy_now, ending, state, closed, price, leader, count, top, second FROM item WHERE leader = ?1 ORDER BY id",
         params![member],
     )?;
-    all_of(alloc, &rows)
+    terms_list(alloc, bands, &rows)
 }
 
 /// The open items whose end is at or before a moment, without their texts. The moment is in seconds
@@ -67,12 +74,14 @@ pub fn terms_led_by<S: Alter>(
 pub fn due_terms<S: Alter>(
     alloc: Global,
     conn: &mut Connection<S>,
+    bands: &Bands,
     moment: u32,
 ) -> Result<Vec<Terms>, KeepFault>
     requires { Serves (state S.Store conn.old) }
     ensures terms { HasCleanDisk (state S.Store conn.new) → IfOk result (λ terms. terms.items ≡ map (λ (row : ItemRow). row.item.terms) (filter (λ row. is_due moment row.item.terms) (items_in (state S.Store conn.old).now.trees))) }
     ensures fits { IfOk result (λ terms. AllByRecursion TermsFit terms.items) }
-    ensures damaged { HasCleanDisk (state S.Store conn.new) → AllByRecursion (λ (row : ItemRow). ItemFits row.item) (items_in (state S.Store conn.old).now.trees) → ¬ (IsErrOf result Damaged) }
+    ensures stands { IfOk result (λ terms. AllByRecursion (Stands bands.now) terms.items) }
+    ensures damaged { HasCleanDisk (state S.Store conn.new) → AllByRecursion (ItemRowFits bands.now) (items_in (state S.Store conn.old).now.trees) → ¬ (IsErrOf result Damaged) }
     ensures same { HasCleanDisk (state S.Store conn.new) → OnOk result (IsUnchanged (state S.Store conn.old) (state S.Store conn.new)) }
     ensures err { HasCleanDisk (state S.Store conn.new) → OnErr result (KeepsCommitted (state S.Store conn.old) (state S.Store conn.new)) }
     ensures mode { conn.old.in_transaction ≡ false → conn.new.in_transaction ≡ false }
@@ -81,8 +90,8 @@ pub fn due_terms<S: Alter>(
     // An end below 0 is none of ours, so it never comes.
     let rows = rows_shown(
         conn,
-        "SELECT id, seller, category, start, buy_now, ending, state, closed, price, leader, count FROM item WHERE state = 0 AND ending >= 0 AND ending <= ?1 ORDER BY id",
+        "SELECT id, seller, category, start, buy_now, ending, state, closed, price, leader, count, top, second FROM item WHERE state = 0 AND ending >= 0 AND ending <= ?1 ORDER BY id",
         params![moment],
     )?;
-    all_of(alloc, &rows)
+    terms_list(alloc, bands, &rows)
 }

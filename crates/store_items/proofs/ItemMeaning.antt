@@ -17,10 +17,10 @@ use Rattle.store_rows.proofs.Select.{by_rowid, equals}
 -- ---- reads
 
 abbrev pub item_at_text : List ℕ
-item_at_text = codes "SELECT id, seller, category, start, buy_now, ending, state, closed, price, leader, count, lot, title, body FROM item WHERE id = ?1 ORDER BY id"
+item_at_text = codes "SELECT id, seller, category, start, buy_now, ending, state, closed, price, leader, count, lot, title, body, top, second FROM item WHERE id = ?1 ORDER BY id"
 
 abbrev pub terms_at_text : List ℕ
-terms_at_text = codes "SELECT id, seller, category, start, buy_now, ending, state, closed, price, leader, count FROM item WHERE id = ?1 ORDER BY id"
+terms_at_text = codes "SELECT id, seller, category, start, buy_now, ending, state, closed, price, leader, count, top, second FROM item WHERE id = ?1 ORDER BY id"
 
 abbrev pub standing_at_text : List ℕ
 standing_at_text = codes "SELECT start, price, leader, top, second, count FROM item WHERE id = ?1 ORDER BY id"
@@ -29,14 +29,14 @@ abbrev pub with_lot_text : List ℕ
 with_lot_text = codes "SELECT id FROM item WHERE seller = ?1 AND lot = ?2 ORDER BY id"
 
 abbrev pub all_items_text : List ℕ
-all_items_text = codes "SELECT id, seller, category, start, buy_now, ending, state, closed, price, leader, count, lot, title, body FROM item ORDER BY id"
+all_items_text = codes "SELECT id, seller, category, start, buy_now, ending, state, closed, price, leader, count, lot, title, body, top, second FROM item ORDER BY id"
 
 abbrev pub item_shown : List Term
 item_shown =
-    col 1 0 ∷ col 1 2 ∷ col 1 3 ∷ col 1 7 ∷ col 1 8 ∷ col 1 9 ∷ col 1 10 ∷ col 1 11 ∷ col 1 12 ∷ col 1 13 ∷ col 1 16 ∷ col 1 4 ∷ col 1 5 ∷ col 1 6 ∷ []
+    col 1 0 ∷ col 1 2 ∷ col 1 3 ∷ col 1 7 ∷ col 1 8 ∷ col 1 9 ∷ col 1 10 ∷ col 1 11 ∷ col 1 12 ∷ col 1 13 ∷ col 1 16 ∷ col 1 4 ∷ col 1 5 ∷ col 1 6 ∷ col 1 14 ∷ col 1 15 ∷ []
 
 abbrev pub terms_shown : List Term
-terms_shown = col 1 0 ∷ col 1 2 ∷ col 1 3 ∷ col 1 7 ∷ col 1 8 ∷ col 1 9 ∷ col 1 10 ∷ col 1 11 ∷ col 1 12 ∷ col 1 13 ∷ col 1 16 ∷ []
+terms_shown = col 1 0 ∷ col 1 2 ∷ col 1 3 ∷ col 1 7 ∷ col 1 8 ∷ col 1 9 ∷ col 1 10 ∷ col 1 11 ∷ col 1 12 ∷ col 1 13 ∷ col 1 16 ∷ col 1 14 ∷ col 1 15 ∷ []
 
 abbrev pub standing_shown : List Term
 standing_shown = col 1 7 ∷ col 1 12 ∷ col 1 13 ∷ col 1 14 ∷ col 1 15 ∷ col 1 16 ∷ []
@@ -47,12 +47,13 @@ by_lot = equals 2 ∷ op2 (Compare Eq Binary) (col 1 4) (col 0 1) ∷ []
 
 abbrev terms_names : List (List ℕ)
 terms_names =
-    codes "id" ∷ codes "seller" ∷ codes "category" ∷ codes "start" ∷ codes "buy_now" ∷ codes "ending" ∷ codes "state" ∷ codes "closed" ∷ codes "price" ∷ codes "leader" ∷ codes "count" ∷ []
+    codes "id" ∷ codes "seller" ∷ codes "category" ∷ codes "start" ∷ codes "buy_now" ∷ codes "ending" ∷ codes "state" ∷ codes "closed" ∷ codes "price" ∷ codes "leader" ∷ codes "count"
+    ∷ codes "top" ∷ codes "second" ∷ []
 
 abbrev item_names : List (List ℕ)
 item_names =
     codes "id" ∷ codes "seller" ∷ codes "category" ∷ codes "start" ∷ codes "buy_now" ∷ codes "ending" ∷ codes "state" ∷ codes "closed" ∷ codes "price" ∷ codes "leader" ∷ codes "count"
-    ∷ codes "lot" ∷ codes "title" ∷ codes "body" ∷ []
+    ∷ codes "lot" ∷ codes "title" ∷ codes "body" ∷ codes "top" ∷ codes "second" ∷ []
 
 pub item_at_is : (command_of (understood house_schema item_at_text) ≡ Select (record { lets = []; body = plain_query 6 (equals 0 ∷ []) item_shown by_rowid }) item_names)
     × (reads_listing house_schema item_at_text ≡ false) × IsPlain (understood house_schema item_at_text)

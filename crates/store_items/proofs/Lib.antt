@@ -4,3 +4,5 @@ pub mod ItemLemmas
 pub mod FitLemmas
 pub mod StandingLemmas
 pub mod Small
+pub mod Stands
+pub mod Holding

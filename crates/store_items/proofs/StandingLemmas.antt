@@ -46,7 +46,7 @@ leads P start at None top next count h = h
 leads P start at (Some l) None next count h = tt
 leads P start at (Some l) (Some t) next count h = h
 
-counts : (start at : ℕ) (led top next : Option ℕ) (count : ℕ) → (kept_from start at led top next count).count ≡ count
+pub counts : (start at : ℕ) (led top next : Option ℕ) (count : ℕ) → (kept_from start at led top next count).count ≡ count
 counts start at None top next count = refl
 counts start at (Some l) None next count = refl
 counts start at (Some l) (Some t) next count = refl
@@ -77,7 +77,7 @@ are_standing bands r h =
       };
     }
 
-first : {A : Type 0} (P : A → Type 0) (xs : List A) → AllByRecursion P xs → IfSome (slice_get xs 0) P
+pub first : {A : Type 0} (P : A → Type 0) (xs : List A) → AllByRecursion P xs → IfSome (slice_get xs 0) P
 first P [] all = tt
 first P (x ∷ xs) all = all.0
 

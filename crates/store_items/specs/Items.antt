@@ -2,8 +2,8 @@
 use Rattle.std.specs.Prelude.{◌≡◌, ◌≤◌, ◌<◌, ℕ, true, Bool, if◌then◌else◌, [], ◌∷◌, ◌++◌, map, All, Some, None, is_some}
 use Rattle.sqlite.specs.Effect.{Database}
 use Rattle.proxy.specs.Kept.{Kept}
-use Rattle.house_rows.specs.declared.state.State.TheVariants.{Sold, Unsold}
 use Rattle.house_rows.specs.Changed.{is_item, with_terms, with_standing, with_purchase, with_settlement}
+use Rattle.house_rows.specs.Items.{closed_state}
 use Rattle.house_rows.specs.Limits.{most_cents}
 use Rattle.house_rows.specs.Tables.{ItemRow}
 use Rattle.store_rows.specs.House.{IsHouse, KeepsOthers}
@@ -37,7 +37,7 @@ pub record SetsBought (item buyer price moment : ℕ) (old new : Database) : Typ
 abbrev pub with_end : ℕ → Bool → ItemRow → ItemRow
 with_end item is_sold row =
     if is_item item row
-    then with_terms (record row.item.terms { state = (if is_sold then Sold else Unsold); closed = Some row.item.terms.end }) row
+    then with_terms (record row.item.terms { state = closed_state is_sold; closed = Some row.item.terms.end }) row
     else row
 
 -- the item is closed at its end, if its row fits

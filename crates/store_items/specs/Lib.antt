@@ -1,3 +1,4 @@
 pub mod Fitting
 pub mod Columns
 pub mod Items
+pub mod Standing

@@ -7,25 +7,31 @@ ghost use Rattle.house_rows.specs.Tables.{ItemRow};
 ghost use Rattle.house_rows.specs.Text.{same_text};
 ghost use Rattle.std.specs.List.{AllByRecursion};
 ghost use Rattle.house_rows.specs.Fits.{ItemFits, StandingFits, TermsFit};
-ghost use Rattle.house_rows.specs.Keeping.{ItemRowFits};
+ghost use Rattle.house_rows.specs.Keeping.{ItemRowFits, Stands};
 ghost use Rattle.house_rows.specs.declared.fault.KeepFault.TheVariants.{Damaged};
 ghost use Rattle.store_rows.specs.House.{Serves, KeepsCommitted};
 ghost use Rattle.store_rows.specs.ItemRows.{items_in};
 
+use crate::reads::{first_item, first_terms, item_list};
 use crate::standing::first_standing;
 use house_rows::{Item, KeepFault, Terms};
 use proxy::Standing;
 use sqlite::{Alter, Connection, params};
 use std::alloc::Global;
 use steps::Bands;
-use store_rows::{all_of, first_of, rows_shown};
+use store_rows::{first_of, rows_shown};
 
-/// The item with a number.
-pub fn item_at<S: Alter>(conn: &mut Connection<S>, number: u32) -> Result<Option<Item>, KeepFault>
+/// The item with a number. A row that doesn't stand by these bands is damaged.
+pub fn item_at<S: Alter>(
+    conn: &mut Connection<S>,
+    bands: &Bands,
+    number: u32,
+) -> Result<Option<Item>, KeepFault>
     requires { Serves (state S.Store conn.old) }
     ensures found { HasCleanDisk (state S.Store conn.new) → IfOk result (λ found. found ≡ option_map (λ (row : ItemRow). row.item) (find (is_item number) (items_in (state S.Store conn.old).now.trees))) }
     ensures fits { IfOk result (λ found. IfSome found ItemFits) }
-    ensures damaged { HasCleanDisk (state S.Store conn.new) → AllByRecursion (λ (row : ItemRow). ItemFits row.item) (items_in (state S.Store conn.old).now.trees) → ¬ (IsErrOf result Damaged) }
+    ensures stands { IfOk result (λ found. IfSome found (λ it. Stands bands.now it.terms)) }
+    ensures damaged { HasCleanDisk (state S.Store conn.new) → AllByRecursion (ItemRowFits bands.now) (items_in (state S.Store conn.old).now.trees) → ¬ (IsErrOf result Damaged) }
     ensures same { HasCleanDisk (state S.Store conn.new) → OnOk result (IsUnchanged (state S.Store conn.old) (state S.Store conn.new)) }
     ensures err { HasCleanDisk (state S.Store conn.new) → OnErr result (KeepsCommitted (state S.Store conn.old) (state S.Store conn.new)) }
     ensures mode { conn.old.in_transaction ≡ false → conn.new.in_transaction ≡ false }
@@ -33,18 +39,23 @@ pub fn item_at<S: Alter>(conn: &mut Connection<S>, number: u32) -> Result<Option
 {
     let rows = rows_shown(
         conn,
-        "SELECT id, seller, category, start, buy_now, ending, state, closed, price, leader, count, lot, title, body FROM item WHERE id = ?1 ORDER BY id",
+        "SELECT id, seller, category, start, buy_now, ending, state, closed, price, leader, count, lot, title, body, top, second FROM item WHERE id = ?1 ORDER BY id",
         params![number],
     )?;
-    first_of(&rows)
+    first_item(bands, &rows)
 }
 
-/// The item with a number, without its texts.
-pub fn terms_at<S: Alter>(conn: &mut Connection<S>, number: u32) -> Result<Option<Terms>, KeepFault>
+/// The item with a number, without its texts. A row that doesn't stand by these bands is damaged.
+pub fn terms_at<S: Alter>(
+    conn: &mut Connection<S>,
+    bands: &Bands,
+    number: u32,
+) -> Result<Option<Terms>, KeepFault>
     requires { Serves (state S.Store conn.old) }
     ensures found { HasCleanDisk (state S.Store conn.new) → IfOk result (λ found. found ≡ option_map (λ (row : ItemRow). row.item.terms) (find (is_item number) (items_in (state S.Store conn.old).now.trees))) }
     ensures fits { IfOk result (λ found. IfSome found TermsFit) }
-    ensures damaged { HasCleanDisk (state S.Store conn.new) → AllByRecursion (λ (row : ItemRow). ItemFits row.item) (items_in (state S.Store conn.old).now.trees) → ¬ (IsErrOf result Damaged) }
+    ensures stands { IfOk result (λ found. IfSome found (λ it. Stands bands.now it)) }
+    ensures damaged { HasCleanDisk (state S.Store conn.new) → AllByRecursion (ItemRowFits bands.now) (items_in (state S.Store conn.old).now.trees) → ¬ (IsErrOf result Damaged) }
     ensures same { HasCleanDisk (state S.Store conn.new) → OnOk result (IsUnchanged (state S.Store conn.old) (state S.Store conn.new)) }
     ensures err { HasCleanDisk (state S.Store conn.new) → OnErr result (KeepsCommitted (state S.Store conn.old) (state S.Store conn.new)) }
     ensures mode { conn.old.in_transaction ≡ false → conn.new.in_transaction ≡ false }
@@ -52,10 +63,10 @@ pub fn terms_at<S: Alter>(conn: &mut Connection<S>, number: u32) -> Result<Optio
 {
     let rows = rows_shown(
         conn,
-        "SELECT id, seller, category, start, buy_now, ending, state, closed, price, leader, count FROM item WHERE id = ?1 ORDER BY id",
+        "SELECT id, seller, category, start, buy_now, ending, state, closed, price, leader, count, top, second FROM item WHERE id = ?1 ORDER BY id",
         params![number],
     )?;
-    first_of(&rows)
+    first_terms(bands, &rows)
 }
 
 /// The standing of the bids on an item; of a bought item that of none. A row that is no standing by
@@ -105,12 +116,17 @@ pub fn item_with_lot<S: Alter>(
     first_of(&rows)
 }
 
-/// All items, by number.
-pub fn all_items<S: Alter>(alloc: Global, conn: &mut Connection<S>) -> Result<Vec<Item>, KeepFault>
+/// All items, by number. A row that doesn't stand by these bands is damaged.
+pub fn all_items<S: Alter>(
+    alloc: Global,
+    conn: &mut Connection<S>,
+    bands: &Bands,
+) -> Result<Vec<Item>, KeepFault>
     requires { Serves (state S.Store conn.old) }
     ensures items { HasCleanDisk (state S.Store conn.new) → IfOk result (λ items. items.items ≡ map (λ (row : ItemRow). row.item) (items_in (state S.Store conn.old).now.trees)) }
     ensures fits { IfOk result (λ items. AllByRecursion ItemFits items.items) }
-    ensures damaged { HasCleanDisk (state S.Store conn.new) → AllByRecursion (λ (row : ItemRow). ItemFits row.item) (items_in (state S.Store conn.old).now.trees) → ¬ (IsErrOf result Damaged) }
+    ensures stands { IfOk result (λ items. AllByRecursion (λ it. Stands bands.now it.terms) items.items) }
+    ensures damaged { HasCleanDisk (state S.Store conn.new) → AllByRecursion (ItemRowFits bands.now) (items_in (state S.Store conn.old).now.trees) → ¬ (IsErrOf result Damaged) }
     ensures same { HasCleanDisk (state S.Store conn.new) → OnOk result (IsUnchanged (state S.Store conn.old) (state S.Store conn.new)) }
     ensures err { HasCleanDisk (state S.Store conn.new) → OnErr result (KeepsCommitted (state S.Store conn.old) (state S.Store conn.new)) }
     ensures mode { conn.old.in_transaction ≡ false → conn.new.in_transaction ≡ false }
@@ -118,8 +134,8 @@ pub fn all_items<S: Alter>(alloc: Global, conn: &mut Connection<S>) -> Result<Ve
 {
     let rows = rows_shown(
         conn,
-        "SELECT id, seller, category, start, buy_now, ending, state, closed, price, leader, count, lot, title, body FROM item ORDER BY id",
+        "SELECT id, seller, category, start, buy_now, ending, state, closed, price, leader, count, lot, title, body, top, second FROM item ORDER BY id",
         &[],
     )?;
-    all_of(alloc, &rows)
+    item_list(alloc, bands, &rows)
 }

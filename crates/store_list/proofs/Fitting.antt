@@ -12,11 +12,12 @@ use Rattle.house_rows.specs.declared.item.Item.{Item}
 use Rattle.house_rows.specs.declared.item.OwnBid.{OwnBid}
 use Rattle.house_rows.specs.Fits.{IsItem, IsMember, ItemFits, OwnBidFits, StandingFits}
 use Rattle.house_rows.specs.Found.{all_items, own_bid, own_bids}
-use Rattle.house_rows.specs.Keeping.{AreSound, ItemRowFits}
+use Rattle.house_rows.specs.Keeping.{AreSound, ItemRowFits, Stands}
 use Rattle.house_rows.specs.Limits.{most_shown}
 use Rattle.house_rows.specs.Tables.{ItemRow, Tables}
 use Rattle.house_rows.proofs.Every.{every_as, every_map}
 use Rattle.house_rows.proofs.Put.{by_test}
+use Rattle.house_rows.proofs.Standing.{row_stands}
 
 pub find_fits : {A : Type 0} (P : A → Type 0) (p : A → Bool) (xs : List A) → AllByRecursion P xs → IfSome (find p xs) P
 find_fits P p [] all = tt
@@ -62,6 +63,10 @@ passed P p (x ∷ xs) all = elim (by_test (p x)) [ inl is ↦ rw is ((all.0, is)
 pub items_fit : (t : Tables) → AreSound t → AllByRecursion ItemFits (all_items t)
 items_fit t sound = every_map (λ (row : ItemRow). row.item) ItemFits t.items
     (every_as (ItemRowFits t.settings.bands) (λ (row : ItemRow). ItemFits row.item) t.items (λ row fits. fits.item) sound.items)
+
+pub items_stand : (t : Tables) → AreSound t → AllByRecursion (λ (it : Item). Stands t.settings.bands it.terms) (all_items t)
+items_stand t sound = every_map (λ (row : ItemRow). row.item) (λ (it : Item). Stands t.settings.bands it.terms) t.items
+    (every_as (ItemRowFits t.settings.bands) (λ (row : ItemRow). Stands t.settings.bands row.item.terms) t.items (row_stands t.settings.bands) sound.items)
 
 none_leads : (bands : List (ℕ × ℕ)) (start : ℕ) (bids : List Bid) (k : Kept) → k ≡ standing_of bands start bids → k.count ≡ 0 → IfSome k.leader IsMember
 none_leads bands start [] k is none = rw (is ∙ standing-none bands start) tt

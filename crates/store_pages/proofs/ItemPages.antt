@@ -6,13 +6,14 @@ use Rattle.std.proofs.lemmas.List.{take-map}
 use Rattle.sqlite_value.specs.declared.value.Value.TheVariants.{Int}
 use Rattle.sqlite_value.specs.Order.{Row, column}
 use Rattle.sqlite_trees.specs.Tree.{rowid}
-use Rattle.sqlite_keyed.proofs.ListLemmas.{all_both, all_unmap, all-filter, filter-map}
+use Rattle.sqlite_keyed.proofs.ListLemmas.{all_both, all_unmap, filter-map}
 use Rattle.sqlite_tied.specs.Compute.{everything}
 use Rattle.sqlite.specs.Term.{Term, col}
 use Rattle.sqlite.specs.Listing.{understood}
 use Rattle.sqlite.specs.State.{State, Shown}
 use Rattle.house_rows.specs.Fits.{ItemFits}
 use Rattle.house_rows.specs.Found as found
+use Rattle.house_rows.specs.Keeping.{ItemRowFits}
 use Rattle.house_rows.specs.Tables.{ItemRow}
 use Rattle.house_rows.specs.declared.item.Item.{Item}
 use Rattle.store_rows.specs.House.{IsHouse}
@@ -21,7 +22,8 @@ use Rattle.store_rows.specs.Plain.{passes}
 use Rattle.store_rows.specs.Rows.{number_in}
 use Rattle.store_rows.specs.Schema.{house_schema}
 use Rattle.store_rows.proofs.Select.{in_order, typed_part, by_rowid, equals}
-use Rattle.store_rows.proofs.ShownRows.{parts_fit}
+use Rattle.store_items.specs.Standing.{ItemHolds}
+use Rattle.store_items.proofs.Holding.{item_row, rows_hold}
 use Rattle.store_items.proofs.ItemLemmas.{IsRow, are_rows}
 use Rattle.store_items.proofs.ItemMeaning.{item_shown}
 use Rattle.store_lists.specs.Tables.{tables_in}
@@ -33,7 +35,7 @@ use Rattle.store_pages.proofs.Compared.{fits_not_negative, is_negative}
 use Rattle.store_pages.proofs.Firsts.{none_passes, some_passes}
 
 abbrev pub items_text : List ℕ
-items_text = codes "SELECT id, seller, category, start, buy_now, ending, state, closed, price, leader, count, lot, title, body FROM item WHERE category = ?1 AND id >= ?2 ORDER BY id"
+items_text = codes "SELECT id, seller, category, start, buy_now, ending, state, closed, price, leader, count, lot, title, body, top, second FROM item WHERE category = ?1 AND id >= ?2 ORDER BY id"
 
 abbrev pub stray_items_text : List ℕ
 stray_items_text = codes "SELECT id FROM item WHERE category = ?1 AND id < 0 ORDER BY id"
@@ -41,7 +43,7 @@ stray_items_text = codes "SELECT id FROM item WHERE category = ?1 AND id < 0 ORD
 abbrev item_names : List (List ℕ)
 item_names =
     codes "id" ∷ codes "seller" ∷ codes "category" ∷ codes "start" ∷ codes "buy_now" ∷ codes "ending" ∷ codes "state" ∷ codes "closed" ∷ codes "price" ∷ codes "leader" ∷ codes "count"
-    ∷ codes "lot" ∷ codes "title" ∷ codes "body" ∷ []
+    ∷ codes "lot" ∷ codes "title" ∷ codes "body" ∷ codes "top" ∷ codes "second" ∷ []
 
 pub items_is : Asks items_text 6 (equals 3 ∷ from_second 0 ∷ []) item_shown by_rowid item_names
 unfolding understood everything
@@ -95,11 +97,10 @@ module _ (category from : ℕ) (category_low : category < 2 ^ 32) (from_low : fr
       → map item_of rows ≡ take 50 (filter (keeps_item category from) (map (λ (row : ItemRow). row.item) (items_in old.now.trees)))
   items_shown rows none first = ap (map item_of) first.are ∙ sym (take-map item_of 50 first.all) ∙ ap (take 50) (all_shown first.all none first.shown)
 
-  pub items_fit : (rows : List Row) → Shown stray_items_text here old new [] → ShowsFirst 50 items_text params old new rows → AllByRecursion (λ (row : ItemRow). ItemFits row.item) (items_in old.now.trees)
-      → AllByRecursion ItemFits (map item_of rows)
-  items_fit rows none first fits =
-      subst (AllByRecursion ItemFits) (sym (items_shown rows none first))
-      (all-take ItemFits 50 _ (all-filter ItemFits (keeps_item category from) _ (parts_fit (λ (row : ItemRow). ItemFits row.item) ItemFits (λ (row : ItemRow). row.item) (λ row h. h) (items_in old.now.trees) fits)))
+  pub items_held : (rows : List Row) → ShowsFirst 50 items_text params old new rows → (bands : List (ℕ × ℕ)) → AllByRecursion (ItemRowFits bands) (items_in old.now.trees) → AllByRecursion (ItemHolds bands) rows
+  items_held rows first bands fit =
+      let order = in_order test item_shown params table first.all house.shaped.1.1.1.1.0.0 (lists items_text 6 test item_shown by_rowid _ items_is (λ db. refl) old new params first.all house first.shown) in
+      subst (AllByRecursion (ItemHolds bands)) (sym first.are) (all-take (ItemHolds bands) 50 first.all (rows_hold bands (ItemHolds bands) item_shown test params table first.all (item_row bands params) order fit))
 
   -- where all fit, there is no stray
   pub no_stray_item : ShowsSome stray_items_text here old new → AllByRecursion (λ (row : ItemRow). ItemFits row.item) (items_in old.now.trees) → ⊥

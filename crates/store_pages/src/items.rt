@@ -3,6 +3,7 @@ ghost use Rattle.std.specs.Prelude.{◌≡◌, ◌==◌, ◌&&◌, false, filter
 ghost use Rattle.std.specs.List.{AllByRecursion};
 ghost use Rattle.house_rows.specs.Fits.{ItemFits};
 ghost use Rattle.house_rows.specs.Found.{items_in};
+ghost use Rattle.house_rows.specs.Keeping.{ItemRowFits, Stands};
 ghost use Rattle.house_rows.specs.Limits.{most_shown};
 ghost use Rattle.house_rows.specs.Tables.{ItemRow};
 ghost use Rattle.house_rows.specs.declared.fault.KeepFault.TheVariants.{Damaged};
@@ -17,19 +18,22 @@ use crate::first::page_rows;
 use house_rows::{Item, KeepFault};
 use sqlite::{Alter, Connection, params};
 use std::alloc::Global;
-use store_rows::all_of;
+use steps::Bands;
+use store_items::item_list;
 
 // The items of a category, from a number on; at most fifty.
 fn items_from<S: Alter>(
     alloc: Global,
     conn: &mut Connection<S>,
+    bands: &Bands,
     category: u32,
     from: u32,
 ) -> Result<Vec<Item>, KeepFault>
     requires { Serves (state S.Store conn.old) }
     ensures items { HasCleanDisk (state S.Store conn.new) → IfOk result (λ items. items.items ≡ take most_shown (filter (λ it. (it.terms.category == category) && nat_le from it.terms.item) (map (λ (row : ItemRow). row.item) (stored.items_in (state S.Store conn.old).now.trees)))) }
     ensures fits { IfOk result (λ items. AllByRecursion ItemFits items.items) }
-    ensures damaged { HasCleanDisk (state S.Store conn.new) → AllByRecursion (λ (row : ItemRow). ItemFits row.item) (stored.items_in (state S.Store conn.old).now.trees) → ¬ (IsErrOf result Damaged) }
+    ensures stands { IfOk result (λ items. AllByRecursion (λ it. Stands bands.now it.terms) items.items) }
+    ensures damaged { HasCleanDisk (state S.Store conn.new) → AllByRecursion (ItemRowFits bands.now) (stored.items_in (state S.Store conn.old).now.trees) → ¬ (IsErrOf result Damaged) }
     ensures same { HasCleanDisk (state S.Store conn.new) → OnOk result (IsUnchanged (state S.Store conn.old) (state S.Store conn.new)) }
     ensures err { HasCleanDisk (state S.Store conn.new) → OnErr result (KeepsCommitted (state S.Store conn.old) (state S.Store conn.new)) }
     ensures mode { conn.old.in_transaction ≡ false → conn.new.in_transaction ≡ false }
@@ -40,27 +44,29 @@ fn items_from<S: Alter>(
         conn,
         "SELECT id FROM item WHERE category = ?1 AND id < 0 ORDER BY id",
         params![category],
-        "SELECT id, seller, category, start, buy_now, ending, state, closed, price, leader, count, lot, title, body FROM item WHERE category = ?1 AND id >= ?2 ORDER BY id",
+        "SELECT id, seller, category, start, buy_now, ending, state, closed, price, leader, count, lot, title, body, top, second FROM item WHERE category = ?1 AND id >= ?2 ORDER BY id",
         params![category, from],
     )?;
-    all_of(alloc, &rows)
+    item_list(alloc, bands, &rows)
 }
 
 /// The items of a category, from a number on; at most fifty.
 pub fn items_in<S: Alter>(
     alloc: Global,
     conn: &mut Connection<S>,
+    bands: &Bands,
     category: u32,
     from: u64,
 ) -> Result<Vec<Item>, KeepFault>
     requires { Serves (state S.Store conn.old) }
     ensures items { HasCleanDisk (state S.Store conn.new) → IfOk result (λ items. items.items ≡ items_in (tables_in (state S.Store conn.old).now.trees) category from) }
     ensures fits { IfOk result (λ items. AllByRecursion ItemFits items.items) }
-    ensures damaged { HasCleanDisk (state S.Store conn.new) → AllByRecursion (λ (row : ItemRow). ItemFits row.item) (stored.items_in (state S.Store conn.old).now.trees) → ¬ (IsErrOf result Damaged) }
+    ensures stands { IfOk result (λ items. AllByRecursion (λ it. Stands bands.now it.terms) items.items) }
+    ensures damaged { HasCleanDisk (state S.Store conn.new) → AllByRecursion (ItemRowFits bands.now) (stored.items_in (state S.Store conn.old).now.trees) → ¬ (IsErrOf result Damaged) }
     ensures same { HasCleanDisk (state S.Store conn.new) → OnOk result (IsUnchanged (state S.Store conn.old) (state S.Store conn.new)) }
     ensures err { HasCleanDisk (state S.Store conn.new) → OnErr result (KeepsCommitted (state S.Store conn.old) (state S.Store conn.new)) }
     ensures mode { conn.old.in_transaction ≡ false → conn.new.in_transaction ≡ false }
     ensures crash { Survives (state S.Store conn.old) (state S.Store conn.new) (λ _. ⊥) }
 {
-    items_from(alloc, conn, category, bound_of(from))
+    items_from(alloc, conn, bands, category, bound_of(from))
 }

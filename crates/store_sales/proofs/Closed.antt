@@ -1,6 +1,6 @@
 -- A close, item by item, is a close of all.
 use Rattle.std.proofs.Common.{◌≡◌, ◌≢◌, ◌≤◌, ◌<◌, ◌^◌, ◌+◌, suc, get_or, drop, drop-cons, ap₂, ℕ, Bool, true, false, List, [], ◌∷◌, map, filter, length, Some, refl, sym, ap, subst, ◌∙◌, arith, inl, inr, true≢false}
-use Rattle.std.specs.Prelude.{◌==◌, All, is_some, if◌then◌else◌}
+use Rattle.std.specs.Prelude.{◌==◌, All}
 use Rattle.std.specs.List.{AllByRecursion, list_any}
 use Rattle.std.proofs.lemmas.Bool.Decides.{nat_tests}
 use Rattle.std.proofs.lemmas.List.{drop_all}
@@ -12,10 +12,9 @@ use Rattle.sqlite_keyed.proofs.ListLemmas.{all_both, map-map}
 use Rattle.sqlite_schema.specs.declared.schema.Table.{Table}
 use Rattle.sqlite.specs.Effect.{Database}
 use Rattle.house_rows.specs.declared.item.Terms.{Terms}
-use Rattle.house_rows.specs.declared.state.State.TheVariants.{Sold, Unsold}
 use Rattle.house_rows.specs.Changed.{is_item, with_close, with_terms}
 use Rattle.house_rows.specs.Fits.{TermsFit}
-use Rattle.house_rows.specs.Items.{is_due}
+use Rattle.house_rows.specs.Items.{close_sells, closed_state, is_due}
 use Rattle.house_rows.specs.Tables.{ItemRow}
 use Rattle.house_rows.proofs.Put.{by_test}
 use Rattle.store_rows.specs.House.{IsHouse, KeepsOthers}
@@ -56,24 +55,24 @@ end_start item is_sold row = elim (by_test (is_item item row)) [ inl is ↦ rw i
 
 pub ends_number : (ts : List Terms) (row : ItemRow) → (with_ends ts row).item.terms.item ≡ row.item.terms.item
 ends_number [] row = refl
-ends_number (t ∷ ts) row = ends_number ts (with_end t.item (is_some t.leader) row) ∙ end_number t.item (is_some t.leader) row
+ends_number (t ∷ ts) row = ends_number ts (with_end t.item (close_sells t.leader) row) ∙ end_number t.item (close_sells t.leader) row
 
 -- an item closed at its end
 abbrev ended : ItemRow → ItemRow
-ended row = with_terms (record row.item.terms { state = (if is_some row.item.terms.leader then Sold else Unsold); closed = Some row.item.terms.end }) row
+ended row = with_terms (record row.item.terms { state = closed_state (close_sells row.item.terms.leader); closed = Some row.item.terms.end }) row
 
 -- terms with the row's number are the row's own
 abbrev Knows : ItemRow → List Terms → Type 0
 Knows row ts = AllByRecursion (λ (t : Terms). is_item t.item row ≡ true → t ≡ row.item.terms) ts
 
-end_other : (t : Terms) (row : ItemRow) → is_item t.item row ≡ false → with_end t.item (is_some t.leader) row ≡ row
+end_other : (t : Terms) (row : ItemRow) → is_item t.item row ≡ false → with_end t.item (close_sells t.leader) row ≡ row
 end_other t row other = rw other refl
 
-end_here : (t : Terms) (row : ItemRow) → is_item t.item row ≡ true → t ≡ row.item.terms → with_end t.item (is_some t.leader) row ≡ ended row
-end_here t row is same = rw is (ap (λ (x : Terms). with_terms (record row.item.terms { state = (if is_some x.leader then Sold else Unsold); closed = Some row.item.terms.end }) row) same)
+end_here : (t : Terms) (row : ItemRow) → is_item t.item row ≡ true → t ≡ row.item.terms → with_end t.item (close_sells t.leader) row ≡ ended row
+end_here t row is same = rw is (ap (λ (x : Terms). with_terms (record row.item.terms { state = closed_state (close_sells x.leader); closed = Some row.item.terms.end }) row) same)
 
-end_again : (t : Terms) (row : ItemRow) → is_item t.item row ≡ true → t ≡ row.item.terms → with_end t.item (is_some t.leader) (ended row) ≡ ended row
-end_again t row is same = rw is (ap (λ (x : Terms). with_terms (record row.item.terms { state = (if is_some x.leader then Sold else Unsold); closed = Some row.item.terms.end }) row) same)
+end_again : (t : Terms) (row : ItemRow) → is_item t.item row ≡ true → t ≡ row.item.terms → with_end t.item (close_sells t.leader) (ended row) ≡ ended row
+end_again t row is same = rw is (ap (λ (x : Terms). with_terms (record row.item.terms { state = closed_state (close_sells x.leader); closed = Some row.item.terms.end }) row) same)
 
 ends_again : (ts : List Terms) (row : ItemRow) → Knows row ts → with_ends ts (ended row) ≡ ended row
 ends_again [] row known = refl
@@ -173,21 +172,21 @@ keeps_self db (t ∷ ts) = ((λ _. refl), keeps_self db ts)
 pub closing_begins : (due : List Terms) (db : Database) → IsHouse db → StartsFit due db → IsClosing due due db db
 closing_begins due db house starts = record { house = house; others = keeps_self db house_schema.tables; starts = starts; items = refl }
 
-pub closing_goes_on : (due rest : List Terms) (t : Terms) (old now next : Database) → IsClosing due (t ∷ rest) old now → OfItem t.item StartFits now → SetsClosed t.item (is_some t.leader) now next → IsClosing due rest old next
+pub closing_goes_on : (due rest : List Terms) (t : Terms) (old now next : Database) → IsClosing due (t ∷ rest) old now → OfItem t.item StartFits now → SetsClosed t.item (close_sells t.leader) now next → IsClosing due rest old next
 closing_goes_on due rest t old now next so fits sets = record {
   house = sets.house;
   others = all_both (λ (x : Table). x.tree ≢ 6 → now.trees x.tree ≡ old.trees x.tree) (λ (x : Table). x.tree ≢ 6 → next.trees x.tree ≡ now.trees x.tree) (λ (x : Table). x.tree ≢ 6 → next.trees x.tree ≡ old.trees x.tree)
       (λ x before after other. after other ∙ before other) house_schema.tables so.others sets.others;
   starts = still due so.starts;
-  items = ap (map (with_ends rest)) (sets.items fits) ∙ map-map (with_ends rest) (with_end t.item (is_some t.leader)) (items_in now.trees) ∙ so.items;
+  items = ap (map (with_ends rest)) (sets.items fits) ∙ map-map (with_ends rest) (with_end t.item (close_sells t.leader)) (items_in now.trees) ∙ so.items;
 }
   where
     one : (item : ℕ) → OfItem item StartFits now → OfItem item StartFits next
     one item all =
         subst (λ (rows : List ItemRow). All (λ row. is_item item row ≡ true → StartFits row) rows) (sym (sets.items fits))
-        (All-map (λ row. is_item item row ≡ true → StartFits row) (with_end t.item (is_some t.leader)) (items_in now.trees)
-        (All-weaker (λ row. is_item item row ≡ true → StartFits row) (λ row. is_item item (with_end t.item (is_some t.leader) row) ≡ true → StartFits (with_end t.item (is_some t.leader) row))
-        (λ row fit here. rw (end_start t.item (is_some t.leader) row) (fit (rw (end_number t.item (is_some t.leader) row) at here))) (items_in now.trees) all))
+        (All-map (λ row. is_item item row ≡ true → StartFits row) (with_end t.item (close_sells t.leader)) (items_in now.trees)
+        (All-weaker (λ row. is_item item row ≡ true → StartFits row) (λ row. is_item item (with_end t.item (close_sells t.leader) row) ≡ true → StartFits (with_end t.item (close_sells t.leader) row))
+        (λ row fit here. rw (end_start t.item (close_sells t.leader) row) (fit (rw (end_number t.item (close_sells t.leader) row) at here))) (items_in now.trees) all))
 
     still : (ts : List Terms) → StartsFit ts now → StartsFit ts next
     still [] all = tt
@@ -201,7 +200,7 @@ pub closing_ends : (due : List Terms) (old now : Database) → IsClosing due [] 
 closing_ends due old now so = record { house = so.house; others = so.others; items = sym (every_same (with_ends []) (λ row. refl) (items_in now.trees)) ∙ so.items }
 
 -- the item at a place is closed
-pub closing_steps : (due : List Terms) (i : ℕ) (t : Terms) (is_sold : Bool) (old now next : Database) → i < length due → t ≡ get_or due i t → is_sold ≡ is_some t.leader → IsClosing due (drop i due) old now → SetsClosed t.item is_sold now next
+pub closing_steps : (due : List Terms) (i : ℕ) (t : Terms) (is_sold : Bool) (old now next : Database) → i < length due → t ≡ get_or due i t → is_sold ≡ close_sells t.leader → IsClosing due (drop i due) old now → SetsClosed t.item is_sold now next
     → IsClosing due (drop (i + 1) due) old next
 closing_steps due i t is_sold old now next within is sold so sets =
     let next_place : suc i ≡ i + 1 = omega arith in

@@ -141,12 +141,7 @@ unbid_checked db house n low t s found fits stands is =
 
 -- ---- sound tables
 
--- the items of sound tables fit
-pub items_fit : (db : Trees) → AreSound (tables_in db) → AllByRecursion (λ (row : ItemRow). ItemFits row.item) (items_in db)
-unfolding tables_in
-items_fit db sound = every_as (ItemRowFits (settings_in db).bands) (λ (row : ItemRow). ItemFits row.item) (items_in db) (λ row h. h.item) sound.items
-
--- by the bands of the house
+-- the items of sound tables fit, by the bands of the house
 pub items_sound : (db : Trees) (bands : List (ℕ × ℕ)) → AreSound (tables_in db) → bands ≡ (settings_in db).bands → AllByRecursion (ItemRowFits bands) (items_in db)
 unfolding tables_in
 items_sound db bands sound same = rw same sound.items

@@ -1,10 +1,10 @@
 -- What changes of items ask of the rows, and make of them.
-use Rattle.std.specs.Prelude.{◌≡◌, ◌≤◌, ℕ, List, [], ◌∷◌, filter, map, None, is_some}
+use Rattle.std.specs.Prelude.{◌≡◌, ◌≤◌, ℕ, List, [], ◌∷◌, filter, map, None}
 use Rattle.std.specs.List.{AllByRecursion}
 use Rattle.sqlite.specs.Effect.{Database}
 use Rattle.house_rows.specs.declared.item.Terms.{Terms}
 use Rattle.house_rows.specs.Fits.{TermsFit}
-use Rattle.house_rows.specs.Items.{is_due}
+use Rattle.house_rows.specs.Items.{close_sells, is_due}
 use Rattle.house_rows.specs.Limits.{most_cents}
 use Rattle.house_rows.specs.Tables.{ItemRow}
 use Rattle.store_rows.specs.House.{IsHouse, KeepsOthers}
@@ -26,7 +26,7 @@ StartsAt start row = row.standing.start ≡ start
 -- the items are closed in turn, each as sold where somebody leads
 abbrev pub with_ends : List Terms → ItemRow → ItemRow
 with_ends [] row = row
-with_ends (t ∷ ts) row = with_ends ts (with_end t.item (is_some t.leader) row)
+with_ends (t ∷ ts) row = with_ends ts (with_end t.item (close_sells t.leader) row)
 
 -- every item is made another, and the other tables are as they were
 pub record SetsItems (f : ItemRow → ItemRow) (old new : Database) : Type 0 where

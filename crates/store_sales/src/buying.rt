@@ -44,7 +44,7 @@ fn check_unbid<S: Alter>(
     ensures mode { conn.old.in_transaction ≡ false → conn.new.in_transaction ≡ false }
     ensures crash { Survives (state S.Store conn.old) (state S.Store conn.new) (λ _. ⊥) }
 {
-    let terms = terms_there(conn, item)?;
+    let terms = terms_there(conn, bands, item)?;
     let standing = standing_there(conn, bands, item)?;
     if is_unbid(&terms, &standing) {
         Ok(())

@@ -14,13 +14,14 @@ ghost use Rattle.house_rows.specs.declared.change.Change.TheVariants.{Close};
 ghost use Rattle.house_rows.specs.declared.fault.KeepFault.TheVariants.{Damaged};
 ghost use Rattle.store_rows.specs.House.{Serves, IsInside, KeepsCommitted};
 ghost use Rattle.store_rows.specs.ItemRows.{items_in};
-ghost use Rattle.store_lists.specs.Tables.{Changes, IsNumbered, Rests, tables_in};
+ghost use Rattle.store_lists.specs.Tables.{Changes, IsNumbered, Rests, settings_in, tables_in};
 ghost use Rattle.store_sales.specs.Sales.{IsDue, SetsItems, StartsFit, with_ends};
 
 use crate::ending::{commit, stored_moment};
 use house_rows::{KeepFault, Terms};
 use sqlite::{Alter, Connection, Transaction};
 use std::alloc::Global;
+use steps::Bands;
 use store_finds::due_terms;
 use store_items::set_closed;
 use store_rows::set_clock;
@@ -29,17 +30,18 @@ use store_rows::set_clock;
 fn find_due<S: Alter>(
     alloc: Global,
     conn: &mut Connection<S>,
+    bands: &Bands,
     moment: u32,
 ) -> Result<Vec<Terms>, KeepFault>
     requires { Serves (state S.Store conn.old) }
     ensures due { HasCleanDisk (state S.Store conn.new) → IfOk result (λ due. IsDue moment due.items (state S.Store conn.old).now) }
-    ensures damaged { HasCleanDisk (state S.Store conn.new) → AreSound (tables_in (state S.Store conn.old).now.trees) → ¬ (IsErrOf result Damaged) }
+    ensures damaged { HasCleanDisk (state S.Store conn.new) → AreSound (tables_in (state S.Store conn.old).now.trees) → bands.now ≡ (settings_in (state S.Store conn.old).now.trees).bands → ¬ (IsErrOf result Damaged) }
     ensures same { HasCleanDisk (state S.Store conn.new) → OnOk result (IsUnchanged (state S.Store conn.old) (state S.Store conn.new)) }
     ensures err { HasCleanDisk (state S.Store conn.new) → OnErr result (KeepsCommitted (state S.Store conn.old) (state S.Store conn.new)) }
     ensures mode { conn.old.in_transaction ≡ false → conn.new.in_transaction ≡ false }
     ensures crash { Survives (state S.Store conn.old) (state S.Store conn.new) (λ _. ⊥) }
 {
-    due_terms(alloc, conn, moment)
+    due_terms(alloc, conn, bands, moment)
 }
 
 // Closes the items within a transaction, each as sold where somebody leads.
@@ -89,11 +91,13 @@ fn write_close<S: Alter>(
 /// that is due, or the moment, doesn't fit.
 pub fn close<S: Alter>(
     conn: &mut Connection<S>,
+    bands: &Bands,
     alloc: Global,
     moment: u64,
 ) -> Result<(), KeepFault>
     requires rests { Rests (state S.Store conn.old) }
     requires mode { conn.old.in_transaction ≡ false }
+    requires bands { HasCleanDisk (state S.Store conn.old) → bands.now ≡ (settings_in (state S.Store conn.old).now.trees).bands }
     ensures ok { HasCleanDisk (state S.Store conn.new) → OnOk result (IsTrue (state S.Store conn.new).is_open × ((state S.Store conn.new).now ≡ (state S.Store conn.new).committed) × Changes (Close moment) (state S.Store conn.old).now (state S.Store conn.new).now) }
     ensures damaged { HasCleanDisk (state S.Store conn.new) → AreSound (tables_in (state S.Store conn.old).now.trees) → ChangeFits (tables_in (state S.Store conn.old).now.trees) (Close moment) → IsFree (tables_in (state S.Store conn.old).now.trees) (Close moment) → ¬ (IsErrOf result Damaged) }
     ensures err { HasCleanDisk (state S.Store conn.new) → IsTrue (state S.Store conn.new).is_open → OnErr result (((state S.Store conn.new).now ≡ (state S.Store conn.old).committed) × ((state S.Store conn.new).committed ≡ (state S.Store conn.old).committed)) }
@@ -102,7 +106,7 @@ pub fn close<S: Alter>(
     ensures crash { Survives (state S.Store conn.old) (state S.Store conn.new) (λ trees. (db : Database) × Changes (Close moment) (state S.Store conn.old).now db × (trees ≡ db.trees)) }
 {
     let moment = stored_moment(moment)?;
-    let due = find_due(alloc, conn, moment)?;
+    let due = find_due(alloc, conn, bands, moment)?;
     let mut tx = conn.transaction();
     write_close(&mut tx, moment, &due)?;
     commit(tx)

@@ -19,17 +19,21 @@ use steps::Bands;
 use store_items::{standing_at, terms_at};
 
 /// An item without its texts; Damaged where there is none.
-pub(crate) fn terms_there<S: Alter>(conn: &mut Connection<S>, item: u32) -> Result<Terms, KeepFault>
+pub(crate) fn terms_there<S: Alter>(
+    conn: &mut Connection<S>,
+    bands: &Bands,
+    item: u32,
+) -> Result<Terms, KeepFault>
     requires { Serves (state S.Store conn.old) }
     ensures found { HasCleanDisk (state S.Store conn.new) → IfOk result (λ t. option_map (λ (row : ItemRow). row.item.terms) (find (is_item item) (items_in (state S.Store conn.old).now.trees)) ≡ Some t) }
     ensures fits { IfOk result TermsFit }
-    ensures damaged { HasCleanDisk (state S.Store conn.new) → AreSound (tables_in (state S.Store conn.old).now.trees) → HasItem (tables_in (state S.Store conn.old).now.trees) item → ¬ (IsErrOf result Damaged) }
+    ensures damaged { HasCleanDisk (state S.Store conn.new) → AreSound (tables_in (state S.Store conn.old).now.trees) → bands.now ≡ (settings_in (state S.Store conn.old).now.trees).bands → HasItem (tables_in (state S.Store conn.old).now.trees) item → ¬ (IsErrOf result Damaged) }
     ensures same { HasCleanDisk (state S.Store conn.new) → OnOk result (IsUnchanged (state S.Store conn.old) (state S.Store conn.new)) }
     ensures err { HasCleanDisk (state S.Store conn.new) → OnErr result (KeepsCommitted (state S.Store conn.old) (state S.Store conn.new)) }
     ensures mode { conn.old.in_transaction ≡ false → conn.new.in_transaction ≡ false }
     ensures crash { Survives (state S.Store conn.old) (state S.Store conn.new) (λ _. ⊥) }
 {
-    match terms_at(conn, item) {
+    match terms_at(conn, bands, item) {
         Ok(Some(terms)) => Ok(terms),
         Ok(None) => Err(KeepFault::Damaged),
         Err(fault) => Err(fault),

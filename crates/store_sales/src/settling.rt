@@ -10,27 +10,32 @@ ghost use Rattle.house_rows.specs.declared.change.Change.TheVariants.{Settle};
 ghost use Rattle.house_rows.specs.declared.fault.KeepFault.TheVariants.{Damaged};
 ghost use Rattle.store_rows.specs.House.{Serves, IsInside, KeepsCommitted};
 ghost use Rattle.store_items.specs.Items.{OfItem};
-ghost use Rattle.store_lists.specs.Tables.{Changes, IsNumbered, Rests, tables_in};
+ghost use Rattle.store_lists.specs.Tables.{Changes, IsNumbered, Rests, settings_in, tables_in};
 ghost use Rattle.store_sales.specs.Sales.{StartFits};
 
 use crate::ending::{commit, stored_moment};
 use crate::looking::terms_there;
 use house_rows::KeepFault;
 use sqlite::{Alter, Connection, Transaction};
+use steps::Bands;
 use store_items::set_settled;
 use store_rows::set_clock;
 
 // Whether the row of an item fits; Damaged where there is none.
-fn check_terms<S: Alter>(conn: &mut Connection<S>, item: u32) -> Result<(), KeepFault>
+fn check_terms<S: Alter>(
+    conn: &mut Connection<S>,
+    bands: &Bands,
+    item: u32,
+) -> Result<(), KeepFault>
     requires { Serves (state S.Store conn.old) }
     ensures fits { HasCleanDisk (state S.Store conn.new) → OnOk result (OfItem item StartFits (state S.Store conn.old).now) }
-    ensures damaged { HasCleanDisk (state S.Store conn.new) → AreSound (tables_in (state S.Store conn.old).now.trees) → HasItem (tables_in (state S.Store conn.old).now.trees) item → ¬ (IsErrOf result Damaged) }
+    ensures damaged { HasCleanDisk (state S.Store conn.new) → AreSound (tables_in (state S.Store conn.old).now.trees) → bands.now ≡ (settings_in (state S.Store conn.old).now.trees).bands → HasItem (tables_in (state S.Store conn.old).now.trees) item → ¬ (IsErrOf result Damaged) }
     ensures same { HasCleanDisk (state S.Store conn.new) → OnOk result (IsUnchanged (state S.Store conn.old) (state S.Store conn.new)) }
     ensures err { HasCleanDisk (state S.Store conn.new) → OnErr result (KeepsCommitted (state S.Store conn.old) (state S.Store conn.new)) }
     ensures mode { conn.old.in_transaction ≡ false → conn.new.in_transaction ≡ false }
     ensures crash { Survives (state S.Store conn.old) (state S.Store conn.new) (λ _. ⊥) }
 {
-    terms_there(conn, item)?;
+    terms_there(conn, bands, item)?;
     Ok(())
 }
 
@@ -57,9 +62,15 @@ fn write_settlement<S: Alter>(
 
 /// Settles the sale of an item. The moment is in seconds since 1970-01-01T00:00:00Z. Damaged where
 /// there is no such item, or its row or the moment doesn't fit.
-pub fn settle<S: Alter>(conn: &mut Connection<S>, moment: u64, item: u32) -> Result<(), KeepFault>
+pub fn settle<S: Alter>(
+    conn: &mut Connection<S>,
+    bands: &Bands,
+    moment: u64,
+    item: u32,
+) -> Result<(), KeepFault>
     requires rests { Rests (state S.Store conn.old) }
     requires mode { conn.old.in_transaction ≡ false }
+    requires bands { HasCleanDisk (state S.Store conn.old) → bands.now ≡ (settings_in (state S.Store conn.old).now.trees).bands }
     ensures ok { HasCleanDisk (state S.Store conn.new) → OnOk result (IsTrue (state S.Store conn.new).is_open × ((state S.Store conn.new).now ≡ (state S.Store conn.new).committed) × Changes (Settle moment item) (state S.Store conn.old).now (state S.Store conn.new).now) }
     ensures damaged { HasCleanDisk (state S.Store conn.new) → AreSound (tables_in (state S.Store conn.old).now.trees) → ChangeFits (tables_in (state S.Store conn.old).now.trees) (Settle moment item) → IsFree (tables_in (state S.Store conn.old).now.trees) (Settle moment item) → ¬ (IsErrOf result Damaged) }
     ensures err { HasCleanDisk (state S.Store conn.new) → IsTrue (state S.Store conn.new).is_open → OnErr result (((state S.Store conn.new).now ≡ (state S.Store conn.old).committed) × ((state S.Store conn.new).committed ≡ (state S.Store conn.old).committed)) }
@@ -68,7 +79,7 @@ pub fn settle<S: Alter>(conn: &mut Connection<S>, moment: u64, item: u32) -> Res
     ensures crash { Survives (state S.Store conn.old) (state S.Store conn.new) (λ trees. (db : Database) × Changes (Settle moment item) (state S.Store conn.old).now db × (trees ≡ db.trees)) }
 {
     let moment = stored_moment(moment)?;
-    check_terms(conn, item)?;
+    check_terms(conn, bands, item)?;
     let mut tx = conn.transaction();
     write_settlement(&mut tx, moment, item)?;
     commit(tx)

@@ -29,3 +29,11 @@ bid-requires-clause-bands g c = λ honest. sym (c.requires.bands honest)
 pub buy-requires-clause-bands : goal.buy-requires-clause-bands
 unfolding tables_in
 buy-requires-clause-bands g c = λ honest. sym (c.requires.bands honest)
+
+pub settle-requires-clause-bands : goal.settle-requires-clause-bands
+unfolding tables_in
+settle-requires-clause-bands g c = λ honest. sym (c.requires.bands honest)
+
+pub close-requires-clause-bands : goal.close-requires-clause-bands
+unfolding tables_in
+close-requires-clause-bands g c = λ honest. sym (c.requires.bands honest)

@@ -4,12 +4,12 @@ use Rattle.sqlite.specs.Held.{state}
 use Rattle.house_rows.specs.Found.{best_of}
 use Rattle.store_lists.specs.Tables.{tables_in}
 use Rattle.store_answers.proofs.OwnBidItems.{bid_found}
-use Rattle.store_answers.proofs.Sound.{items_fit}
+use Rattle.store_answers.proofs.Sound.{rows_fit}
 use Rattle.store_answers.proofs.Steps.{clean_before}
 use Rattle.store_answers.proofs.bids.own_bid_at.Goals as goal
 
 pub returns-in_err-terms-clause-damaged : goal.returns-in_err-terms-clause-damaged
-returns-in_err-terms-clause-damaged g c clean sound is = c.in_err-terms.ensures.damaged clean (items_fit (state g.S.Store c.args.conn.now).now.trees sound) (search rules)
+returns-in_err-terms-clause-damaged g c clean sound is = c.in_err-terms.ensures.damaged clean (rows_fit (state g.S.Store c.args.conn.now).now.trees c.args.bands.now sound) (search rules)
 
 pub returns-clause-value : goal.returns-clause-value
 returns-clause-value g c clean =

@@ -11,7 +11,7 @@ use Rattle.store_answers.proofs.Steps.{clean_before}
 use Rattle.store_answers.proofs.bids.own_bids.Goals as goal
 
 pub returns-in_err-bids-clause-damaged : goal.returns-in_err-bids-clause-damaged
-returns-in_err-bids-clause-damaged g c clean sound is = c.in_err-bids.ensures.damaged clean (bids_fit (state g.S.Store c.args.conn.now).now.trees sound) (search rules)
+returns-in_err-bids-clause-damaged g c clean sound is = c.in_err-bids.ensures.damaged clean (bids_fit (state g.S.Store c.args.conn.now).now.trees sound.sound) (search rules)
 
 pub returns-clause-value : goal.returns-clause-value
 returns-clause-value g c clean =

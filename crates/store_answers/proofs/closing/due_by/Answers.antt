@@ -1,18 +1,18 @@
 use Rattle.std.proofs.Common.{◌≡◌, ◌∙◌, ap, not, rules}
-use Rattle.std.specs.Prelude.{is_some}
 use Rattle.sqlite.specs.Held.{state}
 use Rattle.house_rows.specs.History.{counted}
+use Rattle.house_rows.specs.Items.{close_sells}
 use Rattle.store_answers.proofs.Counted.{due_terms_are}
-use Rattle.store_answers.proofs.Sound.{items_fit}
+use Rattle.store_answers.proofs.Sound.{rows_fit}
 use Rattle.store_answers.proofs.closing.due_by.Goals as goal
 
 pub returns-in_err-due-clause-damaged : goal.returns-in_err-due-clause-damaged
-returns-in_err-due-clause-damaged g c clean sound is = c.in_err-due.ensures.damaged clean (items_fit (state g.S.Store c.args.conn.now).now.trees sound) (search rules)
+returns-in_err-due-clause-damaged g c clean sound is = c.in_err-due.ensures.damaged clean (rows_fit (state g.S.Store c.args.conn.now).now.trees c.args.bands.now sound) (search rules)
 
 pub returns-clause-value : goal.returns-clause-value
 returns-clause-value g c clean =
     let due = c.in_ok-due.due.items in
     let same : c.deref.result.now ≡ due = search rules in
     due_terms_are (state g.S.Store c.args.conn.now).now.trees c.args.moment due (c.in_ok-due.ensures.terms clean) c.counts_of.result
-    (c.counts_of.ensures.sold ∙ ap (counted (λ t. is_some t.leader)) same)
-    (c.counts_of.ensures.unsold ∙ ap (counted (λ t. not (is_some t.leader))) same)
+    (c.counts_of.ensures.sold ∙ ap (counted (λ t. close_sells t.leader)) same)
+    (c.counts_of.ensures.unsold ∙ ap (counted (λ t. not (close_sells t.leader))) same)

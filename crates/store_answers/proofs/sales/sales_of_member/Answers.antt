@@ -3,25 +3,25 @@ use Rattle.std.specs.List.{AllByRecursion}
 use Rattle.sqlite.specs.Effect.{Database}
 use Rattle.sqlite.specs.Held.{state}
 use Rattle.proxy.specs.Bids.{is_leader}
-use Rattle.house_rows.specs.Fits.{ItemFits}
+use Rattle.house_rows.specs.Keeping.{ItemRowFits}
 use Rattle.house_rows.specs.Pages.{sale_of}
 use Rattle.house_rows.specs.Tables.{ItemRow}
 use Rattle.store_rows.specs.ItemRows.{items_in}
 use Rattle.store_rows.proofs.StateLemmas.{ok_then}
 use Rattle.store_answers.specs.Rising.{rise_from}
 use Rattle.store_answers.proofs.PartySales.{both_fit, rising_from_0, sales_are, sales_found}
-use Rattle.store_answers.proofs.Sound.{items_fit}
+use Rattle.store_answers.proofs.Sound.{rows_fit}
 use Rattle.store_answers.proofs.Steps.{clean_before}
 use Rattle.store_answers.proofs.sales.sales_of_member.Goals as goal
 
 pub returns-in_err-sold-clause-damaged : goal.returns-in_err-sold-clause-damaged
-returns-in_err-sold-clause-damaged g c clean sound is = c.in_err-sold.ensures.damaged clean (items_fit (state g.S.Store c.args.conn.now).now.trees sound) (search rules)
+returns-in_err-sold-clause-damaged g c clean sound is = c.in_err-sold.ensures.damaged clean (rows_fit (state g.S.Store c.args.conn.now).now.trees c.args.bands.now sound) (search rules)
 
 pub returns-in_err-led-clause-damaged : goal.returns-in_err-led-clause-damaged
 returns-in_err-led-clause-damaged g c clean sound is =
     let before = clean_before (state g.S.Store c.terms_of_seller.new.conn) (state g.S.Store c.terms_led_by.new.conn) c.terms_led_by.ensures.crash clean in
     c.in_err-led.ensures.damaged clean
-    (subst (λ (db : Database). AllByRecursion (λ (row : ItemRow). ItemFits row.item) (items_in db.trees)) (sym (c.in_ok-sold.ensures.same before).0.now_is) (items_fit (state g.S.Store c.args.conn.now).now.trees sound)) (search rules)
+    (subst (λ (db : Database). AllByRecursion (ItemRowFits c.args.bands.now) (items_in db.trees)) (sym (c.in_ok-sold.ensures.same before).0.now_is) (rows_fit (state g.S.Store c.args.conn.now).now.trees c.args.bands.now sound)) (search rules)
 
 pub returns-then-not-rise-clause-damaged : goal.returns-then-not-rise-clause-damaged
 returns-then-not-rise-clause-damaged g c clean sound is =

@@ -1,11 +1,11 @@
 use Rattle.std.proofs.Common.{◌∙◌, rules}
 use Rattle.sqlite.specs.Held.{state}
 use Rattle.store_answers.proofs.PartySales.{no_sales_found}
-use Rattle.store_answers.proofs.Sound.{items_fit}
+use Rattle.store_answers.proofs.Sound.{rows_fit}
 use Rattle.store_answers.proofs.sales.sales_of_nobody.Goals as goal
 
 pub returns-in_err-all_items-clause-damaged : goal.returns-in_err-all_items-clause-damaged
-returns-in_err-all_items-clause-damaged g c clean sound is = c.in_err-all_items.ensures.damaged clean (items_fit (state g.S.Store c.args.conn.now).now.trees sound) (search rules)
+returns-in_err-all_items-clause-damaged g c clean sound is = c.in_err-all_items.ensures.damaged clean (rows_fit (state g.S.Store c.args.conn.now).now.trees c.args.bands.now sound) (search rules)
 
 pub returns-clause-value : goal.returns-clause-value
 returns-clause-value g c clean =

@@ -7,13 +7,13 @@ use Rattle.house_rows.specs.declared.item.Terms.{Terms}
 use Rattle.store_rows.specs.Rows.{questions_in}
 use Rattle.store_rows.proofs.StateLemmas.{ok_then}
 use Rattle.store_answers.specs.Joined.{waiting_in}
-use Rattle.store_answers.proofs.Sound.{items_fit, questions_fit}
+use Rattle.store_answers.proofs.Sound.{questions_fit, rows_fit}
 use Rattle.store_answers.proofs.Steps.{clean_before}
 use Rattle.store_answers.proofs.WaitingItems.{waiting_found}
 use Rattle.store_answers.proofs.waiting.waiting_for.Goals as goal
 
 pub returns-in_err-own-clause-damaged : goal.returns-in_err-own-clause-damaged
-returns-in_err-own-clause-damaged g c clean sound is = c.in_err-own.ensures.damaged clean (items_fit (state g.S.Store c.args.conn.now).now.trees sound) (search rules)
+returns-in_err-own-clause-damaged g c clean sound is = c.in_err-own.ensures.damaged clean (rows_fit (state g.S.Store c.args.conn.now).now.trees c.args.bands.now sound) (search rules)
 
 pub returns-clause-value : goal.returns-clause-value
 returns-clause-value g c clean =
@@ -34,4 +34,4 @@ returns-clause-damaged g c clean sound =
     let old = state g.S.Store c.args.conn.now in
     let mid = state g.S.Store c.terms_of_seller.new.conn in
     let before = clean_before mid (state g.S.Store c.waiting_on_each.new.conn) c.waiting_on_each.ensures.crash clean in
-    c.waiting_on_each.ensures.damaged clean (subst (λ (db : Database). AllByRecursion QuestionFits (questions_in db.trees)) (sym (c.in_ok-own.ensures.same before).0.now_is) (questions_fit old.now.trees sound))
+    c.waiting_on_each.ensures.damaged clean (subst (λ (db : Database). AllByRecursion QuestionFits (questions_in db.trees)) (sym (c.in_ok-own.ensures.same before).0.now_is) (questions_fit old.now.trees sound.sound))

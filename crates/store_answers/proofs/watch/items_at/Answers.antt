@@ -21,6 +21,7 @@ loop-number-preserved g c =
           found_more (item_found old.now.trees) c.args.numbers.now c.loop-number.number-index 0 c.loop-number.items.items c.add_item.new.items.items _ c.loop-number-test.true (held.found before)
           (subst (λ (db : Database). c.add_item.new.items.items ≡ c.loop-number.items.items ++ item_found db.trees (get_or c.args.numbers.now c.loop-number.number-index 0)) (held.same before).0.now_is (c.in-Ok.ensures.items clean)));
       fits = c.in-Ok.ensures.fits held.fits;
+      stands = c.in-Ok.ensures.stands held.stands;
     }
 
 pub returns-clause-small : goal.returns-clause-small

@@ -2,18 +2,18 @@ use Rattle.std.proofs.Common.{◌≡◌, ◌<◌, ◌^◌, ◌∙◌, ap, flat_m
 use Rattle.std.specs.List.{AllByRecursion}
 use Rattle.sqlite.specs.Effect.{Database}
 use Rattle.sqlite.specs.Held.{state}
-use Rattle.house_rows.specs.Fits.{ItemFits}
+use Rattle.house_rows.specs.Keeping.{ItemRowFits}
 use Rattle.house_rows.specs.Tables.{ItemRow}
 use Rattle.store_rows.specs.ItemRows.{items_in}
 use Rattle.store_rows.proofs.StateLemmas.{ok_then}
 use Rattle.store_answers.specs.Joined.{item_found}
-use Rattle.store_answers.proofs.Sound.{items_fit, watches_fit}
+use Rattle.store_answers.proofs.Sound.{rows_fit, watches_fit}
 use Rattle.store_answers.proofs.Steps.{clean_before}
 use Rattle.store_answers.proofs.WatchedItems.{watched_found}
 use Rattle.store_answers.proofs.watch.items_watched.Goals as goal
 
 pub returns-in_err-numbers-clause-damaged : goal.returns-in_err-numbers-clause-damaged
-returns-in_err-numbers-clause-damaged g c clean sound is = c.in_err-numbers.ensures.damaged clean (watches_fit (state g.S.Store c.args.conn.now).now.trees sound) (search rules)
+returns-in_err-numbers-clause-damaged g c clean sound is = c.in_err-numbers.ensures.damaged clean (watches_fit (state g.S.Store c.args.conn.now).now.trees sound.sound) (search rules)
 
 pub returns-clause-value : goal.returns-clause-value
 returns-clause-value g c clean =
@@ -35,4 +35,4 @@ returns-clause-damaged g c clean sound =
     let old = state g.S.Store c.args.conn.now in
     let mid = state g.S.Store c.watched_by.new.conn in
     let before = clean_before mid (state g.S.Store c.items_at.new.conn) c.items_at.ensures.crash clean in
-    c.items_at.ensures.damaged clean (subst (λ (db : Database). AllByRecursion (λ (row : ItemRow). ItemFits row.item) (items_in db.trees)) (sym (c.in_ok-numbers.ensures.same before).0.now_is) (items_fit old.now.trees sound))
+    c.items_at.ensures.damaged clean (subst (λ (db : Database). AllByRecursion (ItemRowFits c.args.bands.now) (items_in db.trees)) (sym (c.in_ok-numbers.ensures.same before).0.now_is) (rows_fit old.now.trees c.args.bands.now sound))

@@ -2,13 +2,13 @@ use Rattle.std.proofs.Common.{◌≡◌, ◌<◌, ◌^◌, ◌∙◌, [], ◌∷
 use Rattle.std.specs.List.{AllByRecursion}
 use Rattle.sqlite_value.specs.declared.value.Value.TheVariants.{Int}
 use Rattle.sqlite.specs.Held.{state}
-use Rattle.house_rows.specs.Fits.{TermsFit}
 use Rattle.proxy.specs.Bids.{is_leader}
 use Rattle.store_rows.proofs.Select.{equals}
 use Rattle.store_rows.specs.ItemRows.{terms_of}
 use Rattle.store_rows.proofs.StateLemmas.{ok_then}
+use Rattle.store_items.specs.Standing.{TermsHold}
 use Rattle.store_finds.proofs.TermMeaning.{terms_led_by_is, terms_led_by_text}
-use Rattle.store_finds.proofs.TermFinds.{leader_test, terms_fit, terms_found}
+use Rattle.store_finds.proofs.TermFinds.{leader_test, terms_found, terms_held}
 use Rattle.store_finds.proofs.item.terms_led_by.Goals as goal
 
 pub rows_shown-requires-clause-plain : goal.rows_shown-requires-clause-plain
@@ -20,7 +20,7 @@ returns-clause-terms g c clean =
     let items = c.in_ok-rows.rows.items in
     let same : c.deref.result.now ≡ items = search rules in
     let shown = rw c.params-to_sql.ensures at (c.in_ok-rows.ensures.rows clean) in
-    ok_then c.all_of.result c.all_of.ensures.value (λ _ e. e ∙ ap (map terms_of) same
+    ok_then c.terms_list.result c.terms_list.ensures.value (λ _ e. e ∙ ap (map terms_of) same
     ∙ terms_found terms_led_by_text (equals 13 ∷ []) terms_led_by_is (Int (pos c.args.member) ∷ []) (state g.S.Store c.args.conn.now) (state g.S.Store c.rows_shown.new.conn) items (c.rows_shown.ensures.house clean) shown (λ row. is_leader row.item.terms.leader c.args.member) (leader_test c.args.member low))
 
 pub returns-clause-damaged : goal.returns-clause-damaged
@@ -29,5 +29,5 @@ returns-clause-damaged g c clean fits =
     let items = c.in_ok-rows.rows.items in
     let same : c.deref.result.now ≡ items = search rules in
     let shown = rw c.params-to_sql.ensures at (c.in_ok-rows.ensures.rows clean) in
-    c.all_of.ensures.damaged (subst (AllByRecursion TermsFit) (sym (ap (map terms_of) same))
-    (terms_fit terms_led_by_text (equals 13 ∷ []) terms_led_by_is (Int (pos c.args.member) ∷ []) (state g.S.Store c.args.conn.now) (state g.S.Store c.rows_shown.new.conn) items (c.rows_shown.ensures.house clean) shown (λ row. is_leader row.item.terms.leader c.args.member) (leader_test c.args.member low) fits))
+    c.terms_list.ensures.damaged (subst (AllByRecursion (TermsHold c.args.bands.now)) (sym same)
+    (terms_held terms_led_by_text (equals 13 ∷ []) terms_led_by_is (Int (pos c.args.member) ∷ []) (state g.S.Store c.args.conn.now) (state g.S.Store c.rows_shown.new.conn) items (c.rows_shown.ensures.house clean) shown c.args.bands.now fits))

@@ -2,12 +2,12 @@ use Rattle.std.proofs.Common.{◌≡◌, ◌<◌, ◌^◌, ◌∙◌, ◌==◌, 
 use Rattle.std.specs.List.{AllByRecursion}
 use Rattle.sqlite_value.specs.declared.value.Value.TheVariants.{Int}
 use Rattle.sqlite.specs.Held.{state}
-use Rattle.house_rows.specs.Fits.{TermsFit}
 use Rattle.store_rows.proofs.Select.{equals}
 use Rattle.store_rows.specs.ItemRows.{terms_of}
 use Rattle.store_rows.proofs.StateLemmas.{ok_then}
+use Rattle.store_items.specs.Standing.{TermsHold}
 use Rattle.store_finds.proofs.TermMeaning.{terms_of_seller_is, terms_of_seller_text}
-use Rattle.store_finds.proofs.TermFinds.{seller_test, terms_fit, terms_found}
+use Rattle.store_finds.proofs.TermFinds.{seller_test, terms_found, terms_held}
 use Rattle.store_finds.proofs.item.terms_of_seller.Goals as goal
 
 pub rows_shown-requires-clause-plain : goal.rows_shown-requires-clause-plain
@@ -19,7 +19,7 @@ returns-clause-terms g c clean =
     let items = c.in_ok-rows.rows.items in
     let same : c.deref.result.now ≡ items = search rules in
     let shown = rw c.params-to_sql.ensures at (c.in_ok-rows.ensures.rows clean) in
-    ok_then c.all_of.result c.all_of.ensures.value (λ _ e. e ∙ ap (map terms_of) same
+    ok_then c.terms_list.result c.terms_list.ensures.value (λ _ e. e ∙ ap (map terms_of) same
     ∙ terms_found terms_of_seller_text (equals 2 ∷ []) terms_of_seller_is (Int (pos c.args.seller) ∷ []) (state g.S.Store c.args.conn.now) (state g.S.Store c.rows_shown.new.conn) items (c.rows_shown.ensures.house clean) shown (λ row. row.item.terms.seller == c.args.seller) (seller_test c.args.seller low))
 
 pub returns-clause-damaged : goal.returns-clause-damaged
@@ -28,5 +28,5 @@ returns-clause-damaged g c clean fits =
     let items = c.in_ok-rows.rows.items in
     let same : c.deref.result.now ≡ items = search rules in
     let shown = rw c.params-to_sql.ensures at (c.in_ok-rows.ensures.rows clean) in
-    c.all_of.ensures.damaged (subst (AllByRecursion TermsFit) (sym (ap (map terms_of) same))
-    (terms_fit terms_of_seller_text (equals 2 ∷ []) terms_of_seller_is (Int (pos c.args.seller) ∷ []) (state g.S.Store c.args.conn.now) (state g.S.Store c.rows_shown.new.conn) items (c.rows_shown.ensures.house clean) shown (λ row. row.item.terms.seller == c.args.seller) (seller_test c.args.seller low) fits))
+    c.terms_list.ensures.damaged (subst (AllByRecursion (TermsHold c.args.bands.now)) (sym same)
+    (terms_held terms_of_seller_text (equals 2 ∷ []) terms_of_seller_is (Int (pos c.args.seller) ∷ []) (state g.S.Store c.args.conn.now) (state g.S.Store c.rows_shown.new.conn) items (c.rows_shown.ensures.house clean) shown c.args.bands.now fits))

@@ -8,6 +8,8 @@ use Rattle.store_rows.proofs.ShownRows.{parts_fit}
 use Rattle.store_rows.proofs.StateLemmas.{ok_then}
 use Rattle.store_items.proofs.ItemMeaning.{all_items_is}
 use Rattle.store_items.proofs.ItemLemmas.{items_answer}
+use Rattle.store_items.specs.Standing.{ItemHolds}
+use Rattle.store_items.proofs.Holding.{items_hold}
 use Rattle.store_items.proofs.item_reads.all_items.Goals as goal
 
 pub rows_shown-requires-clause-plain : goal.rows_shown-requires-clause-plain
@@ -17,10 +19,10 @@ pub returns-clause-items : goal.returns-clause-items
 returns-clause-items g c clean =
     let same : c.deref.result.now ≡ c.in_ok-rows.rows.items = search rules in
     let found = items_answer (state g.S.Store c.args.conn.now) (state g.S.Store c.rows_shown.new.conn) c.in_ok-rows.rows.items (c.rows_shown.ensures.house clean) (c.in_ok-rows.ensures.rows clean) in
-    ok_then c.all_of.result c.all_of.ensures.value (λ _ e. e ∙ ap (map item_of) same ∙ found)
+    ok_then c.item_list.result c.item_list.ensures.value (λ _ e. e ∙ ap (map item_of) same ∙ found)
 
 pub returns-clause-damaged : goal.returns-clause-damaged
 returns-clause-damaged g c clean fits =
     let same : c.deref.result.now ≡ c.in_ok-rows.rows.items = search rules in
-    let found = items_answer (state g.S.Store c.args.conn.now) (state g.S.Store c.rows_shown.new.conn) c.in_ok-rows.rows.items (c.rows_shown.ensures.house clean) (c.in_ok-rows.ensures.rows clean) in
-    c.all_of.ensures.damaged (subst (AllByRecursion ItemFits) (sym (ap (map item_of) same ∙ found)) (parts_fit (λ (row : ItemRow). ItemFits row.item) ItemFits (λ (row : ItemRow). row.item) (λ row h. h) _ fits))
+    let hold = items_hold (state g.S.Store c.args.conn.now) (state g.S.Store c.rows_shown.new.conn) c.in_ok-rows.rows.items (c.rows_shown.ensures.house clean) c.args.bands.now fits (c.in_ok-rows.ensures.rows clean) in
+    c.item_list.ensures.damaged (subst (AllByRecursion (ItemHolds c.args.bands.now)) (sym same) hold)

@@ -7,6 +7,8 @@ use Rattle.store_rows.proofs.ShownRows.{part_fits}
 use Rattle.store_rows.proofs.StateLemmas.{ok_then}
 use Rattle.store_items.proofs.ItemMeaning.{item_at_is}
 use Rattle.store_items.proofs.ItemLemmas.{first_item}
+use Rattle.store_items.specs.Standing.{ItemHolds}
+use Rattle.store_items.proofs.Holding.{item_holds}
 use Rattle.store_items.proofs.item_reads.item_at.Goals as goal
 
 pub rows_shown-requires-clause-plain : goal.rows_shown-requires-clause-plain
@@ -18,12 +20,11 @@ returns-clause-found g c clean =
     let shown = rw c.params-to_sql.ensures at (c.in_ok-rows.ensures.rows clean) in
     let same : c.deref.result.now ≡ c.in_ok-rows.rows.items = search rules in
     let found = first_item (state g.S.Store c.args.conn.now) (state g.S.Store c.rows_shown.new.conn) c.in_ok-rows.rows.items (c.rows_shown.ensures.house clean) c.args.number low shown in
-    ok_then c.first_of.result c.first_of.ensures.value (λ _ e. e ∙ ap (λ l. option_map item_of (slice_get l 0)) same ∙ found)
+    ok_then c.first_item.result c.first_item.ensures.value (λ _ e. e ∙ ap (λ l. option_map item_of (slice_get l 0)) same ∙ found)
 
 pub returns-clause-damaged : goal.returns-clause-damaged
 returns-clause-damaged g c clean fits =
-    let low : c.args.number < 2 ^ 32 = omega (arith, c.ranges.number) in
     let shown = rw c.params-to_sql.ensures at (c.in_ok-rows.ensures.rows clean) in
     let same : c.deref.result.now ≡ c.in_ok-rows.rows.items = search rules in
-    let found = first_item (state g.S.Store c.args.conn.now) (state g.S.Store c.rows_shown.new.conn) c.in_ok-rows.rows.items (c.rows_shown.ensures.house clean) c.args.number low shown in
-    c.first_of.ensures.damaged (subst (λ o. IfSome o ItemFits) (sym (ap (λ l. option_map item_of (slice_get l 0)) same ∙ found)) (part_fits (λ (row : ItemRow). row.item) (λ (row : ItemRow). ItemFits row.item) ItemFits (λ row h. h) _ _ fits))
+    let holds = item_holds (state g.S.Store c.args.conn.now) (state g.S.Store c.rows_shown.new.conn) c.in_ok-rows.rows.items (c.rows_shown.ensures.house clean) c.args.bands.now fits c.args.number shown in
+    c.first_item.ensures.damaged (subst (λ l. IfSome (slice_get l 0) (ItemHolds c.args.bands.now)) (sym same) holds)

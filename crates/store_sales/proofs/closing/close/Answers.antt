@@ -1,5 +1,10 @@
-use Rattle.std.proofs.Common.{rules}
+use Rattle.std.proofs.Common.{arith, rules}
 use Rattle.store_sales.proofs.closing.close.Goals as goal
+
+pub returns-in_err-due-clause-damaged : goal.returns-in_err-due-clause-damaged
+returns-in_err-due-clause-damaged g c clean sound fits =
+    let none = c.in_err-due.ensures.damaged clean sound (c.requires.bands (omega (arith, c.find_due.ensures.crash.clean))) in
+    search (rules, none)
 
 pub returns-clause-crash : goal.returns-clause-crash
 returns-clause-crash g c = search rules depth 9

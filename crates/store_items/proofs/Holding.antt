@@ -1,0 +1,97 @@
+-- What a query shows of items whose rows fit holds items that stand.
+use Rattle.std.proofs.Common.{◌≡◌, ◌∙◌, ℕ, pos, Bool, true, false, ◌&&◌, ◌||◌, List, [], ◌∷◌, map, filter, slice_get, Option, Some, None, IfSome, refl, sym, ap, subst, arith, ◌⊎◌, inl, inr, true≢false}
+use Rattle.std.specs.Prelude.{is_none}
+use Rattle.std.specs.List.{AllByRecursion}
+use Rattle.std.proofs.lemmas.Bool.Decides.{nat_tests}
+use Rattle.sqlite_value.specs.declared.value.Value.TheVariants.{Null, Int}
+use Rattle.sqlite_value.specs.Order.{Row, column}
+use Rattle.sqlite_sql.specs.Program.{overlay}
+use Rattle.sqlite_sql.specs.Term.{Term}
+use Rattle.sqlite_keyed.proofs.ListLemmas.{all-filter, all_map, all_unmap, all_weaker}
+use Rattle.sqlite.specs.State.{State, Shown}
+use Rattle.sqlite.proofs.Callers.{reads_as}
+use Rattle.proxy.specs.Rows.{is_standing}
+use Rattle.house_rows.specs.declared.item.Terms.{Terms}
+use Rattle.house_rows.specs.Keeping.{IsPurchase, ItemRowFits}
+use Rattle.house_rows.specs.Verdict.{was_sold}
+use Rattle.store_rows.specs.House.{IsHouse}
+use Rattle.store_rows.specs.ItemRows.{item_row_in, items_in, kept_from}
+use Rattle.store_rows.specs.Plain.{passes, shown_by}
+use Rattle.store_rows.specs.Rows.{maybe_number_in, number_in}
+use Rattle.store_rows.specs.Schema.{house_schema}
+use Rattle.store_rows.proofs.Select.{by_rowid, equals, in_order, listed}
+use Rattle.store_items.specs.Standing.{AreSealed, ItemHolds, TermsHold, is_bought, is_price, stands}
+use Rattle.store_items.proofs.ItemLemmas.{kept_start}
+use Rattle.store_items.proofs.ItemMeaning.{all_items_is, all_items_text, item_at_is, item_at_text, item_shown, terms_at_is, terms_at_text, terms_shown}
+use Rattle.store_items.proofs.StandingLemmas.{are_standing, counts, first}
+
+or_right : (a b : Bool) → b ≡ true → (a || b) ≡ true
+or_right true b e = refl
+or_right false b e = e
+
+same_price : (price : ℕ) → is_price (Some price) price ≡ true
+same_price price = grind (arith, nat_tests)
+
+bought : (bands : List (ℕ × ℕ)) (t : Terms) → IsPurchase t → stands bands t None None ≡ true
+bought bands t is = let price : is_price t.buy_now t.price ≡ true = rw is.price (same_price t.price) in rw (is.sold, is.no_bid, price) refl
+
+-- what is told of a standing or of a purchase stands
+told : (bands : List (ℕ × ℕ)) (t : Terms) (start : ℕ) (led top next : Option ℕ) → start ≡ t.start → led ≡ t.leader → is_standing bands (kept_from start t.price led top next t.count) ≡ true
+    → (t.leader ≡ (kept_from start t.price led top next t.count).leader) ⊎ IsPurchase t → stands bands t top next ≡ true
+told bands t start None top next begins same shape by = or_right (is_none top && is_none next && is_bought t) _ (rw (← begins, ← same) shape)
+told bands t start (Some l) (Some u) next begins same shape by = or_right false _ (rw (← begins, ← same) shape)
+told bands t start (Some l) None None begins same shape (inl by) = absurd (let e : Some l ≡ None = same ∙ by in cc)
+told bands t start (Some l) None None begins same shape (inr by) = bought bands t by
+told bands t start (Some l) None (Some s) begins same shape by = absurd (true≢false (sym shape))
+
+row_sealed : (bands : List (ℕ × ℕ)) (r : Row) → ItemRowFits bands (item_row_in r) → stands bands (item_row_in r).item.terms (maybe_number_in (column r 14)) (maybe_number_in (column r 15)) ≡ true
+row_sealed bands r h =
+    let t : Terms = (item_row_in r).item.terms in
+    let start = number_in (column r 7) in
+    let led = maybe_number_in (column r 13) in
+    let top = maybe_number_in (column r 14) in
+    let next = maybe_number_in (column r 15) in
+    let begins : start ≡ t.start = sym (kept_start start t.price led top next t.count) ∙ ap (λ k. k.start) h.stands in
+    let by : (t.leader ≡ (kept_from start t.price led top next t.count).leader) ⊎ IsPurchase t = elim h.told [
+      | inl bids ↦ inl bids.leader
+      | inr buy ↦ inr (record { sold = buy.sold; no_bid = sym (counts start t.price led top next t.count) ∙ buy.no_bid; price = buy.price })
+    ] in
+    told bands t start led top next begins refl (are_standing bands r h).stands by
+
+pub terms_row : (bands : List (ℕ × ℕ)) (params r : Row) → ItemRowFits bands (item_row_in r) → TermsHold bands (shown_by terms_shown params r)
+terms_row bands params r h =
+    let are = are_standing bands r h in
+    (h.item.terms, record { wide = omega arith; top = are.top; second = are.second; stands = row_sealed bands r h })
+
+pub item_row : (bands : List (ℕ × ℕ)) (params r : Row) → ItemRowFits bands (item_row_in r) → ItemHolds bands (shown_by item_shown params r)
+item_row bands params r h =
+    let are = are_standing bands r h in
+    (h.item, record { wide = omega arith; top = are.top; second = are.second; stands = row_sealed bands r h })
+
+-- each row that a query shows, of a table whose rows fit
+pub rows_hold : (bands : List (ℕ × ℕ)) (Hold : Row → Type 0) (shown test : List Term) (params : Row) (rows answer : List Row) → ((r : Row) → ItemRowFits bands (item_row_in r) → Hold (shown_by shown params r))
+    → answer ≡ map (shown_by shown params) (filter (passes test params) rows) → AllByRecursion (ItemRowFits bands) (map item_row_in rows) → AllByRecursion Hold answer
+rows_hold bands Hold shown test params rows answer each order fit =
+    let held = all_weaker _ (λ r. Hold (shown_by shown params r)) each rows (all_unmap (ItemRowFits bands) item_row_in rows fit) in
+    subst (AllByRecursion Hold) (sym order) (all_map Hold (shown_by shown params) (filter (passes test params) rows) (all-filter (λ r. Hold (shown_by shown params r)) (passes test params) rows held))
+
+module _ (old new : State) (answer : List Row) (house : IsHouse old.now) (bands : List (ℕ × ℕ)) (fit : AllByRecursion (ItemRowFits bands) (items_in old.now.trees)) where
+  pub terms_hold : (n : ℕ) → Shown terms_at_text (Int (pos n) ∷ []) old new answer → IfSome (slice_get answer 0) (TermsHold bands)
+  terms_hold n h =
+      let params = Int (pos n) ∷ [] in
+      let read = reads_as terms_at_text params old new house_schema house.schema _ terms_at_is.0 terms_at_is.2 terms_at_is.1 answer h in
+      let order = in_order (equals 0 ∷ []) terms_shown params (old.now.trees 6) answer house.shaped.1.1.1.1.0.0 (listed 6 (equals 0 ∷ []) terms_shown by_rowid (overlay old.now.trees []) params answer (read.answer Null)) in
+      first (TermsHold bands) answer (rows_hold bands (TermsHold bands) terms_shown (equals 0 ∷ []) params (old.now.trees 6) answer (terms_row bands params) order fit)
+
+  pub item_holds : (n : ℕ) → Shown item_at_text (Int (pos n) ∷ []) old new answer → IfSome (slice_get answer 0) (ItemHolds bands)
+  item_holds n h =
+      let params = Int (pos n) ∷ [] in
+      let read = reads_as item_at_text params old new house_schema house.schema _ item_at_is.0 item_at_is.2 item_at_is.1 answer h in
+      let order = in_order (equals 0 ∷ []) item_shown params (old.now.trees 6) answer house.shaped.1.1.1.1.0.0 (listed 6 (equals 0 ∷ []) item_shown by_rowid (overlay old.now.trees []) params answer (read.answer Null)) in
+      first (ItemHolds bands) answer (rows_hold bands (ItemHolds bands) item_shown (equals 0 ∷ []) params (old.now.trees 6) answer (item_row bands params) order fit)
+
+  pub items_hold : Shown all_items_text [] old new answer → AllByRecursion (ItemHolds bands) answer
+  items_hold h =
+      let read = reads_as all_items_text [] old new house_schema house.schema _ all_items_is.0 all_items_is.2 all_items_is.1 answer h in
+      let order = in_order [] item_shown [] (old.now.trees 6) answer house.shaped.1.1.1.1.0.0 (listed 6 [] item_shown by_rowid (overlay old.now.trees []) [] answer (read.answer Null)) in
+      rows_hold bands (ItemHolds bands) item_shown [] [] (old.now.trees 6) answer (item_row bands []) order fit

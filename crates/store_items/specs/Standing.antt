@@ -1,0 +1,36 @@
+-- Items that stand, as a reader of their rows tests it.
+use Rattle.std.specs.Prelude.{◌≡◌, ◌≤◌, ◌<◌, ◌+◌, ℕ, Bool, true, false, ◌==◌, ◌&&◌, ◌||◌, List, length, Option, Some, None, is_none, IfSome}
+use Rattle.sqlite_value.specs.Order.{Row, column}
+use Rattle.proxy.specs.Rows.{is_shape}
+use Rattle.house_rows.specs.declared.item.Terms.{Terms}
+use Rattle.house_rows.specs.Fits.{ItemFits, TermsFit}
+use Rattle.house_rows.specs.Limits.{most_cents}
+use Rattle.house_rows.specs.Verdict.{was_sold}
+use Rattle.store_rows.specs.Rows.{maybe_number_in}
+use Rattle.store_rows.specs.ItemRows.{item_of, terms_of}
+
+abbrev pub is_price : Option ℕ → ℕ → Bool
+is_price None price = false
+is_price (Some amount) price = amount == price
+
+-- nobody has bid, and the item was sold at its buy-now price
+abbrev pub is_bought : Terms → Bool
+is_bought t = was_sold t.state && ((t.count == 0) && is_price t.buy_now t.price)
+
+-- by what is sealed of their bids, the terms stand
+abbrev pub stands : List (ℕ × ℕ) → Terms → Option ℕ → Option ℕ → Bool
+stands bands t top second = (is_none top && is_none second && is_bought t) || is_shape bands t.start t.price t.count t.leader top second
+
+-- the columns from one on hold what is sealed, and the terms stand by it
+pub record AreSealed (bands : List (ℕ × ℕ)) (at : ℕ) (r : Row) : Type 0 where
+  pub wide : at + 1 < length r
+  pub top : IfSome (maybe_number_in (column r at)) (λ n. n ≤ most_cents)
+  pub second : IfSome (maybe_number_in (column r (at + 1))) (λ n. n ≤ most_cents)
+  pub stands : stands bands (terms_of r) (maybe_number_in (column r at)) (maybe_number_in (column r (at + 1))) ≡ true
+
+-- what a query shows of an item, its maxima behind the terms, or behind the texts
+abbrev pub TermsHold : List (ℕ × ℕ) → Row → Type 0
+TermsHold bands r = TermsFit (terms_of r) × AreSealed bands 11 r
+
+abbrev pub ItemHolds : List (ℕ × ℕ) → Row → Type 0
+ItemHolds bands r = ItemFits (item_of r) × AreSealed bands 14 r
