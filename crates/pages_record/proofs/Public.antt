@@ -1,8 +1,7 @@
 -- The record by the tables of a history is that of its public view.
-use Rattle.std.proofs.Common.{◌≡◌, List, [], ◌∷◌, map, refl, ◌∙◌, ap, sym}
+use Rattle.std.proofs.Common.{◌≡◌, [], ◌∷◌, ◌∙◌, ap, sym}
 use Rattle.std.specs.Prelude.{codes}
 use Rattle.serde_json.specs.Data.{Data, array, string}
-use Rattle.serde_json.specs.View.{items_of}
 use Rattle.house_rows.specs.declared.item.Item.{Item}
 use Rattle.house_rows.specs.declared.settings.Settings.{Settings}
 use Rattle.house_rows.specs.Found.{all_items}
@@ -19,13 +18,16 @@ use Rattle.pages_record.proofs.Mapped.{trees_mapped}
 use Rattle.pages_record.specs.Record.{back_by, front_by, middle_by, record_by, record_tree}
 use Rattle.house_rows.proofs.ItemRows.{items_are}
 
-items_same : (settings : Settings) (h : History) → array_of (λ (it : Item). item_tree (shown settings it)) (all_items (tables_of settings h)) ≡ array_of item_tree (items_shown settings h)
+items_same : (settings : Settings) (h : History)
+    → array_of (λ (it : Item). item_tree (shown settings it)) (all_items (tables_of settings h))
+    ≡ array_of item_tree (items_shown settings h)
 unfolding items_shown
 items_same settings h =
     ap (array_of (λ (it : Item). item_tree (shown settings it))) (items_are settings h)
     ∙ ap array (sym (trees_mapped item_tree (shown settings) (items settings h)))
 
-pub record_same : (settings : Settings) (h : History) → record_by (tables_of settings h) ≡ record_tree (public_view settings h)
+pub record_same : (settings : Settings) (h : History)
+    → record_by (tables_of settings h) ≡ record_tree (public_view settings h)
 unfolding record_by front_by middle_by back_by record_tree tables_of published
 record_same settings h = ap (λ (its : Data). object_of (
     (codes "bands", array_of band_tree settings.bands)

@@ -1,12 +1,16 @@
-//! The public record of the house: what everybody may see, as one text.
+//! The public record of the house: what everybody may see, as one text and as one tree.
 //!
 //! Promised: for every history whose tables a keep has, what is appended is the text of the public
-//! view's tree, whole or not at all; the tables stay. Rows are asked for list by list, and no more
-//! than one list is held beside the text. Read `specs/Record.antt` first, and then `record`.
+//! view's tree, whole or not at all, and what is made is that tree; the tables stay. Rows are asked
+//! for list by list, and no more than one list is held beside the text or the tree. Read
+//! `specs/Record.antt` first, and then `writing` and `growing`.
 #![tactic(auto)]
 
+mod growing;
 mod laws;
-mod record;
+mod writing;
 
+pub use growing::record;
 pub use laws::{the_lists_tell_the_public_view, the_record_is_of_the_public_view};
-pub use record::append_record;
+pub use pages_text::PageFault;
+pub use writing::append_record;

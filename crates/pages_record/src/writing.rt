@@ -19,7 +19,8 @@ fn put_bands<K: Keep>(keep: &mut K, w: &mut Writer) -> Result<(), KeepFault>
     ensures tokens { K.is_honest keep.new → OnOk result
         (w.new.tokens ≡ w.old.tokens ++ members_tokens (bands_by (K.content keep.old))) }
     ensures before { w.new.before ≡ w.old.before }
-    ensures faults { Faults result (K.is_honest keep.new) (K.is_failed keep.new) (K.content keep.old) }
+    ensures faults { Faults result (K.is_honest keep.new) (K.is_failed keep.new)
+        (K.content keep.old) }
     ensures read { IsRead K.content K.is_failed K.is_honest K.may_leave keep.old keep.new }
 {
     put_member_list(w, "bands", &AsBands, keep.settings()?.bands.rows())?;
@@ -30,7 +31,8 @@ fn put_categories<K: Keep>(keep: &mut K, w: &mut Writer) -> Result<(), KeepFault
     ensures tokens { K.is_honest keep.new → OnOk result
         (w.new.tokens ≡ w.old.tokens ++ members_tokens (categories_by (K.content keep.old))) }
     ensures before { w.new.before ≡ w.old.before }
-    ensures faults { Faults result (K.is_honest keep.new) (K.is_failed keep.new) (K.content keep.old) }
+    ensures faults { Faults result (K.is_honest keep.new) (K.is_failed keep.new)
+        (K.content keep.old) }
     ensures read { IsRead K.content K.is_failed K.is_honest K.may_leave keep.old keep.new }
 {
     let categories = keep.categories()?;
@@ -42,7 +44,8 @@ fn put_clock<K: Keep>(keep: &mut K, w: &mut Writer) -> Result<(), KeepFault>
     ensures tokens { K.is_honest keep.new → OnOk result
         (w.new.tokens ≡ w.old.tokens ++ members_tokens (clock_by (K.content keep.old))) }
     ensures before { w.new.before ≡ w.old.before }
-    ensures faults { Faults result (K.is_honest keep.new) (K.is_failed keep.new) (K.content keep.old) }
+    ensures faults { Faults result (K.is_honest keep.new) (K.is_failed keep.new)
+        (K.content keep.old) }
     ensures read { IsRead K.content K.is_failed K.is_honest K.may_leave keep.old keep.new }
 {
     let clock = keep.clock()?;
@@ -55,7 +58,8 @@ fn put_front<K: Keep>(keep: &mut K, w: &mut Writer) -> Result<(), KeepFault>
     ensures tokens { K.is_honest keep.new → OnOk result
         (w.new.tokens ≡ w.old.tokens ++ members_tokens (front_by (K.content keep.old))) }
     ensures before { w.new.before ≡ w.old.before }
-    ensures faults { Faults result (K.is_honest keep.new) (K.is_failed keep.new) (K.content keep.old) }
+    ensures faults { Faults result (K.is_honest keep.new) (K.is_failed keep.new)
+        (K.content keep.old) }
     ensures read { IsRead K.content K.is_failed K.is_honest K.may_leave keep.old keep.new }
 {
     put_bands(keep, w)?;
@@ -68,7 +72,8 @@ fn put_feedback<K: Keep>(keep: &mut K, w: &mut Writer) -> Result<(), KeepFault>
     ensures tokens { K.is_honest keep.new → OnOk result
         (w.new.tokens ≡ w.old.tokens ++ members_tokens (feedback_by (K.content keep.old))) }
     ensures before { w.new.before ≡ w.old.before }
-    ensures faults { Faults result (K.is_honest keep.new) (K.is_failed keep.new) (K.content keep.old) }
+    ensures faults { Faults result (K.is_honest keep.new) (K.is_failed keep.new)
+        (K.content keep.old) }
     ensures read { IsRead K.content K.is_failed K.is_honest K.may_leave keep.old keep.new }
 {
     let feedback = keep.all_feedback()?;
@@ -80,7 +85,8 @@ fn put_items<K: Keep>(keep: &mut K, w: &mut Writer) -> Result<(), KeepFault>
     ensures tokens { K.is_honest keep.new → OnOk result
         (w.new.tokens ≡ w.old.tokens ++ members_tokens (items_by (K.content keep.old))) }
     ensures before { w.new.before ≡ w.old.before }
-    ensures faults { Faults result (K.is_honest keep.new) (K.is_failed keep.new) (K.content keep.old) }
+    ensures faults { Faults result (K.is_honest keep.new) (K.is_failed keep.new)
+        (K.content keep.old) }
     ensures read { IsRead K.content K.is_failed K.is_honest K.may_leave keep.old keep.new }
 {
     let items = keep.items()?;
@@ -95,7 +101,8 @@ fn put_all_members<K: Keep>(keep: &mut K, w: &mut Writer) -> Result<(), KeepFaul
     ensures tokens { K.is_honest keep.new → OnOk result
         (w.new.tokens ≡ w.old.tokens ++ members_tokens (members_by (K.content keep.old))) }
     ensures before { w.new.before ≡ w.old.before }
-    ensures faults { Faults result (K.is_honest keep.new) (K.is_failed keep.new) (K.content keep.old) }
+    ensures faults { Faults result (K.is_honest keep.new) (K.is_failed keep.new)
+        (K.content keep.old) }
     ensures read { IsRead K.content K.is_failed K.is_honest K.may_leave keep.old keep.new }
 {
     let members = keep.members()?;
@@ -107,7 +114,8 @@ fn put_questions<K: Keep>(keep: &mut K, w: &mut Writer) -> Result<(), KeepFault>
     ensures tokens { K.is_honest keep.new → OnOk result
         (w.new.tokens ≡ w.old.tokens ++ members_tokens (questions_by (K.content keep.old))) }
     ensures before { w.new.before ≡ w.old.before }
-    ensures faults { Faults result (K.is_honest keep.new) (K.is_failed keep.new) (K.content keep.old) }
+    ensures faults { Faults result (K.is_honest keep.new) (K.is_failed keep.new)
+        (K.content keep.old) }
     ensures read { IsRead K.content K.is_failed K.is_honest K.may_leave keep.old keep.new }
 {
     let questions = keep.all_published()?;
@@ -134,7 +142,8 @@ fn put_settings<K: Keep>(keep: &mut K, w: &mut Writer) -> Result<(), KeepFault>
     ensures tokens { K.is_honest keep.new → OnOk result
         (w.new.tokens ≡ w.old.tokens ++ members_tokens (settings_by (K.content keep.old))) }
     ensures before { w.new.before ≡ w.old.before }
-    ensures faults { Faults result (K.is_honest keep.new) (K.is_failed keep.new) (K.content keep.old) }
+    ensures faults { Faults result (K.is_honest keep.new) (K.is_failed keep.new)
+        (K.content keep.old) }
     ensures read { IsRead K.content K.is_failed K.is_honest K.may_leave keep.old keep.new }
 {
     put_settings_of(w, keep.settings()?)?;
@@ -146,7 +155,8 @@ fn put_middle<K: Keep>(keep: &mut K, w: &mut Writer) -> Result<(), KeepFault>
     ensures tokens { K.is_honest keep.new → OnOk result
         (w.new.tokens ≡ w.old.tokens ++ members_tokens (middle_by (K.content keep.old))) }
     ensures before { w.new.before ≡ w.old.before }
-    ensures faults { Faults result (K.is_honest keep.new) (K.is_failed keep.new) (K.content keep.old) }
+    ensures faults { Faults result (K.is_honest keep.new) (K.is_failed keep.new)
+        (K.content keep.old) }
     ensures read { IsRead K.content K.is_failed K.is_honest K.may_leave keep.old keep.new }
 {
     put_feedback(keep, w)?;
@@ -160,7 +170,8 @@ fn put_back<K: Keep>(keep: &mut K, w: &mut Writer) -> Result<(), KeepFault>
     ensures tokens { K.is_honest keep.new → OnOk result
         (w.new.tokens ≡ w.old.tokens ++ members_tokens (back_by (K.content keep.old))) }
     ensures before { w.new.before ≡ w.old.before }
-    ensures faults { Faults result (K.is_honest keep.new) (K.is_failed keep.new) (K.content keep.old) }
+    ensures faults { Faults result (K.is_honest keep.new) (K.is_failed keep.new)
+        (K.content keep.old) }
     ensures read { IsRead K.content K.is_failed K.is_honest K.may_leave keep.old keep.new }
 {
     put_questions(keep, w)?;
@@ -173,7 +184,8 @@ fn put_record<K: Keep>(keep: &mut K, w: &mut Writer) -> Result<(), KeepFault>
     ensures tokens { K.is_honest keep.new → OnOk result
         (w.new.tokens ≡ w.old.tokens ++ tokens_of (record_by (K.content keep.old))) }
     ensures before { w.new.before ≡ w.old.before }
-    ensures faults { Faults result (K.is_honest keep.new) (K.is_failed keep.new) (K.content keep.old) }
+    ensures faults { Faults result (K.is_honest keep.new) (K.is_failed keep.new)
+        (K.content keep.old) }
     ensures read { IsRead K.content K.is_failed K.is_honest K.may_leave keep.old keep.new }
 {
     // Asked first, so that a keep that has failed answers so.
@@ -197,7 +209,8 @@ pub fn append_record<K: Keep>(
         → K.content keep.old ≡ tables_of settings h
         → OnOk result (out.new.items ≡ out.old.items ++ record_text settings h) }
     ensures err { OnErr result (out.new.items ≡ out.old.items) }
-    ensures faults { Faults result (K.is_honest keep.new) (K.is_failed keep.new) (K.content keep.old) }
+    ensures faults { Faults result (K.is_honest keep.new) (K.is_failed keep.new)
+        (K.content keep.old) }
     ensures read { IsRead K.content K.is_failed K.is_honest K.may_leave keep.old keep.new }
 {
     let before = out.len();
