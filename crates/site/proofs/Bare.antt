@@ -18,7 +18,8 @@ use Rattle.house_rows.specs.Watches.{watches, with_watch}
 use Rattle.house_rows.proofs.Passed.{common_pass}
 
 -- a house without members accepts no member's command
-no_member : (settings : Settings) (h : History) (moment caller : ℕ) (command : Command) → verdict settings h moment caller command ≡ None
+no_member : (settings : Settings) (h : History) (moment caller : ℕ) (command : Command)
+    → verdict settings h moment caller command ≡ None
     → members h ≡ [] → is_house_command command ≡ false → ⊥
 no_member settings h moment caller command accepted none other =
     let common = common_pass settings h moment caller command accepted in
@@ -38,19 +39,32 @@ record AddsNothing (h : History) (caller : ℕ) (command : Command) : Type 0 whe
   asked : with_question (asked h) caller command ≡ asked h
   feedback : with_feedback h (feedback h) caller command ≡ feedback h
 
-adds_nothing : (settings : Settings) (h : History) (moment caller : ℕ) (command : Command) → verdict settings h moment caller command ≡ None
-    → members h ≡ [] → member_in (length (members h) + 1) command ≡ [] → AddsNothing h caller command
-adds_nothing settings h moment caller (Register name) accepted none quiet = absurd (not_empty _ _ quiet)
-adds_nothing settings h moment caller (AddCategory name) accepted none quiet = record { listings = λ n. refl; bids = refl; watches = refl; asked = refl; feedback = refl }
-adds_nothing settings h moment caller (Listed category lot title text start buy_now end) accepted none quiet =
-    absurd (no_member settings h moment caller (Listed category lot title text start buy_now end) accepted none refl)
-adds_nothing settings h moment caller (Bid i maximum) accepted none quiet = absurd (no_member settings h moment caller (Bid i maximum) accepted none refl)
-adds_nothing settings h moment caller (Buy i) accepted none quiet = absurd (no_member settings h moment caller (Buy i) accepted none refl)
-adds_nothing settings h moment caller Close accepted none quiet = record { listings = λ n. refl; bids = refl; watches = refl; asked = refl; feedback = refl }
-adds_nothing settings h moment caller (Settle i) accepted none quiet = record { listings = λ n. refl; bids = refl; watches = refl; asked = refl; feedback = refl }
-adds_nothing settings h moment caller (Watch i) accepted none quiet = absurd (no_member settings h moment caller (Watch i) accepted none refl)
-adds_nothing settings h moment caller (Unwatch i) accepted none quiet = absurd (no_member settings h moment caller (Unwatch i) accepted none refl)
-adds_nothing settings h moment caller (Ask i text) accepted none quiet = absurd (no_member settings h moment caller (Ask i text) accepted none refl)
+adds_nothing : (settings : Settings) (h : History) (moment caller : ℕ) (command : Command)
+    → verdict settings h moment caller command ≡ None
+    → members h ≡ [] → member_in (length (members h) + 1) command ≡ []
+    → AddsNothing h caller command
+adds_nothing settings h moment caller (Register name) accepted none quiet =
+    absurd (not_empty _ _ quiet)
+adds_nothing settings h moment caller (AddCategory name) accepted none quiet =
+    record { listings = λ n. refl; bids = refl; watches = refl; asked = refl; feedback = refl }
+adds_nothing settings h moment caller (Listed category lot title text start buy_now end) accepted
+    none quiet =
+    absurd (no_member settings h moment caller (Listed category lot title text start buy_now end)
+    accepted none refl)
+adds_nothing settings h moment caller (Bid i maximum) accepted none quiet =
+    absurd (no_member settings h moment caller (Bid i maximum) accepted none refl)
+adds_nothing settings h moment caller (Buy i) accepted none quiet =
+    absurd (no_member settings h moment caller (Buy i) accepted none refl)
+adds_nothing settings h moment caller Close accepted none quiet =
+    record { listings = λ n. refl; bids = refl; watches = refl; asked = refl; feedback = refl }
+adds_nothing settings h moment caller (Settle i) accepted none quiet =
+    record { listings = λ n. refl; bids = refl; watches = refl; asked = refl; feedback = refl }
+adds_nothing settings h moment caller (Watch i) accepted none quiet =
+    absurd (no_member settings h moment caller (Watch i) accepted none refl)
+adds_nothing settings h moment caller (Unwatch i) accepted none quiet =
+    absurd (no_member settings h moment caller (Unwatch i) accepted none refl)
+adds_nothing settings h moment caller (Ask i text) accepted none quiet =
+    absurd (no_member settings h moment caller (Ask i text) accepted none refl)
 adds_nothing settings h moment caller (Answer i asker number text) accepted none quiet =
     absurd (no_member settings h moment caller (Answer i asker number text) accepted none refl)
 adds_nothing settings h moment caller (Feedback i rating text) accepted none quiet =
@@ -72,13 +86,16 @@ both_empty : {A : Type 0} (xs ys : List A) → xs ≡ [] → ys ≡ [] → xs ++
 both_empty xs ys e d = rw (e, d) refl
 
 is_bare : (settings : Settings) (h : History) → IsHistory settings h → members h ≡ [] → IsBare h
-is_bare settings [] is none = record { listings = refl; bids = refl; watches = refl; asked = refl; feedback = refl }
+is_bare settings [] is none =
+    record { listings = refl; bids = refl; watches = refl; asked = refl; feedback = refl }
 is_bare settings (e ∷ h) (accepted, is) none =
-    let (before, quiet) = empty_parts (members h) (member_in (length (members h) + 1) e.command) none in
+    let (before, quiet) =
+    empty_parts (members h) (member_in (length (members h) + 1) e.command) none in
     let bare = is_bare settings h is before in
     let adds = adds_nothing settings h e.moment e.caller e.command accepted before quiet in
     record {
-      listings = both_empty (listings h) (listing_in (length (listings h) + 1) e.caller e.command) bare.listings (adds.listings (length (listings h) + 1));
+      listings = both_empty (listings h) (listing_in (length (listings h) + 1) e.caller e.command)
+          bare.listings (adds.listings (length (listings h) + 1));
       bids = adds.bids ∙ bare.bids;
       watches = adds.watches ∙ bare.watches;
       asked = adds.asked ∙ bare.asked;
@@ -89,38 +106,55 @@ no_rows : {A : Type 0} (xs : List A) → length xs ≡ 0 → xs ≡ []
 no_rows [] e = refl
 no_rows (x ∷ xs) e = absurd (let wrong : suc (length xs) ≡ 0 = e in omega arith)
 
-bare_tables : (settings : Settings) (h : History) → IsBare h → members h ≡ [] → categories h ≡ [] → clock h ≡ 0
+bare_tables : (settings : Settings) (h : History) → IsBare h → members h ≡ [] → categories h ≡ []
+    → clock h ≡ 0
     → tables_of settings h ≡ tables_of settings []
 unfolding tables_of questions
 bare_tables settings h bare members categories clock =
-    rw (clock, members, categories, bare.listings, bare.bids, bare.watches, bare.asked, bare.feedback) refl
+    rw (
+      clock,
+      members,
+      categories,
+      bare.listings,
+      bare.bids,
+      bare.watches,
+      bare.asked,
+      bare.feedback,
+    ) refl
 
-bare_if : (settings : Settings) (h : History) → IsHistory settings h → length (tables_of settings h).members ≡ 0 → length (tables_of settings h).categories ≡ 0
+bare_if : (settings : Settings) (h : History) → IsHistory settings h
+    → length (tables_of settings h).members ≡ 0 → length (tables_of settings h).categories ≡ 0
     → (tables_of settings h).clock ≡ 0 → tables_of settings h ≡ tables_of settings []
 unfolding tables_of
 bare_if settings h is no_members no_categories clock =
     let none = no_rows (members h) no_members in
-    bare_tables settings h (is_bare settings h is none) none (no_rows (categories h) no_categories) clock
+    bare_tables settings h (is_bare settings h is none) none (no_rows (categories h) no_categories)
+    clock
 
 -- what holds of tables where counts and clock are 0
 abbrev pub AreBlank : Tables → Type 0
-AreBlank t = (length t.members ≡ 0) × (length t.categories ≡ 0) × (length t.items ≡ 0) × (t.clock ≡ 0)
+AreBlank t = (length t.members ≡ 0) × (length t.categories ≡ 0) × (length t.items ≡ 0)
+    × (t.clock ≡ 0)
 
 empty_blank : (settings : Settings) → AreBlank (tables_of settings [])
 unfolding tables_of
 empty_blank settings = (refl, refl, refl, refl)
 
-pub blank_told : (settings : Settings) (h : History) (t : Tables) (blank : Bool) → IsHistory settings h → t ≡ tables_of settings h
+pub blank_told : (settings : Settings) (h : History) (t : Tables) (blank : Bool)
+    → IsHistory settings h → t ≡ tables_of settings h
     → (blank ≡ true) ↔ AreBlank t → (blank ≡ true) ↔ (t ≡ tables_of settings [])
 blank_told settings h t blank is e told = (
-  λ yes. let (no_members, no_categories, no_items, clock) = rw e at (told.0 yes) in rw e (bare_if settings h is no_members no_categories clock),
+  λ yes. let (no_members, no_categories, no_items, clock) = rw e at (told.0 yes) in
+      rw e (bare_if settings h is no_members no_categories clock),
   λ same. told.1 (rw same (empty_blank settings)),
 )
 
 -- counts and clock tell it, whichever call they are read by
-pub new_told : (settings : Settings) (h : History) (t mid : Tables) (counts : Counts) (moment : ℕ) (blank : Bool) → IsHistory settings h → t ≡ tables_of settings h
+pub new_told : (settings : Settings) (h : History) (t mid : Tables) (counts : Counts) (moment : ℕ)
+    (blank : Bool) → IsHistory settings h → t ≡ tables_of settings h
     → counts ≡ counts_of t → mid ≡ t → moment ≡ mid.clock
-    → (blank ≡ true) ↔ ((counts.members ≡ 0) × (counts.categories ≡ 0) × (counts.items ≡ 0) × (moment ≡ 0))
+    → (blank ≡ true) ↔ ((counts.members ≡ 0) × (counts.categories ≡ 0) × (counts.items ≡ 0)
+    × (moment ≡ 0))
     → (blank ≡ true) ↔ (t ≡ tables_of settings [])
 new_told settings h t mid counts moment blank is e counted same now told =
     let told' : (blank ≡ true) ↔ AreBlank t = rw (now, same, counted) at told in

@@ -33,21 +33,32 @@ pub memory_goes : (closes : Bool) → is_failure (fault_text Memory closes) ≡ 
 unfolding fault_text digits_in answer_bytes head_start status_line
 memory_goes closes = refl
 
--- a message that asks for nothing leaves the keep; another was asked of one that hasn't failed, where no failure was told
-idle_or_going : {K : Type 0} (is_failed : K → Bool) (old new : K) (asks : Bool) → (asks ≡ false → new ≡ old)
+-- a message that asks for nothing leaves the keep; another was asked of one that hasn't failed,
+-- where no failure was told
+idle_or_going : {K : Type 0} (is_failed : K → Bool) (old new : K) (asks : Bool)
+    → (asks ≡ false → new ≡ old)
     → ((is_failed new ≡ true) × (asks ≡ true) → ⊥) → (new ≡ old) ⊎ (is_failed new ≡ false)
 idle_or_going is_failed old new asks asleep none = elim (by_test asks) [
   | inr idle ↦ inl (asleep idle)
-  | inl is ↦ elim (by_test (is_failed new)) [ inl failed ↦ absurd (none (failed, is)) | inr going ↦ inr going ]
+  | inl is ↦ elim (by_test (is_failed new)) [
+    | inl failed ↦ absurd (none (failed, is))
+    | inr going ↦
+        inr going
+  ]
 ]
 
-same_failed : {K : Type 0} (is_failed : K → Bool) (old new : K) → (is_failed old ≡ true → is_failed new ≡ true)
+same_failed : {K : Type 0} (is_failed : K → Bool) (old new : K)
+    → (is_failed old ≡ true → is_failed new ≡ true)
     → (new ≡ old) ⊎ (is_failed new ≡ false) → is_failed new ≡ is_failed old
 same_failed is_failed old new stays (inl e) = ap is_failed e
 same_failed is_failed old new stays (inr going) =
-    elim (by_test (is_failed old)) [ inl was ↦ absurd (not_both (is_failed new) (stays was) going) | inr not ↦ going ∙ sym not ]
+    elim (by_test (is_failed old)) [
+      | inl was ↦ absurd (not_both (is_failed new) (stays was) going)
+      | inr not ↦ going ∙ sym not
+    ]
 
-same_tables : {K : Type 0} (content : K → Tables) (is_failed : K → Bool) (old new : K) → (is_failed new ≡ false → content new ≡ content old)
+same_tables : {K : Type 0} (content : K → Tables) (is_failed : K → Bool) (old new : K)
+    → (is_failed new ≡ false → content new ≡ content old)
     → (new ≡ old) ⊎ (is_failed new ≡ false) → content new ≡ content old
 same_tables content is_failed old new unmade (inl e) = ap content e
 same_tables content is_failed old new unmade (inr going) = unmade going
@@ -59,21 +70,27 @@ same_left is_failed may_leave old new left (inl e) t may = subst (λ k. may_leav
 same_left is_failed may_leave old new left (inr going) t may = left going t may
 
 -- it was carried out
-step_ok : {K : Type 0} (content : K → Tables) (is_failed : K → Bool) (is_honest : K → Type 0) (may_leave : K → Tables → Type 0)
+step_ok : {K : Type 0} (content : K → Tables) (is_failed : K → Bool) (is_honest : K → Type 0)
+    (may_leave : K → Tables → Type 0)
     (zone : Zone) (asked : Asked) (u : Unit {0}) (before after : List ℕ) (old new : K)
-    → IsActed content is_failed is_honest may_leave zone asked.closes asked.message (Ok u) before after old new
-    → (text : List ℕ) × (after ≡ before ++ text) × IsStep content is_failed is_honest may_leave zone asked text old new
+    → IsActed content is_failed is_honest may_leave zone asked.closes asked.message (Ok u) before
+    after old new
+    → (text : List ℕ) × (after ≡ before ++ text)
+    × IsStep content is_failed is_honest may_leave zone asked text old new
 unfolding answer_of next_of
 step_ok content is_failed is_honest may_leave zone asked u before after old new acted =
     let (rate, r, e) = acted.text in
     let still : (new ≡ old) ⊎ (is_failed new ≡ false) =
-    idle_or_going is_failed old new (is_asking asked.message) acted.asleep (λ failed. let wrong = acted.store.1 failed in cc) in (
+    idle_or_going is_failed old new (is_asking asked.message) acted.asleep
+    (λ failed. let wrong = acted.store.1 failed in cc) in (
       reply_text zone rate asked.closes r,
       e,
       record {
         answer = λ honest settings h is same. record {
           outcome = inl (record {
-            told = append_cancel_left before (reply_text zone rate asked.closes r) (reply_text zone settings.rate asked.closes (reply settings h asked.message)) (sym e ∙ acted.told honest settings h is same);
+            told = append_cancel_left before (reply_text zone rate asked.closes r)
+                (reply_text zone settings.rate asked.closes (reply settings h asked.message)) (sym e
+                ∙ acted.told honest settings h is same);
             tables = acted.tables honest settings h is same;
             same = same_failed is_failed old new acted.stays still;
             kept = λ entered t may. acted.kept honest settings h is same entered t may;
@@ -82,7 +99,8 @@ step_ok content is_failed is_honest may_leave zone asked u before after old new 
         };
         made = acted.made;
         crash = acted.crash;
-        failure = λ honest sound failing. absurd (not_both _ failing (reply_served zone rate asked.closes r).not_failed);
+        failure = λ honest sound failing.
+            absurd (not_both _ failing (reply_served zone rate asked.closes r).not_failed);
         down = λ failed asks. absurd (let wrong = acted.store.1 (failed, asks) in cc);
         honest = acted.honest;
         stays = acted.stays;
@@ -90,14 +108,17 @@ step_ok content is_failed is_honest may_leave zone asked u before after old new 
     )
 
 -- it met a fault
-step_err : {K : Type 0} (content : K → Tables) (is_failed : K → Bool) (is_honest : K → Type 0) (may_leave : K → Tables → Type 0)
+step_err : {K : Type 0} (content : K → Tables) (is_failed : K → Bool) (is_honest : K → Type 0)
+    (may_leave : K → Tables → Type 0)
     (zone : Zone) (asked : Asked) (f : KeepFault) (before after : List ℕ) (old new : K)
-    → IsActed content is_failed is_honest may_leave zone asked.closes asked.message (Err f) before after old new
+    → IsActed content is_failed is_honest may_leave zone asked.closes asked.message (Err f) before
+    after old new
     → IsStep content is_failed is_honest may_leave zone asked (fault_text f asked.closes) old new
 unfolding next_of
 step_err content is_failed is_honest may_leave zone asked Memory before after old new acted =
     let still : (new ≡ old) ⊎ (is_failed new ≡ false) =
-    idle_or_going is_failed old new (is_asking asked.message) acted.asleep (λ failed. let wrong = acted.store.1 failed in cc) in
+    idle_or_going is_failed old new (is_asking asked.message) acted.asleep
+    (λ failed. let wrong = acted.store.1 failed in cc) in
     record {
       answer = λ honest settings h is same. record {
         outcome = inr (inl (record {
@@ -115,47 +136,68 @@ step_err content is_failed is_honest may_leave zone asked Memory before after ol
       honest = acted.honest;
       stays = acted.stays;
     }
-step_err content is_failed is_honest may_leave zone asked Store before after old new acted = record {
-  answer = λ honest settings h is same. record {
-    outcome = inr (inr (record { told = refl; failed = (acted.store.0 refl).0 }));
-    crash = λ t may. acted.crash_next honest settings h is same t may;
-  };
-  made = acted.made;
-  crash = acted.crash;
-  failure = λ honest sound failing. inl (acted.store.0 refl).0;
-  down = λ failed asks. inl refl;
-  honest = acted.honest;
-  stays = acted.stays;
-}
-step_err content is_failed is_honest may_leave zone asked Damaged before after old new acted = record {
-  answer = λ honest settings h is same. absurd (acted.whole honest settings h is same refl);
-  made = acted.made;
-  crash = acted.crash;
-  failure = λ honest sound failing. inr (acted.damaged honest sound refl);
-  down = λ failed asks. absurd (let wrong = acted.store.1 (failed, asks) in cc);
-  honest = acted.honest;
-  stays = acted.stays;
-}
+step_err content is_failed is_honest may_leave zone asked Store before after old new acted =
+    record {
+      answer = λ honest settings h is same. record {
+        outcome = inr (inr (record { told = refl; failed = (acted.store.0 refl).0 }));
+        crash = λ t may. acted.crash_next honest settings h is same t may;
+      };
+      made = acted.made;
+      crash = acted.crash;
+      failure = λ honest sound failing. inl (acted.store.0 refl).0;
+      down = λ failed asks. inl refl;
+      honest = acted.honest;
+      stays = acted.stays;
+    }
+step_err content is_failed is_honest may_leave zone asked Damaged before after old new acted =
+    record {
+      answer = λ honest settings h is same. absurd (acted.whole honest settings h is same refl);
+      made = acted.made;
+      crash = acted.crash;
+      failure = λ honest sound failing. inr (acted.damaged honest sound refl);
+      down = λ failed asks. absurd (let wrong = acted.store.1 (failed, asks) in cc);
+      honest = acted.honest;
+      stays = acted.stays;
+    }
 
 -- whatever carrying it out gave
-pub step_acted : {K : Type 0} (content : K → Tables) (is_failed : K → Bool) (is_honest : K → Type 0) (may_leave : K → Tables → Type 0)
-    (zone : Zone) (asked : Asked) (acted : Result (Unit {0}) KeepFault) (result : Result (Unit {0}) (Bor (List ℕ))) (before after : List ℕ) (old new : K)
-    → IsActed content is_failed is_honest may_leave zone asked.closes asked.message acted before after old new → IsTold asked.closes acted result
-    → (text : List ℕ) × IsAppended result before after text × IsStep content is_failed is_honest may_leave zone asked text old new
-step_acted content is_failed is_honest may_leave zone asked (Ok u) (Ok v) before after old new acted told =
+pub step_acted : {K : Type 0} (content : K → Tables) (is_failed : K → Bool) (is_honest : K → Type 0)
+    (may_leave : K → Tables → Type 0)
+    (zone : Zone) (asked : Asked) (acted : Result (Unit {0}) KeepFault)
+    (result : Result (Unit {0}) (Bor (List ℕ))) (before after : List ℕ) (old new : K)
+    → IsActed content is_failed is_honest may_leave zone asked.closes asked.message acted before
+    after old new → IsTold asked.closes acted result
+    → (text : List ℕ) × IsAppended result before after text
+    × IsStep content is_failed is_honest may_leave zone asked text old new
+step_acted content is_failed is_honest may_leave zone asked (Ok u) (Ok v) before after old new acted
+    told =
     step_ok content is_failed is_honest may_leave zone asked u before after old new acted
-step_acted content is_failed is_honest may_leave zone asked (Err f) (Err text) before after old new acted told =
-    (fault_text f asked.closes, (told, acted.err), step_err content is_failed is_honest may_leave zone asked f before after old new acted)
-step_acted content is_failed is_honest may_leave zone asked (Ok u) (Err text) before after old new acted told = absurd told
-step_acted content is_failed is_honest may_leave zone asked (Err f) (Ok v) before after old new acted told = absurd told
+step_acted content is_failed is_honest may_leave zone asked (Err f) (Err text) before after old new
+    acted told = (
+      fault_text f asked.closes,
+      (told, acted.err),
+      step_err content is_failed is_honest may_leave
+          zone asked f before after old new acted,
+    )
+step_acted content is_failed is_honest may_leave zone asked (Ok u) (Err text) before after old new
+    acted told = absurd told
+step_acted content is_failed is_honest may_leave zone asked (Err f) (Ok v) before after old new
+    acted told = absurd told
 
 -- memory was refused before the keep was asked
-pub step_unread : {K : Type 0} (content : K → Tables) (is_failed : K → Bool) (is_honest : K → Type 0) (may_leave : K → Tables → Type 0)
+pub step_unread : {K : Type 0} (content : K → Tables) (is_failed : K → Bool)
+    (is_honest : K → Type 0) (may_leave : K → Tables → Type 0)
     (zone : Zone) (asked : Asked) (closes : Bool) (k : K) → closes ≡ asked.closes
     → IsStep content is_failed is_honest may_leave zone asked (fault_text Memory closes) k k
 step_unread content is_failed is_honest may_leave zone asked closes k same = record {
   answer = λ honest settings h is e. record {
-    outcome = inr (inl (record { told = ap (fault_text Memory) same; tables = refl; same = refl; left = λ t may. may }));
+    outcome = inr (inl (record {
+      told = ap (fault_text
+          Memory) same;
+      tables = refl;
+      same = refl;
+      left = λ t may. may;
+    }));
     crash = λ t may. inl may;
   };
   made = λ honest going. inl refl;
@@ -167,11 +209,13 @@ step_unread content is_failed is_honest may_leave zone asked closes k same = rec
 }
 
 -- the text that stands ready for a broken frame is that of the reply
-broken_replied : (settings : Settings) (zone : Zone) (h : History) (f : WireFault) → broken_text f ≡ answer_of settings zone h (asked_of (Err f))
+broken_replied : (settings : Settings) (zone : Zone) (h : History) (f : WireFault)
+    → broken_text f ≡ answer_of settings zone h (asked_of (Err f))
 unfolding answer_of asked_of reply reply_text
 broken_replied settings zone h f = refl
 
-broken_leaves : (settings : Settings) (h : History) (f : WireFault) → next_of settings h (asked_of (Err f)) ≡ h
+broken_leaves : (settings : Settings) (h : History) (f : WireFault)
+    → next_of settings h (asked_of (Err f)) ≡ h
 unfolding next_of asked_of next
 broken_leaves settings h f = refl
 
@@ -179,7 +223,8 @@ broken_asks : (f : WireFault) → is_asking (asked_of (Err f)).message ≡ false
 unfolding asked_of
 broken_asks f = refl
 
-broken_enters : (settings : Settings) (h : History) (f : WireFault) → is_entered settings h (asked_of (Err f)).message ≡ false
+broken_enters : (settings : Settings) (h : History) (f : WireFault)
+    → is_entered settings h (asked_of (Err f)).message ≡ false
 unfolding asked_of
 broken_enters settings h f = refl
 
@@ -194,8 +239,10 @@ broken_goes wire.End = refl
 broken_goes wire.Excess = refl
 
 -- the frame is broken
-pub step_broken : {K : Type 0} (content : K → Tables) (is_failed : K → Bool) (is_honest : K → Type 0) (may_leave : K → Tables → Type 0)
-    (zone : Zone) (f : WireFault) (k : K) → IsStep content is_failed is_honest may_leave zone (asked_of (Err f)) (broken_text f) k k
+pub step_broken : {K : Type 0} (content : K → Tables) (is_failed : K → Bool)
+    (is_honest : K → Type 0) (may_leave : K → Tables → Type 0)
+    (zone : Zone) (f : WireFault) (k : K)
+    → IsStep content is_failed is_honest may_leave zone (asked_of (Err f)) (broken_text f) k k
 step_broken content is_failed is_honest may_leave zone f k = record {
   answer = λ honest settings h is e. record {
     outcome = inl (record {
@@ -215,9 +262,11 @@ step_broken content is_failed is_honest may_leave zone f k = record {
 }
 
 -- a text that is a message has no broken frame
-pub not_broken : (text : List ℕ) (m : Framed) (f : WireFault) → IsFrame text (Ok m) → IsFrame text (Err f) → ⊥
+pub not_broken : (text : List ℕ) (m : Framed) (f : WireFault) → IsFrame text (Ok m)
+    → IsFrame text (Err f) → ⊥
 not_broken text m f is also = let wrong : Ok m ≡ Err f = one_frame text (Ok m) (Err f) is also in cc
 
 -- and one that is none has one fault
-pub one_fault : (text : List ℕ) (f g : WireFault) → IsFrame text (Err f) → IsFrame text (Err g) → f ≡ g
+pub one_fault : (text : List ℕ) (f g : WireFault) → IsFrame text (Err f) → IsFrame text (Err g)
+    → f ≡ g
 one_fault text f g is also = let same = one_frame text (Err f) (Err g) is also in cc

@@ -26,78 +26,105 @@ use Rattle.site.specs.Answers.{Answers, IsAnswered, IsStep, answer_of, next_of}
 use Rattle.site.specs.Runs.{InTurn, IsGoing, IsRun, Ran, TwinRuns, answers_from, answers_to, at_places, is_from, meant, rendered}
 use Rattle.site.proofs.Steps.{not_both}
 
-pub turn_more : {K : Type 0} (Step : Asked → List ℕ → K → K → Type 0) (ms : List Asked) (rs : List (List ℕ)) (m : Asked) (r : List ℕ) (old mid new : K)
-    → InTurn Step ms rs old mid → Step m r mid new → InTurn Step (ms ++ m ∷ []) (rs ++ r ∷ []) old new
+pub turn_more : {K : Type 0} (Step : Asked → List ℕ → K → K → Type 0) (ms : List Asked)
+    (rs : List (List ℕ)) (m : Asked) (r : List ℕ) (old mid new : K)
+    → InTurn Step ms rs old mid → Step m r mid new
+    → InTurn Step (ms ++ m ∷ []) (rs ++ r ∷ []) old new
 turn_more Step [] [] m r old mid new turn step = (new, rw turn at step, refl)
 turn_more Step [] (s ∷ rs) m r old mid new turn step = absurd turn
 turn_more Step (n ∷ ms) [] m r old mid new turn step = absurd turn
-turn_more Step (n ∷ ms) (s ∷ rs) m r old mid new (k, here, turn) step = (k, here, turn_more Step ms rs m r k mid new turn step)
+turn_more Step (n ∷ ms) (s ∷ rs) m r old mid new (k, here, turn) step =
+    (k, here, turn_more Step ms rs m r k mid new turn step)
 
-pub zip_more : {A B : Type 0} (R : A → B → Type 0) (xs : List A) (ys : List B) (x : A) (y : B) → AllZip R xs ys → R x y → AllZip R (xs ++ x ∷ []) (ys ++ y ∷ [])
+pub zip_more : {A B : Type 0} (R : A → B → Type 0) (xs : List A) (ys : List B) (x : A) (y : B)
+    → AllZip R xs ys → R x y → AllZip R (xs ++ x ∷ []) (ys ++ y ∷ [])
 zip_more R [] [] x y h r = (r, tt)
 zip_more R [] (b ∷ ys) x y h r = absurd h
 zip_more R (a ∷ xs) [] x y h r = absurd h
 zip_more R (a ∷ xs) (b ∷ ys) x y h r = (h.0, zip_more R xs ys x y h.1 r)
 
-pub honest_before : {K : Type 0} (content : K → Tables) (is_failed : K → Bool) (is_honest : K → Type 0) (may_leave : K → Tables → Type 0)
+pub honest_before : {K : Type 0} (content : K → Tables) (is_failed : K → Bool)
+    (is_honest : K → Type 0) (may_leave : K → Tables → Type 0)
     (zone : Zone) (ms : List Asked) (rs : List (List ℕ)) (old new : K)
-    → InTurn (IsStep content is_failed is_honest may_leave zone) ms rs old new → is_honest new → is_honest old
-honest_before content is_failed is_honest may_leave zone [] [] old new turn honest = rw turn at honest
-honest_before content is_failed is_honest may_leave zone [] (r ∷ rs) old new turn honest = absurd turn
-honest_before content is_failed is_honest may_leave zone (m ∷ ms) [] old new turn honest = absurd turn
-honest_before content is_failed is_honest may_leave zone (m ∷ ms) (r ∷ rs) old new (mid, step, turn) honest =
+    → InTurn (IsStep content is_failed is_honest may_leave zone) ms rs old new → is_honest new
+    → is_honest old
+honest_before content is_failed is_honest may_leave zone [] [] old new turn honest =
+    rw turn at honest
+honest_before content is_failed is_honest may_leave zone [] (r ∷ rs) old new turn honest =
+    absurd turn
+honest_before content is_failed is_honest may_leave zone (m ∷ ms) [] old new turn honest =
+    absurd turn
+honest_before content is_failed is_honest may_leave zone (m ∷ ms) (r ∷ rs) old new (mid, step, turn)
+    honest =
     step.honest (honest_before content is_failed is_honest may_leave zone ms rs mid new turn honest)
 
 -- the history after a message is one too
-pub next_is : (settings : Settings) (h : History) (m : Asked) → IsHistory settings h → IsHistory settings (next_of settings h m)
+pub next_is : (settings : Settings) (h : History) (m : Asked) → IsHistory settings h
+    → IsHistory settings (next_of settings h m)
 unfolding next_of
 next_is settings h m is = next_is_history settings h m.message is
 
-stays_if : (settings : Settings) (h : History) (moment caller : ℕ) (command : Command) (o : Option Refusal) → verdict settings h moment caller command ≡ o → is_none o ≡ false
+stays_if : (settings : Settings) (h : History) (moment caller : ℕ) (command : Command)
+    (o : Option Refusal) → verdict settings h moment caller command ≡ o → is_none o ≡ false
     → next {F = Fault} settings h (Order moment caller command) ≡ h
 stays_if settings h moment caller command None e not = cc
-stays_if settings h moment caller command (Some refusal) e not = next_refused Fault settings h moment caller command refusal e
+stays_if settings h moment caller command (Some refusal) e not =
+    next_refused Fault settings h moment caller command refusal e
 
-stays : (settings : Settings) (h : History) (m : Message Fault) → is_entered settings h m ≡ false → next settings h m ≡ h
-stays settings h (Order moment caller command) not = stays_if settings h moment caller command (verdict settings h moment caller command) refl not
+stays : (settings : Settings) (h : History) (m : Message Fault) → is_entered settings h m ≡ false
+    → next settings h m ≡ h
+stays settings h (Order moment caller command) not =
+    stays_if settings h moment caller command (verdict settings h moment caller command) refl not
 stays settings h (Read caller query) not = next_read Fault settings h caller query
 stays settings h (Broken caller fault) not = next_broken settings h caller fault
 
 -- a message that wasn't entered leaves the history
-not_entered : (settings : Settings) (h : History) (m : Asked) → is_entered settings h m.message ≡ false → next_of settings h m ≡ h
+not_entered : (settings : Settings) (h : History) (m : Asked)
+    → is_entered settings h m.message ≡ false → next_of settings h m ≡ h
 unfolding next_of
 not_entered settings h m not = stays settings h m.message not
 
 -- behind an answer a crash leaves the tables alone, where it did so before
-pub settled_next : {K : Type 0} (content : K → Tables) (is_failed : K → Bool) (may_leave : K → Tables → Type 0) (settings : Settings) (zone : Zone) (h : History)
-    (m : Asked) (r : List ℕ) (old new : K) → content old ≡ tables_of settings h → IsAnswered content is_failed may_leave settings zone h m r old new
-    → ((t : Tables) → may_leave new t → may_leave old t ⊎ ((is_failed old ≡ false) × (t ≡ tables_of settings (next_of settings h m))))
-    → ((t : Tables) → may_leave old t → t ≡ content old) → (t : Tables) → may_leave new t → t ≡ content new
+pub settled_next : {K : Type 0} (content : K → Tables) (is_failed : K → Bool)
+    (may_leave : K → Tables → Type 0) (settings : Settings) (zone : Zone) (h : History)
+    (m : Asked) (r : List ℕ) (old new : K) → content old ≡ tables_of settings h
+    → IsAnswered content is_failed may_leave settings zone h m r old new
+    → ((t : Tables) → may_leave new t → may_leave old t
+    ⊎ ((is_failed old ≡ false) × (t ≡ tables_of settings (next_of settings h m))))
+    → ((t : Tables) → may_leave old t → t ≡ content old) → (t : Tables) → may_leave new t
+    → t ≡ content new
 settled_next content is_failed may_leave settings zone h m r old new e done crash first t may =
     elim (by_test (is_entered settings h m.message)) [
       | inl entered ↦ done.kept entered t may
       | inr not ↦ elim (crash t may) [
-        | inl could ↦ first t could ∙ e ∙ ap (tables_of settings) (sym (not_entered settings h m not)) ∙ sym done.tables
+        | inl could ↦ first t could ∙ e
+            ∙ ap (tables_of settings) (sym (not_entered settings h m not)) ∙ sym done.tables
         | inr now ↦ now.1 ∙ sym done.tables
       ]
     ]
 
 -- one more message before a run
-ran_step : {K : Type 0} (content : K → Tables) (is_failed : K → Bool) (may_leave : K → Tables → Type 0) (settings : Settings) (zone : Zone) (h : History)
-    (m : Asked) (r : List ℕ) (ms : List Asked) (rs : List (List ℕ)) (old mid new : K) → IsHistory settings h → content old ≡ tables_of settings h
+ran_step : {K : Type 0} (content : K → Tables) (is_failed : K → Bool)
+    (may_leave : K → Tables → Type 0) (settings : Settings) (zone : Zone) (h : History)
+    (m : Asked) (r : List ℕ) (ms : List Asked) (rs : List (List ℕ)) (old mid new : K)
+    → IsHistory settings h → content old ≡ tables_of settings h
     → Answers content is_failed may_leave settings zone h m r old mid → IsGoing r
-    → ((k : History) → IsHistory settings k → content mid ≡ tables_of settings k → Ran content is_failed may_leave settings zone k ms rs mid new)
+    → ((k : History) → IsHistory settings k → content mid ≡ tables_of settings k
+    → Ran content is_failed may_leave settings zone k ms rs mid new)
     → Ran content is_failed may_leave settings zone h (m ∷ ms) (r ∷ rs) old new
 ran_step content is_failed may_leave settings zone h m r ms rs old mid new is e answers going rest =
     elim answers.outcome [
-      | inl done ↦ (let ran = rest (next_of settings h m) (next_is settings h m is) done.tables in record {
-        after = ran.after;
-        run = inl (done.told, ran.run);
-        history = ran.history;
-        tables = ran.tables;
-        same = ran.same ∙ done.same;
-        settled = λ first. ran.settled (settled_next content is_failed may_leave settings zone h m r old mid e done answers.crash first);
-      })
+      | inl done ↦ (let ran = rest (next_of settings h m) (next_is settings h m is) done.tables in
+          record {
+            after = ran.after;
+            run = inl (done.told, ran.run);
+            history = ran.history;
+            tables = ran.tables;
+            same = ran.same ∙ done.same;
+            settled = λ first. ran.settled
+                (settled_next content is_failed may_leave settings zone h m r old mid e done
+                answers.crash first);
+          })
       | inr other ↦ elim other [
         | inl wanting ↦ (let ran = rest h is (wanting.tables ∙ e) in record {
           after = ran.after;
@@ -105,41 +132,54 @@ ran_step content is_failed may_leave settings zone h m r ms rs old mid new is e 
           history = ran.history;
           tables = ran.tables;
           same = ran.same ∙ wanting.same;
-          settled = λ first. ran.settled (λ t may. first t (wanting.left t may) ∙ sym wanting.tables);
+          settled = λ first. ran.settled (λ t may. first t (wanting.left t may)
+              ∙ sym wanting.tables);
         })
         | inr failed ↦ absurd (not_both _ (store_told m.closes) (rw failed.told at going))
       ]
     ]
 
 -- where none was told a failure, the replies are a run of the history whose tables there were
-pub ran_of : {K : Type 0} (content : K → Tables) (is_failed : K → Bool) (is_honest : K → Type 0) (may_leave : K → Tables → Type 0)
-    (settings : Settings) (zone : Zone) (h : History) (ms : List Asked) (rs : List (List ℕ)) (old new : K)
+pub ran_of : {K : Type 0} (content : K → Tables) (is_failed : K → Bool) (is_honest : K → Type 0)
+    (may_leave : K → Tables → Type 0)
+    (settings : Settings) (zone : Zone) (h : History) (ms : List Asked) (rs : List (List ℕ))
+    (old new : K)
     → InTurn (IsStep content is_failed is_honest may_leave zone) ms rs old new → is_honest new
     → IsHistory settings h → content old ≡ tables_of settings h → AllByRecursion IsGoing rs
     → Ran content is_failed may_leave settings zone h ms rs old new
-ran_of content is_failed is_honest may_leave settings zone h [] [] old new turn honest is e going = rw turn (record {
-  after = h;
-  run = refl;
-  history = is;
-  tables = e;
-  same = refl;
-  settled = λ first. first;
-})
-ran_of content is_failed is_honest may_leave settings zone h [] (r ∷ rs) old new turn honest is e going = absurd turn
-ran_of content is_failed is_honest may_leave settings zone h (m ∷ ms) [] old new turn honest is e going = absurd turn
-ran_of content is_failed is_honest may_leave settings zone h (m ∷ ms) (r ∷ rs) old new (mid, step, turn) honest is e going =
+ran_of content is_failed is_honest may_leave settings zone h [] [] old new turn honest is e going =
+    rw turn (record {
+      after = h;
+      run = refl;
+      history = is;
+      tables = e;
+      same = refl;
+      settled = λ first. first;
+    })
+ran_of content is_failed is_honest may_leave settings zone h [] (r ∷ rs) old new turn honest is e
+    going = absurd turn
+ran_of content is_failed is_honest may_leave settings zone h (m ∷ ms) [] old new turn honest is e
+    going = absurd turn
+ran_of content is_failed is_honest may_leave settings zone h (m ∷ ms) (r ∷ rs) old new
+    (mid, step, turn) honest is e going =
     ran_step content is_failed may_leave settings zone h m r ms rs old mid new is e
-    (step.answer (honest_before content is_failed is_honest may_leave zone ms rs mid new turn honest) settings h is e) going.0
-    (λ k also same. ran_of content is_failed is_honest may_leave settings zone k ms rs mid new turn honest also same going.1)
+    (step.answer (honest_before content is_failed is_honest may_leave zone ms rs mid new turn
+    honest) settings h is e) going.0
+    (λ k also same. ran_of content is_failed is_honest may_leave settings zone k ms rs mid new turn
+    honest also same going.1)
 
 -- where every reply was served, the replies are the answers
-served_run : (settings : Settings) (zone : Zone) (h : History) (ms : List Asked) (rs : List (List ℕ)) (after : History)
-    → IsRun settings zone h ms rs after → AllByRecursion IsServed rs → rs ≡ answers_from settings zone h ms
+served_run : (settings : Settings) (zone : Zone) (h : History) (ms : List Asked)
+    (rs : List (List ℕ)) (after : History)
+    → IsRun settings zone h ms rs after → AllByRecursion IsServed rs
+    → rs ≡ answers_from settings zone h ms
 served_run settings zone h [] [] after run served = refl
 served_run settings zone h [] (r ∷ rs) after run served = absurd run
 served_run settings zone h (m ∷ ms) [] after run served = absurd run
-served_run settings zone h (m ∷ ms) (r ∷ rs) after (inl (e, run)) served = rw (e, served_run settings zone (next_of settings h m) ms rs after run served.1) refl
-served_run settings zone h (m ∷ ms) (r ∷ rs) after (inr (e, run)) served = absurd (not_both _ (memory_told m.closes) (rw e at served.0.not_wanting))
+served_run settings zone h (m ∷ ms) (r ∷ rs) after (inl (e, run)) served =
+    rw (e, served_run settings zone (next_of settings h m) ms rs after run served.1) refl
+served_run settings zone h (m ∷ ms) (r ∷ rs) after (inr (e, run)) served =
+    absurd (not_both _ (memory_told m.closes) (rw e at served.0.not_wanting))
 
 served_going : (rs : List (List ℕ)) → AllByRecursion IsServed rs → AllByRecursion IsGoing rs
 served_going [] served = tt
@@ -147,72 +187,99 @@ served_going (r ∷ rs) served = (served.0.not_failed, served_going rs served.1)
 
 -- the answers at a member's places are those to it
 places_are : (settings : Settings) (zone : Zone) (c : ℕ) (h : History) (ms : List Asked)
-    → at_places c ms (answers_from settings zone h ms) ≡ rendered_from meant (rendered settings zone) settings c h ms
+    → at_places c ms (answers_from settings zone h ms)
+    ≡ rendered_from meant (rendered settings zone) settings c h ms
 unfolding answer_of next_of
 places_are settings zone c h [] = refl
 places_are settings zone c h (m ∷ ms) =
-    ap (λ rest. (if is_from c m then answer_of settings zone h m ∷ [] else []) ++ rest) (places_are settings zone c (next_of settings h m) ms)
+    ap (λ rest. (if is_from c m then answer_of settings zone h m ∷ [] else []) ++ rest)
+    (places_are settings zone c (next_of settings h m) ms)
 
-pub isolated : (settings : Settings) (zone : Zone) (c : ℕ) (left right : List Asked) → TwinRuns settings c left right
+pub isolated : (settings : Settings) (zone : Zone) (c : ℕ) (left right : List Asked)
+    → TwinRuns settings c left right
     → answers_to settings zone c left ≡ answers_to settings zone c right
-isolated settings zone c left right twin = laws.isolation meant (rendered settings zone) settings c left right twin
+isolated settings zone c left right twin =
+    laws.isolation meant (rendered settings zone) settings c left right twin
 
 -- a text asks for one thing
 one_meaning : (text : List ℕ) (m n : Asked) → IsAsked text m → IsAsked text n → m ≡ n
 one_meaning text m n (f, is, e) (g, also, d) = e ∙ ap asked_of (one_frame text f g is also) ∙ sym d
 
-pub one_asked : (texts : List (List ℕ)) (ms ns : List Asked) → AllZip IsAsked texts ms → AllZip IsAsked texts ns → ms ≡ ns
+pub one_asked : (texts : List (List ℕ)) (ms ns : List Asked) → AllZip IsAsked texts ms
+    → AllZip IsAsked texts ns → ms ≡ ns
 one_asked [] [] [] a b = refl
 one_asked [] [] (n ∷ ns) a b = absurd b
 one_asked [] (m ∷ ms) ns a b = absurd a
 one_asked (t ∷ texts) [] ns a b = absurd a
 one_asked (t ∷ texts) (m ∷ ms) [] a b = absurd b
-one_asked (t ∷ texts) (m ∷ ms) (n ∷ ns) a b = rw (one_meaning t m n a.0 b.0, one_asked texts ms ns a.1 b.1) refl
+one_asked (t ∷ texts) (m ∷ ms) (n ∷ ns) a b =
+    rw (one_meaning t m n a.0 b.0, one_asked texts ms ns a.1 b.1) refl
 
 -- what was asked, with the replies in turn
-abbrev pub Turns : {K : Type 0} → (Asked → List ℕ → K → K → Type 0) → List (List ℕ) → List (List ℕ) → K → K → Type 0
-Turns Step texts replies old new = (asked : List Asked) × AllZip IsAsked texts asked × InTurn Step asked replies old new
+abbrev pub Turns : {K : Type 0} → (Asked → List ℕ → K → K → Type 0) → List (List ℕ) → List (List ℕ)
+    → K → K → Type 0
+Turns Step texts replies old new = (asked : List Asked) × AllZip IsAsked texts asked
+    × InTurn Step asked replies old new
 
-pub turns_more : {K : Type 0} (Step : Asked → List ℕ → K → K → Type 0) (texts rs : List (List ℕ)) (text r : List ℕ) (old mid new : K)
-    → Turns Step texts rs old mid → (m : Asked) × IsAsked text m × Step m r mid new → Turns Step (texts ++ text ∷ []) (rs ++ r ∷ []) old new
-turns_more Step texts rs text r old mid new (ms, are, turn) (m, is, step) =
-    (ms ++ m ∷ [], zip_more IsAsked texts ms text m are is, turn_more Step ms rs m r old mid new turn step)
+pub turns_more : {K : Type 0} (Step : Asked → List ℕ → K → K → Type 0) (texts rs : List (List ℕ))
+    (text r : List ℕ) (old mid new : K)
+    → Turns Step texts rs old mid → (m : Asked) × IsAsked text m × Step m r mid new
+    → Turns Step (texts ++ text ∷ []) (rs ++ r ∷ []) old new
+turns_more Step texts rs text r old mid new (ms, are, turn) (m, is, step) = (
+  ms ++ m ∷ [],
+  zip_more IsAsked texts ms text m are is,
+  turn_more Step ms rs m r old mid new
+      turn step,
+)
 
-zip_length : {A B : Type 0} (R : A → B → Type 0) (xs : List A) (ys : List B) → AllZip R xs ys → length ys ≡ length xs
+zip_length : {A B : Type 0} (R : A → B → Type 0) (xs : List A) (ys : List B) → AllZip R xs ys
+    → length ys ≡ length xs
 zip_length R [] [] h = refl
 zip_length R [] (y ∷ ys) h = absurd h
 zip_length R (x ∷ xs) [] h = absurd h
 zip_length R (x ∷ xs) (y ∷ ys) h = ap suc (zip_length R xs ys h.1)
 
-turn_length : {K : Type 0} (Step : Asked → List ℕ → K → K → Type 0) (ms : List Asked) (rs : List (List ℕ)) (old new : K)
+turn_length : {K : Type 0} (Step : Asked → List ℕ → K → K → Type 0) (ms : List Asked)
+    (rs : List (List ℕ)) (old new : K)
     → InTurn Step ms rs old new → length rs ≡ length ms
 turn_length Step [] [] old new turn = refl
 turn_length Step [] (r ∷ rs) old new turn = absurd turn
 turn_length Step (m ∷ ms) [] old new turn = absurd turn
-turn_length Step (m ∷ ms) (r ∷ rs) old new (mid, step, turn) = ap suc (turn_length Step ms rs mid new turn)
+turn_length Step (m ∷ ms) (r ∷ rs) old new (mid, step, turn) =
+    ap suc (turn_length Step ms rs mid new turn)
 
 -- there are as many replies as texts
-pub as_many : {K : Type 0} (Step : Asked → List ℕ → K → K → Type 0) (texts rs : List (List ℕ)) (old new : K)
+pub as_many : {K : Type 0} (Step : Asked → List ℕ → K → K → Type 0) (texts rs : List (List ℕ))
+    (old new : K)
     → Turns Step texts rs old new → length rs ≡ length texts
-as_many Step texts rs old new (ms, are, turn) = turn_length Step ms rs old new turn ∙ zip_length IsAsked texts ms are
+as_many Step texts rs old new (ms, are, turn) = turn_length Step ms rs old new turn
+    ∙ zip_length IsAsked texts ms are
 
-pub ran_texts : {K : Type 0} (content : K → Tables) (is_failed : K → Bool) (is_honest : K → Type 0) (may_leave : K → Tables → Type 0)
+pub ran_texts : {K : Type 0} (content : K → Tables) (is_failed : K → Bool) (is_honest : K → Type 0)
+    (may_leave : K → Tables → Type 0)
     (settings : Settings) (zone : Zone) (h : History) (texts rs : List (List ℕ)) (old new : K)
     → Turns (IsStep content is_failed is_honest may_leave zone) texts rs old new → is_honest new
-    → IsHistory settings h → content old ≡ tables_of settings h → (asked : List Asked) → AllZip IsAsked texts asked
+    → IsHistory settings h → content old ≡ tables_of settings h → (asked : List Asked)
+    → AllZip IsAsked texts asked
     → AllByRecursion IsGoing rs → Ran content is_failed may_leave settings zone h asked rs old new
-ran_texts content is_failed is_honest may_leave settings zone h texts rs old new (ms, are, turn) honest is e asked also going =
-    ran_of content is_failed is_honest may_leave settings zone h asked rs old new (rw (one_asked texts ms asked are also) at turn) honest is e going
+ran_texts content is_failed is_honest may_leave settings zone h texts rs old new (ms, are, turn)
+    honest is e asked also going =
+    ran_of content is_failed is_honest may_leave settings zone h asked rs old new
+    (rw (one_asked texts ms asked are also) at turn) honest is e going
 
 -- the replies of a run at a member's places are those of any twin run
-pub run_isolated : {K : Type 0} (content : K → Tables) (is_failed : K → Bool) (is_honest : K → Type 0) (may_leave : K → Tables → Type 0)
+pub run_isolated : {K : Type 0} (content : K → Tables) (is_failed : K → Bool)
+    (is_honest : K → Type 0) (may_leave : K → Tables → Type 0)
     (settings : Settings) (zone : Zone) (texts rs : List (List ℕ)) (old new : K)
     → Turns (IsStep content is_failed is_honest may_leave zone) texts rs old new → is_honest new
     → content old ≡ tables_of settings [] → AllByRecursion IsServed rs
-    → (c : ℕ) (firsts seconds : List Asked) → AllZip IsAsked texts firsts → TwinRuns settings c firsts seconds
+    → (c : ℕ) (firsts seconds : List Asked) → AllZip IsAsked texts firsts
+    → TwinRuns settings c firsts seconds
     → at_places c firsts rs ≡ answers_to settings zone c seconds
-run_isolated content is_failed is_honest may_leave settings zone texts rs old new turns honest e served c firsts seconds are twin =
-    let ran = ran_texts content is_failed is_honest may_leave settings zone [] texts rs old new turns honest tt e firsts are (served_going rs served) in
+run_isolated content is_failed is_honest may_leave settings zone texts rs old new turns honest e
+    served c firsts seconds are twin =
+    let ran = ran_texts content is_failed is_honest may_leave settings zone [] texts rs old new
+    turns honest tt e firsts are (served_going rs served) in
     ap (at_places c firsts) (served_run settings zone [] firsts rs ran.after ran.run served)
     ∙ places_are settings zone c [] firsts
     ∙ isolated settings zone c firsts seconds twin

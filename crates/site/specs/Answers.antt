@@ -26,22 +26,28 @@ zone_of site = site.writer.zone
 
 -- the text of the answer to what is asked
 unfoldable pub answer_of : Settings → Zone → History → Asked → List ℕ
-answer_of settings zone h asked = reply_text zone settings.rate asked.closes (reply settings h asked.message)
+answer_of settings zone h asked =
+    reply_text zone settings.rate asked.closes (reply settings h asked.message)
 
 -- the history that it leaves
 unfoldable pub next_of : Settings → History → Asked → History
 next_of settings h asked = next settings h asked.message
 
--- the answer of the definitions, and the tables of the next history. After an accepted command a crash leaves these alone
-pub record IsAnswered {K : Type 0} (content : K → Tables) (is_failed : K → Bool) (may_leave : K → Tables → Type 0)
-    (settings : Settings) (zone : Zone) (h : History) (asked : Asked) (reply : List ℕ) (old new : K) : Type 0 where
+-- the answer of the definitions, and the tables of the next history. After an accepted command a
+-- crash leaves these alone
+pub record IsAnswered {K : Type 0} (content : K → Tables) (is_failed : K → Bool)
+    (may_leave : K → Tables → Type 0)
+    (settings : Settings) (zone : Zone) (h : History) (asked : Asked) (reply : List ℕ)
+    (old new : K) : Type 0 where
   pub told : reply ≡ answer_of settings zone h asked
   pub tables : content new ≡ tables_of settings (next_of settings h asked)
   pub same : is_failed new ≡ is_failed old
-  pub kept : is_entered settings h asked.message ≡ true → (t : Tables) → may_leave new t → t ≡ content new
+  pub kept : is_entered settings h asked.message ≡ true → (t : Tables) → may_leave new t
+      → t ≡ content new
 
 -- memory was refused, and the message has not acted
-pub record IsWanting {K : Type 0} (content : K → Tables) (is_failed : K → Bool) (may_leave : K → Tables → Type 0)
+pub record IsWanting {K : Type 0} (content : K → Tables) (is_failed : K → Bool)
+    (may_leave : K → Tables → Type 0)
     (asked : Asked) (reply : List ℕ) (old new : K) : Type 0 where
   pub told : reply ≡ fault_text fault.Memory asked.closes
   pub tables : content new ≡ content old
@@ -53,35 +59,46 @@ pub record IsFailed (asked : Asked) (reply : List ℕ) (is_failed : Bool) : Type
   pub told : reply ≡ fault_text fault.Store asked.closes
   pub failed : is_failed ≡ true
 
--- what one message is answered over a history whose tables the keep has, what it leaves, and what a crash may leave
-pub record Answers {K : Type 0} (content : K → Tables) (is_failed : K → Bool) (may_leave : K → Tables → Type 0)
-    (settings : Settings) (zone : Zone) (h : History) (asked : Asked) (reply : List ℕ) (old new : K) : Type 0 where
+-- what one message is answered over a history whose tables the keep has, what it leaves, and what a
+-- crash may leave
+pub record Answers {K : Type 0} (content : K → Tables) (is_failed : K → Bool)
+    (may_leave : K → Tables → Type 0)
+    (settings : Settings) (zone : Zone) (h : History) (asked : Asked) (reply : List ℕ)
+    (old new : K) : Type 0 where
   pub outcome : IsAnswered content is_failed may_leave settings zone h asked reply old new
       ⊎ (IsWanting content is_failed may_leave asked reply old new
       ⊎ IsFailed asked reply (is_failed new))
   -- a crash leaves what it could have left before, or the tables of the next history
   pub crash : (t : Tables) → may_leave new t
-      → may_leave old t ⊎ ((is_failed old ≡ false) × (t ≡ tables_of settings (next_of settings h asked)))
+      → may_leave old t ⊎ ((is_failed old ≡ false)
+      × (t ≡ tables_of settings (next_of settings h asked)))
 
 -- what answering one message does to any keep
-pub record IsStep {K : Type 0} (content : K → Tables) (is_failed : K → Bool) (is_honest : K → Type 0) (may_leave : K → Tables → Type 0)
+pub record IsStep {K : Type 0} (content : K → Tables) (is_failed : K → Bool)
+    (is_honest : K → Type 0) (may_leave : K → Tables → Type 0)
     (zone : Zone) (asked : Asked) (reply : List ℕ) (old new : K) : Type 0 where
-  pub answer : is_honest new → (settings : Settings) (h : History) → IsHistory settings h → content old ≡ tables_of settings h
+  pub answer : is_honest new → (settings : Settings) (h : History) → IsHistory settings h
+      → content old ≡ tables_of settings h
       → Answers content is_failed may_leave settings zone h asked reply old new
   -- over any tables nothing is changed but by a change, and a crash leaves no more
-  pub made : is_honest new → is_failed new ≡ false → (content new ≡ content old) ⊎ IsMade (content old) (content new)
+  pub made : is_honest new → is_failed new ≡ false → (content new ≡ content old)
+      ⊎ IsMade (content old) (content new)
   pub crash : is_honest new → (t : Tables) → may_leave new t
       → may_leave old t ⊎ ((is_failed old ≡ false) × IsMade (content old) t)
-  -- over sound ones 500 is answered only where the store failed, or where the new key of a command's change is taken
+  -- over sound ones 500 is answered only where the store failed, or where the new key of a
+  -- command's change is taken
   pub failure : is_honest new → AreSound (content old) → is_failure reply ≡ true
       → (is_failed new ≡ true) ⊎ IsTaken (content old) asked.message
-  -- and where the store has failed, whatever asks it for anything is answered so, or that memory was refused
+  -- and where the store has failed, whatever asks it for anything is answered so, or that memory
+  -- was refused
   pub down : is_failed new ≡ true → is_asking asked.message ≡ true
-      → (reply ≡ fault_text fault.Store asked.closes) ⊎ (reply ≡ fault_text fault.Memory asked.closes)
+      → (reply ≡ fault_text fault.Store asked.closes)
+      ⊎ (reply ≡ fault_text fault.Memory asked.closes)
   pub honest : is_honest new → is_honest old
   pub stays : is_failed old ≡ true → is_failed new ≡ true
 
--- the answer stands behind what a buffer held; or it is a text that stands ready, and the buffer has what it had
+-- the answer stands behind what a buffer held; or it is a text that stands ready, and the buffer
+-- has what it had
 abbrev pub IsAppended : Result (Unit {0}) (Bor (List ℕ)) → List ℕ → List ℕ → List ℕ → Type 0
 IsAppended (Ok u) before after reply = after ≡ before ++ reply
 IsAppended (Err text) before after reply = (text.now ≡ reply) × (after ≡ before)
@@ -101,8 +118,14 @@ IsTold closes (Err f) (Ok v) = ⊥
 abbrev pub IsReadable : List ℕ → Type 0
 IsReadable zone = IsPlainText zone × IsSome (read_whole zone)
 
--- why a site can't be made over a keep: Store exactly where the keep has failed, and Damaged only where the zone can't be read
-pub record IsBegun {S : Type 0} (result : Result S KeepFault) (is_honest : Type 0) (is_failed : Bool) (content : Tables) : Type 0 where
+-- why a site can't be made over a keep: Store exactly where the keep has failed, and Damaged only
+-- where the zone can't be read. Where it can't, that is told as Damaged, unless memory was refused
+-- before the zone was looked at
+pub record IsBegun {S : Type 0} (result : Result S KeepFault) (is_honest : Type 0)
+    (is_failed : Bool) (content : Tables) : Type 0 where
   pub store : IsErrOf result fault.Store ↔ (is_failed ≡ true)
   pub readable : is_honest → IsOk result → IsReadable content.settings.zone
-  pub damaged : is_honest → AreSound content → IsErrOf result fault.Damaged → ¬ (IsReadable content.settings.zone)
+  pub damaged : is_honest → AreSound content → IsErrOf result fault.Damaged
+      → ¬ (IsReadable content.settings.zone)
+  pub unreadable : is_honest → is_failed ≡ false → ¬ (IsReadable content.settings.zone)
+      → IsErrOf result fault.Damaged ⊎ IsErrOf result fault.Memory

@@ -22,7 +22,8 @@ is_from c asked = is_of c asked.message
 -- the answers to messages in turn
 abbrev pub answers_from : Settings → Zone → History → List Asked → List (List ℕ)
 answers_from settings zone h [] = []
-answers_from settings zone h (m ∷ ms) = answer_of settings zone h m ∷ answers_from settings zone (next_of settings h m) ms
+answers_from settings zone h (m ∷ ms) =
+    answer_of settings zone h m ∷ answers_from settings zone (next_of settings h m) ms
 
 -- what is asked
 abbrev pub meant : Asked → Message Fault
@@ -36,8 +37,8 @@ rendered settings zone asked reply = reply_text zone settings.rate asked.closes 
 abbrev pub answers_to : Settings → Zone → ℕ → List Asked → List (List ℕ)
 answers_to settings zone c ms = rendered_to meant (rendered settings zone) settings c ms
 
--- twin runs for a member: of equal length; at each place the messages are equal, or neither is the member's; and after each place
--- what is public and what waits for the member agree
+-- twin runs for a member: of equal length; at each place the messages are equal, or neither is the
+-- member's; and after each place what is public and what waits for the member agree
 abbrev pub TwinRuns : Settings → ℕ → List Asked → List Asked → Type 0
 TwinRuns settings c left right = AreTwins meant settings c left right
 
@@ -48,13 +49,15 @@ at_places c (m ∷ ms) [] = []
 at_places c (m ∷ ms) (r ∷ rs) = (if is_from c m then r ∷ [] else []) ++ at_places c ms rs
 
 -- messages answered in turn, each over what the one before left
-abbrev pub InTurn : {K : Type 0} → (Asked → List ℕ → K → K → Type 0) → List Asked → List (List ℕ) → K → K → Type 0
+abbrev pub InTurn : {K : Type 0} → (Asked → List ℕ → K → K → Type 0) → List Asked → List (List ℕ)
+    → K → K → Type 0
 InTurn Step [] [] old new = new ≡ old
 InTurn {K} Step (m ∷ ms) (r ∷ rs) old new = (mid : K) × Step m r old mid × InTurn Step ms rs mid new
 InTurn Step [] (r ∷ rs) old new = ⊥
 InTurn Step (m ∷ ms) [] old new = ⊥
 
--- a run in which memory may have been refused: such a message is answered so, and leaves the history
+-- a run in which memory may have been refused: such a message is answered so, and leaves the
+-- history
 abbrev pub IsRun : Settings → Zone → History → List Asked → List (List ℕ) → History → Type 0
 IsRun settings zone h [] [] after = after ≡ h
 IsRun settings zone h (m ∷ ms) (r ∷ rs) after =
@@ -67,29 +70,38 @@ IsRun settings zone h (m ∷ ms) [] after = ⊥
 abbrev pub IsGoing : List ℕ → Type 0
 IsGoing reply = is_failure reply ≡ false
 
--- the replies to messages over a history whose tables the keep had, where none told of a failure: the tables are then those of
--- the history after them. Where a crash could leave the tables alone before, it can do so now
-pub record Ran {K : Type 0} (content : K → Tables) (is_failed : K → Bool) (may_leave : K → Tables → Type 0)
-    (settings : Settings) (zone : Zone) (h : History) (asked : List Asked) (replies : List (List ℕ)) (old new : K) : Type 0 where
+-- the replies to messages over a history whose tables the keep had, where none told of a failure:
+-- the tables are then those of the history after them. Where a crash could leave the tables alone
+-- before, it can do so now
+pub record Ran {K : Type 0} (content : K → Tables) (is_failed : K → Bool)
+    (may_leave : K → Tables → Type 0)
+    (settings : Settings) (zone : Zone) (h : History) (asked : List Asked) (replies : List (List ℕ))
+    (old new : K) : Type 0 where
   pub after : History
   pub run : IsRun settings zone h asked replies after
   pub history : IsHistory settings after
   pub tables : content new ≡ tables_of settings after
   pub same : is_failed new ≡ is_failed old
-  pub settled : ((t : Tables) → may_leave old t → t ≡ content old) → (t : Tables) → may_leave new t → t ≡ content new
+  pub settled : ((t : Tables) → may_leave old t → t ≡ content old) → (t : Tables) → may_leave new t
+      → t ≡ content new
 
--- the answers to messages over a store that has failed: whatever asks it for anything is answered so, or that memory was refused
+-- the answers to messages over a store that has failed: whatever asks it for anything is answered
+-- so, or that memory was refused
 abbrev pub AreDown : List Asked → List (List ℕ) → Type 0
 AreDown [] [] = Unit {0}
 AreDown (m ∷ ms) (r ∷ rs) =
-    (is_asking m.message ≡ true → (r ≡ fault_text fault.Store m.closes) ⊎ (r ≡ fault_text fault.Memory m.closes)) × AreDown ms rs
+    (is_asking m.message ≡ true → (r ≡ fault_text fault.Store m.closes)
+    ⊎ (r ≡ fault_text fault.Memory m.closes)) × AreDown ms rs
 AreDown [] (r ∷ rs) = ⊥
 AreDown (m ∷ ms) [] = ⊥
 
--- the replies to messages of which one told that the store failed: before the first such they are a run, and behind it the store
--- stays failed. A crash leaves the tables before its message or after it, so no message behind it has acted
-pub record Stopped {K : Type 0} (content : K → Tables) (is_failed : K → Bool) (may_leave : K → Tables → Type 0)
-    (settings : Settings) (zone : Zone) (h : History) (asked : List Asked) (replies : List (List ℕ)) (old new : K) : Type 0 where
+-- the replies to messages of which one told that the store failed: before the first such they are a
+-- run, and behind it the store stays failed. A crash leaves the tables before its message or after
+-- it, so no message behind it has acted
+pub record Stopped {K : Type 0} (content : K → Tables) (is_failed : K → Bool)
+    (may_leave : K → Tables → Type 0)
+    (settings : Settings) (zone : Zone) (h : History) (asked : List Asked) (replies : List (List ℕ))
+    (old new : K) : Type 0 where
   pub first : List Asked
   pub last : Asked
   pub later : List Asked

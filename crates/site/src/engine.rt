@@ -91,6 +91,14 @@ impl<K: Keep + Drop> Site<K> {
         })
     }
 
+    /// Gives the keep back.
+    pub fn end(self) -> K
+        ensures { result ≡ self.keep }
+    {
+        let Site { keep, .. } = self;
+        keep
+    }
+
     /// Answers a message, behind what the buffer holds. Where memory was refused or the keep fails,
     /// the buffer has what it had, and the answer is a text that stands ready.
     pub fn answer_into(
@@ -147,7 +155,8 @@ impl<K: Keep + Drop> Site<K> {
             → IfOk result (λ text. text.items ≡ record_text settings h) }
         ensures faults { Faults result (K.is_honest self.new.keep) (K.is_failed self.new.keep)
             (K.content self.old.keep) }
-        ensures read { IsRead K.content K.is_failed K.is_honest K.may_leave self.old.keep self.new.keep }
+        ensures read { IsRead K.content K.is_failed K.is_honest K.may_leave
+            self.old.keep self.new.keep }
         ensures zone { zone_of self.new ≡ zone_of self.old }
     {
         let mut text = Vec::new(self.alloc);
@@ -155,15 +164,17 @@ impl<K: Keep + Drop> Site<K> {
         Ok(text)
     }
 
-    /// Whether no command was accepted yet, but closes of an empty house at moment 0, which leave no
-    /// trace.
+    /// Whether no command was accepted yet, but closes of an empty house at moment 0, which leave
+    /// no trace.
     pub fn is_new(&mut self) -> Result<bool, KeepFault>
         ensures told { K.is_honest self.new.keep → (settings : TheSettings) (h : History)
             → IsHistory settings h → K.content self.old.keep ≡ tables_of settings h
-            → IfOk result (λ new. (new ≡ true) ↔ (K.content self.old.keep ≡ tables_of settings [])) }
+            → IfOk result (λ new.
+            (new ≡ true) ↔ (K.content self.old.keep ≡ tables_of settings [])) }
         ensures faults { Faults result (K.is_honest self.new.keep) (K.is_failed self.new.keep)
             (K.content self.old.keep) }
-        ensures read { IsRead K.content K.is_failed K.is_honest K.may_leave self.old.keep self.new.keep }
+        ensures read { IsRead K.content K.is_failed K.is_honest K.may_leave
+            self.old.keep self.new.keep }
         ensures zone { zone_of self.new ≡ zone_of self.old }
     {
         let counts = self.keep.counts()?;

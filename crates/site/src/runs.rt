@@ -48,7 +48,8 @@ impl<K: Keep + Drop> Site<K> {
             → (settings : TheSettings) → K.content self.old.keep ≡ tables_of settings []
             → IfOk result (λ v. AllByRecursion IsServed (map cow_slice_items v.items)
             → (c : ℕ) (second : List (List ℕ)) (firsts seconds : List TheAsked)
-            → AllZip IsAsked (map (λ m. m.items) messages.now) firsts → AllZip IsAsked second seconds
+            → AllZip IsAsked (map (λ m. m.items) messages.now) firsts
+            → AllZip IsAsked second seconds
             → TwinRuns settings c firsts seconds
             → at_places c firsts (map cow_slice_items v.items)
             ≡ answers_to settings (zone_of self.old) c seconds) }

@@ -1,4 +1,5 @@
--- What has acted: a message that only read, a command whose change was made or wasn't, and a message that asks for nothing.
+-- What has acted: a message that only read, a command whose change was made or wasn't, and a
+-- message that asks for nothing.
 use Rattle.std.proofs.Common.{◌≡◌, ◌⊎◌, ◌∷◌, ◌++◌, ◌∙◌, ℕ, List, Bool, true, false, refl, sym, ap, inl, inr}
 use Rattle.std.specs.Prelude.{Option, Result, Ok, Err, IfErr, OnOk, OnErr, IsErrOf}
 use Rattle.house.specs.Decided.{IsAccepted}
@@ -30,205 +31,278 @@ use Rattle.site_acts.specs.Acted.{IsActed, is_asking, is_entered}
 use Rattle.site_acts.specs.Entered.{IfTold, IsApplied}
 
 -- the tables of a history are sound
-held_is_sound : (t : Tables) (settings : Settings) (h : History) → IsHistory settings h → t ≡ tables_of settings h → AreSound t
+held_is_sound : (t : Tables) (settings : Settings) (h : History) → IsHistory settings h
+    → t ≡ tables_of settings h → AreSound t
 held_is_sound t settings h is e = rw e (rows_are_sound settings h is)
 
 -- a message that only read, and leaves the history
-pub acted_by_reading : {K : Type 0} (content : K → Tables) (is_failed : K → Bool) (is_honest : K → Type 0) (may_leave : K → Tables → Type 0)
-    (zone : Zone) (closes : Bool) (message : Message Fault) (result : Result (Unit {0}) KeepFault) (before after : List ℕ) (old new : K)
+pub acted_by_reading : {K : Type 0} (content : K → Tables) (is_failed : K → Bool)
+    (is_honest : K → Type 0) (may_leave : K → Tables → Type 0)
+    (zone : Zone) (closes : Bool) (message : Message Fault) (result : Result (Unit {0}) KeepFault)
+    (before after : List ℕ) (old new : K)
     → is_asking message ≡ true
-    → (is_honest new → (settings : Settings) (h : History) → IsHistory settings h → content old ≡ tables_of settings h
-    → OnOk result ((after ≡ before ++ reply_text zone settings.rate closes (reply settings h message)) × (next settings h message ≡ h) × (is_entered settings h message ≡ false)))
-    → OnOk result ((rate : ℕ) × (r : Reply Fault) × (after ≡ before ++ reply_text zone rate closes r))
+    → (is_honest new → (settings : Settings)
+    (h : History) → IsHistory settings h → content old ≡ tables_of settings h
+    → OnOk result ((after ≡ before
+    ++ reply_text zone settings.rate closes (reply settings h message))
+    × (next settings h message ≡ h) × (is_entered settings h message ≡ false)))
+    → OnOk result ((rate : ℕ) × (r : Reply Fault)
+    × (after ≡ before ++ reply_text zone rate closes r))
     → OnErr result (after ≡ before)
-    → Faults result (is_honest new) (is_failed new) (content old) → IsRead content is_failed is_honest may_leave old new
+    → Faults result (is_honest new) (is_failed new) (content old)
+    → IsRead content is_failed is_honest may_leave old new
     → IsActed content is_failed is_honest may_leave zone closes message result before after old new
-acted_by_reading content is_failed is_honest may_leave zone closes message (Ok u) before after old new asks value text same faults read = record {
-  told = λ honest settings h is e. (value honest settings h is e).0;
-  tables = λ honest settings h is e.
-      still_there u content is_failed is_honest may_leave old new faults read honest ∙ e ∙ ap (tables_of settings) (sym (value honest settings h is e).1);
-  text = text;
-  err = tt;
-  unmade = λ honest going. tt;
-  store = (λ e. (faults.store.0 e, asks), λ e. faults.store.1 e.0);
-  whole = λ honest settings h is e. faults.damaged honest (held_is_sound (content old) settings h is e);
-  damaged = λ honest sound wrong. absurd (faults.damaged honest sound wrong);
-  made = λ honest going. inl (read.same honest going);
-  honest = read.honest;
-  stays = read.stays;
-  asleep = λ e. absurd (let wrong : true ≡ false = sym asks ∙ e in cc);
-  left = λ honest going. tt;
-  crash = λ honest t may. inl (read.crash honest t may);
-  crash_next = λ honest settings h is e t may. inl (read.crash honest t may);
-  kept = λ honest settings h is e entered. absurd (let wrong : true ≡ false = sym entered ∙ (value honest settings h is e).2 in cc);
-}
-acted_by_reading content is_failed is_honest may_leave zone closes message (Err f) before after old new asks value text same faults read = record {
-  told = λ honest settings h is e. tt;
-  tables = λ honest settings h is e. tt;
-  text = tt;
-  err = same;
-  unmade = λ honest going. read.same honest going;
-  store = (λ e. (faults.store.0 e, asks), λ e. faults.store.1 e.0);
-  whole = λ honest settings h is e. faults.damaged honest (held_is_sound (content old) settings h is e);
-  damaged = λ honest sound wrong. absurd (faults.damaged honest sound wrong);
-  made = λ honest going. inl (read.same honest going);
-  honest = read.honest;
-  stays = read.stays;
-  asleep = λ e. absurd (let wrong : true ≡ false = sym asks ∙ e in cc);
-  left = λ honest going t may. read.crash honest t may;
-  crash = λ honest t may. inl (read.crash honest t may);
-  crash_next = λ honest settings h is e t may. inl (read.crash honest t may);
-  kept = λ honest settings h is e entered. tt;
-}
+acted_by_reading content is_failed is_honest may_leave zone closes message (Ok u) before after old
+    new asks value text same faults read = record {
+      told = λ honest settings h is e. (value honest settings h is e).0;
+      tables = λ honest settings h is e.
+          still_there u content is_failed is_honest may_leave old new faults read honest ∙ e
+          ∙ ap (tables_of settings) (sym (value honest settings h is e).1);
+      text = text;
+      err = tt;
+      unmade = λ honest going. tt;
+      store = (λ e. (faults.store.0 e, asks), λ e. faults.store.1 e.0);
+      whole = λ honest settings h is e. faults.damaged honest
+          (held_is_sound (content old) settings h is e);
+      damaged = λ honest sound wrong. absurd (faults.damaged honest sound wrong);
+      made = λ honest going. inl (read.same honest going);
+      honest = read.honest;
+      stays = read.stays;
+      asleep = λ e. absurd (let wrong : true ≡ false = sym asks ∙ e in cc);
+      left = λ honest going. tt;
+      crash = λ honest t may. inl (read.crash honest t may);
+      crash_next = λ honest settings h is e t may. inl (read.crash honest t may);
+      kept = λ honest settings h is e entered. absurd (let wrong : true ≡ false = sym entered
+          ∙ (value honest settings h is e).2 in cc);
+    }
+acted_by_reading content is_failed is_honest may_leave zone closes message (Err f) before after old
+    new asks value text same faults read = record {
+      told = λ honest settings h is e. tt;
+      tables = λ honest settings h is e. tt;
+      text = tt;
+      err = same;
+      unmade = λ honest going. read.same honest going;
+      store = (λ e. (faults.store.0 e, asks), λ e. faults.store.1 e.0);
+      whole = λ honest settings h is e. faults.damaged honest
+          (held_is_sound (content old) settings h is e);
+      damaged = λ honest sound wrong. absurd (faults.damaged honest sound wrong);
+      made = λ honest going. inl (read.same honest going);
+      honest = read.honest;
+      stays = read.stays;
+      asleep = λ e. absurd (let wrong : true ≡ false = sym asks ∙ e in cc);
+      left = λ honest going t may. read.crash honest t may;
+      crash = λ honest t may. inl (read.crash honest t may);
+      crash_next = λ honest settings h is e t may. inl (read.crash honest t may);
+      kept = λ honest settings h is e entered. tt;
+    }
 
 -- what is known of an accepted command before its bytes are written and its change is made
-pub record IsReady {K : Type 0} (content : K → Tables) (is_failed : K → Bool) (is_honest : K → Type 0) (may_leave : K → Tables → Type 0)
+pub record IsReady {K : Type 0} (content : K → Tables) (is_failed : K → Bool)
+    (is_honest : K → Type 0) (may_leave : K → Tables → Type 0)
     (moment caller : ℕ) (command : Command) (change : Change) (old mid : K) : Type 0 where
   pub going : is_failed mid ≡ false
   pub read : IsRead content is_failed is_honest may_leave old mid
   pub same : is_honest mid → content mid ≡ content old
-  pub accepted : is_honest mid → (settings : Settings) (h : History) → IsHistory settings h → content old ≡ tables_of settings h → IsAccepted settings h moment caller command change
+  pub accepted : is_honest mid → (settings : Settings) (h : History) → IsHistory settings h
+      → content old ≡ tables_of settings h → IsAccepted settings h moment caller command change
   pub fits : is_honest mid → AreSound (content old) → ChangeFits (content old) change
   pub own : is_honest mid → IsOf moment caller command change
 
 -- the keep hadn't failed before either
-not_before : {K : Type 0} (is_failed : K → Bool) (old mid : K) → (is_failed old ≡ true → is_failed mid ≡ true) → is_failed mid ≡ false → is_failed old ≡ false
+not_before : {K : Type 0} (is_failed : K → Bool) (old mid : K)
+    → (is_failed old ≡ true → is_failed mid ≡ true) → is_failed mid ≡ false → is_failed old ≡ false
 not_before is_failed old mid stays going = elim (by_test (is_failed old)) [
   | inl failed ↦ absurd (let wrong : true ≡ false = sym (stays failed) ∙ going in cc)
   | inr not ↦ not
 ]
 
 -- the tables after the change are those of the next history
-leads_on : (settings : Settings) (h : History) (moment caller : ℕ) (command : Command) (change : Change) (t : Tables) → t ≡ tables_of settings h
-    → IsAccepted settings h moment caller command change → changed t change ≡ tables_of settings (next {F = Fault} settings h (Order moment caller command))
+leads_on : (settings : Settings) (h : History) (moment caller : ℕ) (command : Command)
+    (change : Change) (t : Tables) → t ≡ tables_of settings h
+    → IsAccepted settings h moment caller command change
+    → changed t change ≡ tables_of settings
+    (next {F = Fault} settings h (Order moment caller command))
 leads_on settings h moment caller command change t e is =
-    ap (λ (x : Tables). changed x change) e ∙ is.leads ∙ ap (tables_of settings) (sym (next_accepted Fault settings h moment caller command is.accepted))
+    ap (λ (x : Tables). changed x change) e ∙ is.leads
+    ∙ ap (tables_of settings)
+    (sym (next_accepted Fault settings h moment caller command is.accepted))
 
 -- an accepted command
-pub acted_by_change : {K : Type 0} (content : K → Tables) (is_failed : K → Bool) (is_honest : K → Type 0) (may_leave : K → Tables → Type 0)
-    (zone : Zone) (closes : Bool) (moment caller : ℕ) (command : Command) (change : Change) (result : Result (Unit {0}) KeepFault) (before after : List ℕ) (old mid new : K)
+pub acted_by_change : {K : Type 0} (content : K → Tables) (is_failed : K → Bool)
+    (is_honest : K → Type 0) (may_leave : K → Tables → Type 0)
+    (zone : Zone) (closes : Bool) (moment caller : ℕ) (command : Command) (change : Change)
+    (result : Result (Unit {0}) KeepFault) (before after : List ℕ) (old mid new : K)
     → IsReady content is_failed is_honest may_leave moment caller command change old mid
-    → (is_honest new → (rate : ℕ) → IfTold (content mid) change (λ told. OnOk result (after ≡ before ++ reply_text zone rate closes (Done told))))
-    → OnOk result ((rate : ℕ) × (r : Reply Fault) × (after ≡ before ++ reply_text zone rate closes r))
+    → (is_honest new → (rate : ℕ)
+    → IfTold (content mid) change
+    (λ told. OnOk result (after ≡ before ++ reply_text zone rate closes (Done told))))
+    → OnOk result ((rate : ℕ) × (r : Reply Fault)
+    × (after ≡ before ++ reply_text zone rate closes r))
     → OnErr result (after ≡ before)
     → IsApplied content is_failed is_honest may_leave change result mid new
-    → IsActed content is_failed is_honest may_leave zone closes (Order moment caller command) result before after old new
-acted_by_change content is_failed is_honest may_leave zone closes moment caller command change (Ok u) before after old mid new ready value text same applied = record {
-  told = λ honest settings h is e.
-      let b = applied.honest honest in
-      let accepted = ready.accepted b settings h is e in
-      value honest settings.rate settings h is (ready.same b ∙ e) moment caller command accepted (ready.own b)
-      ∙ ap (λ (r : Reply Fault). before ++ reply_text zone settings.rate closes r) (sym (reply_accepted settings h moment caller command accepted.accepted));
-  tables = λ honest settings h is e.
-      let b = applied.honest honest in
-      applied.ok honest ∙ leads_on settings h moment caller command change (content mid) (ready.same b ∙ e) (ready.accepted b settings h is e);
-  text = text;
-  err = tt;
-  unmade = λ honest going. tt;
-  store = (λ e. cc, λ e. applied.faults.store.1 e.0);
-  whole = λ honest settings h is e wrong. cc;
-  damaged = λ honest sound wrong. cc;
-  made = λ honest going.
-      let b = applied.honest honest in
-      inr (change, ready.fits b, applied.ok honest ∙ ap (λ (x : Tables). changed x change) (ready.same b));
-  honest = λ honest. ready.read.honest (applied.honest honest);
-  stays = λ e. applied.stays (ready.read.stays e);
-  asleep = λ e. cc;
-  left = λ honest going. tt;
-  crash = λ honest t may.
-      let b = applied.honest honest in
-      inr (not_before is_failed old mid ready.read.stays ready.going, (change, ready.fits b, applied.kept honest t may ∙ applied.ok honest ∙ ap (λ (x : Tables). changed x change) (ready.same b)));
-  crash_next = λ honest settings h is e t may.
-      let b = applied.honest honest in
-      inr (
-        not_before is_failed old mid ready.read.stays ready.going,
-        applied.kept honest t may ∙ applied.ok honest ∙ leads_on settings h moment caller command change (content mid) (ready.same b ∙ e) (ready.accepted b settings h is e),
-      );
-  kept = λ honest settings h is e entered. applied.kept honest;
-}
-acted_by_change content is_failed is_honest may_leave zone closes moment caller command change (Err f) before after old mid new ready value text same applied = record {
-  told = λ honest settings h is e. tt;
-  tables = λ honest settings h is e. tt;
-  text = tt;
-  err = same;
-  unmade = λ honest going. applied.err honest going ∙ ready.same (applied.honest honest);
-  store = (λ e. (applied.faults.store.0 e, refl), λ e. applied.faults.store.1 e.0);
-  whole = λ honest settings h is e wrong.
-      let b = applied.honest honest in
-      let now : content mid ≡ tables_of settings h = ready.same b ∙ e in
-      applied.faults.damaged honest (held_is_sound (content mid) settings h is now) (rw now (ready.accepted b settings h is e).free) wrong;
-  damaged = λ honest sound wrong.
-      let b = applied.honest honest in
-      (change, ready.fits b sound, λ free. applied.faults.damaged honest (rw (ready.same b) sound) (rw (ready.same b) free) wrong);
-  made = λ honest going. inl (applied.err honest going ∙ ready.same (applied.honest honest));
-  honest = λ honest. ready.read.honest (applied.honest honest);
-  stays = λ e. applied.stays (ready.read.stays e);
-  asleep = λ e. cc;
-  left = λ honest going t may. elim (applied.crash honest t may) [
-    | inl could ↦ ready.read.crash (applied.honest honest) t could
-    | inr now ↦ absurd (let wrong : true ≡ false = sym now.1 ∙ going in cc)
-  ];
-  crash = λ honest t may. elim (applied.crash honest t may) [
-    | inl could ↦ inl (ready.read.crash (applied.honest honest) t could)
-    | inr now ↦ inr (not_before is_failed old mid ready.read.stays ready.going, (change, ready.fits (applied.honest honest), now.2 ∙ ap (λ (x : Tables). changed x change) (ready.same (applied.honest honest))))
-  ];
-  crash_next = λ honest settings h is e t may. elim (applied.crash honest t may) [
-    | inl could ↦ inl (ready.read.crash (applied.honest honest) t could)
-    | inr now ↦ inr (
-      not_before is_failed old mid ready.read.stays ready.going,
-      now.2 ∙ leads_on settings h moment caller command change (content mid) (ready.same (applied.honest honest) ∙ e) (ready.accepted (applied.honest honest) settings h is e),
-    )
-  ];
-  kept = λ honest settings h is e entered. tt;
-}
+    → IsActed content is_failed is_honest may_leave zone closes (Order moment caller command) result
+    before after old new
+acted_by_change content is_failed is_honest may_leave zone closes moment caller command change
+    (Ok u) before after old mid new ready value text same applied = record {
+      told = λ honest settings h is e.
+          let b = applied.honest honest in
+          let accepted = ready.accepted b settings h is e in
+          value honest settings.rate settings h is (ready.same b ∙ e) moment caller command accepted
+          (ready.own b)
+          ∙ ap (λ (r : Reply Fault). before ++ reply_text zone settings.rate closes r)
+          (sym (reply_accepted settings h moment caller command accepted.accepted));
+      tables = λ honest settings h is e.
+          let b = applied.honest honest in
+          applied.ok honest ∙ leads_on settings h moment caller command change (content mid)
+          (ready.same b ∙ e) (ready.accepted b settings h is e);
+      text = text;
+      err = tt;
+      unmade = λ honest going. tt;
+      store = (λ e. cc, λ e. applied.faults.store.1 e.0);
+      whole = λ honest settings h is e wrong. cc;
+      damaged = λ honest sound wrong. cc;
+      made = λ honest going.
+          let b = applied.honest honest in
+          inr (
+            change,
+            ready.fits b,
+            applied.ok honest
+                ∙ ap (λ (x : Tables). changed x change) (ready.same b),
+          );
+      honest = λ honest. ready.read.honest (applied.honest honest);
+      stays = λ e. applied.stays (ready.read.stays e);
+      asleep = λ e. cc;
+      left = λ honest going. tt;
+      crash = λ honest t may.
+          let b = applied.honest honest in
+          inr (
+            not_before is_failed old mid ready.read.stays
+                ready.going,
+            (
+              change,
+              ready.fits b,
+              applied.kept honest t may ∙ applied.ok honest
+                  ∙ ap (λ (x : Tables). changed x change) (ready.same b),
+            ),
+          );
+      crash_next = λ honest settings h is e t may.
+          let b = applied.honest honest in
+          inr (
+            not_before is_failed old mid ready.read.stays ready.going,
+            applied.kept honest t may ∙ applied.ok honest
+                ∙ leads_on settings h moment caller command change (content mid) (ready.same b
+                ∙ e) (ready.accepted b settings h is e),
+          );
+      kept = λ honest settings h is e entered. applied.kept honest;
+    }
+acted_by_change content is_failed is_honest may_leave zone closes moment caller command change
+    (Err f) before after old mid new ready value text same applied = record {
+      told = λ honest settings h is e. tt;
+      tables = λ honest settings h is e. tt;
+      text = tt;
+      err = same;
+      unmade = λ honest going. applied.err honest going ∙ ready.same (applied.honest honest);
+      store = (λ e. (applied.faults.store.0 e, refl), λ e. applied.faults.store.1 e.0);
+      whole = λ honest settings h is e wrong.
+          let b = applied.honest honest in
+          let now : content mid ≡ tables_of settings h = ready.same b ∙ e in
+          applied.faults.damaged honest (held_is_sound (content mid) settings h is now)
+          (rw now (ready.accepted b settings h is e).free) wrong;
+      damaged = λ honest sound wrong.
+          let b = applied.honest honest in (
+            change,
+            ready.own b,
+            ready.fits b sound,
+            λ free. applied.faults.damaged honest
+                (rw (ready.same b) sound) (rw (ready.same b) free) wrong,
+          );
+      made = λ honest going. inl (applied.err honest going ∙ ready.same (applied.honest honest));
+      honest = λ honest. ready.read.honest (applied.honest honest);
+      stays = λ e. applied.stays (ready.read.stays e);
+      asleep = λ e. cc;
+      left = λ honest going t may. elim (applied.crash honest t may) [
+        | inl could ↦ ready.read.crash (applied.honest honest) t could
+        | inr now ↦ absurd (let wrong : true ≡ false = sym now.1 ∙ going in cc)
+      ];
+      crash = λ honest t may. elim (applied.crash honest t may) [
+        | inl could ↦ inl (ready.read.crash (applied.honest honest) t could)
+        | inr now ↦ inr (
+          not_before is_failed old mid ready.read.stays
+              ready.going,
+          (
+            change,
+            ready.fits (applied.honest honest),
+            now.2
+                ∙ ap (λ (x : Tables). changed x change) (ready.same (applied.honest honest)),
+          ),
+        )
+      ];
+      crash_next = λ honest settings h is e t may. elim (applied.crash honest t may) [
+        | inl could ↦ inl (ready.read.crash (applied.honest honest) t could)
+        | inr now ↦ inr (
+          not_before is_failed old mid ready.read.stays ready.going,
+          now.2 ∙ leads_on settings h moment caller command change (content mid)
+              (ready.same (applied.honest honest)
+              ∙ e) (ready.accepted (applied.honest honest) settings h is e),
+        )
+      ];
+      kept = λ honest settings h is e entered. tt;
+    }
 
 -- a message that asks for nothing
-pub acted_by_nothing : {K : Type 0} (content : K → Tables) (is_failed : K → Bool) (is_honest : K → Type 0) (may_leave : K → Tables → Type 0)
-    (zone : Zone) (closes : Bool) (caller : Option ℕ) (fault : Fault) (result : Result (Unit {0}) KeepFault) (before after : List ℕ) (k : K)
+pub acted_by_nothing : {K : Type 0} (content : K → Tables) (is_failed : K → Bool)
+    (is_honest : K → Type 0) (may_leave : K → Tables → Type 0)
+    (zone : Zone) (closes : Bool) (caller : Option ℕ) (fault : Fault)
+    (result : Result (Unit {0}) KeepFault) (before after : List ℕ) (k : K)
     → ((rate : ℕ) → OnOk result (after ≡ before ++ reply_text zone rate closes (Faulty fault)))
     → OnErr result (after ≡ before) → IfErr result (λ f. f ≡ Memory)
-    → IsActed content is_failed is_honest may_leave zone closes (Broken caller fault) result before after k k
+    → IsActed content is_failed is_honest may_leave zone closes (Broken caller fault) result before
+    after k k
 unfolding next reply
-acted_by_nothing content is_failed is_honest may_leave zone closes caller fault (Ok u) before after k value same memory = record {
-  told = λ honest settings h is e. value settings.rate;
-  tables = λ honest settings h is e. e;
-  text = (0, Faulty fault, value 0);
-  err = tt;
-  unmade = λ honest going. tt;
-  store = (λ e. cc, λ e. absurd (let wrong : false ≡ true = e.1 in cc));
-  whole = λ honest settings h is e wrong. cc;
-  damaged = λ honest sound wrong. cc;
-  made = λ honest going. inl refl;
-  honest = λ honest. honest;
-  stays = λ e. e;
-  asleep = λ e. refl;
-  left = λ honest going. tt;
-  crash = λ honest t may. inl may;
-  crash_next = λ honest settings h is e t may. inl may;
-  kept = λ honest settings h is e entered. cc;
-}
-acted_by_nothing content is_failed is_honest may_leave zone closes caller fault (Err f) before after k value same memory = record {
-  told = λ honest settings h is e. tt;
-  tables = λ honest settings h is e. tt;
-  text = tt;
-  err = same;
-  unmade = λ honest going. refl;
-  store = (λ e. cc, λ e. absurd (let wrong : false ≡ true = e.1 in cc));
-  whole = λ honest settings h is e wrong. cc;
-  damaged = λ honest sound wrong. cc;
-  made = λ honest going. inl refl;
-  honest = λ honest. honest;
-  stays = λ e. e;
-  asleep = λ e. refl;
-  left = λ honest going t may. may;
-  crash = λ honest t may. inl may;
-  crash_next = λ honest settings h is e t may. inl may;
-  kept = λ honest settings h is e entered. tt;
-}
+acted_by_nothing content is_failed is_honest may_leave zone closes caller fault (Ok u) before after
+    k value same memory = record {
+      told = λ honest settings h is e. value settings.rate;
+      tables = λ honest settings h is e. e;
+      text = (0, Faulty fault, value 0);
+      err = tt;
+      unmade = λ honest going. tt;
+      store = (λ e. cc, λ e. absurd (let wrong : false ≡ true = e.1 in cc));
+      whole = λ honest settings h is e wrong. cc;
+      damaged = λ honest sound wrong. cc;
+      made = λ honest going. inl refl;
+      honest = λ honest. honest;
+      stays = λ e. e;
+      asleep = λ e. refl;
+      left = λ honest going. tt;
+      crash = λ honest t may. inl may;
+      crash_next = λ honest settings h is e t may. inl may;
+      kept = λ honest settings h is e entered. cc;
+    }
+acted_by_nothing content is_failed is_honest may_leave zone closes caller fault (Err f) before after
+    k value same memory = record {
+      told = λ honest settings h is e. tt;
+      tables = λ honest settings h is e. tt;
+      text = tt;
+      err = same;
+      unmade = λ honest going. refl;
+      store = (λ e. cc, λ e. absurd (let wrong : false ≡ true = e.1 in cc));
+      whole = λ honest settings h is e wrong. cc;
+      damaged = λ honest sound wrong. cc;
+      made = λ honest going. inl refl;
+      honest = λ honest. honest;
+      stays = λ e. e;
+      asleep = λ e. refl;
+      left = λ honest going t may. may;
+      crash = λ honest t may. inl may;
+      crash_next = λ honest settings h is e t may. inl may;
+      kept = λ honest settings h is e entered. tt;
+    }
 
 -- the text of one reply is that of some reply
-pub some_text : (result : Result (Unit {0}) KeepFault) (zone : Zone) (rate : ℕ) (closes : Bool) (r : Reply Fault) (before after : List ℕ)
+pub some_text : (result : Result (Unit {0}) KeepFault) (zone : Zone) (rate : ℕ) (closes : Bool)
+    (r : Reply Fault) (before after : List ℕ)
     → OnOk result (after ≡ before ++ reply_text zone rate closes r)
-    → OnOk result ((rate : ℕ) × (r : Reply Fault) × (after ≡ before ++ reply_text zone rate closes r))
+    → OnOk result ((rate : ℕ) × (r : Reply Fault)
+    × (after ≡ before ++ reply_text zone rate closes r))
 some_text (Ok u) zone rate closes r before after e = (rate, r, e)
 some_text (Err f) zone rate closes r before after e = tt

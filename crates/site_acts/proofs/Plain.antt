@@ -14,7 +14,8 @@ plain_fits (Denied refusal) e = tt
 plain_fits (Shows page) e = cc
 plain_fits (Faulty fault) e = tt
 
-pub plain_text : (zone : Zone) (rate other : ℕ) (closes : Bool) (r : Reply Fault) → is_page r ≡ false → reply_text zone rate closes r ≡ reply_text zone other closes r
+pub plain_text : (zone : Zone) (rate other : ℕ) (closes : Bool) (r : Reply Fault)
+    → is_page r ≡ false → reply_text zone rate closes r ≡ reply_text zone other closes r
 unfolding reply_text
 plain_text zone rate other closes (Done told) e = refl
 plain_text zone rate other closes (Denied refusal) e = refl

@@ -26,12 +26,15 @@ use Rattle.site_replies.specs.Texts.{reply_text}
 use Rattle.site_acts.specs.Acted.{is_entered}
 
 -- a buffer that is cut to its old length has what it had
-pub cut_back : (before text after cut : List ℕ) (n : ℕ) → n ≡ length before → after ≡ before ++ text → cut ≡ take n after → cut ≡ before
+pub cut_back : (before text after cut : List ℕ) (n : ℕ) → n ≡ length before → after ≡ before ++ text
+    → cut ≡ take n after → cut ≡ before
 cut_back before text after cut n at more is = is ∙ rw (at, more) (take-append_seam before text)
 
 -- the faults of a call stay those of what follows where that only lacks memory
-pub faults_after : {A : Type 0} (x : A) (result : Result (Unit {0}) KeepFault) (is_honest : Type 0) (is_failed : Bool) (content : Tables)
-    → Faults (Ok x) is_honest is_failed content → IfErr result (λ f. f ≡ Memory) → Faults result is_honest is_failed content
+pub faults_after : {A : Type 0} (x : A) (result : Result (Unit {0}) KeepFault) (is_honest : Type 0)
+    (is_failed : Bool) (content : Tables)
+    → Faults (Ok x) is_honest is_failed content → IfErr result (λ f. f ≡ Memory)
+    → Faults result is_honest is_failed content
 faults_after x (Ok u) is_honest is_failed content faults memory = record {
   store = (λ e. cc, λ e. absurd (let wrong : Ok x ≡ Err Store = faults.store.1 e in cc));
   damaged = λ honest sound wrong. cc;
@@ -42,18 +45,26 @@ faults_after x (Err f) is_honest is_failed content faults memory = record {
 }
 
 -- one fault in results of two types
-same_fault : (A B : Type 0) (f g : KeepFault) → IsErrOf {T = A} (Err f) g → IsErrOf {T = B} (Err f) g
+same_fault : (A B : Type 0) (f g : KeepFault) → IsErrOf {T = A} (Err f) g
+    → IsErrOf {T = B} (Err f) g
 same_fault A B f g e = let same : f ≡ g = cc in ap Err same
 
-pub faults_err : (A B : Type 0) (f : KeepFault) (is_honest : Type 0) (is_failed : Bool) (content : Tables)
-    → Faults {A = A} (Err f) is_honest is_failed content → Faults {A = B} (Err f) is_honest is_failed content
+pub faults_err : (A B : Type 0) (f : KeepFault) (is_honest : Type 0) (is_failed : Bool)
+    (content : Tables)
+    → Faults {A = A} (Err f) is_honest is_failed content
+    → Faults {A = B} (Err f) is_honest is_failed content
 faults_err A B f is_honest is_failed content faults = record {
-  store = (λ e. faults.store.0 (same_fault B A f Store e), λ e. same_fault A B f Store (faults.store.1 e));
+  store = (
+    λ e. faults.store.0 (same_fault B A f Store e),
+    λ e. same_fault A B f Store
+        (faults.store.1 e),
+  );
   damaged = λ honest sound wrong. faults.damaged honest sound (same_fault B A f Damaged wrong);
 }
 
 -- a keep that is as it was
-pub left_alone : {K : Type 0} (content : K → Tables) (is_failed : K → Bool) (is_honest : K → Type 0) (may_leave : K → Tables → Type 0) (k : K)
+pub left_alone : {K : Type 0} (content : K → Tables) (is_failed : K → Bool) (is_honest : K → Type 0)
+    (may_leave : K → Tables → Type 0) (k : K)
     → IsRead content is_failed is_honest may_leave k k
 left_alone content is_failed is_honest may_leave k = record {
   same = λ honest going. refl;
@@ -63,29 +74,44 @@ left_alone content is_failed is_honest may_leave k = record {
 }
 
 -- a refused command
-pub refused_reads : (result : Result (Unit {0}) KeepFault) (zone : Zone) (closes : Bool) (settings : Settings) (h : History) (moment caller : ℕ) (command : Command) (refusal : Refusal) (before after : List ℕ)
+pub refused_reads : (result : Result (Unit {0}) KeepFault) (zone : Zone) (closes : Bool)
+    (settings : Settings) (h : History) (moment caller : ℕ) (command : Command) (refusal : Refusal)
+    (before after : List ℕ)
     → verdict settings h moment caller command ≡ Some refusal
     → ((rate : ℕ) → OnOk result (after ≡ before ++ reply_text zone rate closes (Denied refusal)))
-    → OnOk result ((after ≡ before ++ reply_text zone settings.rate closes (reply settings h (Order moment caller command)))
-    × (next {F = Fault} settings h (Order moment caller command) ≡ h) × (is_entered settings h (Order moment caller command) ≡ false))
-refused_reads (Ok u) zone closes settings h moment caller command refusal before after refused text = (
-  text settings.rate ∙ ap (λ (r : Reply Fault). before ++ reply_text zone settings.rate closes r) (sym (reply_refused settings h moment caller command refusal refused)),
-  next_refused Fault settings h moment caller command refusal refused,
-  rw refused refl,
-)
-refused_reads (Err f) zone closes settings h moment caller command refusal before after refused text = tt
+    → OnOk result ((after ≡ before
+    ++ reply_text zone settings.rate closes (reply settings h (Order moment caller command)))
+    × (next {F = Fault} settings h (Order moment caller command) ≡ h)
+    × (is_entered settings h (Order moment caller command) ≡ false))
+refused_reads (Ok u) zone closes settings h moment caller command refusal before after refused
+    text = (
+      text settings.rate ∙ ap (λ (r : Reply Fault). before ++ reply_text zone settings.rate closes
+          r)
+          (sym (reply_refused settings h moment caller command refusal refused)),
+      next_refused Fault settings h moment caller command refusal refused,
+      rw refused refl,
+    )
+refused_reads (Err f) zone closes settings h moment caller command refusal before after refused
+    text = tt
 
 -- the rate that a keep has is that of the settings
-pub rate_is : (t : Tables) (kept settings : Settings) (h : History) → kept ≡ t.settings → t ≡ tables_of settings h → kept.rate ≡ settings.rate
+pub rate_is : (t : Tables) (kept settings : Settings) (h : History) → kept ≡ t.settings
+    → t ≡ tables_of settings h → kept.rate ≡ settings.rate
 unfolding tables_of
-rate_is t kept settings h is e = ap (λ (s : Settings). s.rate) (is ∙ ap (λ (u : Tables). u.settings) e)
+rate_is t kept settings h is e = ap (λ (s : Settings). s.rate)
+    (is ∙ ap (λ (u : Tables). u.settings) e)
 
 -- a read
-pub shown_reads : (result : Result (Unit {0}) KeepFault) (zone : Zone) (closes : Bool) (settings : Settings) (h : History) (caller : ℕ) (query : Query) (page : Page) (rate : ℕ) (before after : List ℕ)
+pub shown_reads : (result : Result (Unit {0}) KeepFault) (zone : Zone) (closes : Bool)
+    (settings : Settings) (h : History) (caller : ℕ) (query : Query) (page : Page) (rate : ℕ)
+    (before after : List ℕ)
     → page ≡ page_of settings h caller query → rate ≡ settings.rate
     → OnOk result (after ≡ before ++ reply_text zone rate closes (Shows page))
-    → OnOk result ((after ≡ before ++ reply_text zone settings.rate closes (reply settings h (Read caller query)))
-    × (next {F = Fault} settings h (Read caller query) ≡ h) × (is_entered settings h (Read caller query) ≡ false))
+    → OnOk result ((after ≡ before
+    ++ reply_text zone settings.rate closes (reply settings h (Read caller query)))
+    × (next {F = Fault} settings h (Read caller query) ≡ h)
+    × (is_entered settings h (Read caller query) ≡ false))
 unfolding next reply
-shown_reads (Ok u) zone closes settings h caller query page rate before after is at text = (rw (← is, ← at) text, refl, refl)
+shown_reads (Ok u) zone closes settings h caller query page rate before after is at text =
+    (rw (← is, ← at) text, refl, refl)
 shown_reads (Err f) zone closes settings h caller query page rate before after is at text = tt

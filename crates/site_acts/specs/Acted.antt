@@ -1,5 +1,6 @@
 -- What a message does, and what it is replied. Start here.
 use Rattle.std.specs.Prelude.{◌≡◌, ◌⊎◌, ◌↔◌, ◌++◌, ℕ, List, Bool, true, false, Result, OnOk, OnErr, IsErrOf, is_none}
+use Rattle.house.specs.Own.{IsOf}
 use Rattle.house_rows.specs.declared.change.Change.{Change}
 use Rattle.house_rows.specs.declared.fault.KeepFault.{KeepFault}
 use Rattle.house_rows.specs.declared.fault.KeepFault.TheVariants.{Store, Damaged}
@@ -26,7 +27,8 @@ is_asking (Broken caller fault) = false
 
 -- whether it is a command that is accepted
 abbrev pub is_entered : Settings → History → Message Fault → Bool
-is_entered settings h (Order moment caller command) = is_none (verdict settings h moment caller command)
+is_entered settings h (Order moment caller command) =
+    is_none (verdict settings h moment caller command)
 is_entered settings h (Read caller query) = false
 is_entered settings h (Broken caller fault) = false
 
@@ -34,43 +36,62 @@ is_entered settings h (Broken caller fault) = false
 abbrev pub IsMade : Tables → Tables → Type 0
 IsMade t now = (change : Change) × (AreSound t → ChangeFits t change) × (now ≡ changed t change)
 
--- a command whose change fits, but whose new key is taken: in tables that belong to no history
+-- a command whose own change fits, but whose new key is taken: in tables that belong to no history
 abbrev pub IsTaken : Tables → Message Fault → Type 0
-IsTaken t (Order moment caller command) = (change : Change) × ChangeFits t change × ¬ (IsFree t change)
+IsTaken t (Order moment caller command) =
+    (change : Change) × IsOf moment caller command change × ChangeFits t change
+    × ¬ (IsFree t change)
 IsTaken t (Read caller query) = ⊥
 IsTaken t (Broken caller fault) = ⊥
 
--- what a message does to a keep, and which bytes are appended for it; `old` and `new` are the keep, `before` and `after` the bytes
-pub record IsActed {K : Type 0} (content : K → Tables) (is_failed : K → Bool) (is_honest : K → Type 0) (may_leave : K → Tables → Type 0)
-    (zone : Zone) (closes : Bool) (message : Message Fault) (result : Result (Unit {0}) KeepFault) (before after : List ℕ) (old new : K) : Type 0 where
-  -- over every history whose tables the keep has: the reply of the definition, and the tables of the next history
-  pub told : is_honest new → (settings : Settings) (h : History) → IsHistory settings h → content old ≡ tables_of settings h
-      → OnOk result (after ≡ before ++ reply_text zone settings.rate closes (reply settings h message))
-  pub tables : is_honest new → (settings : Settings) (h : History) → IsHistory settings h → content old ≡ tables_of settings h
+-- what a message does to a keep, and which bytes are appended for it; `old` and `new` are the keep,
+-- `before` and `after` the bytes
+pub record IsActed {K : Type 0} (content : K → Tables) (is_failed : K → Bool)
+    (is_honest : K → Type 0) (may_leave : K → Tables → Type 0)
+    (zone : Zone) (closes : Bool) (message : Message Fault) (result : Result (Unit {0}) KeepFault)
+    (before after : List ℕ) (old new : K) : Type 0 where
+  -- over every history whose tables the keep has: the reply of the definition, and the tables of
+  -- the next history
+  pub told : is_honest new → (settings : Settings) (h : History) → IsHistory settings h
+      → content old ≡ tables_of settings h
+      → OnOk result (after ≡ before
+      ++ reply_text zone settings.rate closes (reply settings h message))
+  pub tables : is_honest new → (settings : Settings) (h : History) → IsHistory settings h
+      → content old ≡ tables_of settings h
       → OnOk result (content new ≡ tables_of settings (next settings h message))
   -- over any tables what is appended is the text of a reply
-  pub text : OnOk result ((rate : ℕ) × (r : Reply Fault) × (after ≡ before ++ reply_text zone rate closes r))
+  pub text : OnOk result ((rate : ℕ) × (r : Reply Fault)
+      × (after ≡ before ++ reply_text zone rate closes r))
   -- a call that fails appends nothing, and has not acted unless the store failed
   pub err : OnErr result (after ≡ before)
   pub unmade : is_honest new → is_failed new ≡ false → OnErr result (content new ≡ content old)
   pub store : IsErrOf result Store ↔ ((is_failed new ≡ true) × (is_asking message ≡ true))
   -- over the tables of a history no row is damaged, and over sound ones only a key may be taken
-  pub whole : is_honest new → (settings : Settings) (h : History) → IsHistory settings h → content old ≡ tables_of settings h
+  pub whole : is_honest new → (settings : Settings) (h : History) → IsHistory settings h
+      → content old ≡ tables_of settings h
       → ¬ (IsErrOf result Damaged)
-  pub damaged : is_honest new → AreSound (content old) → IsErrOf result Damaged → IsTaken (content old) message
+  pub damaged : is_honest new → AreSound (content old) → IsErrOf result Damaged
+      → IsTaken (content old) message
   -- over any tables nothing is changed but by a change
-  pub made : is_honest new → is_failed new ≡ false → (content new ≡ content old) ⊎ IsMade (content old) (content new)
+  pub made : is_honest new → is_failed new ≡ false → (content new ≡ content old)
+      ⊎ IsMade (content old) (content new)
   pub honest : is_honest new → is_honest old
   pub stays : is_failed old ≡ true → is_failed new ≡ true
   pub asleep : is_asking message ≡ false → new ≡ old
   -- after a fault a crash leaves what it could have left before, unless the store failed
-  pub left : is_honest new → is_failed new ≡ false → OnErr result ((t : Tables) → may_leave new t → may_leave old t)
-  -- a crash leaves what it could have left before, or the tables with one change, those of the next history
+  pub left : is_honest new → is_failed new ≡ false
+      → OnErr result ((t : Tables) → may_leave new t → may_leave old t)
+  -- a crash leaves what it could have left before, or the tables with one change, those of the next
+  -- history
   pub crash : is_honest new → (t : Tables) → may_leave new t
       → may_leave old t ⊎ ((is_failed old ≡ false) × IsMade (content old) t)
-  pub crash_next : is_honest new → (settings : Settings) (h : History) → IsHistory settings h → content old ≡ tables_of settings h
+  pub crash_next : is_honest new → (settings : Settings) (h : History) → IsHistory settings h
+      → content old ≡ tables_of settings h
       → (t : Tables) → may_leave new t
-      → may_leave old t ⊎ ((is_failed old ≡ false) × (t ≡ tables_of settings (next settings h message)))
+      → may_leave old t ⊎ ((is_failed old ≡ false)
+      × (t ≡ tables_of settings (next settings h message)))
   -- and where a command was accepted and answered, those alone
-  pub kept : is_honest new → (settings : Settings) (h : History) → IsHistory settings h → content old ≡ tables_of settings h
-      → is_entered settings h message ≡ true → OnOk result ((t : Tables) → may_leave new t → t ≡ content new)
+  pub kept : is_honest new → (settings : Settings) (h : History) → IsHistory settings h
+      → content old ≡ tables_of settings h
+      → is_entered settings h message ≡ true
+      → OnOk result ((t : Tables) → may_leave new t → t ≡ content new)

@@ -23,14 +23,18 @@ abbrev pub is_page : Reply Fault → Bool
 is_page (Shows page) = true
 is_page _ = false
 
--- what is told of an accepted command whose change it is has the property, over every history whose tables these are
+-- what is told of an accepted command whose change it is has the property, over every history whose
+-- tables these are
 abbrev pub IfTold : Tables → Change → (Told → Type 0) → Type 0
-IfTold t change P = (settings : Settings) (h : History) → IsHistory settings h → t ≡ tables_of settings h
-    → (moment caller : ℕ) (command : Command) → IsAccepted settings h moment caller command change → IsOf moment caller command change
+IfTold t change P = (settings : Settings) (h : History) → IsHistory settings h
+    → t ≡ tables_of settings h
+    → (moment caller : ℕ) (command : Command) → IsAccepted settings h moment caller command change
+    → IsOf moment caller command change
     → P (told settings (entry moment caller command ∷ h) moment caller command h)
 
 -- what a keep promises of making a change
-pub record IsApplied {K : Type 0} (content : K → Tables) (is_failed : K → Bool) (is_honest : K → Type 0) (may_leave : K → Tables → Type 0)
+pub record IsApplied {K : Type 0} (content : K → Tables) (is_failed : K → Bool)
+    (is_honest : K → Type 0) (may_leave : K → Tables → Type 0)
     (change : Change) (result : Result (Unit {0}) KeepFault) (old new : K) : Type 0 where
   pub ok : is_honest new → OnOk result (content new ≡ changed (content old) change)
   pub err : is_honest new → is_failed new ≡ false → OnErr result (content new ≡ content old)

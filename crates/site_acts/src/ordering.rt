@@ -16,8 +16,8 @@ use house_rows::{Change, Command, Keep, KeepFault, Reply};
 use site_replies::ReplyWriter;
 use site_told::tell;
 
-/// Carries out a command, and appends the bytes of its answer. After an `Err` the buffer has what it
-/// had.
+/// Carries out a command, and appends the bytes of its answer. After an `Err` the buffer has what
+/// it had.
 pub(crate) fn order<K: Keep>(
     keep: &mut K,
     writer: &mut ReplyWriter,
@@ -50,8 +50,9 @@ fn enter<K: Keep>(
     requires going { K.is_failed keep.old ≡ false }
     requires fits { K.is_honest keep.old → AreSound (K.content keep.old)
         → ChangeFits (K.content keep.old) change.now }
-    ensures told { K.is_honest keep.new → (rate : ℕ) → IfTold (K.content keep.old) change.now (λ told.
-        OnOk result (out.new.items ≡ out.old.items ++ reply_text writer.old.zone rate closes (Done told))) }
+    ensures told { K.is_honest keep.new → (rate : ℕ)
+        → IfTold (K.content keep.old) change.now (λ told. OnOk result (out.new.items
+        ≡ out.old.items ++ reply_text writer.old.zone rate closes (Done told))) }
     ensures text { OnOk result ((rate : ℕ) × (r : TheReply Fault)
         × (out.new.items ≡ out.old.items ++ reply_text writer.old.zone rate closes r)) }
     ensures err { OnErr result (out.new.items ≡ out.old.items) }
@@ -79,12 +80,14 @@ fn foretell<K: Keep>(
     out: &mut Vec<u8>,
 ) -> Result<(), KeepFault>
     requires going { K.is_failed keep.old ≡ false }
-    ensures told { K.is_honest keep.new → (rate : ℕ) → IfTold (K.content keep.old) change.now (λ told.
-        OnOk result (out.new.items ≡ out.old.items ++ reply_text writer.old.zone rate closes (Done told))) }
+    ensures told { K.is_honest keep.new → (rate : ℕ)
+        → IfTold (K.content keep.old) change.now (λ told. OnOk result (out.new.items
+        ≡ out.old.items ++ reply_text writer.old.zone rate closes (Done told))) }
     ensures text { OnOk result ((rate : ℕ) × (r : TheReply Fault)
         × (out.new.items ≡ out.old.items ++ reply_text writer.old.zone rate closes r)) }
     ensures err { OnErr result (out.new.items ≡ out.old.items) }
-    ensures faults { Faults result (K.is_honest keep.new) (K.is_failed keep.new) (K.content keep.old) }
+    ensures faults { Faults result (K.is_honest keep.new) (K.is_failed keep.new)
+        (K.content keep.old) }
     ensures read { IsRead K.content K.is_failed K.is_honest K.may_leave keep.old keep.new }
     ensures zone { writer.new.zone ≡ writer.old.zone }
 {

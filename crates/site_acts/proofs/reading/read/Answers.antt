@@ -10,29 +10,41 @@ returns-in_err-rate-clause-acted g c =
     let exit = err_from_is_err_and c.from_residual.result c.from_residual.ensures.1 in
     let fault = c.in_err-rate.field-0.0 in
     rw (exit.1, exit.2) (
-    acted_by_reading g.K.Keep.content g.K.Keep.is_failed g.K.Keep.is_honest g.K.Keep.may_leave c.args.writer.now.zone c.args.closes _
+    acted_by_reading g.K.Keep.content g.K.Keep.is_failed g.K.Keep.is_honest g.K.Keep.may_leave
+    c.args.writer.now.zone c.args.closes _
     (Err fault) c.args.out.now.items c.args.out.now.items c.args.keep.now c.args.keep.now refl
     (λ honest settings h is e. tt) tt refl (faults_err _ _ fault _ _ _ c.in_err-rate.ensures.faults)
-    (left_alone g.K.Keep.content g.K.Keep.is_failed g.K.Keep.is_honest g.K.Keep.may_leave c.args.keep.now)
+    (left_alone g.K.Keep.content g.K.Keep.is_failed g.K.Keep.is_honest g.K.Keep.may_leave
+    c.args.keep.now)
     )
 
 pub returns-in_err-page-clause-acted : goal.returns-in_err-page-clause-acted
 returns-in_err-page-clause-acted g c =
-    let exit = err_from_is_err_and c.from_residual-in_err-page.result c.from_residual-in_err-page.ensures.1 in
+    let exit = err_from_is_err_and c.from_residual-in_err-page.result
+    c.from_residual-in_err-page.ensures.1 in
     let fault = c.in_err-page.field-0.0 in
     rw (exit.1, exit.2) (
-    acted_by_reading g.K.Keep.content g.K.Keep.is_failed g.K.Keep.is_honest g.K.Keep.may_leave c.args.writer.now.zone c.args.closes _
+    acted_by_reading g.K.Keep.content g.K.Keep.is_failed g.K.Keep.is_honest g.K.Keep.may_leave
+    c.args.writer.now.zone c.args.closes _
     (Err fault) c.args.out.now.items c.args.out.now.items c.args.keep.now c.read.new.keep refl
-    (λ honest settings h is e. tt) tt refl (faults_err _ _ fault _ _ _ c.in_err-page.ensures.faults) c.in_err-page.ensures.read
+    (λ honest settings h is e. tt) tt refl (faults_err _ _ fault _ _ _ c.in_err-page.ensures.faults)
+    c.in_err-page.ensures.read
     )
 
 pub returns-clause-acted : goal.returns-clause-acted
 returns-clause-acted g c =
     let p = c.in_ok-page.ensures in
-    acted_by_reading g.K.Keep.content g.K.Keep.is_failed g.K.Keep.is_honest g.K.Keep.may_leave c.args.writer.now.zone c.args.closes _
+    acted_by_reading g.K.Keep.content g.K.Keep.is_failed g.K.Keep.is_honest g.K.Keep.may_leave
+    c.args.writer.now.zone c.args.closes _
     c.show.result c.args.out.now.items c.show.new.out.items c.args.keep.now c.read.new.keep refl
     (λ honest settings h is e.
-    shown_reads c.show.result c.args.writer.now.zone c.args.closes settings h c.args.caller c.args.query.now c.in_ok-page.page c.in_ok-rate.field-0.now.rate c.args.out.now.items c.show.new.out.items
-    (p.page honest settings h e) (rate_is (g.K.Keep.content c.args.keep.now) c.in_ok-rate.field-0.now settings h (c.in_ok-rate.ensures.value (p.read.honest honest)) e) c.show.ensures.ok)
-    (some_text c.show.result c.args.writer.now.zone c.in_ok-rate.field-0.now.rate c.args.closes (Shows c.in_ok-page.page) c.args.out.now.items c.show.new.out.items c.show.ensures.ok)
-    c.show.ensures.err (faults_after c.in_ok-page.page c.show.result _ _ _ p.faults c.show.ensures.memory) p.read
+    shown_reads c.show.result c.args.writer.now.zone c.args.closes settings h c.args.caller
+    c.args.query.now c.in_ok-page.page c.in_ok-rate.field-0.now.rate c.args.out.now.items
+    c.show.new.out.items
+    (p.page honest settings h e)
+    (rate_is (g.K.Keep.content c.args.keep.now) c.in_ok-rate.field-0.now settings h
+    (c.in_ok-rate.ensures.value (p.read.honest honest)) e) c.show.ensures.ok)
+    (some_text c.show.result c.args.writer.now.zone c.in_ok-rate.field-0.now.rate c.args.closes
+    (Shows c.in_ok-page.page) c.args.out.now.items c.show.new.out.items c.show.ensures.ok)
+    c.show.ensures.err (faults_after c.in_ok-page.page c.show.result _ _ _ p.faults
+    c.show.ensures.memory) p.read

@@ -8,8 +8,11 @@ use Rattle.site.proofs.engine.Site.answer_into.Goals as goal
 pub returns-in-Ok-clause-step : goal.returns-in-Ok-clause-step
 returns-in-Ok-clause-step g c =
     let k = g.K.Keep in
-    rw (← c.in-Ok.ensures) (step_acted k.content k.is_failed k.is_honest k.may_leave c.args.self.now.writer.zone c.in-Ok.asked
-    c.act-acted.result c.told.result c.args.out.now.items c.act-acted.new.out.items c.args.self.now.keep c.act-acted.new.keep c.act-acted.ensures.acted c.told.ensures)
+    rw (← c.in-Ok.ensures)
+    (step_acted k.content k.is_failed k.is_honest k.may_leave c.args.self.now.writer.zone
+    c.in-Ok.asked
+    c.act-acted.result c.told.result c.args.out.now.items c.act-acted.new.out.items
+    c.args.self.now.keep c.act-acted.new.keep c.act-acted.ensures.acted c.told.ensures)
 
 pub returns-in-Err-clause-step : goal.returns-in-Err-clause-step
 unfolding asked_of
@@ -17,6 +20,7 @@ returns-in-Err-clause-step g c =
     let k = g.K.Keep in (
       fault_text Memory c.in-Err.refused.closes,
       (c.fault_text.ensures, refl),
-      step_unread k.content k.is_failed k.is_honest k.may_leave c.args.self.now.writer.zone (asked_of (Ok c.args.request.now))
+      step_unread k.content k.is_failed k.is_honest k.may_leave c.args.self.now.writer.zone
+          (asked_of (Ok c.args.request.now))
           c.in-Err.refused.closes c.args.self.now.keep c.in-Err.ensures,
     )

@@ -19,14 +19,23 @@ loop-message-preserved g c =
     let i = c.loop-message.message-index in
     let lt : i < length c.args.messages.now = omega arith in
     let item = get_or_read c.args.messages.now i c.message-item.result lt c.message-item.is in
-    let texts : map (λ m. m.items) (take (i + 1) c.args.messages.now) ≡ map (λ m. m.items) (take i c.args.messages.now) ++ c.message-item.result.items ∷ [] =
-    ap (map (λ m. m.items)) (take_more c.args.messages.now i c.message-item.result lt) ∙ map-append (λ m. m.items) (take i c.args.messages.now) _ ∙ rw (← item c.message-item.result) refl in
-    let replies : map cow_slice_items c.push_reserved.new.self.items ≡ map cow_slice_items c.loop-message.replies.items ++ cow_slice_items c.answer-reply.result ∷ [] =
-    ap (map cow_slice_items) c.push_reserved.ensures.items ∙ map-append cow_slice_items c.loop-message.replies.items (c.answer-reply.result ∷ []) in
+    let texts : map (λ m. m.items) (take (i + 1) c.args.messages.now)
+    ≡ map (λ m. m.items) (take i c.args.messages.now) ++ c.message-item.result.items ∷ [] =
+    ap (map (λ m. m.items)) (take_more c.args.messages.now i c.message-item.result lt)
+    ∙ map-append (λ m. m.items) (take i c.args.messages.now) _
+    ∙ rw (← item c.message-item.result) refl in
+    let replies : map cow_slice_items c.push_reserved.new.self.items
+    ≡ map cow_slice_items c.loop-message.replies.items ++ cow_slice_items c.answer-reply.result
+    ∷ [] =
+    ap (map cow_slice_items) c.push_reserved.ensures.items
+    ∙ map-append cow_slice_items c.loop-message.replies.items (c.answer-reply.result ∷ []) in
     let (asked, is, step) = c.answer-reply.ensures.step in
     record {
-      steps = rw (texts, replies) (turns_more _ _ _ c.message-item.result.items (cow_slice_items c.answer-reply.result) c.args.self.now.keep c.loop-message.self.keep c.answer-reply.new.self.keep
-          c.loop-message.invariant.steps (asked, rw c.deref.ensures.value at is, rw c.loop-message.invariant.zone at step));
+      steps = rw (texts, replies)
+          (turns_more _ _ _ c.message-item.result.items (cow_slice_items c.answer-reply.result)
+          c.args.self.now.keep c.loop-message.self.keep c.answer-reply.new.self.keep
+          c.loop-message.invariant.steps
+          (asked, rw c.deref.ensures.value at is, rw c.loop-message.invariant.zone at step));
       zone = c.answer-reply.ensures.zone ∙ c.loop-message.invariant.zone;
       placed = omega arith;
       room = omega arith;
@@ -40,23 +49,34 @@ push_reserved-requires g c =
 pub returns-clause-ran : goal.returns-clause-ran
 returns-clause-ran g c = λ honest settings h is e asked are.
     let k = g.K.Keep in
-    let done : length c.args.messages.now ≤ c.loop-message.message-index = omega (arith, c.loop-message-test.false) in
-    let turns = rw (take_all c.loop-message.message-index c.args.messages.now done) at c.loop-message.invariant.steps in
+    let done : length c.args.messages.now ≤ c.loop-message.message-index =
+    omega (arith, c.loop-message-test.false) in
+    let turns = rw (take_all c.loop-message.message-index c.args.messages.now
+    done) at c.loop-message.invariant.steps in
     ran_texts k.content k.is_failed k.is_honest k.may_leave settings c.args.self.now.writer.zone h
-    (map (λ m. m.items) c.args.messages.now) (map cow_slice_items c.loop-message.replies.items) c.args.self.now.keep c.loop-message.self.keep turns honest is e asked are
+    (map (λ m. m.items) c.args.messages.now) (map cow_slice_items c.loop-message.replies.items)
+    c.args.self.now.keep c.loop-message.self.keep turns honest is e asked are
 
 pub returns-clause-stopped : goal.returns-clause-stopped
 returns-clause-stopped g c = λ honest settings h is e asked are.
     let k = g.K.Keep in
-    let done : length c.args.messages.now ≤ c.loop-message.message-index = omega (arith, c.loop-message-test.false) in
-    let turns = rw (take_all c.loop-message.message-index c.args.messages.now done) at c.loop-message.invariant.steps in
-    stopped_texts k.content k.is_failed k.is_honest k.may_leave settings c.args.self.now.writer.zone h
-    (map (λ m. m.items) c.args.messages.now) (map cow_slice_items c.loop-message.replies.items) c.args.self.now.keep c.loop-message.self.keep turns honest is e asked are
+    let done : length c.args.messages.now ≤ c.loop-message.message-index =
+    omega (arith, c.loop-message-test.false) in
+    let turns = rw (take_all c.loop-message.message-index c.args.messages.now
+    done) at c.loop-message.invariant.steps in
+    stopped_texts k.content k.is_failed k.is_honest k.may_leave settings c.args.self.now.writer.zone
+    h
+    (map (λ m. m.items) c.args.messages.now) (map cow_slice_items c.loop-message.replies.items)
+    c.args.self.now.keep c.loop-message.self.keep turns honest is e asked are
 
 pub returns-clause-isolation : goal.returns-clause-isolation
 returns-clause-isolation g c = λ honest settings e served n second firsts seconds are others twin.
     let k = g.K.Keep in
-    let done : length c.args.messages.now ≤ c.loop-message.message-index = omega (arith, c.loop-message-test.false) in
-    let turns = rw (take_all c.loop-message.message-index c.args.messages.now done) at c.loop-message.invariant.steps in
+    let done : length c.args.messages.now ≤ c.loop-message.message-index =
+    omega (arith, c.loop-message-test.false) in
+    let turns = rw (take_all c.loop-message.message-index c.args.messages.now
+    done) at c.loop-message.invariant.steps in
     run_isolated k.content k.is_failed k.is_honest k.may_leave settings c.args.self.now.writer.zone
-    (map (λ m. m.items) c.args.messages.now) (map cow_slice_items c.loop-message.replies.items) c.args.self.now.keep c.loop-message.self.keep turns honest e served n firsts seconds are twin
+    (map (λ m. m.items) c.args.messages.now) (map cow_slice_items c.loop-message.replies.items)
+    c.args.self.now.keep c.loop-message.self.keep turns honest e served n firsts seconds are
+    twin

@@ -10,7 +10,8 @@ invariant-loop-message g l =
     let k = g.K.Keep in
     record {
       steps : Turns (IsStep k.content k.is_failed k.is_honest k.may_leave (zone_of l.fn.self))
-          (map (λ m. m.items) (take l.message-index l.messages)) (map cow_slice_items l.replies.items) l.fn.self.keep l.self.keep;
+          (map (λ m. m.items) (take l.message-index l.messages))
+          (map cow_slice_items l.replies.items) l.fn.self.keep l.self.keep;
       zone : zone_of l.self ≡ zone_of l.fn.self;
       placed : vec_len l.replies ≡ l.message-index;
       room : length l.messages ≤ vec_capacity l.replies;
