@@ -11,7 +11,8 @@ with a row that has a column out of its range, or whose columns don't fit togeth
 answer when that row is asked for. Then each column of each row of every table is spoiled in turn, and every
 look-up and every list is asked: each is refused, or answers as before, or as if the row weren't there where the
 column is one by which rows are found. The same of items as no bids and no purchase leave them, whose readers are
-all refused, but that a standing is told by its own columns alone. The last line is 'N checks, M wrong'.
+all refused; but a standing is told by its own columns alone, and a former leader has bought no such item. The last
+line is 'N checks, M wrong'.
 """
 import contextlib
 import pathlib
@@ -244,6 +245,11 @@ def changed(whole, path, statement):
     return True
 
 
+def left_out(answer, number):
+    """A list of sales without that of an item."""
+    return "; ".join(sale for sale in answer.split("; ") if not sale.startswith(f"item {number}, seller"))
+
+
 def without(program, whole, path, row, questions):
     """The answers without a row."""
     changed(whole, path, f"DELETE FROM {row}")
@@ -276,13 +282,13 @@ def all_columns(program, whole, folder):
                 continue
             if changed(whole, path, f"UPDATE {table} SET {name} = {value} WHERE {row}"):
                 now = answers(program, str(path), questions)
-                wrong = [each for each in questions if now[each] not in (None, before[each], gone[each])]
+                none = "-" if (table, name) in FOUND_BY else None
+                wrong = [each for each in questions if now[each] not in (None, before[each], gone[each], none)]
                 yield f"{table}.{name} = {value} where {row}", (wrong, now == before), ([], False)
     for change, number in UNSTANDING:
-        gone = without(program, whole, path, f"item WHERE id = {number}", questions)
         changed(whole, path, f"UPDATE item SET {change} WHERE id = {number}")
         now = answers(program, str(path), questions)
-        told = [each for each in questions if now[each] not in (None, before[each], gone[each])]
+        told = [each for each in questions if now[each] not in (None, before[each], left_out(before[each], number))]
         wrong = [each for each in told if each != f"? standing {number}"]
         read = [each for each in readers(number) if now[each] is not None]
         yield f"{change} of item {number}", (wrong, read), ([], [])
