@@ -1,5 +1,5 @@
 -- Runs: the answers to a list of messages, and those to one member.
-use Rattle.std.specs.Prelude.{if◌then◌else◌, ◌≡◌, ◌⊎◌, ℕ, List, [], ◌∷◌, ◌++◌, Bool, true, false}
+use Rattle.std.specs.Prelude.{if◌then◌else◌, ◌≡◌, ◌⊎◌, ℕ, List, [], ◌∷◌, ◌++◌, Bool, true, false, Err}
 use Rattle.house_rows.specs.declared.fault.KeepFault.TheVariants as fault
 use Rattle.house_rows.specs.declared.message.Message.{Message}
 use Rattle.house_rows.specs.declared.reply.Reply.{Reply}
@@ -13,7 +13,9 @@ use Rattle.site_acts.specs.Acted.{is_asking}
 use Rattle.site_asks.specs.declared.asked.Asked.{Asked}
 use Rattle.site_asks.specs.declared.fault.Fault.{Fault}
 use Rattle.site_replies.specs.Texts.{fault_text, is_failure, reply_text}
-use Rattle.site.specs.Answers.{answer_of, next_of}
+use Rattle.wire.specs.Frame.{IsFrame}
+use Rattle.wire.specs.declared.fault.WireFault.{WireFault}
+use Rattle.site.specs.Answers.{answer_of, broken_text, next_of}
 
 -- whether a message is a member's
 abbrev pub is_from : ℕ → Asked → Bool
@@ -36,6 +38,10 @@ rendered settings zone asked reply = reply_text zone settings.rate asked.closes 
 -- the answers to one member, from the empty history on
 abbrev pub answers_to : Settings → Zone → ℕ → List Asked → List (List ℕ)
 answers_to settings zone c ms = rendered_to meant (rendered settings zone) settings c ms
+
+-- the answer to a broken frame tells its fault
+abbrev pub TellsFault : List ℕ → List ℕ → Type 0
+TellsFault text reply = (fault : WireFault) → IsFrame text (Err fault) → reply ≡ broken_text fault
 
 -- twin runs for a member: of equal length; at each place the messages are equal, or neither is the
 -- member's; and after each place what is public and what waits for the member agree

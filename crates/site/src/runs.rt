@@ -7,7 +7,7 @@ ghost use Rattle.house_rows.specs.History.{History};
 ghost use Rattle.house_rows.specs.Tables.{tables_of};
 ghost use Rattle.house_rows.specs.Verdict.{IsHistory};
 ghost use Rattle.site.specs.Answers.{IsStep, zone_of};
-ghost use Rattle.site.specs.Runs.{InTurn, IsGoing, Ran, Stopped, TwinRuns, answers_to, at_places};
+ghost use Rattle.site.specs.Runs.{InTurn, IsGoing, Ran, Stopped, TellsFault, TwinRuns, answers_to, at_places};
 ghost use Rattle.site_asks.specs.Asked.{IsAsked};
 ghost use Rattle.site_asks.specs.declared.asked.Asked.{Asked as TheAsked};
 ghost use Rattle.site_replies.specs.Texts.{IsServed};
@@ -53,6 +53,8 @@ impl<K: Keep + Drop> Site<K> {
             → TwinRuns settings c firsts seconds
             → at_places c firsts (map cow_slice_items v.items)
             ≡ answers_to settings (zone_of self.old) c seconds) }
+        ensures broken { IfOk result (λ v.
+            AllZip TellsFault (map (λ m. m.items) messages.now) (map cow_slice_items v.items)) }
         ensures as_many { IfOk result (λ v. length v.items ≡ length messages.now) }
         ensures memory { IsErr result → self.new.keep ≡ self.old.keep }
         ensures zone { zone_of self.new ≡ zone_of self.old }

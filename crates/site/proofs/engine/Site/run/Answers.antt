@@ -2,12 +2,14 @@ use Rattle.std.proofs.Common.{◌≡◌, ◌∙◌, ◌++◌, ◌∷◌, [], ◌
 use Rattle.std.proofs.lemmas.List.{map-append, take_all, take_more, get_or_read}
 use Rattle.std.specs.Cow.{cow_slice_items}
 use Rattle.site.proofs.Stops.{stopped_texts}
-use Rattle.site.proofs.Turns.{ran_texts, run_isolated, turns_more}
+use Rattle.site.proofs.Turns.{ran_texts, run_isolated, turns_more, zip_more}
+use Rattle.site.specs.Runs.{TellsFault}
 use Rattle.site.proofs.engine.Site.run.Goals as goal
 
 pub loop-message-init : goal.loop-message-init
 loop-message-init g c = record {
   steps = rw c.in-Ok.ensures.items ([], tt, refl);
+  broken = rw c.in-Ok.ensures.items tt;
   zone = refl;
   placed = c.in-Ok.ensures.len;
   room = c.in-Ok.ensures.capacity;
@@ -36,6 +38,11 @@ loop-message-preserved g c =
           c.args.self.now.keep c.loop-message.self.keep c.answer-reply.new.self.keep
           c.loop-message.invariant.steps
           (asked, rw c.deref.ensures.value at is, rw c.loop-message.invariant.zone at step));
+      broken = rw (texts, replies)
+          (zip_more TellsFault (map (λ m. m.items) (take i c.args.messages.now))
+          (map cow_slice_items c.loop-message.replies.items) c.message-item.result.items
+          (cow_slice_items c.answer-reply.result) c.loop-message.invariant.broken
+          (λ fault is. (c.answer-reply.ensures.broken fault (rw (← c.deref.ensures.value) at is)).0));
       zone = c.answer-reply.ensures.zone ∙ c.loop-message.invariant.zone;
       placed = omega arith;
       room = omega arith;
@@ -68,6 +75,13 @@ returns-clause-stopped g c = λ honest settings h is e asked are.
     h
     (map (λ m. m.items) c.args.messages.now) (map cow_slice_items c.loop-message.replies.items)
     c.args.self.now.keep c.loop-message.self.keep turns honest is e asked are
+
+pub returns-clause-broken : goal.returns-clause-broken
+returns-clause-broken g c =
+    let done : length c.args.messages.now ≤ c.loop-message.message-index =
+    omega (arith, c.loop-message-test.false) in
+    rw (take_all c.loop-message.message-index c.args.messages.now done)
+    at c.loop-message.invariant.broken
 
 pub returns-clause-isolation : goal.returns-clause-isolation
 returns-clause-isolation g c = λ honest settings e served n second firsts seconds are others twin.
