@@ -37,6 +37,7 @@ auction:
 program:
 	python3 tests/program.py crates/auction/out/auction
 	python3 tests/streams.py crates/auction/out/auction
+	python3 tests/served.py crates/auction/out/auction
 
 cases:
 	for suite in $(SUITES); do \

@@ -34,6 +34,23 @@ REFUSED_WORDS = [
     ["replay", "--port", "80"],
     [*REPLAY, "--preset"],
     [*REPLAY, "--record", "--record"],
+    ["init"],
+    ["init", "house"],
+    ["init", "--bands", "t.csv", "--rate", "1", "--zone", "UTC0"],
+    ["init", "house", "--rate", "1", "--zone", "UTC0"],
+    ["init", "house", "--bands", "t.csv", "--zone", "UTC0"],
+    ["init", "house", "--bands", "t.csv", "--rate", "1"],
+    ["init", "house", "--bands", "t.csv", "--rate", "2001", "--zone", "UTC0"],
+    ["init", "house", "more", "--bands", "t.csv", "--rate", "1", "--zone", "UTC0"],
+    ["serve", "house"],
+    ["serve", "--port", "80", "--count", "1"],
+    ["serve", "house", "--count", "1"],
+    ["serve", "house", "--port", "80"],
+    ["serve", "house", "--port", "0", "--count", "1"],
+    ["serve", "house", "--port", "65536", "--count", "1"],
+    ["serve", "house", "--port", "80", "--count", "0"],
+    ["serve", "house", "--port", "80", "--count", "1000001"],
+    ["serve", "house", "--port", "80", "--count", "1", "--rate", "1"],
 ]
 
 # The text of a band table, and how its fault is told.
@@ -90,7 +107,8 @@ def cases(folder, full):
         yield over_memory(words, ended(0, b"", b""))
     yield over_memory(["replay", "--record", "--bands", str(table), "--rate", "2000", "--zone", "CET-1"],
                       ended(0, EMPTY_RECORD, b""))
-    for words in (["--help"], ["help"], ["replay", "--help"], ["help", "replay"]):
+    for words in (["--help"], ["help"], ["replay", "--help"], ["help", "replay"], ["init", "--help"],
+                  ["serve", "--help"]):
         yield over_memory(words, helped)
     for rule in ("", "UTC", "CET-1\n", "CET-25", "Europe/Berlin"):
         yield over_memory(["replay", "--zone", rule], fault("zone"), READ)

@@ -1,2 +1,5 @@
 pub mod Faults
 pub mod Lines
+pub mod Printed
+pub mod Replayed
+pub mod Setup

@@ -1,7 +1,7 @@
 -- The lines on standard error.
 use Rattle.std.specs.Prelude.{ℕ, List, Option, Some, None, ◌++◌, codes, decimal}
 use Rattle.auction.specs.declared.fault.Fault.{Fault}
-use Rattle.auction.specs.declared.fault.Fault.TheVariants.{Memory, Store, Damaged, Bands, Zone, Read, Write}
+use Rattle.auction.specs.declared.fault.Fault.TheVariants.{Memory, Store, Damaged, Bands, Zone, Read, Write, Socket}
 use Rattle.steps.specs.Fault.{name_of, row_of}
 use Rattle.steps.specs.declared.fault.BandsFault.{BandsFault}
 use Rattle.steps.specs.declared.fault.BandsFault.TheVariants.{Csv, Head, Row, First, Order, Falls, TooMany, Device, Memory as NoMemory}
@@ -32,3 +32,4 @@ line_of (Bands fault) = bands_line fault
 line_of Zone = codes "auction: zone"
 line_of Read = codes "auction: input: Read"
 line_of Write = codes "auction: output: Write"
+line_of Socket = codes "auction: socket"

@@ -26,6 +26,8 @@ pub enum Fault {
     Read,
     /// The output failed.
     Write,
+    /// Listening or accepting failed.
+    Socket,
 }
 
 impl fmt::Display for Fault {
@@ -43,6 +45,7 @@ impl fmt::Display for Fault {
             Fault::Zone => write!(f, "auction: zone"),
             Fault::Read => write!(f, "auction: input: Read"),
             Fault::Write => write!(f, "auction: output: Write"),
+            Fault::Socket => write!(f, "auction: socket"),
         }
     }
 }

@@ -1,20 +1,29 @@
 //! The program's run: words in, an exit status out.
-use crate::command_line::{self, HouseWords, Replay, Task};
+ghost use Rattle.std.specs.Prelude.{◌≡◌, ◌≤◌};
+
+use crate::command_line::{self, HouseWords, Replay, Serve, Task};
 use crate::fault::{Fault, ended};
+use crate::files::{FileKeep, create_house, open_site};
+use crate::init::init_run;
 use crate::replay::replay_run;
+use crate::serve::{answer_each, serve_run};
 use crate::settings::settings;
 use clap::Error;
 use device::{Reading, Writing};
+use site::Site;
 use std::alloc::Global;
 use std::env;
 use std::io::{self, ErrorKind, Write};
+use std::net::{Ipv4Addr, TcpListener};
 use store_list::ListKeep;
 
 // The exit status of words that are no command line.
 const REFUSED: u8 = 2;
 
 /// Runs the program on its words, and gives its exit status.
-pub fn run(rt: &HostRuntime) -> u8 {
+pub fn run(rt: &HostRuntime) -> u8
+    ensures { result ≤ 2 }
+{
     let alloc = rt.alloc();
     match words(rt, alloc) {
         Ok(words) => start(rt, alloc, words.as_slice()),
@@ -32,13 +41,19 @@ fn words(rt: &HostRuntime, alloc: Global) -> io::Result<Vec<String>> {
 }
 
 // The end of a run that found no memory.
-fn no_memory(rt: &HostRuntime) -> u8 {
+fn no_memory(rt: &HostRuntime) -> u8
+    ensures { result ≡ 1 }
+{
     ended(&mut rt.stderr(), Err(Fault::Memory))
 }
 
 // Does what the words ask for.
-fn start(rt: &HostRuntime, alloc: Global, words: &[String]) -> u8 {
+fn start(rt: &HostRuntime, alloc: Global, words: &[String]) -> u8
+    ensures { result ≤ 2 }
+{
     match command_line::read(alloc, words) {
+        Ok(Some(Task::Init(path, house))) => init_file(rt, alloc, path, &house),
+        Ok(Some(Task::Serve(path, asked))) => serve_file(rt, alloc, path, asked),
         Ok(Some(Task::Replay(house, asked))) => replay_input(rt, alloc, &house, asked),
         // Words that ask for nothing are refused there.
         Ok(None) => REFUSED,
@@ -47,12 +62,70 @@ fn start(rt: &HostRuntime, alloc: Global, words: &[String]) -> u8 {
 }
 
 // The end of a run whose words are refused, or ask for help.
-fn refuse(rt: &HostRuntime, error: &Error) -> u8 {
+fn refuse(rt: &HostRuntime, error: &Error) -> u8
+    ensures { result ≤ 2 }
+{
     if error.kind() == clap::error::ErrorKind::OutOfMemory {
         return no_memory(rt);
     }
     let _ = error.print(rt);
     if error.exit_code() == 0 { 0 } else { REFUSED }
+}
+
+// A new house in a file.
+fn new_file(
+    rt: &HostRuntime,
+    alloc: Global,
+    path: &str,
+    words: &HouseWords<'_>,
+) -> Result<FileKeep, Fault> {
+    let settings = settings(rt, alloc, words)?;
+    create_house(rt, alloc, path, settings)
+}
+
+// Makes a new house in a file.
+fn init_file(rt: &HostRuntime, alloc: Global, path: &str, words: &HouseWords<'_>) -> u8
+    ensures { result ≤ 1 }
+{
+    let mut errors = rt.stderr();
+    match new_file(rt, alloc, path, words) {
+        Ok(keep) => init_run(&mut rt.stdout(), &mut errors, keep),
+        Err(fault) => ended(&mut errors, Err(fault)),
+    }
+}
+
+// The site of the house in a file, and then a listener. A fault of the file is told before one of
+// the socket.
+fn open_file(
+    rt: &HostRuntime,
+    alloc: Global,
+    path: &str,
+    port: u16,
+) -> Result<(Site<FileKeep>, TcpListener), Fault> {
+    let site = open_site(rt, alloc, path)?;
+    match TcpListener::bind(rt, (Ipv4Addr::LOCALHOST, port)) {
+        Ok(listener) => Ok((site, listener)),
+        Err(_) => Err(Fault::Socket),
+    }
+}
+
+// Answers connections over the house in a file, and gives its keep back.
+fn answer_file(
+    rt: &HostRuntime,
+    alloc: Global,
+    path: &str,
+    asked: Serve,
+) -> Result<FileKeep, Fault> {
+    let (site, listener) = open_file(rt, alloc, path, asked.port)?;
+    answer_each(alloc, &listener, asked.count, &mut rt.stdout(), site)
+}
+
+// Answers connections over the house in a file, and ends it.
+fn serve_file(rt: &HostRuntime, alloc: Global, path: &str, asked: Serve) -> u8
+    ensures { result ≤ 1 }
+{
+    let answered = answer_file(rt, alloc, path, asked);
+    serve_run(&mut rt.stdout(), &mut rt.stderr(), answered, asked.count)
 }
 
 // A new house in memory.
@@ -62,7 +135,9 @@ fn new_house(rt: &HostRuntime, alloc: Global, words: &HouseWords<'_>) -> Result<
 }
 
 // Answers standard input over a new house in memory.
-fn replay_input(rt: &HostRuntime, alloc: Global, words: &HouseWords<'_>, asked: Replay) -> u8 {
+fn replay_input(rt: &HostRuntime, alloc: Global, words: &HouseWords<'_>, asked: Replay) -> u8
+    ensures { result ≤ 1 }
+{
     let mut errors = rt.stderr();
     match new_house(rt, alloc, words) {
         Ok(keep) => {

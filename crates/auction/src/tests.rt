@@ -1,11 +1,21 @@
 //! What no clause says: what a run writes, and what is left of it where a device fails.
 use crate::command_line::Replay;
+use crate::ends::Ends;
+use crate::init::init_run;
 use crate::replay::replay_run;
+use crate::serve::{answer_each, serve_run};
+use crate::setup::set_up;
 use device::{MemorySink, MemorySource};
-use house_rows::{Keep, Rate, Settings, Text};
+use house_rows::{Keep, KeepFault, Rate, Settings, Text};
+use site::Site;
+use sqlite::{Connection, MemStore};
 use std::alloc::Global;
+use std::io::{Read, Write};
+use std::net::{Ipv4Addr, Shutdown, TcpListener, TcpStream};
+use std::process::Abort;
 use std::test::Fail;
 use steps::Bands;
+use store::SqlKeep;
 use store_list::ListKeep;
 
 const BID: &[u8] = b"POST /items/1/bids HTTP/1.1\r\nhost: h\r\nx-member: 2\r\nx-moment: 1001\r\n\
@@ -29,14 +39,31 @@ const PRESET: Replay = Replay {
     record: false,
 };
 
-// A new house of the example table, 1000 ten-thousandths and UTC.
-fn keep(alloc: Global) -> Result<ListKeep, Fail> {
-    let settings = Settings {
+impl Ends for SqlKeep<MemStore> {
+    fn end(self) -> Result<(), KeepFault> {
+        drop(self);
+        Ok(())
+    }
+}
+
+// The example table, 1000 ten-thousandths and UTC.
+fn settings(alloc: Global) -> Result<Settings, Fail> {
+    Ok(Settings {
         bands: Bands::example(alloc)?,
         rate: Rate::new(1000).ok_or("rate")?,
         zone: Text::copy_of(alloc, "UTC0")?,
-    };
-    Ok(ListKeep::create(alloc, settings)?)
+    })
+}
+
+// A new house in lists.
+fn in_lists(alloc: Global) -> Result<ListKeep, Fail> {
+    Ok(ListKeep::create(alloc, settings(alloc)?)?)
+}
+
+// A new house in a database in memory.
+fn in_database(alloc: Global) -> Result<SqlKeep<MemStore>, Fail> {
+    let connection = Connection::open_in_memory(alloc)?;
+    Ok(SqlKeep::create(alloc, connection, settings(alloc)?)?)
 }
 
 // What a run leaves: its exit status, what it wrote, and what it told.
@@ -47,9 +74,10 @@ struct Left {
     errors: Vec<u8>,
 }
 
-// Runs over a house in memory.
-fn run(
+// Runs over a new house.
+fn run<K: Keep + Drop>(
     alloc: Global,
+    keep: K,
     source: MemorySource<'_>,
     sink: MemorySink,
     asked: Replay,
@@ -57,14 +85,7 @@ fn run(
     let mut source = source;
     let mut sink = sink;
     let mut errors = Vec::new(alloc);
-    let status = replay_run(
-        alloc,
-        &mut source,
-        &mut sink,
-        &mut errors,
-        keep(alloc)?,
-        asked,
-    );
+    let status = replay_run(alloc, &mut source, &mut sink, &mut errors, keep, asked);
     Ok(Left {
         status,
         sink,
@@ -72,16 +93,29 @@ fn run(
     })
 }
 
+// The first bid, in pieces of a size.
+fn answers_first_bid<K: Keep + Drop>(
+    rt: &impl Abort,
+    alloc: Global,
+    keep: K,
+    piece: usize,
+) -> Result<(), Fail> {
+    let size = piece.max(1);
+    let source = MemorySource::new(BID).in_pieces(size);
+    let sink = MemorySink::new(alloc).in_pieces(size);
+    let left = run(alloc, keep, source, sink, PRESET)?;
+    assert_eq!(rt; left.status, 0);
+    assert_eq!(rt; left.sink.bytes(), TAKEN, "in pieces of {size}");
+    assert!(rt; left.errors.is_empty());
+    Ok(())
+}
+
 #[test]
 fn a_first_bid_takes_the_start_in_pieces_of_any_size(rt: HostRuntime) -> Result<(), Fail> {
     let alloc = rt.alloc();
     for piece in [1, 2, 7, 24_576] {
-        let source = MemorySource::new(BID).in_pieces(piece);
-        let sink = MemorySink::new(alloc).in_pieces(piece);
-        let left = run(alloc, source, sink, PRESET)?;
-        assert_eq!(rt; left.status, 0);
-        assert_eq!(rt; left.sink.bytes(), TAKEN, "in pieces of {piece}");
-        assert!(rt; left.errors.is_empty());
+        answers_first_bid(&rt, alloc, in_lists(alloc)?, piece)?;
+        answers_first_bid(&rt, alloc, in_database(alloc)?, piece)?;
     }
     Ok(())
 }
@@ -95,6 +129,7 @@ fn the_record_follows_the_last_answer_of_a_broken_stream(rt: HostRuntime) -> Res
     };
     let left = run(
         alloc,
+        in_lists(alloc)?,
         MemorySource::new(b"GET"),
         MemorySink::new(alloc),
         asked,
@@ -117,7 +152,13 @@ fn a_failed_reader_is_told_and_no_record_follows(rt: HostRuntime) -> Result<(), 
         record: true,
     };
     let source = MemorySource::new(BID).in_pieces(100).failing_at(3);
-    let left = run(alloc, source, MemorySink::new(alloc), asked)?;
+    let left = run(
+        alloc,
+        in_lists(alloc)?,
+        source,
+        MemorySink::new(alloc),
+        asked,
+    )?;
     assert_eq!(rt; left.status, 1);
     assert_eq!(rt; left.sink.bytes(), TAKEN);
     assert_eq!(rt;
@@ -131,12 +172,50 @@ fn a_failed_reader_is_told_and_no_record_follows(rt: HostRuntime) -> Result<(), 
 fn a_failed_writer_is_told(rt: HostRuntime) -> Result<(), Fail> {
     let alloc = rt.alloc();
     let sink = MemorySink::new(alloc).failing_at(1);
-    let left = run(alloc, MemorySource::new(BID), sink, PRESET)?;
+    let left = run(
+        alloc,
+        in_lists(alloc)?,
+        MemorySource::new(BID),
+        sink,
+        PRESET,
+    )?;
     assert_eq!(rt; left.status, 1);
     assert!(rt; left.sink.bytes().is_empty());
     assert_eq!(rt;
         left.errors.as_slice(),
         b"auction: output: Write\n".as_slice()
     );
+    Ok(())
+}
+
+#[test]
+fn a_new_house_is_told(rt: HostRuntime) -> Result<(), Fail> {
+    let alloc = rt.alloc();
+    let mut output = Vec::new(alloc);
+    let mut errors = Vec::new(alloc);
+    assert_eq!(rt; init_run(&mut output, &mut errors, in_database(alloc)?), 0);
+    assert_eq!(rt; output.as_slice(), b"created\n".as_slice());
+    assert!(rt; errors.is_empty());
+    Ok(())
+}
+
+#[test]
+fn a_connection_is_answered_and_counted(rt: HostRuntime) -> Result<(), Fail> {
+    let alloc = rt.alloc();
+    let listener = TcpListener::bind(&rt, (Ipv4Addr::LOCALHOST, 0))?;
+    let mut client = TcpStream::connect(&rt, listener.local_addr()?)?;
+    client.write_all(BID)?;
+    client.shutdown(Shutdown::Write)?;
+    let mut site = Site::new(alloc, in_database(alloc)?)?;
+    set_up(&mut site)?;
+    let mut output = Vec::new(alloc);
+    let mut errors = Vec::new(alloc);
+    let answered = answer_each(alloc, &listener, 1, &mut output, site);
+    assert_eq!(rt; serve_run(&mut output, &mut errors, answered, 1), 0);
+    let mut answer = Vec::new(alloc);
+    client.read_to_end(&mut answer)?;
+    assert_eq!(rt; answer.as_slice(), TAKEN);
+    assert_eq!(rt; output.as_slice(), b"listening\nserved 1\n".as_slice());
+    assert!(rt; errors.is_empty());
     Ok(())
 }

@@ -1,0 +1,22 @@
+-- What is known of a run by how it ended.
+use Rattle.std.proofs.Common.{◌≡◌, ℕ, List, Option, Ok, Err, inl, inr, sym, subst}
+use Rattle.std.specs.Prelude.{IsOk, OnOk, Result}
+use Rattle.site_serve.specs.Serving.{IsFlushed}
+
+-- what a run promises where it goes well, it has done where it went well
+pub where_done : {T E P : Type 0} (r : Result T E) → IsOk r → OnOk r P → P
+where_done (Ok x) done p = p
+where_done (Err e) done p = absurd cc
+
+-- what follows from what is promised
+pub on_ok_then : {T E P Q : Type 0} (r : Result T E) → OnOk r P → (P → Q) → OnOk r Q
+on_ok_then (Ok x) p f = f p
+on_ok_then (Err e) p f = tt
+
+-- where all was handed on and then again, all is handed on
+pub flushed_twice : {W : Type 0} (handed_on taken : W → Option (List ℕ)) (a b c : W)
+    → IsFlushed handed_on taken a b → IsFlushed handed_on taken b c
+    → IsFlushed handed_on taken a c
+flushed_twice handed_on taken a b c first (inr all) = inr all
+flushed_twice handed_on taken a b c first (inl same) =
+    subst (λ w. IsFlushed handed_on taken a w) (sym same) first

@@ -1,0 +1,6 @@
+use Rattle.auction.proofs.Outcomes.{where_done}
+use Rattle.auction.proofs.init.init_run.Goals as goal
+
+pub returns-clause-done : goal.returns-clause-done
+returns-clause-done g c =
+    λ e. where_done c.finish.result (c.ended.ensures.done.0 e) c.finish.ensures

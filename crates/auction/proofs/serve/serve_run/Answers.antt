@@ -1,0 +1,6 @@
+use Rattle.auction.proofs.Outcomes.{where_done}
+use Rattle.auction.proofs.serve.serve_run.Goals as goal
+
+pub returns-in-Ok-clause-done : goal.returns-in-Ok-clause-done
+returns-in-Ok-clause-done g c =
+    λ e. where_done c.finish.result (c.ended.ensures.done.0 e) c.finish.ensures

@@ -1,0 +1,215 @@
+#!/usr/bin/env python3
+"""Makes houses in files and serves them over TCP: `served.py PROGRAM [CASES]`.
+
+What connections are answered has to be what `replay` answers to the same messages, also where the house is
+ended and served again between them; and each fault of `init` and `serve` has its line and its exit status.
+CASES is a folder of stored cases of `replay`, as `make cases` runs them: a house that is set up by the words
+of a case has to be answered what the case was. The last line is 'N checks, M wrong'.
+"""
+import os
+import pathlib
+import socket
+import subprocess
+import sys
+import tempfile
+import threading
+
+SETTINGS = ["--rate", "2000", "--zone", "CET-1"]
+
+
+def message(method, path, member, moment=None, body=""):
+    fields = [f"{method} {path} HTTP/1.1", "host: h", f"x-member: {member}"]
+    fields += [f"x-moment: {moment}"] if moment is not None else []
+    fields += [f"content-length: {len(body)}"] if body else []
+    return ("\r\n".join(fields) + "\r\n\r\n" + body).encode()
+
+
+# Two members, a category, an item, bids, a watch, a question, a close, a settlement, feedback and pages.
+MESSAGES = [
+    message("POST", "/members", 0, 1000, '{"name":"Ana"}'),
+    message("POST", "/members", 0, 1000, '{"name":"Ben"}'),
+    message("POST", "/categories", 0, 1000, '{"name":"Books"}'),
+    message("POST", "/items", 1, 1000,
+            '{"category":1,"end":5000,"lot":"A1","start":500,"text":"","title":"Atlas"}'),
+    message("POST", "/items/1/bids", 2, 1001, '{"maximum":500}'),
+    message("POST", "/items/1/watch", 2, 1001),
+    message("POST", "/items/1/questions", 2, 1002, '{"text":"Is it signed?"}'),
+    message("POST", "/items/1/questions/2/1/answer", 1, 1003, '{"text":"No"}'),
+    message("POST", "/items/1/bids", 2, 1004, '{"maximum":400}'),
+    message("POST", "/close", 0, 5000),
+    message("POST", "/items/1/settle", 0, 5001),
+    message("POST", "/items/1/feedback", 2, 5002, '{"rating":1,"text":"Good"}'),
+    message("GET", "/items/1", 2),
+    message("GET", "/me/bids/1", 2),
+    message("GET", "/me/statement/1970-01-01/1970-01-01", 1),
+]
+
+# Those that read.
+READS = MESSAGES[-3:]
+
+# The example table, and the messages that `--preset` stands for.
+EXAMPLE = [(0, 5), (100, 25), (500, 50), (2500, 100), (10000, 250), (25000, 500), (50000, 1000), (100000, 2500),
+           (250000, 5000), (500000, 10000)]
+PRESET = [message("POST", "/members", 0, 1000, '{"name":"%s"}' % name) for name in ("Ana", "Ben", "Cid")]
+PRESET += MESSAGES[2:4]
+
+CHECKS = []
+
+
+def check(name, got, wanted):
+    CHECKS.append(got == wanted)
+    if got != wanted:
+        print(f"{name}: got {got!r}, wanted {wanted!r}")
+
+
+class Program:
+    def __init__(self, path, folder):
+        self.path, self.folder = path, folder
+
+    def ended(self, *words, given=b""):
+        """How a run ends: its status, and what it wrote to standard output and to standard error."""
+        result = subprocess.run([self.path, *words], input=given, cwd=self.folder, capture_output=True, timeout=60)
+        return result.returncode, result.stdout, result.stderr
+
+    def answers(self, file, streams):
+        """What each stream is answered, sent over a connection of its own; and how serving ends."""
+        port = free_port()
+        server = subprocess.Popen([self.path, "serve", file, "--port", str(port), "--count", str(len(streams))],
+                                  cwd=self.folder, stdout=subprocess.PIPE, stderr=subprocess.PIPE)
+        watch = threading.Timer(60, server.kill)
+        watch.start()
+        try:
+            first = server.stdout.readline()
+            told = [exchange(port, stream) for stream in streams] if first else []
+            rest, error = server.communicate(timeout=60)
+        finally:
+            watch.cancel()
+            server.kill()
+            server.wait()
+        return told, (server.returncode, first + rest, error)
+
+
+def free_port():
+    with socket.create_server(("127.0.0.1", 0)) as server:
+        return server.getsockname()[1]
+
+
+def exchange(port, stream):
+    """Sends a stream and then the end of it; a stream that is None is reset before it sends anything."""
+    with socket.create_connection(("127.0.0.1", port), timeout=60) as connection:
+        if stream is None:
+            connection.setsockopt(socket.SOL_SOCKET, socket.SO_LINGER, b"\1\0\0\0\0\0\0\0")
+            return None
+        connection.sendall(stream)
+        connection.shutdown(socket.SHUT_WR)
+        return b"".join(iter(lambda: connection.recv(65536), b""))
+
+
+def served(count):
+    """How serving so many connections ends."""
+    return 0, b"listening\nserved %d\n" % count, b""
+
+
+def compare(program, init):
+    """Compares what is served with what `replay` answers."""
+    for number, pieces in enumerate([1, 3, len(MESSAGES)]):
+        file = f"house-{number}"
+        check(f"{file} made", program.ended("init", file, *init), (0, b"created\n", b""))
+        size = -(-len(MESSAGES) // pieces)
+        streams = [b"".join(MESSAGES[at:at + size]) for at in range(0, len(MESSAGES), size)]
+        wanted = program.ended("replay", *init, given=b"".join(MESSAGES))
+        told, ending = program.answers(file, streams)
+        check(f"{file} served", (0, b"".join(told), b""), wanted)
+        check(f"{file} ended", ending, served(len(streams)))
+        # What is ended needs its log no more.
+        (pathlib.Path(program.folder) / f"{file}-wal").unlink()
+        told, ending = program.answers(file, [b"".join(READS)])
+        check(f"{file} without its log", b"".join(told), wanted[1][-len(told[0]):])
+        check(f"{file} ended again", ending, served(1))
+    # A house that is ended and served again for each message, with a connection that is reset before it.
+    check("again made", program.ended("init", "again", *init), (0, b"created\n", b""))
+    told = b""
+    for text in MESSAGES:
+        answers, ending = program.answers("again", [None, text])
+        told += answers[1]
+        check("again ended", ending, served(2))
+    check("served again", (0, told, b""), program.ended("replay", *init, given=b"".join(MESSAGES)))
+    # What is no message ends its connection alone, also with more behind it than is read.
+    answers, ending = program.answers("again", [b"GET\r\n\r\n" + b"x" * 100_000, MESSAGES[-1]])
+    replayed = program.ended("replay", *init, given=b"GET\r\n\r\n")[1]
+    check("broken", answers[0], replayed)
+    check("behind the broken one", answers[1][:15], b"HTTP/1.1 200 OK")
+    check("broken ended", ending, served(2))
+
+
+def fault(line):
+    return 1, b"", f"auction: {line}\n".encode()
+
+
+def faults(program, init):
+    """Each fault of `init` and `serve`."""
+    folder = pathlib.Path(program.folder)
+    check("made", program.ended("init", "house", *init), (0, b"created\n", b""))
+    before = (folder / "house").read_bytes()
+    check("made twice", program.ended("init", "house", *init), fault("file: Damaged"))
+    check("made twice, the file", (folder / "house").read_bytes(), before)
+    wrong = ["--bands", "missing.csv", "--rate", "1000", "--zone", "nowhere"]
+    check("bands first", program.ended("init", "house", *wrong), fault("bands: Device"))
+    wrong[1] = "bands.csv"
+    check("zone second", program.ended("init", "house", *wrong), fault("zone"))
+    check("a folder", program.ended("init", ".", *init), fault("file: Store"))
+    words = ["--port", str(free_port()), "--count", "1"]
+    check("missing", program.ended("serve", "missing", *words), fault("file: Store"))
+    check("still missing", (folder / "missing").exists(), False)
+    (folder / "empty").write_bytes(b"")
+    check("empty", program.ended("serve", "empty", *words), fault("file: Damaged"))
+    (folder / "text").write_bytes(b"This is no house. " * 1000)
+    check("a text", program.ended("serve", "text", *words), fault("file: Damaged"))
+    with socket.create_server(("127.0.0.1", 0)) as server:
+        words[1] = str(server.getsockname()[1])
+        check("a taken port", program.ended("serve", "house", *words), fault("socket"))
+
+
+def setting(words, name, default):
+    """What a word of a case is set to."""
+    return words[words.index(name) + 1] if name in words else default
+
+
+def compare_case(program, args, file):
+    """Compares what a house in a file is answered with what a stored case of `replay` was."""
+    words = args.read_text().splitlines()
+    bands = str(args.parent / setting(words, "--bands", "")) if "--bands" in words else "example.csv"
+    init = ["--bands", bands, "--rate", setting(words, "--rate", "1000"), "--zone", setting(words, "--zone", "UTC0")]
+    error, wanted = args.with_suffix(".err").read_bytes(), args.with_suffix(".out").read_bytes()
+    made = program.ended("init", file, *init)
+    check(f"{args.stem} made", made, (1, b"", error) if error else (0, b"created\n", b""))
+    if error:
+        return
+    streams = [b"".join(PRESET)] if "--preset" in words else []
+    streams.append(args.with_suffix(".in").read_bytes())
+    told, ending = program.answers(file, streams)
+    # The record, which no connection gives, begins with the bands.
+    record = wanted.rfind(b'{"bands":') if "--record" in words else len(wanted)
+    check(f"{args.stem} answered", told[-1], wanted[:record])
+    check(f"{args.stem} ended", ending, served(len(streams)))
+    os.remove(pathlib.Path(program.folder) / file)
+
+
+def main():
+    with tempfile.TemporaryDirectory() as folder:
+        (pathlib.Path(folder) / "bands.csv").write_text("at,step\n0,5\n100,25\n500,50\n")
+        program = Program(str(pathlib.Path(sys.argv[1]).resolve()), folder)
+        init = ["--bands", "bands.csv", *SETTINGS]
+        compare(program, init)
+        faults(program, init)
+        if len(sys.argv) > 2:
+            rows = "".join(f"{at},{step}\n" for at, step in EXAMPLE)
+            (pathlib.Path(folder) / "example.csv").write_text("at,step\n" + rows)
+            for args in sorted(pathlib.Path(sys.argv[2]).resolve().glob("*.args")):
+                compare_case(program, args, "case")
+    print(f"{len(CHECKS)} checks, {CHECKS.count(False)} wrong")
+    return 1 if not all(CHECKS) else 0
+
+
+if __name__ == "__main__":
+    sys.exit(main())
