@@ -4,23 +4,26 @@
 CASES ?= ../shared/conformance
 SUITES = site
 
-# How many messages the fuzz sends at least, and the seed that chooses them.
+# How many messages the fuzz sends at least, how often a server is killed, and the seed that chooses them.
 MESSAGES ?= 5000
+KILLS ?= 200
 SEED ?= 2026
 
-.PHONY: help demo test auction program cases fuzz memory statement random file wrong
+.PHONY: help demo test auction program cases fuzz memory statement random file kills stalls wrong
 
 help:
 	@echo "make demo      answers examples/first-bid.http, without waiting for the proofs"
 	@echo "make test      proves everything from nothing, runs all tests and wrong bodies (rt ci)"
 	@echo "make auction   proves and builds the program, as bin/auction"
-	@echo "make program   runs the program that make test has left on words, tables and streams (needs cc)"
+	@echo "make program   runs the program that make test has left on words, tables, streams and clients (needs cc)"
 	@echo "make cases     runs the conformance cases on the program that make test has left"
 	@echo "make fuzz      sends MESSAGES random ones to that program, and compares answers with plain lists and in twin runs"
 	@echo "make memory    refuses each allocation of that program and of the crates below it (needs cc)"
 	@echo "make statement compares statements with those that Python makes"
 	@echo "make random    compares houses with plain lists, on random commands and on long lists, and with one another"
-	@echo "make file      makes a house in a file, opens it, reads it with sqlite3, and damages it"
+	@echo "make file      makes houses in files, opens, copies and damages them, kills who serves them, and reads them with sqlite3"
+	@echo "make kills     kills who serves a house KILLS times at random moments, and looks what is in its file"
+	@echo "make stalls    has clients that send or read nothing hold up one that asks, for up to two minutes"
 	@echo "make wrong     tries the wrong bodies that make test leaves out"
 
 demo:
@@ -38,6 +41,10 @@ program:
 	python3 tests/program.py crates/auction/out/auction
 	python3 tests/streams.py crates/auction/out/auction
 	python3 tests/served.py crates/auction/out/auction
+	if command -v curl > /dev/null; then \
+		python3 tests/real_clients.py crates/auction/out/auction && \
+		python3 tests/readme.py crates/auction/out/auction; \
+	fi
 
 cases:
 	for suite in $(SUITES); do \
@@ -69,6 +76,13 @@ random:
 
 file:
 	python3 tests/store_file.py crates/store_tests/out/store_tests
+	python3 tests/house_file.py crates/auction/out/auction
+
+kills:
+	python3 tests/kills.py crates/auction/out/auction $(KILLS) $(SEED)
+
+stalls:
+	python3 tests/stalls.py crates/auction/out/auction
 
 wrong:
 	python3 tests/wrong.py

@@ -6,6 +6,7 @@ ended and served again between them; and each fault of `init` and `serve` has it
 CASES is a folder of stored cases of `replay`, as `make cases` runs them: a house that is set up by the words
 of a case has to be answered what the case was. The last line is 'N checks, M wrong'.
 """
+import contextlib
 import os
 import pathlib
 import socket
@@ -62,31 +63,50 @@ def check(name, got, wanted):
         print(f"{name}: got {got!r}, wanted {wanted!r}")
 
 
+class Server:
+    """A program that serves: its port, its process, and how it ended, once it has."""
+
+    def __init__(self, port, process):
+        self.port, self.process, self.ending = port, process, None
+
+
 class Program:
-    def __init__(self, path, folder):
-        self.path, self.folder = path, folder
+    """The program, run in a folder; `before` is done by its process first."""
+
+    def __init__(self, path, folder, before=None):
+        self.path, self.folder, self.before = path, folder, before
 
     def ended(self, *words, given=b""):
         """How a run ends: its status, and what it wrote to standard output and to standard error."""
-        result = subprocess.run([self.path, *words], input=given, cwd=self.folder, capture_output=True, timeout=60)
+        result = subprocess.run([self.path, *words], input=given, cwd=self.folder, capture_output=True, timeout=60,
+                                preexec_fn=self.before)
         return result.returncode, result.stdout, result.stderr
+
+    @contextlib.contextmanager
+    def serving(self, file, count, seconds=60):
+        """A server of so many connections, which has ended behind this, unless it is killed before or takes longer."""
+        port = free_port()
+        process = subprocess.Popen([self.path, "serve", file, "--port", str(port), "--count", str(count)],
+                                   cwd=self.folder, stdout=subprocess.PIPE, stderr=subprocess.PIPE,
+                                   preexec_fn=self.before)
+        watch = threading.Timer(seconds, process.kill)
+        watch.start()
+        server = Server(port, process)
+        try:
+            first = process.stdout.readline()
+            yield server
+            rest, error = process.communicate(timeout=60)
+            server.ending = process.returncode, first + rest, error
+        finally:
+            watch.cancel()
+            process.kill()
+            process.wait()
 
     def answers(self, file, streams):
         """What each stream is answered, sent over a connection of its own; and how serving ends."""
-        port = free_port()
-        server = subprocess.Popen([self.path, "serve", file, "--port", str(port), "--count", str(len(streams))],
-                                  cwd=self.folder, stdout=subprocess.PIPE, stderr=subprocess.PIPE)
-        watch = threading.Timer(60, server.kill)
-        watch.start()
-        try:
-            first = server.stdout.readline()
-            told = [exchange(port, stream) for stream in streams] if first else []
-            rest, error = server.communicate(timeout=60)
-        finally:
-            watch.cancel()
-            server.kill()
-            server.wait()
-        return told, (server.returncode, first + rest, error)
+        with self.serving(file, len(streams)) as server:
+            told = [exchange(server.port, stream) for stream in streams]
+        return told, server.ending
 
 
 def free_port():
@@ -96,7 +116,7 @@ def free_port():
 
 def exchange(port, stream):
     """Sends a stream and then the end of it; a stream that is None is reset before it sends anything."""
-    with socket.create_connection(("127.0.0.1", port), timeout=60) as connection:
+    with socket.create_connection(("127.0.0.1", port), timeout=120) as connection:
         if stream is None:
             connection.setsockopt(socket.SOL_SOCKET, socket.SO_LINGER, b"\1\0\0\0\0\0\0\0")
             return None

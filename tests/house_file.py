@@ -1,0 +1,150 @@
+#!/usr/bin/env python3
+"""What lies in the file of a house, beside its log and alone: `house_file.py PROGRAM`.
+
+After each command that has ended the file is copied without its log, and has to be the whole house, for the
+program and for SQLite. While a house is served nobody else opens it, and nothing is lost by the try. A server that
+is killed leaves all that it acknowledged in the file with its log; and where that log is cut, wherever that is, the
+house as some of the accepted commands left it, and later ones not without the earlier. Where files may not grow, a
+command is told that the store failed, and so is all behind it, and the house holds what was accepted before. The last
+line is 'N checks, M wrong'.
+"""
+import pathlib
+import resource
+import shutil
+import signal
+import sqlite3
+import sys
+import tempfile
+
+from sent import answers_in
+from served import CHECKS, MESSAGES, READS, SETTINGS, Program, check, exchange, fault, free_port, message, served
+
+# A read of each thing that the messages before the reads leave.
+SIGHTS = [*READS, message("GET", "/members/2", 1), message("GET", "/me/watches", 2),
+          message("GET", "/me/questions/1", 2), message("GET", "/items/1/questions/1", 2),
+          message("GET", "/members/1/feedback/1", 2), message("GET", "/categories", 1),
+          message("GET", "/house", 1)]
+FAILED = (b"HTTP/1.1 500 Internal Server Error\r\ncontent-type: application/json\r\ncontent-length: 17\r\n\r\n"
+          b'{"error":"store"}')
+COMMANDS = MESSAGES[:-len(READS)]
+TABLES = {"house": 1, "member": 2, "category": 1, "item": 1, "bid": 1, "watch": 1, "question": 1, "feedback": 1}
+
+
+def seen(program, file):
+    """What a house in a file shows."""
+    told, ending = program.answers(file, [b"".join(SIGHTS)])
+    check(f"{file} ended", ending, served(1))
+    return told[0]
+
+
+def seen_after(program, init, count):
+    """What a house shows that took so many commands."""
+    status, told, error = program.ended("replay", *init, given=b"".join(COMMANDS[:count] + SIGHTS))
+    check(f"{count} commands replayed", (status, error), (0, b""))
+    before = program.ended("replay", *init, given=b"".join(COMMANDS[:count]))[1]
+    return told[len(before):]
+
+
+def copied(folder, file, name, *, log=None):
+    """A copy of a house's file, without its log, or with so many bytes of it."""
+    shutil.copy(folder / file, folder / name)
+    if log is not None:
+        (folder / f"{name}-wal").write_bytes((folder / f"{file}-wal").read_bytes()[:log])
+    return name
+
+
+def rows(folder, name):
+    """How many rows each table has, by SQLite, which finds no fault in the file."""
+    database = sqlite3.connect(folder / name)
+    check(f"{name} is sound", database.execute("PRAGMA integrity_check").fetchall(), [("ok",)])
+    told = {table: database.execute(f"SELECT count(*) FROM {table}").fetchone()[0] for table in TABLES}
+    database.close()
+    return told
+
+
+def alone(program, folder, init):
+    """The file alone is the house, after `init` and after `serve`."""
+    check("made", program.ended("init", "house", *init), (0, b"created\n", b""))
+    new = {table: int(table == "house") for table in TABLES}
+    check("a new house alone", rows(folder, copied(folder, "house", "new")), new)
+    check("a new house", seen(program, copied(folder, "house", "new")), seen_after(program, init, 0))
+    program.answers("house", [b"".join(COMMANDS)])
+    check("a served house alone", rows(folder, copied(folder, "house", "kept")), TABLES)
+    check("a served house", seen(program, copied(folder, "house", "kept")), seen_after(program, init, len(COMMANDS)))
+
+
+def together(program, folder, init):
+    """A house that is served is nobody else's."""
+    check("made", program.ended("init", "shared", *init), (0, b"created\n", b""))
+    with program.serving("shared", 2) as server:
+        exchange(server.port, b"".join(COMMANDS[:5]))
+        words = ["--port", str(free_port()), "--count", "1"]
+        check("served twice", program.ended("serve", "shared", *words), fault("file: Store"))
+        check("made while served", program.ended("init", "shared", *init), fault("file: Store"))
+        exchange(server.port, b"".join(COMMANDS[5:]))
+    check("shared ended", server.ending, served(2))
+    check("shared", seen(program, "shared"), seen_after(program, init, len(COMMANDS)))
+
+
+def killed(program, folder, init):
+    """A server is killed, and its log is cut behind each page and within some."""
+    check("made", program.ended("init", "stopped", *init), (0, b"created\n", b""))
+    with program.serving("stopped", 2) as server:
+        exchange(server.port, b"".join(COMMANDS))
+        server.process.kill()
+    size = (folder / "stopped-wal").stat().st_size
+    states = [seen_after(program, init, count) for count in range(len(COMMANDS) + 1)]
+    check("killed", seen(program, copied(folder, "stopped", "cut", log=size)), states[-1])
+    last = 0
+    # A log is a head of 32 bytes, and for each page 24 bytes and its 4096.
+    for cut in sorted({0, 31, *range(32, size, 4120), *range(2000, size, 7 * 4120)}):
+        (folder / "cut-wal").unlink(missing_ok=True)
+        sight = seen(program, copied(folder, "stopped", "cut", log=cut))
+        place = next((place for place in range(len(states) - 1, -1, -1) if states[place] == sight), None)
+        check(f"cut at {cut}", place is not None and place >= last, True)
+        last = place if place is not None else last
+
+
+def limited(size):
+    """What keeps a process from making a file longer than so many bytes: it is told so, as of a full disk."""
+    def limit():
+        signal.signal(signal.SIGXFSZ, signal.SIG_IGN)
+        resource.setrlimit(resource.RLIMIT_FSIZE, (size, size))
+    return limit
+
+
+def full(program, folder, init):
+    """No file may grow over a size."""
+    states = [seen_after(program, init, count) for count in range(len(COMMANDS) + 1)]
+    for size in (0, 4096, 20_000, 98_303):
+        tight = Program(program.path, program.folder, limited(size))
+        check(f"made within {size}", tight.ended("init", f"none-{size}", *init), fault("file: Store"))
+    # A log grows by many pages at once, so that some of these sizes leave room for a few commands.
+    for size in (98_304, 200_000, 270_000, 300_000, 1_000_000):
+        file = f"full-{size}"
+        check(f"{file} made", program.ended("init", file, *init), (0, b"created\n", b""))
+        tight = Program(program.path, program.folder, limited(size))
+        told, _ = tight.answers(file, [b"".join(COMMANDS + SIGHTS)])
+        answers, _ = answers_in(told[0])
+        first = answers.index(FAILED) if FAILED in answers else len(COMMANDS)
+        failed = len(COMMANDS + SIGHTS) - first if FAILED in answers else 0
+        check(f"{file} fails behind it", (len(answers), answers.count(FAILED)), (len(COMMANDS + SIGHTS), failed))
+        check(f"{file} seen", seen(program, file) in states[first:first + 2], True)
+
+
+def main():
+    with tempfile.TemporaryDirectory() as path:
+        folder = pathlib.Path(path)
+        (folder / "bands.csv").write_text("at,step\n0,5\n100,25\n500,50\n")
+        program = Program(str(pathlib.Path(sys.argv[1]).resolve()), path)
+        init = ["--bands", "bands.csv", *SETTINGS]
+        alone(program, folder, init)
+        together(program, folder, init)
+        killed(program, folder, init)
+        full(program, folder, init)
+    print(f"{len(CHECKS)} checks, {CHECKS.count(False)} wrong")
+    return 1 if not all(CHECKS) else 0
+
+
+if __name__ == "__main__":
+    sys.exit(main())

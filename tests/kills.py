@@ -1,0 +1,140 @@
+#!/usr/bin/env python3
+"""Kills `serve` at random moments while it takes commands, and looks what is left: `kills.py PROGRAM [KILLS] [SEED]`.
+
+A client sends commands one after the other, each of which makes one row, and counts those that were answered. The
+server is killed by SIGKILL, and the house's file with its log has to be sound for SQLite, and to hold what the
+commands that were answered make, or one command more: the rows of a house that took as many and was never killed. Then
+the same file is served again. This shows a killed process, not a power cut: what was written is there though nobody
+had synced it. The last line is 'K kills, N commands, M of them more than answered, W wrong'.
+"""
+import itertools
+import pathlib
+import random
+import shutil
+import socket
+import sqlite3
+import sys
+import tempfile
+import threading
+
+from sent import command, compact
+from served import CHECKS, SETTINGS, Program, check, served
+
+# The tables in which the commands make rows.
+GROWING = ("member", "category", "item", "bid", "watch", "question")
+# The most that passes before a server is killed, in seconds.
+LONGEST = 0.08
+
+
+def commands():
+    """Commands that are all accepted and make a row each: a category, then members who each list an item, on which the
+    member before bids twice, which it watches and asks about."""
+    yield command("/categories", 0, 1000, compact({"name": "Books"}))
+    yield command("/members", 0, 1000, compact({"name": "member 1"}))
+    for number in itertools.count(2):
+        item = number - 1
+        yield command("/members", 0, 1000, compact({"name": f"member {number}"}))
+        yield command("/items", number, 1000, compact({"category": 1, "end": 5000, "lot": f"A{item}", "start": 500,
+                                                       "text": "", "title": "Atlas"}))
+        for maximum in (500, 900):
+            yield command(f"/items/{item}/bids", item, 1000, compact({"maximum": maximum}))
+        yield command(f"/items/{item}/watch", item, 1000)
+        yield command(f"/items/{item}/questions", item, 1000, compact({"text": "Is it signed?"}))
+
+
+class Client:
+    """Sends commands until its connection ends."""
+
+    def __init__(self, port):
+        self.connection = socket.create_connection(("127.0.0.1", port), timeout=60)
+        self.answers = self.connection.makefile("rb")
+
+    def asks(self, text):
+        """Whether a command was answered, and accepted."""
+        try:
+            self.connection.sendall(text)
+            lines = list(itertools.takewhile(bool, iter(self.answers.readline, b"\r\n")))
+            size = next((int(line.split(b":")[1]) for line in lines if line.startswith(b"content-length")), None)
+            body = self.answers.read(size) if size is not None else b""
+        except ConnectionError:
+            return False
+        if size is None or len(body) < size:
+            return False
+        check("accepted", lines[0] in (b"HTTP/1.1 200 OK\r\n", b"HTTP/1.1 201 Created\r\n"), True)
+        return True
+
+
+def rows(folder, file):
+    """The rows of each table of a house, by SQLite, on a copy with its log, in which it finds no fault."""
+    for ending in ("", "-wal"):
+        shutil.copy(folder / (file + ending), folder / ("copy" + ending))
+    database = sqlite3.connect(folder / "copy")
+    there = [name for (name,) in database.execute("SELECT name FROM sqlite_master WHERE type = 'table'")]
+    check("sound", database.execute("PRAGMA integrity_check").fetchall(), [("ok",)])
+    check("no dangling row", database.execute("PRAGMA foreign_key_check").fetchall(), [])
+    told = {name: sorted(database.execute(f"SELECT * FROM {name}"), key=repr) for name in there}
+    database.close()
+    return told
+
+
+def made(tables):
+    """How many commands made these rows."""
+    return sum(len(tables[name]) for name in GROWING)
+
+
+class Kills:
+    def __init__(self, program, folder, seed):
+        self.program, self.folder, self.random = program, folder, random.Random(seed)
+        self.texts, self.cached = commands(), []
+        self.answered = self.whole = self.more = 0
+        for file in ("killed", "whole"):
+            check(f"{file} made", program.ended("init", file, "--bands", "bands.csv", *SETTINGS),
+                  (0, b"created\n", b""))
+
+    def text(self, place):
+        while len(self.cached) <= place:
+            self.cached.append(next(self.texts).text())
+        return self.cached[place]
+
+    def kill_once(self):
+        """Sends commands until the server is killed."""
+        with self.program.serving("killed", 1) as server:
+            client = Client(server.port)
+            timer = threading.Timer(self.random.uniform(0, LONGEST), server.process.kill)
+            timer.start()
+            while client.asks(self.text(self.answered)):
+                self.answered += 1
+            timer.join()
+
+    def catch_up(self, count):
+        """Has the house that is never killed take commands up to a number."""
+        told, ending = self.program.answers("whole", [b"".join(self.text(n) for n in range(self.whole, count))])
+        check("never killed", ending, served(1))
+        self.whole = count
+
+    def look(self):
+        """Compares the killed house with the one that is never killed."""
+        tables = rows(self.folder, "killed")
+        count = made(tables)
+        check("commands", count - self.answered in (0, 1), True)
+        self.more += count - self.answered
+        self.answered = count
+        self.catch_up(count)
+        check("rows", tables, rows(self.folder, "whole"))
+
+
+def main():
+    kills, seed = (int(word) for word in (sys.argv[2:] + ["200", "2026"][len(sys.argv) - 2:]))
+    with tempfile.TemporaryDirectory() as path:
+        folder = pathlib.Path(path)
+        (folder / "bands.csv").write_text("at,step\n0,5\n100,25\n500,50\n")
+        run = Kills(Program(str(pathlib.Path(sys.argv[1]).resolve()), path), folder, seed)
+        for _ in range(kills):
+            run.kill_once()
+            run.look()
+    print(f"{kills} kills, {run.answered} commands, {run.more} of them more than answered, {CHECKS.count(False)} wrong")
+    return 1 if not all(CHECKS) else 0
+
+
+if __name__ == "__main__":
+    sys.exit(main())

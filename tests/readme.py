@@ -1,0 +1,72 @@
+#!/usr/bin/env python3
+"""Runs the sessions of README.md and compares what they print: `readme.py PROGRAM`.
+
+A session is a block of which the first line begins with `$ `; each such line is a command, and the lines behind it are
+what it has to print. All commands of a session run in one shell, in a folder of their own that has `examples/`, with
+PROGRAM as `auction`; a command that ends with `&` has printed its line before the next begins. The last line is
+'N commands, M wrong'.
+"""
+import os
+import pathlib
+import re
+import socket
+import subprocess
+import sys
+import tempfile
+
+ROOT = pathlib.Path(__file__).resolve().parent.parent
+END = "--- the command has ended ---"
+PORT = "8080"
+
+
+def sessions(text):
+    """Each session, as commands and what they print."""
+    for block in re.findall(r"^```text\n(\$ .*?)^```$", text, re.M | re.S):
+        parts = [part.split("\n", 1) for part in block.removeprefix("$ ").split("\n$ ")]
+        yield [(command, told.rstrip("\n")) for command, told in (part + [""] * (2 - len(part)) for part in parts)]
+
+
+def free_port():
+    with socket.create_server(("127.0.0.1", 0)) as server:
+        return str(server.getsockname()[1])
+
+
+class Shell:
+    def __init__(self, folder, program):
+        (folder / "bin").mkdir()
+        (folder / "bin" / "auction").symlink_to(pathlib.Path(program).resolve())
+        (folder / "examples").symlink_to(ROOT / "examples")
+        path = f"{folder / 'bin'}:{os.environ['PATH']}"
+        self.process = subprocess.Popen(["bash"], cwd=folder, env={**os.environ, "PATH": path}, text=True,
+                                        stdin=subprocess.PIPE, stdout=subprocess.PIPE, stderr=subprocess.STDOUT)
+
+    def run(self, command):
+        """What a command prints."""
+        self.process.stdin.write(f"{command}\n" if command.endswith("&") else f"{command}\necho; echo '{END}'\n")
+        self.process.stdin.flush()
+        if command.endswith("&"):
+            return self.process.stdout.readline().rstrip("\n")
+        told = "".join(iter(self.process.stdout.readline, f"{END}\n"))
+        return told.rstrip("\n")
+
+
+def main():
+    commands = wrong = 0
+    port = free_port()
+    for session in sessions((ROOT / "README.md").read_text()):
+        with tempfile.TemporaryDirectory() as folder:
+            shell = Shell(pathlib.Path(folder), sys.argv[1])
+            for command, wanted in session:
+                told = shell.run(command.replace(PORT, port)).replace(port, PORT)
+                print(f"$ {command}\n{told}".rstrip("\n"))
+                commands += 1
+                if told != wanted:
+                    wrong += 1
+                    print(f"README.md has:\n{wanted}")
+            shell.process.communicate()
+    print(f"{commands} commands, {wrong} wrong")
+    return 1 if wrong or not commands else 0
+
+
+if __name__ == "__main__":
+    sys.exit(main())

@@ -1,0 +1,72 @@
+#!/usr/bin/env python3
+"""Has clients that stall in front of one that asks: `stalls.py PROGRAM`, for up to two minutes.
+
+Connections are served one after the other, so who sends nothing, or reads none of its answers, holds up all others
+until nothing has moved for 30 seconds; then the next is answered. What a write had taken by then counts as a move, so
+the second may hold them up for some times 30 seconds. The last line is 'N checks, M wrong'.
+"""
+import pathlib
+import socket
+import sys
+import tempfile
+import threading
+import time
+
+from served import CHECKS, MESSAGES, Program, check, exchange, message, served
+
+# For how long a connection may be still, and how long one of these may hold up the others, in seconds.
+STILL, LONGEST = 30, 115
+# A page of twenty items, so that the answers to all messages of a connection find no room in the system's buffers.
+FILLING = MESSAGES[:3] + [
+    message("POST", "/items", 1, 1000, '{"category":1,"end":5000,"lot":"A%d","start":500,"text":"","title":"Atlas"}'
+            % number) for number in range(20)]
+READ = message("GET", "/categories/1/items/1", 2)
+
+
+def send_nothing(connection):
+    """Keeps quiet."""
+
+
+def read_nothing(connection):
+    """Asks until nothing more is taken, and reads no answer."""
+    connection.settimeout(2)
+    try:
+        while True:
+            connection.sendall(READ * 100)
+    except TimeoutError:
+        pass
+
+
+def stall(program, file, way):
+    """What the client is answered that comes behind one that stalls."""
+    init = ["--bands", "bands.csv", "--rate", "1000", "--zone", "UTC0"]
+    check(f"{file} made", program.ended("init", file, *init), (0, b"created\n", b""))
+    with program.serving(file, 3, seconds=120) as server:
+        exchange(server.port, b"".join(FILLING))
+        wanted = program.ended("replay", *init, given=b"".join([*FILLING, READ]))[1]
+        with socket.create_connection(("127.0.0.1", server.port), timeout=60) as first:
+            began = time.monotonic()
+            way(first)
+            check(f"{file} answered", wanted.endswith(exchange(server.port, READ)), True)
+            waited = time.monotonic() - began
+        check(f"{file} waited", STILL - 1 <= waited <= LONGEST, True)
+        print(f"{file}: {waited:.0f} s")
+    check(f"{file} ended", server.ending, served(3))
+
+
+def main():
+    with tempfile.TemporaryDirectory() as folder:
+        (pathlib.Path(folder) / "bands.csv").write_text("at,step\n0,5\n100,25\n500,50\n")
+        program = Program(str(pathlib.Path(sys.argv[1]).resolve()), folder)
+        stalls = [threading.Thread(target=stall, args=(program, way.__name__, way))
+                  for way in (send_nothing, read_nothing)]
+        for thread in stalls:
+            thread.start()
+        for thread in stalls:
+            thread.join()
+    print(f"{len(CHECKS)} checks, {CHECKS.count(False)} wrong")
+    return 1 if len(CHECKS) != 8 or not all(CHECKS) else 0
+
+
+if __name__ == "__main__":
+    sys.exit(main())
