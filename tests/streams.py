@@ -52,21 +52,59 @@ FIRST, TOLD = bid(2, 1001, 500), placed(1, 550, 2, 500)
 
 HEAD, END = fault(b"400 Bad Request", b"head"), fault(b"400 Bad Request", b"end")
 
-# Texts that are no message, whatever follows them, and what is answered to each.
+LENGTH, HOST = fault(b"400 Bad Request", b"length"), fault(b"400 Bad Request", b"host")
+TRANSFER, SIZE = fault(b"501 Not Implemented", b"transfer"), fault(b"413 Content Too Large", b"size")
+
+
+def close(*fields):
+    """A close with these fields."""
+    return b"POST /close HTTP/1.1\r\nhost: h\r\n" + b"".join(field + b"\r\n" for field in fields) + b"\r\n"
+
+
+# Texts that are no message, whatever follows them, and what is answered to each. Among them are the ways in which
+# two readers of one stream have been made to see different messages: by two lengths, by a length and a coding, by
+# a length or a line that one of them reads otherwise (RFC 9112, 11.2).
 NO_MESSAGES = [
     (b"GET  /items/1 HTTP/1.1\r\nhost: h\r\n\r\n", HEAD),
     (b"GET /items/1 HTTP/2.0\r\nhost: h\r\n\r\n", HEAD),
+    (b"GET /items/1\r\n\r\n", HEAD),
+    (b"GET /items/1 HTTP/1.1\rhost: h\r\r", HEAD),
     (b"GET /items/1 HTTP/1.1\r\nhost : h\r\n\r\n", HEAD),
+    (b"GET /items/1 HTTP/1.1\r\n host: h\r\n\r\n", HEAD),
+    (b"GET /items/1 HTTP/1.1\r\nhost: h\r\na: b\r\n c\r\n\r\n", HEAD),
+    (b"GET /items/1 HTTP/1.1\r\nhost: h\r\na: b\rc\r\n\r\n", HEAD),
+    (b"GET /items/1 HTTP/1.1\r\nhost: h\r\na: b\0c\r\n\r\n", HEAD),
+    (b"GET /items/1 HTTP/1.1\r\nhost: h\r\na\r\n\r\n", HEAD),
+    (b"GET /items/1 HTTP/1.1\r\nhost: h\r\n: b\r\n\r\n", HEAD),
     (b"GET /items/1 HTTP/1.1\r\nhost: h\r\n" + b"a: b\r\n" * 64 + b"\r\n", HEAD),
     (b"GET /items/1 HTTP/1.1\r\nhost: h\r\na: " + b"b" * 8192 + b"\r\n\r\n", HEAD),
-    (b"GET /items/1 HTTP/1.1\r\nx-member: 2\r\n\r\n", fault(b"400 Bad Request", b"host")),
-    (b"GET /items/1 HTTP/1.1\r\nhost: h\r\ntransfer-encoding: chunked\r\n\r\n",
-     fault(b"501 Not Implemented", b"transfer")),
-    (b"POST /close HTTP/1.1\r\nhost: h\r\ncontent-length: -1\r\n\r\n",
-     fault(b"400 Bad Request", b"length")),
-    (b"POST /close HTTP/1.1\r\nhost: h\r\ncontent-length: 16385\r\n\r\n",
-     fault(b"413 Content Too Large", b"size")),
+    (b"GET /" + b"a" * 8192 + b" HTTP/1.1\r\nhost: h\r\n\r\n", HEAD),
+    (close(b"transfer-encoding : chunked"), HEAD),
+    (close(b"content-length : 0"), HEAD),
+    (b"GET /items/1 HTTP/1.1\r\nx-member: 2\r\n\r\n", HOST),
+    (close(b"Host: h"), HOST),
+    (close(b"transfer-encoding: chunked"), TRANSFER),
+    (close(b"Transfer-Encoding:\tidentity"), TRANSFER),
+    (close(b"content-length: 0", b"transfer-encoding: chunked"), TRANSFER),
+    (close(b"transfer-encoding: chunked", b"content-length: 0"), TRANSFER),
+    (close(b"content-length: 0", b"content-length: 0"), LENGTH),
+    (close(b"content-length: 0", b"Content-Length: 16"), LENGTH),
+    *((close(b"content-length: " + value), LENGTH)
+      for value in (b"", b"-1", b"+0", b"0x0", b"0,0", b"0 0", b"0;", b"1e1", b"0.0", "\u0660".encode())),
+    (close(b"content-length: 16385"), SIZE),
+    (close(b"content-length: " + b"9" * 100), SIZE),
 ]
+
+
+def command(body):
+    """A bid with a body of these bytes, as its sender tells their number."""
+    return (b"POST /items/1/bids HTTP/1.1\r\nhost: h\r\nx-member: 2\r\nx-moment: 1001\r\n"
+            b"content-length: %d\r\n\r\n%s" % (len(body), body))
+
+
+# Bodies that are no object of JSON, behind which the connection goes on, whatever else they look like.
+NO_OBJECTS = [b"", b" " * 16_384, b"[" * 200 + b"]" * 200, b"\r\n\r\n", b"0\r\n\r\n", read(3), bid(3, 1002, 900),
+              b'{"maximum":500}0', b'{"maximum":500', b"\xef\xbb\xbf{}"]
 
 
 def cut_short(message, cut):
@@ -80,6 +118,10 @@ def whole_streams():
     for text, told in NO_MESSAGES:
         yield f"no message {text[:100]}", text + read(2), told
         yield f"a bid and no message {text[:100]}", FIRST + text + read(2), TOLD + told
+    no_json = answer(b"400 Bad Request", b'{"error":"json"}')
+    for body in NO_OBJECTS:
+        yield f"no object {body[:100]}", FIRST + command(body) + read(2), TOLD + no_json + page(1)
+    yield "64 fields", FIRST + read(2)[:-2] + b"a: b\r\n" * 62 + b"\r\n", TOLD + page(1)
     # Cut inside the second message, or inside the first: in its head, or in its body.
     first, second = FIRST, bid(3, 1002, 549)
     for cut in range(1, len(first)):
