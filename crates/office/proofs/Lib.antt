@@ -1,0 +1,5 @@
+pub mod Fields
+pub mod Chains
+pub mod Rows
+pub mod Ends
+pub mod Grown

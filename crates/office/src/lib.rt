@@ -1,0 +1,25 @@
+//! What the house's office makes of a keep: statements of account, and lots listed from a file.
+//!
+//! Promised, over any keep: a statement is the one of the kept sales of a member, by the kept zone
+//! and rate; who isn't registered has none; the tables stay. A lot file is read as far as each
+//! record has its fields, each row that can be read is one order of the member at the moment, made
+//! through the site, and what is counted is what the answers told. Read `account` first, then
+//! `specs/Lots.antt` and `specs/Imports.antt`, and `imports`.
+#![tactic(auto)]
+
+mod account;
+mod column;
+mod fault;
+mod imports;
+mod lines;
+mod lot;
+mod order;
+mod outcome;
+mod records;
+mod tally;
+
+pub use account::{StatementFault, statement};
+pub use fault::ImportFault;
+pub use imports::{check_member, import};
+pub use order::Lister;
+pub use tally::Imported;
