@@ -1,5 +1,6 @@
 //! The engine over a keep.
 ghost use Rattle.std.specs.Prelude.{◌≡◌, ◌↔◌, [], ℕ, List, Ok, Err, IfErr, IfOk, IsOk, true};
+ghost use Rattle.std.specs.Borrow.{sem};
 ghost use Rattle.std.specs.Cow.{cow_slice_items};
 ghost use Rattle.house_rows.specs.declared.settings.Settings.{Settings as TheSettings};
 ghost use Rattle.house_rows.specs.History.{History};
@@ -13,6 +14,7 @@ ghost use Rattle.site_asks.specs.declared.asked.Asked.{Asked as TheAsked};
 ghost use Rattle.wire.specs.Frame.{IsFrame};
 ghost use Rattle.wire.specs.declared.fault.WireFault.{WireFault};
 ghost use Rattle.site.specs.Answers.{IsAppended, IsBegun, IsReadable, IsStep, IsTold, broken_text, zone_of};
+ghost use Rattle.site.specs.Lent.{LendsKeep};
 
 use house_rows::{Counts, Keep, KeepFault, Settings};
 use json::Scratch;
@@ -97,6 +99,14 @@ impl<K: Keep + Drop> Site<K> {
     {
         let Site { keep, .. } = self;
         keep
+    }
+
+    /// The keep, for look-ups that no message asks for. The site goes on over what is left there.
+    pub fn keep_mut(&mut self) -> &mut K
+        ensures* lends { sem 𝓛 (LendsKeep K.row self.entry result) }
+        ensures keep { result.now ≡ self.old.keep }
+    {
+        &mut self.keep
     }
 
     /// Answers a message, behind what the buffer holds. Where memory was refused or the keep fails,

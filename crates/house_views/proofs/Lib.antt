@@ -1,0 +1,2 @@
+mod Public
+mod Waits

@@ -1,0 +1,76 @@
+-- Tables of two histories have the same public rows exactly where the histories have the same view.
+use Rattle.std.proofs.Common.{◌≡◌, ◌∙◌, Bool, true, map, ap, refl, sym}
+use Rattle.std.specs.Prelude.{◌↔◌}
+use Rattle.house_rows.specs.declared.item.ItemShown.{ItemShown}
+use Rattle.house_rows.specs.declared.settings.Settings.{Settings}
+use Rattle.house_rows.specs.Found.{all_items}
+use Rattle.house_rows.specs.History.{History}
+use Rattle.house_rows.specs.Items.{items, items_shown, shown}
+use Rattle.house_rows.specs.Questions.{published}
+use Rattle.house_rows.specs.Tables.{Tables, tables_of}
+use Rattle.house_rows.specs.Views.{Public, public_view}
+use Rattle.house_rows.proofs.ItemRows.{items_are}
+use Rattle.std.proofs.lemmas.List.{map-id}
+use Rattle.house_rows.proofs.Lists.{map_twice}
+use Rattle.house_views.specs.Views.{HaveSameRows}
+
+-- an item can be read off what is shown of it
+shown_items : (settings : Settings) (h : History)
+    → map (λ (it : ItemShown). it.item) (items_shown settings h) ≡ items settings h
+unfolding items_shown
+shown_items settings h = map_twice (shown settings) (λ (it : ItemShown). it.item) (items settings h)
+    ∙ map-id (items settings h)
+
+items_if : (settings : Settings) (h k : History) → items_shown settings h ≡ items_shown settings k
+    → all_items (tables_of settings h) ≡ all_items (tables_of settings k)
+items_if settings h k same =
+    items_are settings h ∙ sym (shown_items settings h)
+    ∙ ap (map (λ (it : ItemShown). it.item)) same ∙ shown_items settings k ∙ sym (items_are settings k)
+
+items_then : (settings : Settings) (h k : History)
+    → all_items (tables_of settings h) ≡ all_items (tables_of settings k)
+    → items_shown settings h ≡ items_shown settings k
+unfolding items_shown
+items_then settings h k same =
+    ap (map (shown settings)) (sym (items_are settings h) ∙ same ∙ items_are settings k)
+
+view_then : (settings : Settings) (h k : History)
+    → HaveSameRows (tables_of settings h) (tables_of settings k)
+    → public_view settings h ≡ public_view settings k
+unfolding tables_of published
+view_then settings h k same =
+    rw (
+      same.people.clock,
+      same.people.members,
+      same.people.categories,
+      items_then settings h k same.items,
+      same.talk.questions,
+      same.talk.feedback,
+    ) refl
+
+rows_then : (settings : Settings) (h k : History)
+    → public_view settings h ≡ public_view settings k
+    → HaveSameRows (tables_of settings h) (tables_of settings k)
+unfolding tables_of published
+rows_then settings h k same = record {
+  people = record {
+    clock = ap (λ (p : Public). p.clock) same;
+    members = ap (λ (p : Public). p.members) same;
+    categories = ap (λ (p : Public). p.categories) same;
+  };
+  items = items_if settings h k (ap (λ (p : Public). p.items) same);
+  talk = record {
+    questions = ap (λ (p : Public). p.questions) same;
+    feedback = ap (λ (p : Public). p.feedback) same;
+  };
+}
+
+pub public_told : (settings : Settings) (h k : History) (t u : Tables) (same : Bool)
+    → t ≡ tables_of settings h → u ≡ tables_of settings k → (same ≡ true) ↔ HaveSameRows t u
+    → (same ≡ true) ↔ (public_view settings h ≡ public_view settings k)
+public_told settings h k t u same e d told =
+    let told' : (same ≡ true) ↔ HaveSameRows (tables_of settings h) (tables_of settings k) =
+    rw (e, d) at told in (
+      λ yes. view_then settings h k (told'.0 yes),
+      λ view. told'.1 (rows_then settings h k view),
+    )

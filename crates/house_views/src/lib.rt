@@ -1,0 +1,15 @@
+//! What two keeps show, compared: what everybody may see, and what waits for a member.
+//!
+//! Promised: over the tables of two histories each call tells whether the histories have the same
+//! settings, the same public view, or the same questions waiting; both keeps stay as they were. Read
+//! `specs/Views.antt` first, and then `views`.
+#![tactic(auto)]
+
+mod same;
+mod settings;
+mod tables;
+mod views;
+
+pub use same::{Same, are_same};
+pub use settings::have_same_settings;
+pub use views::{agree, have_same_public, have_same_waiting};
