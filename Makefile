@@ -2,7 +2,7 @@
 
 # Conformance cases that lie beside the checkout, and the suites of today.
 CASES ?= ../shared/conformance
-SUITES = site
+SUITES = site office
 
 # How many messages the fuzz sends at least, how often a server is killed, and the seed that chooses them.
 MESSAGES ?= 5000
@@ -15,7 +15,7 @@ help:
 	@echo "make demo      answers examples/first-bid.http, without waiting for the proofs"
 	@echo "make test      proves everything from nothing, runs all tests and wrong bodies (rt ci)"
 	@echo "make auction   proves and builds the program, as bin/auction"
-	@echo "make program   runs the program that make test has left on words, tables, streams and clients (needs cc)"
+	@echo "make program   runs the program that make test has left on words, tables, streams, files and clients (needs cc)"
 	@echo "make cases     runs the conformance cases on the program that make test has left"
 	@echo "make fuzz      sends MESSAGES random ones to that program, and compares answers with plain lists and in twin runs"
 	@echo "make memory    refuses each allocation of that program and of the crates below it (needs cc)"
@@ -41,6 +41,7 @@ program:
 	python3 tests/program.py crates/auction/out/auction
 	python3 tests/streams.py crates/auction/out/auction
 	python3 tests/served.py crates/auction/out/auction
+	python3 tests/office.py crates/auction/out/auction
 	if command -v curl > /dev/null; then \
 		python3 tests/real_clients.py crates/auction/out/auction && \
 		python3 tests/readme.py crates/auction/out/auction; \

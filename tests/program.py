@@ -51,6 +51,21 @@ REFUSED_WORDS = [
     ["serve", "house", "--port", "80", "--count", "0"],
     ["serve", "house", "--port", "80", "--count", "1000001"],
     ["serve", "house", "--port", "80", "--count", "1", "--rate", "1"],
+    ["import", "house", "--member", "1", "--moment", "1"],
+    ["import", "house", "lots.csv", "--moment", "1"],
+    ["import", "house", "lots.csv", "--member", "1"],
+    ["import", "house", "lots.csv", "--member", "0", "--moment", "1"],
+    ["import", "house", "lots.csv", "--member", "100001", "--moment", "1"],
+    ["import", "house", "lots.csv", "--member", "1", "--moment=-1"],
+    ["import", "house", "lots.csv", "--member", "1", "--moment", "4102444801"],
+    ["import", "house", "lots.csv", "more", "--member", "1", "--moment", "1"],
+    ["statement", "--member", "1", "--from", "1970-01-01", "--to", "1970-01-01"],
+    ["statement", "house", "--from", "1970-01-01", "--to", "1970-01-01"],
+    ["statement", "house", "--member", "1", "--to", "1970-01-01"],
+    ["statement", "house", "--member", "1", "--from", "1970-01-01"],
+    ["statement", "house", "--member", "0", "--from", "1970-01-01", "--to", "1970-01-01"],
+    ["statement", "house", "--member", "100001", "--from", "1970-01-01", "--to", "1970-01-01"],
+    ["statement", "house", "--member", "1", "--from", "1970-01-01", "--to", "1970-01-01", "--csv", "--csv"],
 ]
 
 # The text of a band table, and how its fault is told.
@@ -108,7 +123,7 @@ def cases(folder, full):
     yield over_memory(["replay", "--record", "--bands", str(table), "--rate", "2000", "--zone", "CET-1"],
                       ended(0, EMPTY_RECORD, b""))
     for words in (["--help"], ["help"], ["replay", "--help"], ["help", "replay"], ["init", "--help"],
-                  ["serve", "--help"]):
+                  ["serve", "--help"], ["import", "--help"], ["statement", "--help"]):
         yield over_memory(words, helped)
     for rule in ("", "UTC", "CET-1\n", "CET-25", "Europe/Berlin"):
         yield over_memory(["replay", "--zone", rule], fault("zone"), READ)

@@ -1,2 +1,4 @@
+pub mod Accounts
 pub mod Outcomes
+pub mod Rows
 pub mod Zones

@@ -1,8 +1,15 @@
--- Which fault of the program stands for a fault of a keep or of serving.
+-- Which fault of the program stands for a fault of a layer below it.
 use Rattle.auction.specs.declared.fault.Fault.{Fault}
 use Rattle.auction.specs.declared.fault.Fault.TheVariants.{Memory as NoMemory, Store as FailedStore, Damaged as DamagedFile, Read as FailedInput, Write as FailedOutput}
+use Rattle.auction.specs.declared.fault.Fault.TheVariants as told
 use Rattle.house_rows.specs.declared.fault.KeepFault.{KeepFault}
 use Rattle.house_rows.specs.declared.fault.KeepFault.TheVariants.{Memory, Store, Damaged}
+use Rattle.office.specs.declared.account.StatementFault.{StatementFault}
+use Rattle.office.specs.declared.account.StatementFault.TheVariants as stating
+use Rattle.office.specs.declared.fault.ImportFault.{ImportFault}
+use Rattle.office.specs.declared.fault.ImportFault.TheVariants as importing
+use Rattle.settle.specs.declared.fault.SettleFault.{SettleFault}
+use Rattle.settle.specs.declared.fault.SettleFault.TheVariants as settling
 use Rattle.site_serve.specs.declared.serving.ServeFault.{ServeFault}
 use Rattle.site_serve.specs.declared.serving.ServeFault.TheVariants.{Memory as UnbegunMemory, Read, Write}
 
@@ -17,3 +24,30 @@ abbrev pub fault_of_serving : ServeFault → Fault
 fault_of_serving Read = FailedInput
 fault_of_serving Write = FailedOutput
 fault_of_serving UnbegunMemory = NoMemory
+
+-- what stands for a fault of an import
+abbrev pub fault_of_import : ImportFault → Fault
+fault_of_import importing.Memory = told.Memory
+fault_of_import importing.Store = told.Store
+fault_of_import importing.Damaged = told.Damaged
+fault_of_import importing.Member = told.Member
+fault_of_import importing.Head = told.Head
+fault_of_import importing.Csv = told.Csv
+fault_of_import importing.Read = told.Read
+fault_of_import importing.Write = told.Write
+
+-- what stands for a fault of a statement
+abbrev pub fault_of_statement : StatementFault → Fault
+fault_of_statement stating.Memory = told.Memory
+fault_of_statement stating.Store = told.Store
+fault_of_statement stating.Damaged = told.Damaged
+fault_of_statement stating.Order = told.Order
+fault_of_statement stating.Member = told.Member
+
+-- what stands for a fault of a day, or of writing a statement
+abbrev pub fault_of_settling : SettleFault → Fault
+fault_of_settling settling.Date = told.Date
+fault_of_settling settling.Order = told.Order
+fault_of_settling settling.Zone = told.Zone
+fault_of_settling settling.Memory = told.Memory
+fault_of_settling settling.Write = told.Write

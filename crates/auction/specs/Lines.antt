@@ -1,10 +1,11 @@
 -- The lines on standard error.
 use Rattle.std.specs.Prelude.{ℕ, List, Option, Some, None, ◌++◌, codes, decimal}
 use Rattle.auction.specs.declared.fault.Fault.{Fault}
-use Rattle.auction.specs.declared.fault.Fault.TheVariants.{Memory, Store, Damaged, Bands, Zone, Read, Write, Socket}
+use Rattle.auction.specs.declared.fault.Fault.TheVariants.{Memory, Store, Damaged, Bands, Zone, Read, Write, Socket, Date, Order, Member}
+use Rattle.auction.specs.declared.fault.Fault.TheVariants as lots
 use Rattle.steps.specs.Fault.{name_of, row_of}
 use Rattle.steps.specs.declared.fault.BandsFault.{BandsFault}
-use Rattle.steps.specs.declared.fault.BandsFault.TheVariants.{Csv, Head, Row, First, Order, Falls, TooMany, Device, Memory as NoMemory}
+use Rattle.steps.specs.declared.fault.BandsFault.TheVariants.{Csv, Head, Row, First, Order as OutOfOrder, Falls, TooMany, Device, Memory as NoMemory}
 
 -- a fault's name, and its row where it has one
 abbrev pub named_with : List ℕ → Option ℕ → List ℕ
@@ -18,7 +19,7 @@ bands_line Csv = named_with (name_of Csv) None
 bands_line Head = named_with (name_of Head) None
 bands_line (Row row) = named_with (name_of (Row row)) (Some row)
 bands_line First = named_with (name_of First) None
-bands_line (Order row) = named_with (name_of (Order row)) (Some row)
+bands_line (OutOfOrder row) = named_with (name_of (OutOfOrder row)) (Some row)
 bands_line (Falls row) = named_with (name_of (Falls row)) (Some row)
 bands_line TooMany = named_with (name_of TooMany) None
 bands_line Device = named_with (name_of Device) None
@@ -33,3 +34,8 @@ line_of Zone = codes "auction: zone"
 line_of Read = codes "auction: input: Read"
 line_of Write = codes "auction: output: Write"
 line_of Socket = codes "auction: socket"
+line_of Date = codes "auction: date"
+line_of Order = codes "auction: order"
+line_of Member = codes "auction: no member"
+line_of lots.Head = codes "auction: lots: Head"
+line_of lots.Csv = codes "auction: lots: Csv"

@@ -1,9 +1,11 @@
 //! Why the program ends at a fault: the lines on standard error and the exit statuses.
 ghost use Rattle.std.specs.Prelude.{◌≡◌, ◌≤◌, ◌↔◌, Some, IsErr, IsOk};
-ghost use Rattle.auction.specs.Faults.{fault_of_keep, fault_of_serving};
+ghost use Rattle.auction.specs.Faults.{fault_of_import, fault_of_keep, fault_of_serving, fault_of_settling, fault_of_statement};
 ghost use Rattle.auction.specs.Lines.{line_of};
 
 use house_rows::KeepFault;
+use office::{ImportFault, StatementFault};
+use settle::SettleFault;
 use site_serve::ServeFault;
 use std::fmt;
 use std::io::Write;
@@ -28,6 +30,16 @@ pub enum Fault {
     Write,
     /// Listening or accepting failed.
     Socket,
+    /// A text is no day.
+    Date,
+    /// A period ends before it begins.
+    Order,
+    /// Nobody has the member's number.
+    Member,
+    /// A lot file has no head.
+    Head,
+    /// A record of a lot file has another number of fields than its head.
+    Csv,
 }
 
 impl fmt::Display for Fault {
@@ -46,6 +58,11 @@ impl fmt::Display for Fault {
             Fault::Read => write!(f, "auction: input: Read"),
             Fault::Write => write!(f, "auction: output: Write"),
             Fault::Socket => write!(f, "auction: socket"),
+            Fault::Date => write!(f, "auction: date"),
+            Fault::Order => write!(f, "auction: order"),
+            Fault::Member => write!(f, "auction: no member"),
+            Fault::Head => write!(f, "auction: lots: Head"),
+            Fault::Csv => write!(f, "auction: lots: Csv"),
         }
     }
 }
@@ -70,6 +87,51 @@ impl From<ServeFault> for Fault {
             ServeFault::Read => Fault::Read,
             ServeFault::Write => Fault::Write,
             ServeFault::Memory => Fault::Memory,
+        }
+    }
+}
+
+impl From<ImportFault> for Fault {
+    ghost from_gives = { λ fault told. told ≡ fault_of_import fault };
+
+    fn from(fault: ImportFault) -> Fault {
+        match fault {
+            ImportFault::Memory => Fault::Memory,
+            ImportFault::Store => Fault::Store,
+            ImportFault::Damaged => Fault::Damaged,
+            ImportFault::Member => Fault::Member,
+            ImportFault::Head => Fault::Head,
+            ImportFault::Csv => Fault::Csv,
+            ImportFault::Read => Fault::Read,
+            ImportFault::Write => Fault::Write,
+        }
+    }
+}
+
+impl From<StatementFault> for Fault {
+    ghost from_gives = { λ fault told. told ≡ fault_of_statement fault };
+
+    fn from(fault: StatementFault) -> Fault {
+        match fault {
+            StatementFault::Memory => Fault::Memory,
+            StatementFault::Store => Fault::Store,
+            StatementFault::Damaged => Fault::Damaged,
+            StatementFault::Order => Fault::Order,
+            StatementFault::Member => Fault::Member,
+        }
+    }
+}
+
+impl From<SettleFault> for Fault {
+    ghost from_gives = { λ fault told. told ≡ fault_of_settling fault };
+
+    fn from(fault: SettleFault) -> Fault {
+        match fault {
+            SettleFault::Date => Fault::Date,
+            SettleFault::Order => Fault::Order,
+            SettleFault::Zone => Fault::Zone,
+            SettleFault::Memory => Fault::Memory,
+            SettleFault::Write => Fault::Write,
         }
     }
 }

@@ -46,9 +46,14 @@ fn created<S: Alter + Drop>(
     Ok(SqlKeep::create(alloc, conn, settings)?)
 }
 
+// The keep of the house over a connection.
+fn kept<S: Alter + Drop>(alloc: Global, conn: Connection<S>) -> Result<SqlKeep<S>, Fault> {
+    Ok(SqlKeep::open(alloc, conn)?)
+}
+
 // The site of the house over a connection.
 fn opened<S: Alter + Drop>(alloc: Global, conn: Connection<S>) -> Result<Site<SqlKeep<S>>, Fault> {
-    begun(alloc, SqlKeep::open(alloc, conn)?)
+    begun(alloc, kept(alloc, conn)?)
 }
 
 /// A new house in a file.
@@ -59,6 +64,11 @@ pub fn create_house(
     settings: Settings,
 ) -> Result<FileKeep, Fault> {
     created(alloc, made_file(rt, path)?, settings)
+}
+
+/// The keep of the house in a file.
+pub fn open_keep(rt: &HostRuntime, alloc: Global, path: &str) -> Result<FileKeep, Fault> {
+    kept(alloc, found_file(rt, path)?)
 }
 
 /// The site of the house in a file.

@@ -1,19 +1,22 @@
 //! The program's run: words in, an exit status out.
 ghost use Rattle.std.specs.Prelude.{◌≡◌, ◌≤◌};
 
-use crate::command_line::{self, HouseWords, Replay, Serve, Task};
+use crate::command_line::{self, HouseWords, ImportWords, Replay, Serve, StatementWords, Task};
 use crate::fault::{Fault, ended};
-use crate::files::{FileKeep, create_house, open_site};
+use crate::files::{FileKeep, create_house, open_keep, open_site};
+use crate::import::import_house;
 use crate::init::init_run;
+use crate::input::open_input;
 use crate::replay::replay_run;
 use crate::serve::{answer_each, serve_run};
 use crate::settings::settings;
+use crate::statement::{Inquiry, statement_house};
 use clap::Error;
 use device::{Reading, Writing};
 use site::Site;
 use std::alloc::Global;
 use std::env;
-use std::io::{self, ErrorKind, Write};
+use std::io::{self, BufWriter, ErrorKind, Write};
 use std::net::{Ipv4Addr, TcpListener};
 use store_list::ListKeep;
 
@@ -55,6 +58,8 @@ fn start(rt: &HostRuntime, alloc: Global, words: &[String]) -> u8
         Ok(Some(Task::Init(path, house))) => init_file(rt, alloc, path, &house),
         Ok(Some(Task::Serve(path, asked))) => serve_file(rt, alloc, path, asked),
         Ok(Some(Task::Replay(house, asked))) => replay_input(rt, alloc, &house, asked),
+        Ok(Some(Task::Import(path, asked))) => import_file(rt, alloc, path, asked),
+        Ok(Some(Task::Statement(path, asked))) => statement_file(rt, alloc, path, &asked),
         // Words that ask for nothing are refused there.
         Ok(None) => REFUSED,
         Err(error) => refuse(rt, &error),
@@ -144,6 +149,50 @@ fn replay_input(rt: &HostRuntime, alloc: Global, words: &HouseWords<'_>, asked: 
             let mut source = Reading::new(rt.reader());
             let mut sink = Writing::new(rt.stdout());
             replay_run(alloc, &mut source, &mut sink, &mut errors, keep, asked)
+        }
+        Err(fault) => ended(&mut errors, Err(fault)),
+    }
+}
+
+// Lists the rows of a lot file in the house in a file.
+fn import_file(rt: &HostRuntime, alloc: Global, path: &str, asked: ImportWords<'_>) -> u8
+    ensures { result ≤ 1 }
+{
+    let mut errors = rt.stderr();
+    let Ok(mut output) = BufWriter::new(alloc, rt.stdout()) else {
+        return ended(&mut errors, Err(Fault::Memory));
+    };
+    match open_keep(rt, alloc, path) {
+        Ok(keep) => {
+            let lots = open_input(rt, asked.lots);
+            import_house(alloc, keep, lots, asked.by, &mut output, &mut errors)
+        }
+        Err(fault) => ended(&mut errors, Err(fault)),
+    }
+}
+
+// The house in a file, and what is asked of it. A fault of what is asked is told before one of the
+// file.
+fn inquired(
+    rt: &HostRuntime,
+    alloc: Global,
+    path: &str,
+    words: &StatementWords<'_>,
+) -> Result<(FileKeep, Inquiry), Fault> {
+    let asked = Inquiry::read(words)?;
+    let keep = open_keep(rt, alloc, path)?;
+    Ok((keep, asked))
+}
+
+// Prints a statement from the house in a file.
+fn statement_file(rt: &HostRuntime, alloc: Global, path: &str, words: &StatementWords<'_>) -> u8
+    ensures { result ≤ 1 }
+{
+    let mut errors = rt.stderr();
+    match inquired(rt, alloc, path, words) {
+        Ok((keep, asked)) => {
+            let mut sink = Writing::new(rt.stdout());
+            statement_house(alloc, keep, asked, &mut sink, &mut errors)
         }
         Err(fault) => ended(&mut errors, Err(fault)),
     }

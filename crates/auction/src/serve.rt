@@ -37,6 +37,15 @@ pub fn begun<K: Keep + Drop>(alloc: Global, keep: K) -> Result<Site<K>, Fault>
     Ok(Site::new(alloc, keep)?)
 }
 
+/// The keep, once a site could begin over it: so what is wrong with a house is told before what else
+/// is asked of it.
+pub fn sound<K: Keep + Drop>(alloc: Global, keep: K) -> Result<K, Fault>
+    ensures { IfOk result (λ same. same ≡ keep) }
+{
+    let site = begun(alloc, keep)?;
+    Ok(site.end())
+}
+
 // Lets the peer read its answers: one whose connection is closed over bytes that were not read may
 // lose them (RFC 9112, 9.6).
 fn hang_up(stream: &TcpStream) {

@@ -9,19 +9,24 @@ use house_rows::Keep;
 use site::Site;
 use wire::{failed_store, no_memory};
 
-const ANA: &str = "POST /members HTTP/1.1\r\nhost: h\r\nx-member: 0\r\nx-moment: 1000\r\n\
+pub(crate) const ANA: &str =
+    "POST /members HTTP/1.1\r\nhost: h\r\nx-member: 0\r\nx-moment: 1000\r\n\
     content-length: 14\r\n\r\n{\"name\":\"Ana\"}";
 
-const BEN: &str = "POST /members HTTP/1.1\r\nhost: h\r\nx-member: 0\r\nx-moment: 1000\r\n\
+pub(crate) const BEN: &str =
+    "POST /members HTTP/1.1\r\nhost: h\r\nx-member: 0\r\nx-moment: 1000\r\n\
     content-length: 14\r\n\r\n{\"name\":\"Ben\"}";
 
-const CID: &str = "POST /members HTTP/1.1\r\nhost: h\r\nx-member: 0\r\nx-moment: 1000\r\n\
+pub(crate) const CID: &str =
+    "POST /members HTTP/1.1\r\nhost: h\r\nx-member: 0\r\nx-moment: 1000\r\n\
     content-length: 14\r\n\r\n{\"name\":\"Cid\"}";
 
-const BOOKS: &str = "POST /categories HTTP/1.1\r\nhost: h\r\nx-member: 0\r\nx-moment: 1000\r\n\
+pub(crate) const BOOKS: &str =
+    "POST /categories HTTP/1.1\r\nhost: h\r\nx-member: 0\r\nx-moment: 1000\r\n\
     content-length: 16\r\n\r\n{\"name\":\"Books\"}";
 
-const ATLAS: &str = "POST /items HTTP/1.1\r\nhost: h\r\nx-member: 1\r\nx-moment: 1000\r\n\
+pub(crate) const ATLAS: &str =
+    "POST /items HTTP/1.1\r\nhost: h\r\nx-member: 1\r\nx-moment: 1000\r\n\
     content-length: 74\r\n\r\n\
     {\"category\":1,\"end\":5000,\"lot\":\"A1\",\"start\":500,\"text\":\"\",\"title\":\"Atlas\"}";
 

@@ -1,0 +1,55 @@
+-- What an import does to a house, and what it prints.
+use Rattle.std.specs.Prelude.{◌≡◌, ◌≢◌, ◌++◌, ℕ, List, [], Bool, true, Option, is_some}
+use Rattle.std.specs.Io.KnownBytes.{Appends}
+use Rattle.std.specs.List.{FoldsTo}
+use Rattle.house_rows.specs.Keeping.{IsRead}
+use Rattle.house_rows.specs.Pages.{member_at}
+use Rattle.house_rows.specs.Tables.{Tables}
+use Rattle.office.specs.Imports.{HasListed, IsCounted}
+use Rattle.office.specs.Lines.{totals_line}
+use Rattle.office.specs.Tallies.{nothing}
+use Rattle.office.specs.declared.order.Lister.{Lister}
+use Rattle.office.specs.declared.outcome.Outcome.TheVariants.{Refused}
+use Rattle.office.specs.declared.tally.Imported.{Imported}
+use Rattle.settle.specs.Zoned.{IsZoneOf}
+use Rattle.settle.specs.declared.zone.Zone.{Zone}
+use Rattle.site.specs.Answers.{IsStep}
+use Rattle.site_asks.specs.declared.asked.Asked.{Asked}
+use Rattle.steps.specs.Reading.{records_of}
+
+-- the keep was asked whether the member is registered, who is
+pub record IsKnown {K : Type 0} (content : K → Tables) (is_failed : K → Bool)
+    (is_honest : K → Type 0) (may_leave : K → Tables → Type 0) (member : ℕ) (old new : K) :
+    Type 0 where
+  pub read : IsRead content is_failed is_honest may_leave old new
+  pub known : is_honest new → is_some (member_at (content old).members member) ≡ true
+
+-- the rows of a lot file were dealt with in turn over the keep that was given, by orders of the
+-- member at the moment, and what became of each was printed, and the totals
+pub record HasDealt {K : Type 0} (content : K → Tables) (is_failed : K → Bool)
+    (is_honest : K → Type 0) (may_leave : K → Tables → Type 0) (by : Lister) (text : List ℕ)
+    (before after : Option (List ℕ)) (given : K) (told : Imported) : Type 0 where
+  pub asked : K
+  pub member : IsKnown content is_failed is_honest may_leave by.member given asked
+  pub zone : Zone
+  pub kept_zone : is_honest asked → IsZoneOf (content asked).settings.zone zone
+  pub left : K
+  pub listed : HasListed (IsStep content is_failed is_honest may_leave zone)
+      (λ printed. Appends before after (printed ++ totals_line told))
+      by (records_of text) told asked left
+
+-- a row was dealt with, and it was listed, or there already
+pub record IsHad {K : Type 0} (Step : Asked → List ℕ → K → K → Type 0) (by : Lister)
+    (old : K × Imported × List ℕ) (fields : List (List ℕ)) (new : K × Imported × List ℕ) :
+    Type 0 where
+  pub dealt : IsCounted Step by old fields new
+  pub had : dealt.outcome ≢ Refused
+
+-- and so was each
+pub record HasAll {K : Type 0} (content : K → Tables) (is_failed : K → Bool)
+    (is_honest : K → Type 0) (may_leave : K → Tables → Type 0) (by : Lister) (text : List ℕ)
+    (before after : Option (List ℕ)) (given : K) : Type 0 where
+  pub told : Imported
+  pub run : HasDealt content is_failed is_honest may_leave by text before after given told
+  pub had : FoldsTo (IsHad (IsStep content is_failed is_honest may_leave run.zone) by)
+      (run.asked, nothing, []) run.listed.rows (run.left, told, run.listed.printed)

@@ -1,0 +1,104 @@
+//! `import`: the rows of a lot file, listed in a house.
+ghost use Rattle.std.specs.Prelude.{◌≡◌, ◌≤◌, ◌↔◌, ℕ, List, Ok, Some, IfOk, IsOk, OnOk};
+ghost use Rattle.std.specs.Io.KnownBytes.{Keeps};
+ghost use Rattle.auction.specs.Listed.{HasAll, HasDealt};
+
+use crate::ends::Ends;
+use crate::fault::{Fault, ended};
+use crate::serve::{begun, sound};
+use house_rows::Keep;
+use office::{ImportFault, Imported, Lister, check_member, import};
+use sqlite::Alter;
+use std::alloc::Global;
+use std::io::{Read, Write};
+use store::SqlKeep;
+
+// Hands on what was printed, and ends the keep, however the import ended. Its own fault is told
+// before theirs.
+fn finish<W: Write, K: Ends>(
+    output: &mut W,
+    keep: K,
+    imported: Result<Imported, ImportFault>,
+) -> Result<Imported, Fault>
+    ensures same { IfOk result (λ told. imported ≡ Ok told) }
+    ensures kept { Keeps (W.contents output.old) (W.contents output.new) }
+{
+    let flushed = output.flush();
+    let ended = keep.end();
+    let told = imported?;
+    if flushed.is_err() {
+        return Err(Fault::Write);
+    }
+    ended?;
+    Ok(told)
+}
+
+// Lists the rows.
+fn list_all<R: Read + Drop, W: Write, K: Keep + Drop + Ends>(
+    alloc: Global,
+    keep: K,
+    lots: Result<R, Fault>,
+    by: Lister,
+    output: &mut W,
+) -> Result<Imported, Fault>
+    ensures listed { IfOk result (λ told. (reader : R) → lots ≡ Ok reader → (text : List ℕ)
+        → R.remaining reader ≡ Some text
+        → HasDealt K.content K.is_failed K.is_honest K.may_leave by text
+        (W.contents output.old) (W.contents output.new) keep told) }
+    ensures open { OnOk result (IsOk lots) }
+{
+    let mut keep = sound(alloc, keep)?;
+    check_member(&mut keep, by.member)?;
+    let lots = lots?;
+    let mut site = begun(alloc, keep)?;
+    let imported = import(alloc, &mut site, by, lots, output);
+    finish(output, site.end(), imported)
+}
+
+// The exit status for what became of the rows.
+fn status(told: Imported) -> u8
+    ensures had { (result ≡ 0) ↔ (told.refused ≡ 0) }
+    ensures within { result ≤ 1 }
+{
+    if told.refused == 0 { 0 } else { 1 }
+}
+
+/// Lists each row of a lot file for a member at a moment, ends the keep, and gives the exit status:
+/// 0 where each row was listed or there already, and else 1. A fault is told in its line on
+/// `errors`; what was printed before it stands.
+pub fn import_run<R: Read + Drop, W: Write, E: Write, K: Keep + Drop + Ends>(
+    alloc: Global,
+    keep: K,
+    lots: Result<R, Fault>,
+    by: Lister,
+    output: &mut W,
+    errors: &mut E,
+) -> u8
+    ensures listed { result ≡ 0 → (reader : R) → lots ≡ Ok reader → (text : List ℕ)
+        → R.remaining reader ≡ Some text
+        → HasAll K.content K.is_failed K.is_honest K.may_leave by text
+        (W.contents output.old) (W.contents output.new) keep }
+    ensures open { result ≡ 0 → IsOk lots }
+    ensures within { result ≤ 1 }
+{
+    match list_all(alloc, keep, lots, by, output) {
+        Ok(told) => status(told),
+        Err(fault) => ended(errors, Err(fault)),
+    }
+}
+
+/// The same over the house in a database.
+pub fn import_house<R: Read + Drop, W: Write, E: Write, S: Alter + Drop>(
+    alloc: Global,
+    keep: SqlKeep<S>,
+    lots: Result<R, Fault>,
+    by: Lister,
+    output: &mut W,
+    errors: &mut E,
+) -> u8
+where
+    SqlKeep<S>: Ends,
+    ensures { result ≤ 1 }
+{
+    import_run(alloc, keep, lots, by, output, errors)
+}

@@ -1,0 +1,201 @@
+#!/usr/bin/env python3
+"""Lists lots and prints statements: `office.py PROGRAM`.
+
+Each fault of `import` and `statement` has its line and its exit status, and of two faults the one that comes
+first in order is told. What is printed has to be what the worked rows have; an import that is made again lists nothing
+and leaves every table as it was; and the file alone is then the house. The last line is 'N checks, M wrong'.
+"""
+import pathlib
+import shutil
+import sqlite3
+import subprocess
+import sys
+import tempfile
+
+from served import CHECKS, EXAMPLE, PRESET, Program, check, fault, message, served
+
+HEAD = "lot,category,title,text,start,buy_now,end\n"
+LOTS = HEAD + "A1,1,Atlas,,5.00,,5000\nB2,1,Globe,,7.50,20.00,6000\n"
+FIRST_IMPORT = b"row 1: there already\nrow 2: item 2\n1 listed, 1 there already, 0 refused\n"
+SECOND_IMPORT = b"row 1: there already\nrow 2: there already\n0 listed, 2 there already, 0 refused\n"
+BY_ANA = ["--member", "1", "--moment", "1000"]
+
+# A field of a row that can't be read, each with its name.
+UNREAD = [("C3,x,T,,5.00,,5000", "category"), ("C3,00000000001,T,,5.00,,5000", "category"),
+          ("C3,1,T,,5,,50000000000", "end"), ("C3,1,T,,5.0,,5000", "start"), ("C3,1,T,,,,5000", "start"),
+          ("C3,1,T,,5.00,x,5000", "buy_now"), ("C3,1,T,,5.00,,", "end"), ("C3,x,T,,x,x,x", "category")]
+
+# Two sales, the second of which falls on the next day in the house's zone.
+SALES = [
+    message("POST", "/members", 0, 1000, '{"name":"Ana"}'),
+    message("POST", "/members", 0, 1000, '{"name":"Ben"}'),
+    message("POST", "/categories", 0, 1000, '{"name":"Books"}'),
+    message("POST", "/items", 1, 1000,
+            '{"category":1,"end":5000,"lot":"A1","start":999,"text":"","title":"Atlas"}'),
+    message("POST", "/items", 1, 1000,
+            '{"category":1,"end":84600,"lot":"B2","start":1,"text":"","title":"Globe"}'),
+    message("POST", "/items/1/bids", 2, 1001, '{"maximum":999}'),
+    message("POST", "/items/2/bids", 2, 1001, '{"maximum":1}'),
+    message("POST", "/close", 0, 84600),
+]
+COLUMNS = b"day            item role    other          price            fee            net\n"
+BOTH_DAYS = COLUMNS + b"""\
+1970-01-01        1 sell        2           9.99           0.99           9.00
+1970-01-02        2 sell        2           0.01           0.00           0.01
+sold 10.00
+fees 0.99
+net 9.01
+bought 0.00
+"""
+FIRST_DAY = COLUMNS + b"""\
+1970-01-01        1 sell        2           9.99           0.99           9.00
+sold 9.99
+fees 0.99
+net 9.00
+bought 0.00
+"""
+BOUGHT = COLUMNS + b"""\
+1970-01-02        2 buy         1           0.01           0.00           0.01
+sold 0.00
+fees 0.00
+net 0.00
+bought 0.01
+"""
+NO_DAY = COLUMNS + b"sold 0.00\nfees 0.00\nnet 0.00\nbought 0.00\n"
+AS_CSV = (b"day,item,role,other,price,fee,net\n1970-01-01,1,sell,2,9.99,0.99,9.00\n"
+          b"1970-01-02,2,sell,2,0.01,0.00,0.01\n")
+
+
+def printed(text, status=0):
+    return status, text, b""
+
+
+def house(program, name, init, messages):
+    """A house in a file of which messages were answered, its log thrown away."""
+    check(f"{name} made", program.ended("init", name, *init), (0, b"created\n", b""))
+    _, ending = program.answers(name, [b"".join(messages)])
+    check(f"{name} served", ending, served(1))
+    for log in pathlib.Path(program.folder).glob(f"{name}-*"):
+        log.unlink()
+
+
+def rows(folder, name):
+    """All that a house's file has, by SQLite, without its log."""
+    shutil.copy(folder / name, folder / "alone")
+    database = sqlite3.connect(folder / "alone")
+    told = list(database.iterdump())
+    database.close()
+    (folder / "alone").unlink()
+    return told
+
+
+def written(folder, name, text):
+    data = text if isinstance(text, bytes) else text.encode()
+    (folder / name).write_bytes(data)
+    return name
+
+
+def on_full_device(program, *words):
+    """How a run ends whose output is full."""
+    with open("/dev/full", "wb") as full:
+        result = subprocess.run([program.path, *words], cwd=program.folder, stdout=full, stderr=subprocess.PIPE,
+                                timeout=60)
+    return result.returncode, result.stderr
+
+
+def imports(program, folder):
+    """Lot files that are good, and made again."""
+    lots = written(folder, "lots.csv", LOTS)
+    check("first import", program.ended("import", "house", lots, *BY_ANA), printed(FIRST_IMPORT))
+    before = rows(folder, "house")
+    check("its row stands", sum("'B2'" in row for row in before), 1)
+    check("second import", program.ended("import", "house", lots, *BY_ANA), printed(SECOND_IMPORT))
+    check("which changes nothing", rows(folder, "house"), before)
+    none = b"0 listed, 0 there already, 0 refused\n"
+    check("no row", program.ended("import", "house", written(folder, "none.csv", HEAD), *BY_ANA), printed(none))
+    for number, (row, name) in enumerate(UNREAD):
+        lots = written(folder, "unread.csv", HEAD + row + "\n")
+        told = b"row 1: fault %s\n0 listed, 0 there already, 1 refused\n" % name.encode()
+        check(f"unread {number}", program.ended("import", "house", lots, *BY_ANA), printed(told, 1))
+    lots = written(folder, "mixed.csv", HEAD + "A1,1,Atlas,,5.00,,5000\nC3,2,T,,5.00,,5000\nC3,1,T,,5.00,,5000\n"
+                   + "D4,1," + "T" * 16384 + ",,5.00,,5000\n" + "E5,1,T,,5.00,,999\n")
+    told = (b"row 1: there already\nrow 2: refused Unknown\nrow 3: item 3\nrow 4: refused Range\n"
+            b"row 5: refused Range\n1 listed, 1 there already, 3 refused\n")
+    check("mixed", program.ended("import", "house", lots, *BY_ANA), printed(told, 1))
+    behind = [b"MomentBehind"] * 3 + [b"Range", b"MomentBehind"]
+    none_listed = b"0 listed, 0 there already, 5 refused\n"
+    check("a moment behind", program.ended("import", "house", "mixed.csv", "--member", "1", "--moment", "999"),
+          printed(b"".join(b"row %d: refused %s\n" % row for row in enumerate(behind, 1)) + none_listed, 1))
+
+
+def import_faults(program, folder):
+    """Each fault of an import, and each beside the next in order."""
+    lots = written(folder, "good.csv", LOTS)
+    written(folder, "text", b"This is no house. " * 1000)
+    by_nobody = ["--member", "9", "--moment", "1000"]
+    check("no house", program.ended("import", "missing", lots, *BY_ANA), fault("file: Store"))
+    check("a text", program.ended("import", "text", lots, *BY_ANA), fault("file: Damaged"))
+    check("the file before the member", program.ended("import", "text", lots, *by_nobody), fault("file: Damaged"))
+    check("no member", program.ended("import", "house", lots, *by_nobody), fault("no member"))
+    check("the member before the lots", program.ended("import", "house", "missing.csv", *by_nobody),
+          fault("no member"))
+    check("no lots", program.ended("import", "house", "missing.csv", *BY_ANA), fault("input: Read"))
+    check("a folder of lots", program.ended("import", "house", ".", *BY_ANA), fault("input: Read"))
+    for number, text in enumerate(["", "A1,1,Atlas,,5.00,,5000\n", HEAD.replace("end", "ends"),
+                                   HEAD.replace(",end", ""), HEAD.upper()]):
+        check(f"no head {number}", program.ended("import", "house", written(folder, "head.csv", text), *BY_ANA),
+              fault("lots: Head"))
+    before = rows(folder, "house")
+    short = written(folder, "short.csv", HEAD + "S1,1,Short,,5.00,,5000\nS2,1,Short,,5.00,,5000,\nS3,1\n")
+    status, told, error = program.ended("import", "house", short, *BY_ANA)
+    check("a long record", (status, told.startswith(b"row 1: item "), told.count(b"\n"), error),
+          (1, True, 1, b"auction: lots: Csv\n"))
+    check("its row before it stands", len(rows(folder, "house")), len(before) + 1)
+    check("full", on_full_device(program, "import", "house", lots, *BY_ANA), (1, b"auction: output: Write\n"))
+
+
+def statements(program, folder):
+    """The statements of two sales, and each fault."""
+    def statement(member, first, last, *more, file="sales"):
+        return program.ended("statement", file, "--member", member, "--from", first, "--to", last, *more)
+
+    before = rows(folder, "sales")
+    check("both days", statement("1", "1970-01-01", "1970-01-02"), printed(BOTH_DAYS))
+    check("the first day", statement("1", "1970-01-01", "1970-01-01"), printed(FIRST_DAY))
+    check("bought", statement("2", "1970-01-02", "2100-12-31"), printed(BOUGHT))
+    check("no day", statement("1", "1970-01-03", "2100-12-31"), printed(NO_DAY))
+    check("as CSV", statement("1", "1970-01-01", "1970-01-02", "--csv"), printed(AS_CSV))
+    check("no day as CSV", statement("1", "1970-01-03", "1970-01-03", "--csv"),
+          printed(b"day,item,role,other,price,fee,net\n"))
+    check("nothing is changed", rows(folder, "sales"), before)
+    for day in ("1970-01-1", "1969-12-31", "2101-01-01", "2026-02-29", "1970/01/01", "", "19700101"):
+        check(f"from {day}", statement("1", day, "1970-01-02"), fault("date"))
+        check(f"to {day}", statement("1", "1970-01-02", day), fault("date"))
+    check("order", statement("1", "1970-01-02", "1970-01-01"), fault("order"))
+    check("the date before the order", statement("1", "1970-01-02", "1970-01-00"), fault("date"))
+    check("the date before the file", statement("1", "x", "1970-01-02", file="missing"), fault("date"))
+    check("the order before the file", statement("1", "1970-01-02", "1970-01-01", file="missing"), fault("order"))
+    check("no house", statement("1", "1970-01-01", "1970-01-02", file="missing"), fault("file: Store"))
+    check("the file before the member", statement("9", "1970-01-01", "1970-01-02", file="text"),
+          fault("file: Damaged"))
+    check("no member", statement("9", "1970-01-01", "1970-01-02"), fault("no member"))
+    words = ["--member", "1", "--from", "1970-01-01", "--to", "1970-01-02"]
+    check("full", on_full_device(program, "statement", "sales", *words), (1, b"auction: output: Write\n"))
+
+
+def main():
+    with tempfile.TemporaryDirectory() as name:
+        folder = pathlib.Path(name)
+        program = Program(str(pathlib.Path(sys.argv[1]).resolve()), name)
+        written(folder, "bands.csv", "at,step\n" + "".join(f"{at},{step}\n" for at, step in EXAMPLE))
+        house(program, "house", ["--bands", "bands.csv", "--rate", "1000", "--zone", "UTC0"], PRESET)
+        house(program, "sales", ["--bands", "bands.csv", "--rate", "1000", "--zone", "CET-1"], SALES)
+        imports(program, folder)
+        import_faults(program, folder)
+        statements(program, folder)
+    print(f"{len(CHECKS)} checks, {CHECKS.count(False)} wrong")
+    return 1 if not all(CHECKS) else 0
+
+
+if __name__ == "__main__":
+    sys.exit(main())
