@@ -4,12 +4,14 @@
 CASES ?= ../shared/conformance
 SUITES = site office
 
-# How many messages the fuzz sends at least, how often a server is killed, and the seed that chooses them.
+# How many messages the fuzz sends at least, how often a server is killed, how many rows a lot file has, and the seed that
+# chooses them.
 MESSAGES ?= 5000
 KILLS ?= 200
+ROWS ?= 20000
 SEED ?= 2026
 
-.PHONY: help demo test auction program cases fuzz memory statement random file kills stalls wrong
+.PHONY: help demo test auction program cases fuzz memory statement random file office kills stalls wrong
 
 help:
 	@echo "make demo      answers examples/first-bid.http, without waiting for the proofs"
@@ -17,11 +19,13 @@ help:
 	@echo "make auction   proves and builds the program, as bin/auction"
 	@echo "make program   runs the program that make test has left on words, tables, streams, files and clients (needs cc)"
 	@echo "make cases     runs the conformance cases on the program that make test has left"
-	@echo "make fuzz      sends MESSAGES random ones to that program, and compares answers with plain lists and in twin runs"
+	@echo "make fuzz      sends MESSAGES random ones to that program, some over TCP, and compares answers with plain lists and in"
+	@echo "               twin runs"
 	@echo "make memory    refuses each allocation of that program and of the crates below it (needs cc)"
 	@echo "make statement compares statements with those that Python makes"
 	@echo "make random    compares houses with plain lists, on random commands and on long lists, and with one another"
 	@echo "make file      makes houses in files, opens, copies and damages them, kills who serves them, and reads them with sqlite3"
+	@echo "make office    imports lot files, one of ROWS rows, and reads statements"
 	@echo "make kills     kills who serves a house KILLS times at random moments, and looks what is in its file"
 	@echo "make stalls    has clients that send or read nothing hold up one that asks, for up to two minutes"
 	@echo "make wrong     tries the wrong bodies that make test leaves out"
@@ -57,6 +61,7 @@ fuzz:
 
 memory:
 	python3 tests/refused_memory.py crates/auction/out/auction
+	python3 tests/refused_routes.py crates/auction/out/auction 1 200 50
 	python3 tests/refused_statement.py crates/settle_bench/out/settle_bench
 	python3 tests/refused_inbox.py crates/wire_bench/out/wire_bench
 	python3 tests/refused_house.py crates/house_tests/out/house_tests
@@ -78,6 +83,12 @@ random:
 file:
 	python3 tests/store_file.py crates/store_tests/out/store_tests
 	python3 tests/house_file.py crates/auction/out/auction
+	python3 tests/spoiled_house.py crates/auction/out/auction
+	python3 tests/bad_files.py crates/auction/out/auction
+
+office:
+	python3 tests/lots.py crates/auction/out/auction $(ROWS) $(SEED)
+	python3 tests/accounts.py crates/auction/out/auction
 
 kills:
 	python3 tests/kills.py crates/auction/out/auction $(KILLS) $(SEED)

@@ -1,23 +1,29 @@
 #!/usr/bin/env python3
-"""Sends random streams of messages to the program: `fuzz.py PROGRAM [COUNT [SEED]]`.
+"""Sends random streams of messages to the program: `fuzz.py PROGRAM [COUNT [SEED [EVERY]]]`.
 
 A stream has commands and reads of every kind, with callers, moments, bodies, targets and fields that are right or
 broken, and it ends cleanly, by a message that ends the connection, at a broken frame, cut short, or in bytes at
 random. Each answer has to be well formed and the one of tests/plain_site.py; only of bytes at random nothing but the
 form is known. Then what one member has sealed is changed, its maximum, a watch or a question that waits, so that the
-stream is a twin for others by the plain site: what these are answered has to stay the same, byte for byte. The last
-line is 'N messages, M accepted, K wrong'; COUNT messages are sent at least, 5,000 without it.
+stream is a twin for others by the plain site: what these are answered has to stay the same, byte for byte. One stream
+in EVERY, 5 without it and none where it is 0, is sent over TCP too, to a house in a file: it has to be answered the
+same, and the house that is served again has to show every page as the plain site does. The last line is 'N messages,
+M accepted, K wrong'; COUNT messages are sent at least, 5,000 without it.
 """
 import collections
 import dataclasses
 import json
+import pathlib
 import random
 import re
 import sys
+import tempfile
 
-from plain_site import AHEAD, COMMANDS, FIELDS, MOST_BODY, MOST_FIELDS, MOST_HEAD, NUMBERS, READS, SHORT, Site
+from plain_house import BANDS
+from plain_site import AHEAD, COMMANDS, FIELDS, MOST_BODY, MOST_FIELDS, MOST_HEAD, NUMBERS, READS, SHORT, Site, setup
 from random_house import Chance
 from sent import Answer, Malformed, answers_in, command, compact, lengthened, read, replayed, value_of
+from served import Program, served
 
 SEED = 2026
 LONGEST = 200
@@ -293,12 +299,24 @@ def twins(first, second, changer):
                    for one, other in zip(first.seen, second.seen))}
 
 
+def sights(site):
+    """A read of each page that shows what a house has."""
+    house = site.house
+    pages = ["/house", "/categories", *(f"/categories/{number}/items/1" for number in range(1, len(house.kinds) + 1))]
+    pages += [f"/items/{item.number}/questions/1" for item in house.rows]
+    for number in range(1, len(house.names) + 1):
+        pages += [f"/members/{number}", f"/members/{number}/feedback/1"]
+        for page in ("bids/1", "watches", "questions/1", "waiting", "statement/1970-01-01/2100-12-31"):
+            yield read(f"/me/{page}", number)
+    yield from (read(page, 0) for page in pages)
+
+
 class Fuzz:
     """Streams that were tried, and what was wrong."""
 
-    def __init__(self, program, seed):
-        self.program, self.random = program, random.Random(seed)
-        self.messages = self.wrong = self.compared = 0
+    def __init__(self, program, seed, every):
+        self.program, self.random, self.every = program, random.Random(seed), every
+        self.messages = self.wrong = self.compared = self.streams = self.served_streams = self.seen = 0
         self.accepted, self.refusals, self.statuses = collections.Counter(), set(), collections.Counter()
         # Pairs of twin runs, by what was changed.
         self.twins = collections.Counter()
@@ -326,8 +344,31 @@ class Fuzz:
         self.judged(first, answers, told, site.record() + b"\n" if recorded else b"")
         self.accepted.update(site.accepted)
         self.refusals |= site.refusals
+        self.streams += 1
+        if told is not None and self.every and self.streams % self.every == 0:
+            self.over_tcp(site, settings, stream, told[0], answers is not None)
         if told is not None and answers is not None:
             self.twin(first, settings, words, told)
+
+    def over_tcp(self, site, settings, stream, texts, is_known):
+        """Compares what a served house in a file is answered with what was told, and what it then shows, if that is known."""
+        self.served_streams += 1
+        with tempfile.TemporaryDirectory() as folder:
+            pathlib.Path(folder, "bands.csv").write_text("at,step\n" + "".join(f"{at},{step}\n" for at, step in BANDS))
+            program = Program(str(pathlib.Path(self.program).resolve()), folder)
+            program.ended("init", "house", "--bands", "bands.csv", "--rate", str(settings["rate"]),
+                          "--zone", settings["zone"])
+            first = b"".join(request.text() for request in setup()) if settings["preset"] else b""
+            told, ending = program.answers("house", [first, stream])
+            if (told[1], ending) != (b"".join(texts), served(2)):
+                self.fail(f"over TCP {stream[:300]}", (b"".join(texts), served(2)), (told[1], ending))
+            asked = list(sights(site)) if is_known else []
+            shown, _ = program.answers("house", [b"".join(request.text() for request in asked)])
+        for request, got in zip(asked, answers_in(shown[0])[0]):
+            self.seen += 1
+            wanted = site.answer(request).text()
+            if got != wanted:
+                self.fail(f"served again {request.text()}", wanted, got)
 
     def sent(self, stream, words):
         """The answers to a stream and what follows them, or None where they are no answers."""
@@ -380,8 +421,8 @@ class Fuzz:
 
 
 def main():
-    count, seed = (int(word) for word in [*sys.argv[2:], *("5000", str(SEED))[len(sys.argv) - 2:]])
-    fuzz = Fuzz(sys.argv[1], seed)
+    count, seed, every = (int(word) for word in [*sys.argv[2:], *("5000", str(SEED), "5")[len(sys.argv) - 2:]])
+    fuzz = Fuzz(sys.argv[1], seed, every)
     while fuzz.messages < count:
         fuzz.stream()
     print("accepted:", ", ".join(f"{name} {fuzz.accepted[name]}" for name in COMMANDS))
@@ -389,6 +430,7 @@ def main():
     print("never refused:", ", ".join(name for name in NUMBERS if name not in fuzz.refusals) or "-")
     print("twin runs, by what another sealed:", ", ".join(f"{part} {number}" for part, number in fuzz.twins.items()),
           f"with {fuzz.compared} answers compared")
+    print(f"over TCP: {fuzz.served_streams} of {fuzz.streams} streams, {fuzz.seen} pages compared")
     print(f"{fuzz.messages} messages, {sum(fuzz.accepted.values())} accepted, {fuzz.wrong} wrong")
     return 1 if fuzz.wrong else 0
 

@@ -64,22 +64,23 @@ def check(name, got, wanted):
 
 
 class Server:
-    """A program that serves: its port, its process, and how it ended, once it has."""
+    """A program that serves: its port, its process, whether it listens, and how it ended, once it has."""
 
     def __init__(self, port, process):
-        self.port, self.process, self.ending = port, process, None
+        self.port, self.process, self.is_listening, self.ending = port, process, False, None
 
 
 class Program:
-    """The program, run in a folder; `before` is done by its process first."""
+    """The program, run in a folder; `before` is done by its process first, which has more in its environment."""
 
-    def __init__(self, path, folder, before=None):
+    def __init__(self, path, folder, before=None, environment=()):
         self.path, self.folder, self.before = path, folder, before
+        self.environment = {**os.environ, **dict(environment)}
 
     def ended(self, *words, given=b""):
         """How a run ends: its status, and what it wrote to standard output and to standard error."""
         result = subprocess.run([self.path, *words], input=given, cwd=self.folder, capture_output=True, timeout=60,
-                                preexec_fn=self.before)
+                                preexec_fn=self.before, env=self.environment)
         return result.returncode, result.stdout, result.stderr
 
     @contextlib.contextmanager
@@ -88,12 +89,13 @@ class Program:
         port = free_port()
         process = subprocess.Popen([self.path, "serve", file, "--port", str(port), "--count", str(count)],
                                    cwd=self.folder, stdout=subprocess.PIPE, stderr=subprocess.PIPE,
-                                   preexec_fn=self.before)
+                                   preexec_fn=self.before, env=self.environment)
         watch = threading.Timer(seconds, process.kill)
         watch.start()
         server = Server(port, process)
         try:
             first = process.stdout.readline()
+            server.is_listening = first == b"listening\n"
             yield server
             rest, error = process.communicate(timeout=60)
             server.ending = process.returncode, first + rest, error
@@ -120,9 +122,18 @@ def exchange(port, stream):
         if stream is None:
             connection.setsockopt(socket.SOL_SOCKET, socket.SO_LINGER, b"\1\0\0\0\0\0\0\0")
             return None
+        # Answers are read meanwhile: else neither side goes on where they are long.
+        sending = threading.Thread(target=send, args=(connection, stream))
+        sending.start()
+        told = b"".join(iter(lambda: connection.recv(65536), b""))
+        sending.join()
+        return told
+
+
+def send(connection, stream):
+    with contextlib.suppress(ConnectionError):
         connection.sendall(stream)
         connection.shutdown(socket.SHUT_WR)
-        return b"".join(iter(lambda: connection.recv(65536), b""))
 
 
 def served(count):

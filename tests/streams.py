@@ -55,6 +55,8 @@ HEAD, END = fault(b"400 Bad Request", b"head"), fault(b"400 Bad Request", b"end"
 LENGTH, HOST = fault(b"400 Bad Request", b"length"), fault(b"400 Bad Request", b"host")
 TRANSFER, SIZE = fault(b"501 Not Implemented", b"transfer"), fault(b"413 Content Too Large", b"size")
 
+NO_PATH, NO_JSON = answer(b"404 Not Found", b'{"error":"path"}'), answer(b"400 Bad Request", b'{"error":"json"}')
+
 
 def close(*fields):
     """A close with these fields."""
@@ -107,6 +109,36 @@ NO_OBJECTS = [b"", b" " * 16_384, b"[" * 200 + b"]" * 200, b"\r\n\r\n", b"0\r\n\
               b'{"maximum":500}0', b'{"maximum":500', b"\xef\xbb\xbf{}"]
 
 
+# The public record of the house that `--preset` stands for.
+RECORD = (b'{"bands":[{"at":0,"step":5},{"at":100,"step":25},{"at":500,"step":50},{"at":2500,"step":100},'
+          b'{"at":10000,"step":250},{"at":25000,"step":500},{"at":50000,"step":1000},{"at":100000,"step":2500},'
+          b'{"at":250000,"step":5000},{"at":500000,"step":10000}],"categories":[{"category":1,"name":"Books"}],'
+          b'"clock":1000,"feedback":[],"items":[{"buy_now":null,"category":1,"closed":null,"count":0,"end":5000,'
+          b'"floor":500,"item":1,"leader":null,"lot":"A1","price":500,"seller":1,"start":500,"state":"open",'
+          b'"text":"","title":"Atlas"}],"members":[{"member":1,"name":"Ana"},{"member":2,"name":"Ben"},'
+          b'{"member":3,"name":"Cid"}],"questions":[],"rate":1000,"zone":"UTC0"}\n')
+
+
+def long_heads():
+    """A read and a bid with heads of some bytes: what they are, the message, and what is answered."""
+    bid_first, spaces = command(b" " * 16_384).split(b"\r\n", 1)
+    for size in (8191, 8192, 8193):
+        target = b"GET /%s HTTP/1.1\r\nhost: h\r\n\r\n"
+        target %= b"a" * (size - len(target % b""))
+        field = read(2)[:-2] + b"a: %s\r\n\r\n"
+        field %= b"b" * (size - len(field % b""))
+        lines = b"\r\n" * ((size - len(read(2))) // 2)
+        lines += b"\n" * (size - len(lines + read(2))) + read(2)
+        # With the body that is the longest.
+        longest = bid_first + b"\r\na: %s\r\n" + spaces
+        longest %= b"b" * (size + 16_384 - len(longest % b""))
+        fits = size <= 8192
+        yield f"a target in a head of {size}", target, NO_PATH if fits else HEAD
+        yield f"a field in a head of {size}", field, page(1) if fits else HEAD
+        yield f"empty lines in a head of {size}", lines, page(1) if fits else HEAD
+        yield f"the longest body behind a head of {size}", longest, NO_JSON if fits else HEAD
+
+
 def cut_short(message, cut):
     """What is answered where a message is cut short."""
     return END if cut >= message.index(b"\r\n\r\n") + 4 else HEAD
@@ -118,16 +150,15 @@ def whole_streams():
     for text, told in NO_MESSAGES:
         yield f"no message {text[:100]}", text + read(2), told
         yield f"a bid and no message {text[:100]}", FIRST + text + read(2), TOLD + told
-    no_json = answer(b"400 Bad Request", b'{"error":"json"}')
     for body in NO_OBJECTS:
-        yield f"no object {body[:100]}", FIRST + command(body) + read(2), TOLD + no_json + page(1)
+        yield f"no object {body[:100]}", FIRST + command(body) + read(2), TOLD + NO_JSON + page(1)
+    for name, text, told in long_heads():
+        yield name, FIRST + text + read(2), TOLD + told + (page(1) if told != HEAD else b"")
     yield "64 fields", FIRST + read(2)[:-2] + b"a: b\r\n" * 62 + b"\r\n", TOLD + page(1)
-    # Cut inside the second message, or inside the first: in its head, or in its body.
-    first, second = FIRST, bid(3, 1002, 549)
-    for cut in range(1, len(first)):
-        yield f"cut at {cut}", first[:cut], cut_short(first, cut)
+    # Cut inside the second message: in its head, or in its body.
+    second = bid(3, 1002, 549)
     for cut in range(len(second)):
-        yield f"second cut at {cut}", first + second[:cut], TOLD + (cut_short(second, cut) if cut else b"")
+        yield f"second cut at {cut}", FIRST + second[:cut], TOLD + (cut_short(second, cut) if cut else b"")
     bids = b"".join(bid(2, 1001, maximum) for maximum in range(500, 10_501))
     counts = b"".join(placed(count, 550, 2, 500) for count in range(1, 10_001))
     yield "10001 bids", bids, counts + answer(b"409 Conflict", b'{"error":"Limit","number":19}')
@@ -156,6 +187,9 @@ def cases(library, table):
     """Each case: its name, more words, the stream, what is set for the run, and how it has to end."""
     for name, stream, told in whole_streams():
         yield name, [], stream, {}, (0, told, b"")
+    # A first bid that is cut leaves the house as it was.
+    for cut in range(1, len(FIRST)):
+        yield f"cut at {cut}", ["--record"], FIRST[:cut], {}, (0, cut_short(FIRST, cut) + RECORD, b"")
     yield ("a table of one band", ["--bands", table], FIRST + bid(3, 1002, 1000), {},
            (0, placed(1, 600, 2, 500) + placed(2, 700, 3, 600), b""))
     stream, told = pieces()

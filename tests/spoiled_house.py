@@ -1,0 +1,190 @@
+#!/usr/bin/env python3
+"""Serves houses with a spoiled row: `spoiled_house.py PROGRAM`.
+
+A house of the messages of tests/routes.py has one column of one row changed by Python's sqlite3, so that the row is no
+row of a house's. Then every page is asked by everybody, and commands name each item. What needs the row is answered
+500 `damaged`, and has not acted; what only names it may be; everything else is answered as the plain site answers it,
+on the same connection, and so it is when the house is served again. The last line is 'N answers, M wrong'.
+"""
+import dataclasses
+import pathlib
+import shutil
+import sqlite3
+import sys
+import tempfile
+
+from plain_house import BANDS
+from plain_site import READS, Site, setup
+from routes import asked, bid, commands, rated
+from sent import answers_in, command, read
+from served import Program, served
+
+DAMAGED = (b"HTTP/1.1 500 Internal Server Error\r\ncontent-type: application/json\r\ncontent-length: 19\r\n\r\n"
+           b'{"error":"damaged"}')
+PERIOD = "1970-01-01/1970-01-01"
+
+
+@dataclasses.dataclass(frozen=True)
+class Spoiled:
+    """A change of the file; what needs the row then, as (caller, target); and whose targets may be asked in vain.
+
+    A caller of None is anybody. What finds the row by the column that was changed is not looked at.
+    """
+    change: str
+    needs: tuple
+    names: tuple = ()
+    finds: tuple = ()
+
+
+def shows(number, category, bidders=(), watchers=(), parties=()):
+    """What shows an item: its page, the list of its category, who bid on it or watches it, whose sale it was."""
+    return ((None, f"/items/{number}"), (None, f"/categories/{category}/items/1"),
+            *((member, "/me/bids/1") for member in bidders), *((member, "/me/watches") for member in watchers),
+            *((member, f"/me/statement/{PERIOD}") for member in parties))
+
+
+def names(number, seller, leader=None):
+    """What goes by an item's row without showing it: commands on it, its questions, what waits for its seller, and the
+    statements of its seller and its leader, which need the row where it was sold."""
+    statements = ((member, "/me/statement/") for member in (seller, leader) if member)
+    return ((None, f"/items/{number}/"), (seller, "/me/waiting"), *statements)
+
+
+ATLAS = shows(1, 1, bidders=(2, 3), watchers=(2,), parties=(1, 3)), names(1, 1, 3)
+GLOBE = shows(2, 2, parties=(1, 3)), names(2, 1, 3)
+CHART = shows(3, 1, watchers=(2,)), names(3, 2)
+NOVEL = shows(4, 1, bidders=(3,)), names(4, 2, 3)
+CLOSE = ((0, "/close"),)
+
+# By the messages: item 1 was sold to 3 for 1000 by bids of 500, 1000 and 1000 and is settled, item 2 was bought by 3
+# for 2000, item 3 is open without a bid, item 4 is open with one of 500 by 3.
+SPOILED = [
+    Spoiled("UPDATE item SET second = 1001 WHERE id = 1", *ATLAS),
+    Spoiled("UPDATE item SET price = 999 WHERE id = 1", *ATLAS),
+    Spoiled("UPDATE item SET count = 10001 WHERE id = 1", *ATLAS),
+    Spoiled("UPDATE item SET leader = 1 WHERE id = 1", shows(1, 1, (2, 3), (2,), (1,)), names(1, 1),
+            ((3, "/me/statement/"),)),
+    Spoiled("UPDATE item SET price = 1999 WHERE id = 2", *GLOBE),
+    Spoiled("UPDATE item SET buy_now = 2001 WHERE id = 2", *GLOBE),
+    Spoiled("UPDATE item SET top = 2000 WHERE id = 2", *GLOBE),
+    Spoiled("UPDATE item SET price = 501 WHERE id = 3", CHART[0] + CLOSE, CHART[1]),
+    Spoiled("UPDATE item SET top = 500 WHERE id = 3", CHART[0] + CLOSE, CHART[1]),
+    Spoiled("UPDATE item SET title = 'A' || char(10) WHERE id = 3", CHART[0], CHART[1] + CLOSE),
+    Spoiled("UPDATE item SET top = 499 WHERE id = 4", NOVEL[0] + CLOSE, NOVEL[1]),
+    Spoiled("UPDATE item SET leader = 2 WHERE id = 4", NOVEL[0] + CLOSE, NOVEL[1]),
+    Spoiled("UPDATE item SET leader = NULL WHERE id = 4", NOVEL[0] + CLOSE, NOVEL[1]),
+    Spoiled("UPDATE member SET name = 'Ben' || char(10) WHERE id = 2", ((None, "/members/2"),)),
+    Spoiled("UPDATE category SET name = '' WHERE id = 1", ((None, "/categories"),)),
+    Spoiled("UPDATE bid SET maximum = -1 WHERE item = 1 AND no = 1", ((2, "/me/bids/1"),), ((2, "/items/1/bids"),)),
+    Spoiled("UPDATE question SET body = 'a' || char(127) WHERE item = 1 AND asker = 3",
+            ((3, "/me/questions/1"), (1, "/me/waiting")), ((None, "/items/1/questions/3/1/answer"),)),
+    Spoiled("UPDATE question SET answer = char(10) WHERE item = 1 AND asker = 2",
+            ((2, "/me/questions/1"), (None, "/items/1/questions/1")), ((None, "/items/1/questions/2/1/answer"),)),
+    Spoiled("UPDATE feedback SET body = char(0x1f) WHERE giver = 1", ((None, "/members/3/feedback/1"),),
+            ((None, "/members/3"),)),
+]
+
+
+def pages():
+    """Every page, by everybody."""
+    for path in READS.values():
+        for number in range(1, 6 if "I" in path.split("/") else 5 if "M" in path.split("/") else 3):
+            parts = {"I": number, "C": number, "M": number, "F": 1, "FROM": "1970-01-01", "TO": "1970-01-01"}
+            target = "/".join(str(parts.get(part, part)) for part in path.split("/"))
+            yield from (read(target, caller) for caller in range(5))
+            if not {"I", "C", "M"} & set(path.split("/")):
+                break
+
+
+def orders():
+    """Commands that name each item, accepted or refused, and in the end a close that takes items 3 and 4."""
+    for number in range(1, 6):
+        yield bid(number, 4, 5001, 5000)
+        yield bid(number, 2, 5001, 6000)
+        yield command(f"/items/{number}/purchase", 4, 5001)
+        yield command(f"/items/{number}/settle", 0, 5001)
+        yield command(f"/items/{number}/watch", 4, 5001)
+        yield command(f"/items/{number}/unwatch", 4, 5001)
+        yield asked(number, 4, 5001)
+        yield rated(number, 3, 5001, -1)
+    for asker in (2, 3):
+        yield command(f"/items/1/questions/{asker}/1/answer", 1, 5001, b'{"text":"No"}')
+    yield command("/close", 0, 7000)
+
+
+MESSAGES = [*pages(), *orders()]
+
+
+def is_among(request, targets, fits):
+    """Whether a message is one of some targets, by its caller and by how its target fits."""
+    caller = int(request.values("x-member")[0])
+    return any(member in (None, caller) and fits(request.target, target) for member, target in targets)
+
+
+class Houses:
+    """Spoiled houses, and what was wrong."""
+
+    def __init__(self, program, folder):
+        self.program, self.folder = program, pathlib.Path(folder)
+        self.count = self.wrong = self.damaged = 0
+
+    def make(self):
+        """The house before anything of it is spoiled."""
+        init = ["--bands", "bands.csv", "--rate", "1000", "--zone", "UTC0"]
+        self.program.ended("init", "whole", *init)
+        self.program.answers("whole", [b"".join(request.text() for request in (*setup(), *commands()))])
+
+    def spoil(self, spoiled):
+        """Serves the house with a row spoiled, twice."""
+        shutil.copy(self.folder / "whole", self.folder / "spoiled")
+        tables = sqlite3.connect(self.folder / "spoiled")
+        tables.execute(spoiled.change)
+        tables.commit()
+        tables.close()
+        site = Site(preset=True)
+        for request in commands():
+            site.answer(request)
+        for requests in (MESSAGES, list(pages())):
+            told, ending = self.program.answers("spoiled", [b"".join(request.text() for request in requests)])
+            texts, rest = answers_in(told[0])
+            if (len(texts), rest, ending) != (len(requests), b"", served(1)):
+                self.fail(spoiled, "all", len(requests), (len(texts), rest, ending))
+            for request, text in zip(requests, texts):
+                self.judge(spoiled, site, request, text)
+
+    def judge(self, spoiled, site, request, text):
+        """Compares one answer; the plain site isn't asked what was answered `damaged`."""
+        self.count += 1
+        self.damaged += text == DAMAGED
+        if is_among(request, spoiled.finds, str.startswith):
+            return
+        is_needed = is_among(request, spoiled.needs, str.__eq__)
+        if is_needed or text == DAMAGED and is_among(request, spoiled.names, str.startswith):
+            wanted = DAMAGED
+        else:
+            wanted = site.answer(request).text()
+        if text != wanted:
+            self.fail(spoiled, request.text(), wanted, text)
+
+    def fail(self, spoiled, what, wanted, got):
+        self.wrong += 1
+        if self.wrong <= 9:
+            print(f"{spoiled.change}: {what}\n  wanted {wanted}\n  told   {got}")
+
+
+def main():
+    with tempfile.TemporaryDirectory() as folder:
+        rows = "".join(f"{at},{step}\n" for at, step in BANDS)
+        pathlib.Path(folder, "bands.csv").write_text("at,step\n" + rows)
+        houses = Houses(Program(str(pathlib.Path(sys.argv[1]).resolve()), folder), folder)
+        houses.make()
+        # A house that isn't spoiled answers everything.
+        for spoiled in [Spoiled("UPDATE item SET id = 1 WHERE id = 1", ()), *SPOILED]:
+            houses.spoil(spoiled)
+    print(f"{len(SPOILED)} spoiled houses, {houses.damaged} answers of 500")
+    print(f"{houses.count} answers, {houses.wrong} wrong")
+    return 1 if houses.wrong else 0
+
+
+if __name__ == "__main__":
+    sys.exit(main())
