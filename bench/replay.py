@@ -1,25 +1,25 @@
 """How many instructions a message costs `auction replay`, and how many messages a second it answers.
 
-`replay.py PROGRAM` measures the program that `make test` leaves, or `make auction`. Instructions of a kind of message are
+`replay.py PROGRAM [PLAIN]` measures the program that `make test` leaves, or `make auction`, and beside it PLAIN: a house
+in plain Rust that takes the same words, `replay --preset`, and is sent the same messages. Instructions of a kind of message are
 the difference of two streams that begin alike and of which one has more of that kind, by the number that it has more,
-under valgrind's callgrind, which counts whatever else the machine does. Messages a second are those of a stream of bids:
-the median of some runs by processor time, less that of a run over nothing. It needs `valgrind`.
+under valgrind's callgrind, which counts whatever else the machine does. Of a stream of bids and a mixed one, which
+`workload.py` makes, it counts the instructions of a message and tells messages a second: the median of some runs of both
+programs in turn by processor time, less that of the messages that set the house up. Their answers are compared. It needs
+`valgrind`.
 """
 import pathlib
-import re
-import resource
-import statistics
 import subprocess
 import sys
-import tempfile
 
 sys.path.insert(0, str(pathlib.Path(__file__).resolve().parent.parent / "tests"))
+import workload  # noqa: E402
+from measured import counted, in_turn, medians, seconds, shown  # noqa: E402
 from sent import answers_in, command, compact, read  # noqa: E402
 
 MORE = 1_000
-RUNS = 7
-# As many bids as two items may have, so that none is refused.
-BIDS = 20_000
+# By stream, of how many messages times are told and instructions are counted.
+STREAMS = {"bids": (200_000, 3_000), "mixed": (100_000, 3_000)}
 OPEN_TO, MOMENT = 4_000_000_000, 1_001
 
 
@@ -29,8 +29,11 @@ def maximum(value):
 
 def listed():
     """Two items more, which member 1 sells to the end of all moments."""
-    row = {"category": 1, "end": OPEN_TO, "start": 500, "text": "", "title": "Globe"}
-    return [command("/items", 1, MOMENT, compact({**row, "lot": f"B{number}"})) for number in (2, 3)]
+    return [command("/items", 1, MOMENT, listing(f"B{number}")) for number in (2, 3)]
+
+
+def listing(lot):
+    return compact({"category": 1, "end": OPEN_TO, "lot": lot, "start": 500, "text": "", "title": "Globe"})
 
 
 def bids(count):
@@ -43,6 +46,7 @@ def bids(count):
 KINDS = {
     "accepted bid": (201, bids),
     "refused bid": (409, lambda count: [command("/items/2/bids", 2, MOMENT, maximum(1))] * count),
+    "listing": (201, lambda count: [command("/items", 1, MOMENT, listing(f"C{number}")) for number in range(count)]),
     "registration": (201, lambda count: [command("/members", 0, MOMENT, compact({"name": f"member {number}"}))
                                          for number in range(count)]),
     "item page": (200, lambda count: [read("/items/1", 2)] * count),
@@ -55,45 +59,60 @@ def text(requests):
     return b"".join(request.text() for request in requests)
 
 
-def checked(program, stream, count, status):
+def answered(programs, stream):
+    """What our program answers to a stream, which has to be what plain Rust's answers."""
+    told = {name: subprocess.run([program, *WORDS], input=stream, capture_output=True, check=True).stdout
+            for name, program in programs.items()}
+    if len(set(told.values())) != 1:
+        sys.exit("replay.py: the programs answer differently")
+    return told["ours"]
+
+
+def checked(programs, stream, count, status):
     """Whether the last so many answers have the status that the kind should have."""
-    told, _ = answers_in(subprocess.run([program, *WORDS], input=stream, capture_output=True, check=True).stdout)
+    told, _ = answers_in(answered(programs, stream))
     wrong = [answer for answer in told[-count:] if not answer.startswith(b"HTTP/1.1 %d " % status)]
     if wrong or len(told) < count:
         sys.exit(f"replay.py: a stream is not answered {status}: {wrong[:1]}")
 
 
-def instructions(program, stream):
-    """How many instructions a run over a stream takes."""
-    with tempfile.TemporaryDirectory() as folder:
-        subprocess.run(["valgrind", "--tool=callgrind", f"--callgrind-out-file={folder}/dump", program, *WORDS],
-                       input=stream, stdout=subprocess.DEVNULL, stderr=subprocess.DEVNULL, check=True)
-        return int(re.search(r"^totals: (\d+)", pathlib.Path(folder, "dump").read_text(), re.M)[1])
+def more(programs, few, many, count):
+    """For each program how many instructions a message of a stream takes that another doesn't have."""
+    return {name: (counted([program, *WORDS], many) - counted([program, *WORDS], few)) / count
+            for name, program in programs.items()}
 
 
-def seconds(program, stream):
-    """The processor time of a run."""
-    before = resource.getrusage(resource.RUSAGE_CHILDREN)
-    subprocess.run([program, *WORDS], input=stream, stdout=subprocess.DEVNULL, check=True)
-    after = resource.getrusage(resource.RUSAGE_CHILDREN)
-    return after.ru_utime + after.ru_stime - before.ru_utime - before.ru_stime
-
-
-def main(program):
-    program = str(pathlib.Path(program).resolve())
+def kinds(programs):
     # Room grows by doubling: both streams of a kind begin where it has grown.
     before = text(listed() + bids(MORE))
     for kind, (status, messages) in KINDS.items():
         # Behind those before, so that each bid is over the last.
-        few, many = (before + text(messages(MORE + more)[MORE if messages is bids else 0:])
-                     for more in (MORE, 2 * MORE))
-        checked(program, many, MORE, status)
-        print(f"{kind:14} {(instructions(program, many) - instructions(program, few)) / MORE:7,.0f} instructions")
-    stream = text(listed() + bids(BIDS))
-    checked(program, stream, BIDS, 201)
-    time = statistics.median(seconds(program, stream) for _ in range(RUNS)) - seconds(program, b"")
-    print(f"{BIDS / time:9,.0f} bids a second")
+        few, many = (before + text(messages(MORE + behind)[MORE if messages is bids else 0:])
+                     for behind in (MORE, 2 * MORE))
+        checked(programs, many, MORE, status)
+        shown(kind, more(programs, few, many, MORE), "instructions")
+
+
+def streams(programs):
+    for kind, (timed, tallied) in STREAMS.items():
+        before, messages = workload.made(kind, tallied)
+        first, whole = b"".join(before), b"".join(before + messages)
+        answered(programs, whole)
+        shown(f"{kind}, a message", more(programs, first, whole, tallied), "instructions")
+        before, messages = workload.made(kind, timed)
+        first, whole = b"".join(before), b"".join(before + messages)
+        answered(programs, whole)
+        times = medians(in_turn(programs, lambda program: seconds([program, *WORDS], whole)[0]
+                                - seconds([program, *WORDS], first)[0]))
+        shown(kind, {name: timed / time for name, time in times.items()}, "messages a second")
+
+
+def main(program, *plain):
+    names = dict(zip(("ours", "plain"), (program, *plain)))
+    programs = {name: str(pathlib.Path(path).resolve()) for name, path in names.items()}
+    kinds(programs)
+    streams(programs)
 
 
 if __name__ == "__main__":
-    main(sys.argv[1])
+    main(*sys.argv[1:])

@@ -1,0 +1,47 @@
+"""Instructions and processor time of runs of a program, and two programs side by side."""
+import pathlib
+import re
+import resource
+import statistics
+import subprocess
+import tempfile
+
+RUNS = 7
+
+
+def counted(words, stream=b"", folder=None):
+    """How many instructions a run takes; in a folder, what valgrind wrote stays there as `dump`."""
+    with tempfile.TemporaryDirectory() as scratch:
+        dump = pathlib.Path(folder or scratch, "dump")
+        subprocess.run(["valgrind", "--tool=callgrind", f"--callgrind-out-file={dump}", *map(str, words)],
+                       input=stream, stdout=subprocess.DEVNULL, stderr=subprocess.DEVNULL, check=True)
+        return int(re.search(r"^totals: (\d+)", dump.read_text(), re.M)[1])
+
+
+def seconds(words, stream=b""):
+    """The processor time of a run, and what it wrote."""
+    before = resource.getrusage(resource.RUSAGE_CHILDREN)
+    told = subprocess.run(list(map(str, words)), input=stream, stdout=subprocess.PIPE, check=True).stdout
+    after = resource.getrusage(resource.RUSAGE_CHILDREN)
+    return after.ru_utime + after.ru_stime - before.ru_utime - before.ru_stime, told
+
+
+def in_turn(programs, once, runs=RUNS):
+    """What `once` gives for each program, a list of so many runs in turn, every second one in the other order."""
+    found = {name: [] for name in programs}
+    for run in range(runs):
+        for name in list(programs)[::1 if run % 2 else -1]:
+            found[name].append(once(programs[name]))
+    return found
+
+
+def medians(found):
+    return {name: statistics.median(results) for name, results in found.items()}
+
+
+def shown(what, found, unit, digits=0):
+    """A line: ours, plain Rust's where it is there, and ours over plain Rust's."""
+    line = f"{what:28} {found['ours']:12,.{digits}f} {unit}"
+    if "plain" in found:
+        line += f", {found['plain']:12,.{digits}f} by plain Rust, ratio {found['ours'] / found['plain']:.2f}"
+    print(line, flush=True)
