@@ -1,8 +1,8 @@
 #!/bin/sh
 # Compares the wire with a plain Rust program over the crate httparse on the same bytes, in
 # interleaved runs: medians of user time, and their ratio; and instructions, where valgrind is there.
-# Needs cargo, and Debian's packages librust-httparse-dev and librust-itoa-dev. From any folder:
-# sh bench/wire.sh
+# Needs cargo, and Debian's packages librust-httparse-dev, librust-itoa-dev, librust-serde-dev and
+# librust-serde-json-dev. From any folder: sh bench/wire.sh
 set -e
 cd "$(dirname "$0")/.."
 
@@ -13,10 +13,10 @@ quietly() {
     rm "$log"
 }
 
-for package in httparse-1.8.0 itoa-1.0.1; do
-    if [ ! -d "/usr/share/cargo/registry/$package" ]; then
-        echo "wire.sh: there is no /usr/share/cargo/registry/$package:" \
-            "apt-get install librust-httparse-dev librust-itoa-dev" >&2
+for package in httparse itoa serde serde_json; do
+    if ! ls -d /usr/share/cargo/registry/$package-[0-9]* > /dev/null 2>&1; then
+        echo "wire.sh: there is no $package in /usr/share/cargo/registry:" \
+            "apt-get install librust-httparse-dev librust-itoa-dev librust-serde-dev librust-serde-json-dev" >&2
         exit 1
     fi
 done
