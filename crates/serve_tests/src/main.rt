@@ -1,0 +1,40 @@
+//! Plays a script of streams over new houses in memory, in pieces, cut off and over devices that fail.
+//!
+//! The stored run is a test of what no clause says: that calls succeed, and that a stream is answered
+//! alike however it comes. `stdin` has the script, `stdout` what has to be told, written by hand. Read
+//! `script` first, which says what a line may be.
+#![tactic(auto)]
+
+mod answers;
+mod failing;
+mod pieces;
+mod script;
+mod serving;
+mod stream;
+
+use script::{Fault, Stage};
+use std::alloc::Global;
+use std::io;
+use std::process::ExitCode;
+
+// Plays the lines of the script, and prints what is told.
+fn play(rt: &(impl Input + Print), alloc: Global) -> Result<(), Fault> {
+    let script = io::read_to_string(alloc, rt.reader()).map_err(|_| Fault::Script)?;
+    let mut stage = Stage::new(alloc);
+    for line in script.as_str().lines() {
+        if let Some(told) = script::play(alloc, &mut stage, line)? {
+            println!(rt; "{told}").map_err(|_| Fault::Output)?;
+        }
+    }
+    Ok(())
+}
+
+fn main(rt: HostRuntime) -> ExitCode {
+    match play(&rt, rt.alloc()) {
+        Ok(()) => ExitCode::SUCCESS,
+        Err(fault) => {
+            let _ = eprintln!(rt; "serve_tests: {fault}");
+            ExitCode::FAILURE
+        }
+    }
+}
