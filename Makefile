@@ -11,7 +11,7 @@ KILLS ?= 200
 ROWS ?= 20000
 SEED ?= 2026
 
-.PHONY: help demo test auction program cases fuzz memory statement random file bad office kills stalls wrong
+.PHONY: help demo test auction program cases fuzz memory statement random file office kills stalls wrong
 
 help:
 	@echo "make demo      answers examples/first-bid.http, without waiting for the proofs"
@@ -25,7 +25,6 @@ help:
 	@echo "make statement compares statements with those that Python makes"
 	@echo "make random    compares houses with plain lists, on random commands and on long lists, and with one another"
 	@echo "make file      makes houses in files, opens, copies and damages them, kills who serves them, and reads them with sqlite3"
-	@echo "make bad       gives each command what is no house, can't be had or is locked"
 	@echo "make office    imports lot files, one of ROWS rows, and reads statements"
 	@echo "make kills     kills who serves a house KILLS times at random moments, and looks what is in its file"
 	@echo "make stalls    has clients that send or read nothing hold up one that asks, for up to two minutes"
@@ -85,8 +84,6 @@ file:
 	python3 tests/store_file.py crates/store_tests/out/store_tests
 	python3 tests/house_file.py crates/auction/out/auction
 	python3 tests/spoiled_house.py crates/auction/out/auction
-
-bad:
 	python3 tests/bad_files.py crates/auction/out/auction
 
 office:

@@ -69,7 +69,8 @@ class Sales:
 
     def periods(self):
         """Some periods, as the numbers of days."""
-        days = sorted({day_of(moment) + more for moment in self.moments for more in (-1, 0, 1)} | {0, LAST_DAY})
+        around = {day_of(moment) + more for moment in self.moments for more in (-1, 0, 1)}
+        days = sorted({min(max(day, 0), LAST_DAY) for day in around} | {0, LAST_DAY})
         yield from ((0, LAST_DAY), (0, 0))
         yield from (sorted(self.chance.choices(days, k=2)) for _ in range(4))
 
