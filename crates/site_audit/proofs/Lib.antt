@@ -1,0 +1,7 @@
+mod Callers
+mod Cuts
+mod Lists
+mod Pairs
+mod Places
+mod Runs
+mod Twins

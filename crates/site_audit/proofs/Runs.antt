@@ -1,0 +1,395 @@
+-- Two lists, compared place by place.
+use Rattle.std.proofs.Common.{◌≡◌, ◌≢◌, ◌∙◌, ◌+◌, ◌-◌, ◌≤◌, ◌++◌, ◌∷◌, [], ℕ, List, Bool, true, false, map, take, length, refl, sym, ap, subst, arith, Ok, Err, Result}
+use Rattle.std.specs.Prelude.{IsErr, IsErrAnd}
+use Rattle.std.specs.List.{AllZip}
+use Rattle.std.proofs.lemmas.List.{map-append, take_all}
+use Rattle.house_rows.specs.declared.message.Message.{Message}
+use Rattle.house_rows.specs.declared.settings.Settings.{Settings}
+use Rattle.house_rows.specs.History.{History}
+use Rattle.house_rows.specs.Runs.{history_of}
+use Rattle.house_rows.specs.Tables.{Tables, tables_of}
+use Rattle.house_rows.specs.Verdict.{IsHistory}
+use Rattle.settle.specs.declared.zone.Zone.{Zone}
+use Rattle.site.specs.Answers.{answer_of, next_of}
+use Rattle.site.specs.declared.engine.Site.{Site}
+use Rattle.site.specs.Runs.{TwinRuns, answers_to, meant, rendered}
+use Rattle.house_laws.proofs.Alike as laws
+use Rattle.site_asks.specs.declared.asked.Asked.{Asked}
+use Rattle.site_asks.specs.declared.fault.Fault.{Fault}
+use Rattle.site_audit.specs.declared.fault.AuditFault.{AuditFault}
+use Rattle.site_audit.specs.declared.fault.AuditFault.TheVariants.{Memory, Store, NotNew}
+use Rattle.site_audit.specs.declared.verdict.Verdict.{Verdict}
+use Rattle.site_audit.specs.Audits.{AreEqual, ArePart, AreTwinTexts, IsFound, IsVerdict, MayBegin, what_is_asked}
+use Rattle.site_audit.specs.Places.{GoesOn, Have, Heard, IsHeard, IsPlaceTold, IsTwinPlace, IsUsed, heard_message, reply_at}
+use Rattle.site_audit.proofs.Places.{next_is}
+use Rattle.site_audit.proofs.Lists.{zip_last, zip_length, zip_take}
+use Rattle.site_audit.proofs.Twins.{TwinAt, history_more, replies_more, twins_last, twins_length, twins_more, twins_read, twins_take}
+
+-- the history behind a list of texts
+abbrev pub behind : Settings → List Heard → History
+behind settings heards = history_of settings (map heard_message heards)
+
+-- the texts so far are twin runs, the replies to the caller are kept, and the keeps have the tables
+pub record SoFar {K : Type 0} (content : K → Tables) (settings : Settings) (zone : Zone) (c : ℕ)
+    (lefts rights : List Heard) (replies : List (List ℕ)) (left right : K) : Type 0 where
+  pub twins : AreTwinTexts settings c lefts rights
+  pub kept : replies ≡ answers_to settings zone c (what_is_asked lefts)
+  pub have : Have content settings (behind settings lefts) (behind settings rights) left right
+  pub left_is : IsHistory settings (behind settings lefts)
+  pub right_is : IsHistory settings (behind settings rights)
+
+-- a place of twin runs, as twin runs say it
+place_at : (settings : Settings) (c : ℕ) (h k : History) (x y : Heard)
+    → IsTwinPlace settings c h k x y → TwinAt heard_message settings c h k x y
+unfolding next_of
+place_at settings c h k x y place = (place.paired, place.agree)
+
+at_place : (settings : Settings) (c : ℕ) (h k : History) (x y : Heard)
+    → TwinAt heard_message settings c h k x y → IsTwinPlace settings c h k x y
+unfolding next_of
+at_place settings c h k x y here = record { paired = here.0; agree = here.1 }
+
+-- isolation, of what is asked
+isolated : (settings : Settings) (zone : Zone) (c : ℕ) (left right : List Asked)
+    → TwinRuns settings c left right
+    → answers_to settings zone c left ≡ answers_to settings zone c right
+isolated settings zone c left right twin =
+    laws.isolation meant (rendered settings zone) settings c left right twin
+
+-- the history behind one more text
+behind_more : (settings : Settings) (heards : List Heard) (x : Heard)
+    → behind settings (heards ++ x ∷ []) ≡ next_of settings (behind settings heards) x.asked
+unfolding next_of
+behind_more settings heards x =
+    ap (history_of settings) (map-append heard_message heards (x ∷ []))
+    ∙ history_more settings [] (map heard_message heards) (heard_message x)
+
+asked_more : (heards : List Heard) (x : Heard)
+    → what_is_asked (heards ++ x ∷ []) ≡ what_is_asked heards ++ x.asked ∷ []
+asked_more heards x = map-append (λ (heard : Heard). heard.asked) heards (x ∷ [])
+
+asked_means : (heards : List Heard) → map meant (what_is_asked heards) ≡ map heard_message heards
+asked_means [] = refl
+asked_means (x ∷ heards) = ap (λ rest. heard_message x ∷ rest) (asked_means heards)
+
+-- nothing was compared yet
+pub so_far_none : {K : Type 0} (content : K → Tables) (settings : Settings) (zone : Zone) (c : ℕ)
+    (left right : K) → content left ≡ tables_of settings [] → content right ≡ tables_of settings []
+    → SoFar content settings zone c [] [] [] left right
+so_far_none content settings zone c left right e d = record {
+  twins = tt;
+  kept = refl;
+  have = record { left_has = e; right_has = d };
+  left_is = tt;
+  right_is = tt;
+}
+
+answers_more : (settings : Settings) (zone : Zone) (c : ℕ) (heards : List Heard) (x : Heard)
+    → answers_to settings zone c (what_is_asked (heards ++ x ∷ []))
+    ≡ answers_to settings zone c (what_is_asked heards)
+    ++ reply_at settings zone c (behind settings heards) x.asked
+unfolding answer_of
+answers_more settings zone c heards x =
+    ap (answers_to settings zone c) (asked_more heards x)
+    ∙ replies_more meant (rendered settings zone) settings c [] (what_is_asked heards) x.asked
+    ∙ ap (λ (ms : List (Message Fault)). answers_to settings zone c (what_is_asked heards)
+    ++ reply_at settings zone c (history_of settings ms) x.asked) (asked_means heards)
+
+-- one more place that goes on
+so_far_more : {K : Type 0} (content : K → Tables) (settings : Settings) (zone : Zone) (c : ℕ)
+    (lefts rights : List Heard) (x y : Heard) (before after : List (List ℕ))
+    (left right left_new right_new : K)
+    → SoFar content settings zone c lefts rights before left right
+    → GoesOn content settings zone c (behind settings lefts) (behind settings rights) x y before
+    after left_new right_new
+    → SoFar content settings zone c (lefts ++ x ∷ []) (rights ++ y ∷ []) after left_new right_new
+so_far_more content settings zone c lefts rights x y before after left right left_new right_new so
+    goes = record {
+      twins = twins_more heard_message settings c [] [] lefts rights x y so.twins
+          (place_at settings c _ _ x y goes.twin);
+      kept = goes.kept
+          ∙ ap (λ rs. rs ++ reply_at settings zone c (behind settings lefts) x.asked) so.kept
+          ∙ sym (answers_more settings zone c lefts x);
+      have = record {
+        left_has = goes.have.left_has ∙ ap (tables_of settings) (sym (behind_more settings lefts x));
+        right_has = goes.have.right_has ∙ ap (tables_of settings) (sym (behind_more settings rights y));
+      };
+      left_is = subst (IsHistory settings) (sym (behind_more settings lefts x))
+          (next_is settings (behind settings lefts) x.asked so.left_is);
+      right_is = subst (IsHistory settings) (sym (behind_more settings rights y))
+          (next_is settings (behind settings rights) y.asked so.right_is);
+    }
+
+-- the whole of both lists was compared
+equal_of : {K : Type 0} (content : K → Tables) (settings : Settings) (zone : Zone) (c : ℕ)
+    (lefts rights : List Heard) (replies : List (List ℕ)) (left right : K)
+    → SoFar content settings zone c lefts rights replies left right
+    → AreEqual content settings zone c lefts rights replies left right
+equal_of content settings zone c lefts rights replies left right so = record {
+  twins = so.twins;
+  left = so.kept;
+  right = so.kept ∙ isolated settings zone c (what_is_asked lefts) (what_is_asked rights)
+      (twins_read (λ (heard : Heard). heard.asked) meant settings c [] [] lefts rights so.twins);
+  left_tables = so.have.left_has;
+  right_tables = so.have.right_has;
+}
+
+-- the first place at which they are no twin runs
+part_of : (settings : Settings) (c n : ℕ) (lefts rights : List Heard)
+    → AreTwinTexts settings c (take n lefts) (take n rights)
+    → ¬ (AreTwinTexts settings c (take (n + 1) lefts) (take (n + 1) rights))
+    → ArePart settings c lefts rights (n + 1)
+part_of settings c n lefts rights before not =
+    let one : (n + 1) - 1 ≡ n = omega arith in
+    record {
+      before = subst (λ k. AreTwinTexts settings c (take k lefts) (take k rights)) (sym one) before;
+      here = not;
+      whole = λ twins. not (twins_take heard_message settings c (n + 1) [] [] lefts rights twins);
+    }
+
+-- the texts so far are twin runs
+abbrev pub AreSoFar : ℕ → Settings → ℕ → List (List ℕ) → List (List ℕ) → Type 0
+AreSoFar n settings c texts others = (lefts rights : List Heard)
+    → AllZip IsHeard (take n texts) lefts → AllZip IsHeard (take n others) rights
+    → AreTwinTexts settings c lefts rights
+
+-- the text at the next place, as it was heard
+pub next_heard : (n : ℕ) (texts : List (List ℕ)) (t : List ℕ) (heards : List Heard)
+    → AllZip IsHeard texts heards → take (n + 1) texts ≡ take n texts ++ t ∷ []
+    → (front : List Heard) × (x : Heard) × (take (n + 1) heards ≡ front ++ x ∷ [])
+    × AllZip IsHeard (take n texts) front × IsHeard t x
+next_heard n texts t heards are more =
+    zip_last IsHeard (take n texts) t (take (n + 1) heards)
+    (subst (λ l. AllZip IsHeard l (take (n + 1) heards)) more
+    (zip_take IsHeard (n + 1) texts heards are))
+
+-- a place that is none of twin runs parts them
+pub part_place : (settings : Settings) (c n : ℕ) (texts others : List (List ℕ)) (t o : List ℕ)
+    (lefts rights : List Heard) → AllZip IsHeard texts lefts → AllZip IsHeard others rights
+    → take (n + 1) texts ≡ take n texts ++ t ∷ [] → take (n + 1) others ≡ take n others ++ o ∷ []
+    → AreSoFar n settings c texts others
+    → ((fs gs : List Heard) → AllZip IsHeard (take n texts) fs → AllZip IsHeard (take n others) gs
+    → (x y : Heard) → IsHeard t x → IsHeard o y
+    → ¬ (IsTwinPlace settings c (behind settings fs) (behind settings gs) x y))
+    → ArePart settings c lefts rights (n + 1)
+part_place settings c n texts others t o lefts rights are others_are more more' so not =
+    let (fs, x, e, fs_are, is) = next_heard n texts t lefts are more in
+    let (gs, y, d, gs_are, is') = next_heard n others o rights others_are more' in
+    part_of settings c n lefts rights
+    (so (take n lefts) (take n rights) (zip_take IsHeard n texts lefts are)
+    (zip_take IsHeard n others rights others_are))
+    (λ twins. not fs gs fs_are gs_are x y is is'
+    (at_place settings c (behind settings fs) (behind settings gs) x y
+    (twins_last heard_message settings c [] [] fs gs x y (so fs gs fs_are gs_are)
+    (subst (λ l. AreTwinTexts settings c l (gs ++ y ∷ [])) e
+    (subst (λ l. AreTwinTexts settings c (take (n + 1) lefts) l) d twins)))))
+
+-- and so does the end of one of them
+pub part_end : (settings : Settings) (c n : ℕ) (texts others : List (List ℕ))
+    (lefts rights : List Heard) → AllZip IsHeard texts lefts → AllZip IsHeard others rights
+    → AreSoFar n settings c texts others
+    → length (take (n + 1) texts) ≢ length (take (n + 1) others)
+    → ArePart settings c lefts rights (n + 1)
+part_end settings c n texts others lefts rights are others_are so not =
+    part_of settings c n lefts rights
+    (so (take n lefts) (take n rights) (zip_take IsHeard n texts lefts are)
+    (zip_take IsHeard n others rights others_are))
+    (λ twins. not (sym (zip_length IsHeard _ _ (zip_take IsHeard (n + 1) texts lefts are))
+    ∙ twins_length heard_message settings c [] [] _ _ twins
+    ∙ zip_length IsHeard _ _ (zip_take IsHeard (n + 1) others rights others_are)))
+
+-- what was compared so far, of houses that were new
+abbrev pub Compared : {K : Type 0} → (K → Tables) → (K → Type 0) → Zone → ℕ → K → K
+    → List (List ℕ) → List (List ℕ) → ℕ → List (List ℕ) → K → K → Type 0
+Compared content is_honest zone c first first' texts others n replies left right =
+    is_honest left → is_honest right → (settings : Settings) → content first ≡ tables_of settings []
+    → content first' ≡ tables_of settings [] → (lefts rights : List Heard)
+    → AllZip IsHeard (take n texts) lefts → AllZip IsHeard (take n others) rights
+    → SoFar content settings zone c lefts rights replies left right
+
+-- what is told of the next place
+abbrev pub Told : {K : Type 0} → (K → Tables) → (K → Bool) → (K → Type 0) → Zone → ℕ → List ℕ
+    → List ℕ → List (List ℕ) → List (List ℕ) → K → K → K → K → Result Bool AuditFault → Type 0
+Told content is_failed is_honest zone c t o before after left right left_new right_new result =
+    is_honest left_new → is_honest right_new → (settings : Settings) (h k : History)
+    → IsHistory settings h → IsHistory settings k → content left ≡ tables_of settings h
+    → content right ≡ tables_of settings k → (x y : Heard) → IsHeard t x → IsHeard o y
+    → IsPlaceTold content is_failed settings zone c h k x y before after left_new right_new result
+
+pub compared_none : {K : Type 0} (content : K → Tables) (is_honest : K → Type 0) (zone : Zone)
+    (c : ℕ) (left right : K) (texts others : List (List ℕ))
+    → Compared content is_honest zone c left right texts others 0 [] left right
+compared_none content is_honest zone c left right texts others honest honest' settings e d lefts
+    rights are others_are = none lefts rights are others_are
+  where
+    none : (lefts rights : List Heard) → AllZip IsHeard [] lefts → AllZip IsHeard [] rights
+        → SoFar content settings zone c lefts rights [] left right
+    none [] [] are others_are = so_far_none content settings zone c left right e d
+    none [] (y ∷ rights) are others_are = absurd others_are
+    none (x ∷ lefts) rights are others_are = absurd are
+
+-- one more place
+pub compared_more : {K : Type 0} (content : K → Tables) (is_failed : K → Bool)
+    (is_honest : K → Type 0) (zone : Zone) (c : ℕ) (first first' : K) (texts others : List (List ℕ))
+    (n : ℕ) (t o : List ℕ) (before after : List (List ℕ)) (left right left_new right_new : K)
+    → Compared content is_honest zone c first first' texts others n before left right
+    → (is_honest left_new → is_honest left) → (is_honest right_new → is_honest right)
+    → take (n + 1) texts ≡ take n texts ++ t ∷ [] → take (n + 1) others ≡ take n others ++ o ∷ []
+    → Told content is_failed is_honest zone c t o before after left right left_new right_new
+    (Ok true)
+    → Compared content is_honest zone c first first' texts others (n + 1) after left_new right_new
+compared_more content is_failed is_honest zone c first first' texts others n t o before after left
+    right left_new right_new so was was' more more' told honest honest' settings e d lefts rights
+    are others_are =
+    let (fs, x, p, fs_are, is) = zip_last IsHeard (take n texts) t lefts
+    (subst (λ l. AllZip IsHeard l lefts) more are) in
+    let (gs, y, q, gs_are, is') = zip_last IsHeard (take n others) o rights
+    (subst (λ l. AllZip IsHeard l rights) more' others_are) in
+    let run = so (was honest) (was' honest') settings e d fs gs fs_are gs_are in
+    rw (p, q) (so_far_more content settings zone c fs gs x y before after left right left_new
+    right_new run
+    (told honest honest' settings (behind settings fs) (behind settings gs) run.left_is run.right_is
+    run.have.left_has run.have.right_has x y is is'))
+
+-- the next place is none of twin runs
+pub found_apart : {K : Type 0} (content : K → Tables) (is_failed : K → Bool)
+    (is_honest : K → Type 0) (zone : Zone) (c : ℕ) (first first' : K) (texts others : List (List ℕ))
+    (n : ℕ) (t o : List ℕ) (before after : List (List ℕ)) (left right left_new right_new : K)
+    → Compared content is_honest zone c first first' texts others n before left right
+    → (is_honest left_new → is_honest left) → (is_honest right_new → is_honest right)
+    → take (n + 1) texts ≡ take n texts ++ t ∷ [] → take (n + 1) others ≡ take n others ++ o ∷ []
+    → Told content is_failed is_honest zone c t o before after left right left_new right_new
+    (Ok false)
+    → is_honest left_new → is_honest right_new → (settings : Settings)
+    → content first ≡ tables_of settings [] → content first' ≡ tables_of settings []
+    → (lefts rights : List Heard) → AllZip IsHeard texts lefts → AllZip IsHeard others rights
+    → ArePart settings c lefts rights (n + 1)
+found_apart content is_failed is_honest zone c first first' texts others n t o before after left
+    right left_new right_new so was was' more more' told honest honest' settings e d lefts rights
+    are others_are =
+    let run = so (was honest) (was' honest') settings e d in
+    part_place settings c n texts others t o lefts rights are others_are more more'
+    (λ fs gs fs_are gs_are. (run fs gs fs_are gs_are).twins)
+    (λ fs gs fs_are gs_are x y is is'.
+    told honest honest' settings (behind settings fs) (behind settings gs)
+    (run fs gs fs_are gs_are).left_is (run fs gs fs_are gs_are).right_is
+    (run fs gs fs_are gs_are).have.left_has (run fs gs fs_are gs_are).have.right_has x y is is')
+
+-- a fault of the next place
+pub found_fault : {K : Type 0} (content : K → Tables) (is_failed : K → Bool)
+    (is_honest : K → Type 0) (zone : Zone) (c : ℕ) (first first' : K) (texts others : List (List ℕ))
+    (n : ℕ) (t o : List ℕ) (before after : List (List ℕ)) (left right left_new right_new : K)
+    (fault : AuditFault)
+    → Compared content is_honest zone c first first' texts others n before left right
+    → (is_honest left_new → is_honest left) → (is_honest right_new → is_honest right)
+    → take (n + 1) texts ≡ take n texts ++ t ∷ [] → take (n + 1) others ≡ take n others ++ o ∷ []
+    → Told content is_failed is_honest zone c t o before after left right left_new right_new
+    (Err fault)
+    → is_honest left_new → is_honest right_new → (settings : Settings)
+    → content first ≡ tables_of settings [] → content first' ≡ tables_of settings []
+    → (lefts rights : List Heard) → AllZip IsHeard texts lefts → AllZip IsHeard others rights
+    → IsFound content is_failed settings zone c lefts rights left_new right_new (Err fault)
+found_fault content is_failed is_honest zone c first first' texts others n t o before after left
+    right left_new right_new fault so was was' more more' told honest honest' settings e d lefts
+    rights are others_are =
+    let (fs, x, p, fs_are, is) = next_heard n texts t lefts are more in
+    let (gs, y, q, gs_are, is') = next_heard n others o rights others_are more' in
+    let run = so (was honest) (was' honest') settings e d fs gs fs_are gs_are in
+    by_fault fault (behind settings fs) (behind settings gs) x y
+    (told honest honest' settings (behind settings fs) (behind settings gs)
+    run.left_is run.right_is run.have.left_has run.have.right_has x y is is')
+  where
+    by_fault : (fault : AuditFault) (h k : History) (x y : Heard)
+        → IsPlaceTold content is_failed settings zone c h k x y before after left_new right_new
+        (Err fault)
+        → IsFound content is_failed settings zone c lefts rights left_new right_new (Err fault)
+    by_fault Memory h k x y told = tt
+    by_fault Store h k x y told = told
+    by_fault NotNew h k x y told = told
+
+-- one list has ended
+pub found_end : {K : Type 0} (content : K → Tables) (is_honest : K → Type 0) (zone : Zone) (c : ℕ)
+    (first first' : K) (texts others : List (List ℕ)) (n : ℕ) (replies : List (List ℕ))
+    (left right : K)
+    → Compared content is_honest zone c first first' texts others n replies left right
+    → length (take (n + 1) texts) ≢ length (take (n + 1) others)
+    → is_honest left → is_honest right → (settings : Settings)
+    → content first ≡ tables_of settings [] → content first' ≡ tables_of settings []
+    → (lefts rights : List Heard) → AllZip IsHeard texts lefts → AllZip IsHeard others rights
+    → ArePart settings c lefts rights (n + 1)
+found_end content is_honest zone c first first' texts others n replies left right so not honest
+    honest' settings e d lefts rights are others_are =
+    part_end settings c n texts others lefts rights are others_are
+    (λ fs gs fs_are gs_are. (so honest honest' settings e d fs gs fs_are gs_are).twins) not
+
+-- both have
+pub found_equal : {K : Type 0} (content : K → Tables) (is_honest : K → Type 0) (zone : Zone) (c : ℕ)
+    (first first' : K) (texts others : List (List ℕ)) (n : ℕ) (replies : List (List ℕ))
+    (left right : K)
+    → Compared content is_honest zone c first first' texts others n replies left right
+    → length texts ≤ n → length others ≤ n
+    → is_honest left → is_honest right → (settings : Settings)
+    → content first ≡ tables_of settings [] → content first' ≡ tables_of settings []
+    → (lefts rights : List Heard) → AllZip IsHeard texts lefts → AllZip IsHeard others rights
+    → AreEqual content settings zone c lefts rights replies left right
+found_equal content is_honest zone c first first' texts others n replies left right so few few'
+    honest honest' settings e d lefts rights are others_are =
+    equal_of content settings zone c lefts rights replies left right
+    (so honest honest' settings e d lefts rights
+    (subst (λ l. AllZip IsHeard l lefts) (sym (take_all n texts few)) are)
+    (subst (λ l. AllZip IsHeard l rights) (sym (take_all n others few')) others_are))
+
+-- the same, by an equal zone and an equal result
+pub told_by : {K : Type 0} (content : K → Tables) (is_failed : K → Bool) (is_honest : K → Type 0)
+    (zone zone' : Zone) (c : ℕ) (t o : List ℕ) (before after : List (List ℕ))
+    (left right left_new right_new : K) (result result' : Result Bool AuditFault) → zone ≡ zone'
+    → result ≡ result'
+    → Told content is_failed is_honest zone c t o before after left right left_new right_new result
+    → Told content is_failed is_honest zone' c t o before after left right left_new right_new result'
+told_by content is_failed is_honest zone zone' c t o before after left right left_new right_new
+    result result' e d told =
+    subst (λ r. Told content is_failed is_honest zone' c t o before after left right left_new
+    right_new r) d
+    (subst (λ z. Told content is_failed is_honest z c t o before after left right left_new
+    right_new result) e told)
+
+-- the fault that a fault was made into
+pub found_gave : {K : Type 0} (content : K → Tables) (is_failed : K → Bool) (settings : Settings)
+    (zone : Zone) (c : ℕ) (lefts rights : List Heard) (left right : K) (fault : AuditFault)
+    (result : Result Verdict AuditFault) → IsErr result × IsErrAnd result (λ told. told ≡ fault)
+    → IsFound content is_failed settings zone c lefts rights left right (Err fault)
+    → IsFound content is_failed settings zone c lefts rights left right result
+found_gave content is_failed settings zone c lefts rights left right fault (Ok verdict) gave found =
+    absurd gave.1
+found_gave content is_failed settings zone c lefts rights left right fault (Err told) gave found =
+    subst (λ f. IsFound content is_failed settings zone c lefts rights left right (Err f))
+    (sym gave.1) found
+
+-- a site that was used twice
+pub used_twice : {K : Type 0} (is_failed : K → Bool) (is_honest : K → Type 0)
+    (first old new : Site K) → IsUsed is_failed is_honest first old
+    → IsUsed is_failed is_honest old new → IsUsed is_failed is_honest first new
+used_twice is_failed is_honest first old new a b = record {
+  honest = λ honest. a.honest (b.honest honest);
+  stays = λ failed. b.stays (a.stays failed);
+  zone = b.zone ∙ a.zone;
+}
+
+-- what is found of houses that an audit could begin with is its verdict
+pub verdict_of : {K : Type 0} (content : K → Tables) (is_failed : K → Bool) (settings : Settings)
+    (zone zone' : Zone) (c : ℕ) (lefts rights : List Heard) (left right left_new right_new : K)
+    (result : Result Verdict AuditFault) → MayBegin (content left) (content right) → zone ≡ zone'
+    → IsFound content is_failed settings zone c lefts rights left_new right_new result
+    → IsVerdict content is_failed settings zone' c lefts rights left right left_new right_new result
+verdict_of content is_failed settings zone zone' c lefts rights left right left_new right_new
+    (Ok verdict) may e found = (
+      may,
+      subst (λ z. IsFound content is_failed settings z c lefts rights left_new right_new
+          (Ok verdict)) e found,
+    )
+verdict_of content is_failed settings zone zone' c lefts rights left right left_new right_new
+    (Err Memory) may e found = tt
+verdict_of content is_failed settings zone zone' c lefts rights left right left_new right_new
+    (Err Store) may e found = found
+verdict_of content is_failed settings zone zone' c lefts rights left right left_new right_new
+    (Err NotNew) may e found = absurd found

@@ -1,0 +1,34 @@
+use Rattle.std.proofs.Common.{◌≡◌, ◌∙◌, ap}
+use Rattle.site_audit.specs.Places.{keep_of}
+use Rattle.site_audit.proofs.Pairs.{alike_told, seen_err, seen_from, seen_gave, sound_if}
+use Rattle.site_audit.proofs.pair.are_alike.Goals as goal
+
+pub returns-in_err-have_same_settings-clause-told :
+    goal.returns-in_err-have_same_settings-clause-told
+returns-in_err-have_same_settings-clause-told g c = λ honest honest' settings others h k is is' e d.
+    let n = g.K.Keep in
+    let same = ap n.content c.keep_mut.ensures.keep in
+    let same' = ap n.content c.keep_mut-2.ensures.keep in
+    let a = c.keep_mut.result.now in
+    let b = c.keep_mut-2.result.now in
+    let f = c.in_err-have_same_settings.field-0.0 in
+    seen_from n.content n.is_failed (settings ≡ others) a b (keep_of c.args.left.now)
+    (keep_of c.args.right.now) a b c.from_residual.result same same'
+    (seen_gave n.content n.is_failed (settings ≡ others) a b a b f c.from_residual.result
+    c.from_residual.ensures
+    (seen_err n.content n.is_failed (settings ≡ others) _ a b a b f
+    c.in_err-have_same_settings.ensures.faults (honest, honest')
+    (sound_if settings h (n.content a) is (same ∙ e))
+    (sound_if others k (n.content b) is' (same' ∙ d))))
+
+pub returns-clause-told : goal.returns-clause-told
+returns-clause-told g c = λ honest honest' settings others h k is is' e d.
+    let n = g.K.Keep in
+    let same = ap n.content c.keep_mut.ensures.keep in
+    let same' = ap n.content c.keep_mut-2.ensures.keep in (
+      alike_told settings others h k (n.content c.keep_mut.result.now)
+          (n.content c.keep_mut-2.result.now) c.in_ok-have_same_settings.field-0 (same ∙ e)
+          (same' ∙ d) (c.in_ok-have_same_settings.ensures.told honest honest'),
+      same,
+      same',
+    )

@@ -1,0 +1,50 @@
+use Rattle.std.proofs.Common.{◌∙◌}
+use Rattle.house.proofs.Unchanged.{still_there}
+use Rattle.site_audit.specs.Audits.{MayBegin}
+use Rattle.site_audit.specs.Places.{keep_of}
+use Rattle.site_audit.proofs.Pairs.{begun, left_err, right_err, seen_gave, sound_if}
+use Rattle.site_audit.proofs.pair.may_begin.Goals as goal
+
+pub returns-in_err-is_new-clause-told : goal.returns-in_err-is_new-clause-told
+returns-in_err-is_new-clause-told g c = λ honest honest' settings others h k is is' e d.
+    let n = g.K.Keep in
+    let a = keep_of c.args.left.now in
+    let b = keep_of c.args.right.now in
+    let f = c.in_err-is_new.field-0.0 in
+    seen_gave n.content n.is_failed (MayBegin (n.content a) (n.content b)) a b
+    (keep_of c.is_new.new.self) b f c.from_residual.result c.from_residual.ensures
+    (left_err n.content n.is_failed (MayBegin (n.content a) (n.content b)) _ a b
+    (keep_of c.is_new.new.self) f c.in_err-is_new.ensures.faults honest
+    (sound_if settings h (n.content a) is e))
+
+pub returns-in_err-is_new-2-clause-told : goal.returns-in_err-is_new-2-clause-told
+returns-in_err-is_new-2-clause-told g c = λ honest honest' settings others h k is is' e d.
+    let n = g.K.Keep in
+    let a = keep_of c.args.left.now in
+    let b = keep_of c.args.right.now in
+    let f = c.in_err-is_new-2.field-0.0 in
+    seen_gave n.content n.is_failed (MayBegin (n.content a) (n.content b)) a b
+    (keep_of c.is_new.new.self) (keep_of c.is_new-2.new.self) f
+    c.from_residual-in_err-is_new-2.result c.from_residual-in_err-is_new-2.ensures
+    (right_err n.content n.is_failed (MayBegin (n.content a) (n.content b)) _ a b
+    (keep_of c.is_new.new.self) (keep_of c.is_new-2.new.self) f c.in_err-is_new-2.ensures.faults
+    honest' (sound_if others k (n.content b) is' d))
+
+pub returns-clause-told : goal.returns-clause-told
+returns-clause-told g c = λ honest honest' settings others h k is is' e d.
+    let n = g.K.Keep in
+    let a = keep_of c.args.left.now in
+    let b = keep_of c.args.right.now in
+    let a' = keep_of c.is_new.new.self in
+    let b' = keep_of c.is_new-2.new.self in
+    let before = c.are_alike.ensures.left.honest honest in
+    let before' = c.are_alike.ensures.right.honest honest' in
+    let same = still_there c.in_ok-is_new.field-0 n.content n.is_failed n.is_honest n.may_leave a a'
+    c.in_ok-is_new.ensures.faults c.in_ok-is_new.ensures.read before in
+    let same' = still_there c.in_ok-is_new-2.field-0 n.content n.is_failed n.is_honest n.may_leave b
+    b' c.in_ok-is_new-2.ensures.faults c.in_ok-is_new-2.ensures.read before' in
+    begun n.content n.is_failed settings others h k a b a' b' (keep_of c.are_alike.new.left)
+    (keep_of c.are_alike.new.right) c.are_alike.result e d
+    ((c.in_ok-is_new.ensures.told before settings h is e).0 c.if-not-branch.false)
+    ((c.in_ok-is_new-2.ensures.told before' others k is' d).0 c.if-not-branch-2.false) same same'
+    (c.are_alike.ensures.told honest honest' settings others h k is is' (same ∙ e) (same' ∙ d))

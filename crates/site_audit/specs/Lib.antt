@@ -1,0 +1,4 @@
+pub mod Audits
+pub mod Faults
+pub mod Messages
+pub mod Places

@@ -1,0 +1,111 @@
+//! Two lists of messages, compared as a caller sees them.
+ghost use Rattle.std.specs.Prelude.{◌≡◌, ◌+◌, ◌<◌, ◌^◌, [], List, map};
+ghost use Rattle.std.specs.List.{AllZip};
+ghost use Rattle.house_rows.specs.declared.settings.Settings.{Settings as TheSettings};
+ghost use Rattle.house_rows.specs.History.{History};
+ghost use Rattle.house_rows.specs.Tables.{tables_of};
+ghost use Rattle.house_rows.specs.Verdict.{IsHistory};
+ghost use Rattle.site.specs.Answers.{zone_of};
+ghost use Rattle.site_audit.specs.Audits.{IsFound, IsVerdict};
+ghost use Rattle.site_audit.specs.Places.{Heard, IsHeard, IsUsed, keep_of};
+
+use crate::fault::AuditFault;
+use crate::pair::may_begin;
+use crate::place::take_place;
+use house_rows::Keep;
+use site::{Reply, Site};
+use std::alloc::Global;
+
+/// What an audit finds.
+#[derive(Debug, Drop)]
+pub enum Verdict {
+    /// The two lists are twin runs for the caller.
+    Equal {
+        /// The replies to it, in turn, which are the same in both.
+        replies: Vec<Reply>,
+    },
+    /// They are none.
+    Apart {
+        /// The first place at which they are none, counted from 1.
+        step: u64,
+    },
+}
+
+// The verdict at a place, which is counted from 0 here.
+fn apart_at(place: usize) -> Verdict
+    requires { place + 1 < 2 ^ 64 }
+    ensures { result ≡ Verdict.Apart (place + 1) }
+{
+    Verdict::Apart {
+        step: place as u64 + 1,
+    }
+}
+
+// Compares two lists over houses that are new.
+fn compare<K: Keep + Drop>(
+    alloc: Global,
+    left: &mut Site<K>,
+    right: &mut Site<K>,
+    left_messages: &[Vec<u8>],
+    right_messages: &[Vec<u8>],
+    caller: u64,
+) -> Result<Verdict, AuditFault>
+    ensures found { K.is_honest (keep_of left.new) → K.is_honest (keep_of right.new)
+        → (settings : TheSettings)
+        → K.content (keep_of left.old) ≡ tables_of settings []
+        → K.content (keep_of right.old) ≡ tables_of settings []
+        → (lefts rights : List Heard)
+        → AllZip IsHeard (map (λ m. m.items) left_messages.now) lefts
+        → AllZip IsHeard (map (λ m. m.items) right_messages.now) rights
+        → IsFound K.content K.is_failed settings (zone_of left.old) caller lefts rights
+        (keep_of left.new) (keep_of right.new) result }
+    ensures left { IsUsed K.is_failed K.is_honest left.old left.new }
+    ensures right { IsUsed K.is_failed K.is_honest right.old right.new }
+{
+    let mut replies = Vec::new(alloc);
+    for (place, text) in left_messages.iter().enumerate() {
+        let Some(other) = right_messages.get(place) else {
+            return Ok(apart_at(place));
+        };
+        if !take_place(left, right, text, other, caller, &mut replies)? {
+            return Ok(apart_at(place));
+        }
+    }
+    if left_messages.len() < right_messages.len() {
+        return Ok(apart_at(left_messages.len()));
+    }
+    Ok(Verdict::Equal { replies })
+}
+
+/// Answers two lists of messages over two new houses, place by place, and tells whether they are
+/// twin runs for a caller, with the replies to it, or the first place at which they are none.
+///
+/// Twin runs are of equal length; at each place the messages are equal, byte for byte, or neither is
+/// the caller's; and after each place everything public agrees, and the questions that wait for the
+/// caller. NotNew is answered exactly where a house isn't new, or the two were set up differently.
+pub fn audit<K: Keep + Drop>(
+    alloc: Global,
+    left: &mut Site<K>,
+    right: &mut Site<K>,
+    left_messages: &[Vec<u8>],
+    right_messages: &[Vec<u8>],
+    caller: u64,
+) -> Result<Verdict, AuditFault>
+    ensures verdict { K.is_honest (keep_of left.new) → K.is_honest (keep_of right.new)
+        → (settings others : TheSettings) (h k : History)
+        → IsHistory settings h → IsHistory others k
+        → K.content (keep_of left.old) ≡ tables_of settings h
+        → K.content (keep_of right.old) ≡ tables_of others k
+        → (lefts rights : List Heard)
+        → AllZip IsHeard (map (λ m. m.items) left_messages.now) lefts
+        → AllZip IsHeard (map (λ m. m.items) right_messages.now) rights
+        → IsVerdict K.content K.is_failed settings (zone_of left.old) caller lefts rights
+        (keep_of left.old) (keep_of right.old) (keep_of left.new) (keep_of right.new) result }
+    ensures left { IsUsed K.is_failed K.is_honest left.old left.new }
+    ensures right { IsUsed K.is_failed K.is_honest right.old right.new }
+{
+    if !may_begin(left, right)? {
+        return Err(AuditFault::NotNew);
+    }
+    compare(alloc, left, right, left_messages, right_messages, caller)
+}
