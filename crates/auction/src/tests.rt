@@ -1,17 +1,13 @@
 //! What no clause says: what a run writes, and what is left of it where a device fails.
 use crate::command_line::Replay;
 use crate::ends::Ends;
-use crate::import::import_run;
 use crate::init::init_run;
 use crate::replay::replay_run;
 use crate::serve::{answer_each, serve_run};
-use crate::setup::{ANA, ATLAS, BEN, BOOKS, CID, set_up};
-use crate::statement::{Inquiry, statement_run};
+use crate::setup::set_up;
 use device::{MemorySink, MemorySource};
 use house_rows::{Keep, KeepFault, Rate, Settings, Text};
-use office::Lister;
-use settle::Day;
-use site::{Reply, Site};
+use site::Site;
 use sqlite::{Connection, MemStore};
 use std::alloc::Global;
 use std::io::{Read, Write};
@@ -27,42 +23,6 @@ content-length: 15\r\n\r\n{\"maximum\":500}";
 
 const TAKEN: &[u8] = b"HTTP/1.1 201 Created\r\ncontent-type: application/json\r\n\
 content-length: 46\r\n\r\n{\"count\":1,\"floor\":550,\"leader\":2,\"price\":500}";
-
-// A bid under the floor, and what it is answered.
-const LOW: &[u8] = b"POST /items/1/bids HTTP/1.1\r\nhost: h\r\nx-member: 3\r\nx-moment: 1002\r\n\
-content-length: 15\r\n\r\n{\"maximum\":549}";
-
-const TOO_LOW: &[u8] = b"HTTP/1.1 409 Conflict\r\ncontent-type: application/json\r\n\
-content-length: 38\r\n\r\n{\"error\":\"Low\",\"floor\":550,\"number\":9}";
-
-// One over it, which leads: the price is a step over the first.
-const OVER: &[u8] = b"POST /items/1/bids HTTP/1.1\r\nhost: h\r\nx-member: 3\r\nx-moment: 1003\r\n\
-content-length: 16\r\n\r\n{\"maximum\":1000}";
-
-const LEADS: &[u8] = b"HTTP/1.1 201 Created\r\ncontent-type: application/json\r\n\
-content-length: 46\r\n\r\n{\"count\":2,\"floor\":600,\"leader\":3,\"price\":550}";
-
-// What the messages of the setup are answered.
-const MADE: [&str; 5] = [
-    "{\"member\":1}",
-    "{\"member\":2}",
-    "{\"member\":3}",
-    "{\"category\":1}",
-    "{\"item\":1}",
-];
-
-const CLOSE: &[u8] = b"POST /close HTTP/1.1\r\nhost: h\r\nx-member: 0\r\nx-moment: 5000\r\n\r\n";
-
-const STATEMENT: &[u8] = b"\
-day            item role    other          price            fee            net\n\
-1970-01-01        1 sell        2           5.00           0.50           4.50\n\
-sold 5.00\nfees 0.50\nnet 4.50\nbought 0.00\n";
-
-const LOTS: &[u8] = b"lot,category,title,text,start,buy_now,end\n\
-A1,1,Atlas,,5.00,,5000\nB2,1,Globe,,7.50,20.00,6000\n";
-
-const LISTED: &[u8] = b"row 1: there already\nrow 2: item 2\n\
-1 listed, 1 there already, 0 refused\n";
 
 const NO_HEAD: &[u8] = b"HTTP/1.1 400 Bad Request\r\ncontent-type: application/json\r\n\
 content-length: 16\r\nconnection: close\r\n\r\n{\"error\":\"head\"}";
@@ -80,13 +40,6 @@ const PRESET: Replay = Replay {
 };
 
 impl Ends for SqlKeep<MemStore> {
-    fn end(self) -> Result<(), KeepFault> {
-        drop(self);
-        Ok(())
-    }
-}
-
-impl Ends for ListKeep {
     fn end(self) -> Result<(), KeepFault> {
         drop(self);
         Ok(())
@@ -265,99 +218,4 @@ fn a_connection_is_answered_and_counted(rt: HostRuntime) -> Result<(), Fail> {
     assert_eq!(rt; output.as_slice(), b"listening\nserved 1\n".as_slice());
     assert!(rt; errors.is_empty());
     Ok(())
-}
-
-// Has a new house answer the messages of the setup, and more behind them.
-fn ran<K: Keep + Drop>(alloc: Global, keep: K, more: &[&[u8]]) -> Result<(K, Vec<Reply>), Fail> {
-    let mut list = Vec::new(alloc);
-    for message in [ANA, BEN, CID, BOOKS, ATLAS] {
-        list.push(Vec::from_slice(alloc, message.as_bytes())?)?;
-    }
-    for message in more {
-        list.push(Vec::from_slice(alloc, message)?)?;
-    }
-    let mut site = Site::new(alloc, keep)?;
-    let replies = site.run(&list)?;
-    Ok((site.end(), replies))
-}
-
-// Runs the setup and three bids as one list.
-fn runs_three_bids<K: Keep + Drop>(rt: &impl Abort, alloc: Global, keep: K) -> Result<(), Fail> {
-    let (_, replies) = ran(alloc, keep, &[BID, LOW, OVER])?;
-    let (made, bids) = replies.as_slice().split_at(MADE.len().min(replies.len()));
-    for (reply, body) in made.iter().zip(MADE.iter()) {
-        let reply: &[u8] = reply;
-        assert!(rt; reply.starts_with(b"HTTP/1.1 201 Created\r\n"));
-        assert!(rt; reply.ends_with(body.as_bytes()));
-    }
-    assert_eq!(rt; bids.len(), 3);
-    for (reply, wanted) in bids.iter().zip([TAKEN, TOO_LOW, LEADS].iter()) {
-        let reply: &[u8] = reply;
-        assert_eq!(rt; reply, *wanted);
-    }
-    Ok(())
-}
-
-#[test]
-fn three_bids_are_answered_as_one_list(rt: HostRuntime) -> Result<(), Fail> {
-    let alloc = rt.alloc();
-    runs_three_bids(&rt, alloc, in_lists(alloc)?)?;
-    runs_three_bids(&rt, alloc, in_database(alloc)?)
-}
-
-// Lists two lots, one of which is there, in a house that is set up.
-fn lists_a_lot<K: Keep + Drop + Ends>(rt: &impl Abort, alloc: Global, keep: K) -> Result<(), Fail> {
-    let mut site = Site::new(alloc, keep)?;
-    set_up(&mut site)?;
-    let by = Lister {
-        member: 1,
-        moment: 1000,
-    };
-    let mut output = Vec::new(alloc);
-    let mut errors = Vec::new(alloc);
-    let keep = site.end();
-    let status = import_run(alloc, keep, Ok(LOTS), by, &mut output, &mut errors);
-    assert_eq!(rt; status, 0);
-    assert_eq!(rt; output.as_slice(), LISTED);
-    assert!(rt; errors.is_empty());
-    Ok(())
-}
-
-#[test]
-fn a_lot_is_listed_and_one_is_there(rt: HostRuntime) -> Result<(), Fail> {
-    let alloc = rt.alloc();
-    lists_a_lot(&rt, alloc, in_lists(alloc)?)?;
-    lists_a_lot(&rt, alloc, in_database(alloc)?)
-}
-
-// The statement of the seller of one sale.
-fn states_a_sale<K: Keep + Drop + Ends>(
-    rt: &impl Abort,
-    alloc: Global,
-    keep: K,
-) -> Result<(), Fail> {
-    let (keep, _) = ran(alloc, keep, &[BID, CLOSE])?;
-    let day = Day::read("1970-01-01")?;
-    let asked = Inquiry {
-        member: 1,
-        from: day,
-        to: day,
-        csv: false,
-    };
-    let mut sink = MemorySink::new(alloc);
-    let mut errors = Vec::new(alloc);
-    assert_eq!(rt;
-        statement_run(alloc, keep, asked, &mut sink, &mut errors),
-        0
-    );
-    assert_eq!(rt; sink.bytes(), STATEMENT);
-    assert!(rt; errors.is_empty());
-    Ok(())
-}
-
-#[test]
-fn a_sale_is_stated(rt: HostRuntime) -> Result<(), Fail> {
-    let alloc = rt.alloc();
-    states_a_sale(&rt, alloc, in_lists(alloc)?)?;
-    states_a_sale(&rt, alloc, in_database(alloc)?)
 }
