@@ -11,12 +11,13 @@ KILLS ?= 200
 ROWS ?= 20000
 SEED ?= 2026
 
-.PHONY: help demo test auction program cases fuzz memory statement random file office kills stalls wrong
+.PHONY: help demo session test auction program cases fuzz memory statement random file office kills stalls wrong
 
 help:
 	@echo "make demo      answers examples/first-bid.http, without waiting for the proofs"
 	@echo "make test      proves everything from nothing, runs all tests and wrong bodies (rt ci)"
 	@echo "make auction   proves and builds the program, as bin/auction"
+	@echo "make session   plays the README's sessions on bin/auction: a first bid, and a house in a file with curl"
 	@echo "make program   runs the program that make test has left on words, tables, streams, files and clients (needs cc)"
 	@echo "make cases     runs the conformance cases on the program that make test has left"
 	@echo "make fuzz      sends MESSAGES random ones to that program, some over TCP, and compares answers with plain lists and in"
@@ -40,6 +41,9 @@ auction:
 	cd crates/auction && rt run -- replay --preset < /dev/null
 	mkdir -p bin
 	cp crates/auction/out/auction bin/auction
+
+session:
+	python3 tests/readme.py bin/auction
 
 program:
 	python3 tests/program.py crates/auction/out/auction
