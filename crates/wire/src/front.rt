@@ -47,6 +47,8 @@ pub(crate) fn front<'b>(bytes: &'b [u8]) -> Result<Request<'b>, Missing>
         ),
         body: &after[..size],
         closes: head.known.ends_connection(head.minor),
+        member: head.member,
+        moment: head.moment,
         size: head.len + size,
     })
 }

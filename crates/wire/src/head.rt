@@ -3,7 +3,8 @@ ghost use Rattle.std.specs.Prelude.{◌≤◌, length, IfSome, IsNone};
 ghost use Rattle.httparse.specs.Spans.{RequestOverflows};
 ghost use Rattle.wire.specs.Front.{IsFound};
 
-use crate::known::{Known, known_of};
+use crate::fields::Values;
+use crate::known::{Known, known_of, noted};
 use httparse::spans::{EMPTY_HEADER_SPAN, HeaderSpan, parse_request};
 use httparse::{Error, Status};
 
@@ -23,6 +24,10 @@ pub(crate) struct Parts<'b> {
     pub(crate) target: &'b [u8],
     pub(crate) minor: u8,
     pub(crate) known: Known<'b>,
+    /// The values of `x-member`, which every message is asked for.
+    pub(crate) member: Values<'b>,
+    /// The values of `x-moment`, which every command is asked for.
+    pub(crate) moment: Values<'b>,
     /// The length of the head, where the body begins.
     pub(crate) len: usize,
 }
@@ -53,6 +58,8 @@ fn head_in<'b>(bytes: &'b [u8], room: &mut [HeaderSpan]) -> Option<Head<'b>>
                     target: spans.path.of(bytes),
                     minor: spans.version,
                     known: known_of(bytes, &room[..spans.headers]),
+                    member: noted(bytes, &room[..spans.headers], b"x-member"),
+                    moment: noted(bytes, &room[..spans.headers], b"x-moment"),
                     len: spans.len,
                 }))
             } else {

@@ -2,9 +2,9 @@
 ghost use Rattle.std.specs.Prelude.{◌≡◌, ◌≤◌, ◌<◌, ◌++◌, ◌∷◌, [], List, length, map, All, IfOk, ◌&&◌, codes};
 ghost use Rattle.std.specs.Str.{str_eq_ignore_ascii_case};
 ghost use Rattle.httparse.specs.Spans.{IsHeaderWithin, header_bytes};
-ghost use Rattle.wire.specs.Fields.{Pair, ends_connection, names_close};
+ghost use Rattle.wire.specs.Fields.{Pair, ends_connection, names_close, values_of};
 ghost use Rattle.wire.specs.Frame.{announced};
-ghost use Rattle.wire.specs.Known.{IsKnown};
+ghost use Rattle.wire.specs.Known.{IsCount, IsKnown};
 
 use crate::fault::WireFault;
 use crate::fields::{Values, has_close, is_same};
@@ -36,6 +36,39 @@ pub(crate) fn known_of<'b>(bytes: &'b [u8], spans: &[HeaderSpan]) -> Known<'b>
         known.add(span.name.of(bytes), span.value.of(bytes));
     }
     known
+}
+
+// These values, and that of one more field, if it has the name. Most fields have another, and their
+// values are not looked at.
+#[inline(always)]
+fn and_field<'b>(
+    values: Values<'b>,
+    bytes: &'b [u8],
+    span: &HeaderSpan,
+    wanted: &[u8],
+) -> Values<'b>
+    requires { IsHeaderWithin (length bytes.now) span.now }
+    ensures { (fields : List Pair) → IsCount (values_of wanted.now fields) values.entry
+        → IsCount (values_of wanted.now (fields ++ header_bytes bytes.now span.now ∷ [])) result }
+{
+    if !is_same(span.name.of(bytes), wanted) {
+        return values;
+    }
+    values.and(true, span.value.of(bytes))
+}
+
+/// The values of the fields of that name: a short walk of its own for each name that every message
+/// is asked for.
+#[inline(always)]
+pub(crate) fn noted<'b>(bytes: &'b [u8], spans: &[HeaderSpan], wanted: &[u8]) -> Values<'b>
+    requires { All (IsHeaderWithin (length bytes.now)) spans.now }
+    ensures { IsCount (values_of wanted.now (map (header_bytes bytes.now) spans.now)) result }
+{
+    let mut values = Values::Absent;
+    for span in spans {
+        values = and_field(values, bytes, span, wanted);
+    }
+    values
 }
 
 // Whether a field is a `connection` that names `close`.

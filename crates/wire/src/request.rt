@@ -1,7 +1,9 @@
 //! One whole message.
-ghost use Rattle.std.specs.Prelude.{◌≡◌, option_map};
+ghost use Rattle.std.specs.Prelude.{◌≡◌, option_map, IsTrue, List, ℕ};
 ghost use Rattle.wire.specs.Fields.{ends_connection, only, values_of};
+ghost use Rattle.wire.specs.Known.{IsCount};
 
+use crate::fields::Values;
 use crate::lines::one_of;
 use std::marker::Model;
 
@@ -16,12 +18,16 @@ pub struct Request<'b> {
     pub(crate) lines: &'b [u8],
     pub(crate) body: &'b [u8],
     pub(crate) closes: bool,
+    // Two fields that are asked for again and again, noted when the head was found.
+    pub(crate) member: Values<'b>,
+    pub(crate) moment: Values<'b>,
     pub(crate) size: usize,
 }
 
 impl<'b> Model for Request<'b> {
-    ghost use Rattle.std.specs.Prelude.{◌≡◌};
-    ghost use Rattle.wire.specs.Fields.{ends_connection};
+    ghost use Rattle.std.specs.Prelude.{◌≡◌, codes};
+    ghost use Rattle.wire.specs.Fields.{ends_connection, values_of};
+    ghost use Rattle.wire.specs.Known.{IsCount};
     ghost use Rattle.wire.specs.Lines.{fields_in};
     ghost use Rattle.wire.specs.Message.{Message};
 
@@ -36,7 +42,28 @@ impl<'b> Model for Request<'b> {
       length = r.size;
     } };
 
-    ghost invariant = { λ r. r.closes ≡ ends_connection r.minor (fields_in r.lines.now) };
+    ghost invariant = { λ r. (r.closes ≡ ends_connection r.minor (fields_in r.lines.now))
+        × IsCount (values_of (codes "x-member") (fields_in r.lines.now)) r.member
+        × IsCount (values_of (codes "x-moment") (fields_in r.lines.now)) r.moment };
+}
+
+// Whether a name is the very one that is noted. At a constant, `starts_with` is a compare or two.
+#[inline(always)]
+fn is_noted(name: &[u8], noted: &[u8]) -> bool
+    ensures { IsTrue result → name.now ≡ noted.now }
+{
+    name.len() == noted.len() && name.starts_with(noted)
+}
+
+// The one value among those noted.
+#[inline(always)]
+fn only_of<'b>(values: Values<'b>) -> Option<&'b [u8]>
+    ensures { (all : List (List ℕ)) → IsCount all values.entry → option_map (λ value. value.now) result ≡ only all }
+{
+    match values {
+        Values::One(value) => Some(value),
+        _ => None,
+    }
 }
 
 impl<'b> Request<'b> {
@@ -63,9 +90,16 @@ impl<'b> Request<'b> {
 
     /// The value of a field that stands exactly once, without spaces and tabs round it. Names are
     /// compared without ASCII case.
+    #[inline(always)]
     pub fn one(&self, name: &[u8]) -> Option<&'b [u8]>
         ensures { option_map (λ value. value.now) result ≡ only (values_of name.now self.now.fields) }
     {
+        if is_noted(name, b"x-member") {
+            return only_of(self.member);
+        }
+        if is_noted(name, b"x-moment") {
+            return only_of(self.moment);
+        }
         one_of(self.lines, name)
     }
 
