@@ -46,7 +46,7 @@ unfolding json.members
 one_member p name d e = ap (λ o. option_and_then (λ q. json.parse_map (json.member name q.0)
     (json.members p 2 q.1)) o) e
 
-abbrev of_value : Option (json.Json × List Token) → Option Data
+abbrev pub of_value : Option (json.Json × List Token) → Option Data
 of_value r = option_and_then of_json (option_and_then (λ p. json.if_last p.0 p.1) r)
 
 of_tokens : (name : List ℕ) (n : ℕ) → n < 2 ^ 64 → (text : List ℕ)
@@ -83,12 +83,12 @@ parts_same name gap n plain =
     ap (λ s. 123 ∷ 34 ∷ (((s ++ 34 ∷ []) ++ 58 ∷ []) ++ rest)) plain
     ∙ ap (λ l. 123 ∷ 34 ∷ l) (append_assoc (name ++ 34 ∷ []) (58 ∷ []) rest ∙ append_assoc name (34 ∷ []) (58 ∷ rest))
 
-IsAscii-append : (xs ys : List ℕ) → IsAscii xs → IsAscii ys → IsAscii (xs ++ ys)
+pub IsAscii-append : (xs ys : List ℕ) → IsAscii xs → IsAscii ys → IsAscii (xs ++ ys)
 IsAscii-append [] ys h k i = k i
 IsAscii-append (x ∷ xs) ys h k zero = h zero
 IsAscii-append (x ∷ xs) ys h k (suc i) = IsAscii-append xs ys (λ j. h (suc j)) k i
 
-IsAscii-gap : (gap : List ℕ) → IsGap gap → IsAscii gap
+pub IsAscii-gap : (gap : List ℕ) → IsGap gap → IsAscii gap
 IsAscii-gap [] h i = omega arith
 IsAscii-gap (x ∷ xs) (inl e, h) zero = omega (arith, e)
 IsAscii-gap (x ∷ xs) (inr e, h) zero = omega (arith, e)

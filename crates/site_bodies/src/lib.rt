@@ -13,4 +13,4 @@ mod numeral;
 
 pub use body::Body;
 pub use fault::BodyFault;
-pub use lone::lone_whole;
+pub use lone::{lone_text, lone_whole};

@@ -1,9 +1,10 @@
-//! Bodies that are one number under a name.
-ghost use Rattle.std.specs.Prelude.{◌≡◌, ◌++◌, ◌∷◌, [], IfSome, List, ℕ};
+//! Bodies that are one number or one text under a name.
+ghost use Rattle.std.specs.Prelude.{◌≡◌, ◌≢◌, ◌≤◌, ◌++◌, ◌∷◌, [], IfSome, IsTrue, List, ℕ};
 ghost use Rattle.std.specs.Str.{IsAscii};
 ghost use Rattle.json.specs.Print.{escape};
 ghost use Rattle.json.specs.Spaced.{IsGap};
 ghost use Rattle.site_bodies.specs.LoneNumber.{IsLone};
+ghost use Rattle.site_bodies.specs.LoneString.{IsLoneText, IsPlain};
 
 // What stands behind the front.
 #[inline(always)]
@@ -39,6 +40,40 @@ fn behind_space(bytes: &[u8]) -> &[u8]
     }
 }
 
+// What stands before the quote and the brace at the end.
+#[inline(always)]
+fn before_quote(bytes: &[u8]) -> Option<&[u8]>
+    ensures { IfSome result (λ rest. bytes.now ≡ rest.now ++ 34 ∷ 125 ∷ []) }
+{
+    match bytes {
+        [rest @ .., b'"', b'}'] => Some(rest),
+        _ => None,
+    }
+}
+
+// Whether a byte stands for itself in a string of JSON.
+#[inline(always)]
+fn is_plain(byte: u8) -> bool
+    ensures { IsTrue result → (32 ≤ byte) × (byte ≢ 34) × (byte ≢ 92) }
+{
+    byte >= 0x20 && byte != b'"' && byte != b'\\'
+}
+
+// The text that bytes are, if each stands for itself.
+fn plain_text(bytes: &[u8]) -> Option<&str>
+    ensures { IfSome result (λ text. IsPlain bytes.now text.now) }
+{
+    for byte in bytes {
+        if !is_plain(*byte) {
+            return None;
+        }
+    }
+    match simdutf8::compat::from_utf8(bytes) {
+        Ok(text) => Some(text),
+        Err(_) => None,
+    }
+}
+
 /// The whole number of a body that is an object of this one number, if it is written without spaces,
 /// or with one behind the colon. Where there is none, the body may yet be any.
 pub fn lone_whole(bytes: &[u8], name: &str) -> Option<u64>
@@ -49,4 +84,16 @@ pub fn lone_whole(bytes: &[u8], name: &str) -> Option<u64>
     let named = behind(behind(bytes, b"{\"")?, name.as_bytes())?;
     let value = behind_space(behind(named, b"\":")?);
     site_digits::number(before_brace(value)?)
+}
+
+/// The text of a body that is an object of this one text, if it is written without escapes, and
+/// without spaces or with one behind the colon. Where there is none, the body may yet be any.
+pub fn lone_text<'b>(bytes: &'b [u8], name: &str) -> Option<&'b str>
+    requires plain { escape name.now ≡ name.now }
+    requires ascii { IsAscii name.now }
+    ensures { IfSome result (λ text. IsLoneText bytes.now name.now text.now) }
+{
+    let named = behind(behind(bytes, b"{\"")?, name.as_bytes())?;
+    let value = behind(behind_space(behind(named, b"\":")?), b"\"")?;
+    plain_text(before_quote(value)?)
 }

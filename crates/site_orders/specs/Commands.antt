@@ -89,3 +89,11 @@ object_at body = or_no_object (body_of body)
 -- the command that an order means with a body; where it has no fields, nobody looks at the body
 unfoldable pub command_of : Order → List ℕ → Result Command Wrong
 command_of order body = if has_fields order then object_at body >>= fields_in order else fields_in order no_members
+
+-- the command of an order whose one field is a text
+abbrev pub text_in : Order → List ℕ → Option Command
+text_in order.Register text = Some (command.Register text)
+text_in order.AddCategory text = Some (command.AddCategory text)
+text_in (order.Ask item) text = Some (command.Ask item text)
+text_in (order.Answer item asker number) text = Some (command.Answer item asker number text)
+text_in _ text = None

@@ -1,17 +1,17 @@
 //! Commands, field by field in the order in which they are judged.
-ghost use Rattle.std.specs.Prelude.{◌≡◌, false, true, Ok, IfSome};
+ghost use Rattle.std.specs.Prelude.{◌≡◌, false, true, Ok, Some, IfOk, IfErr, IfSome, option_map};
 ghost use Rattle.serde_json.specs.Data.{no_members};
 ghost use Rattle.site_bodies.specs.Body.{fields_of};
 ghost use Rattle.site_orders.specs.Fields.{Gives};
-ghost use Rattle.site_orders.specs.Commands.{answer_in, bid_in, category_in, command_of, feedback_in, fields_in, has_fields, listing_in, question_in, register_in};
+ghost use Rattle.site_orders.specs.Commands.{answer_in, bid_in, category_in, command_of, feedback_in, fields_in, has_fields, listing_in, question_in, register_in, text_in};
 
 use crate::fault::{Unread, Wrong};
 use crate::field::Field;
 use crate::fields::{integer, number, optional, rating_of, text};
 use crate::order::Order;
-use house_rows::Command;
+use house_rows::{Command, Text};
 use json::Scratch;
-use site_bodies::{Body, BodyFault, lone_whole};
+use site_bodies::{Body, BodyFault, lone_text, lone_whole};
 use std::alloc::Global;
 
 #[tactic(auto, unfolding(crate::specs::Commands::register_in))]
@@ -152,7 +152,7 @@ fn without_fields(order: Order) -> Command
     }
 }
 
-// A bid by a body that is its maximum alone, as most are. Where there is none, the body is read in full.
+// A bid by a body that is its maximum alone, as most are.
 #[tactic(auto, unfolding(crate::specs::Commands::command_of, crate::specs::Commands::object_at, crate::specs::Commands::bid_in, crate::specs::Commands::fields_in))]
 fn plain_bid(order: Order, bytes: &[u8]) -> Option<Command>
     ensures { IfSome result (λ command. command_of order bytes.now ≡ Ok command) }
@@ -163,6 +163,52 @@ fn plain_bid(order: Order, bytes: &[u8]) -> Option<Command>
             None => None,
         },
         _ => None,
+    }
+}
+
+// The text of a body that is its order's one text alone, as most are.
+fn lone_field(order: Order, bytes: &[u8]) -> Option<&str>
+    ensures { IfSome result (λ text. option_map Ok (text_in order text.now) ≡ Some (command_of order bytes.now)) }
+{
+    match order {
+        Order::Register => lone_text(bytes, "name"),
+        Order::AddCategory => lone_text(bytes, "name"),
+        Order::Ask { .. } => lone_text(bytes, "text"),
+        Order::Answer { .. } => lone_text(bytes, "text"),
+        _ => None,
+    }
+}
+
+// The command of an order whose one field is a text.
+fn of_text(order: Order, text: Text) -> Option<Command>
+    ensures { result ≡ text_in order text }
+{
+    match order {
+        Order::Register => Some(Command::Register { name: text }),
+        Order::AddCategory => Some(Command::AddCategory { name: text }),
+        Order::Ask { item } => Some(Command::Ask { item, text }),
+        Order::Answer {
+            item,
+            asker,
+            number,
+        } => Some(Command::Answer {
+            item,
+            asker,
+            number,
+            text,
+        }),
+        _ => None,
+    }
+}
+
+// The command of a body that is its one field alone. Where there is none, the body is read in full.
+fn plain(alloc: Global, order: Order, bytes: &[u8]) -> Result<Option<Command>, Unread>
+    ensures told { IfOk result (λ found. IfSome found (λ command. command_of order bytes.now ≡ Ok command)) }
+    ensures memory { IfErr result (λ unread. unread ≡ Unread.Memory) }
+{
+    match lone_field(order, bytes) {
+        Some(text) => Ok(of_text(order, Text::copy_of(alloc, text)?)),
+        None => Ok(plain_bid(order, bytes)),
     }
 }
 
@@ -179,8 +225,8 @@ pub fn command(
     if !has_fields(order) {
         return Ok(without_fields(order));
     }
-    if let Some(bid) = plain_bid(order, bytes) {
-        return Ok(bid);
+    if let Some(command) = plain(alloc, order, bytes)? {
+        return Ok(command);
     }
     let body = match Body::read(alloc, bytes, scratch) {
         Ok(body) => body,

@@ -1,4 +1,4 @@
-use Rattle.std.proofs.Common.{◌≡◌, refl, ap, ◌∙◌, Ok, codes}
+use Rattle.std.proofs.Common.{refl, ap, ◌∙◌, Ok, codes}
 use Rattle.json.specs.Print.{escape_byte}
 use Rattle.site_bodies.proofs.LoneText.{whole_lone}
 use Rattle.house_rows.specs.declared.command.Command.TheVariants as command
