@@ -27,7 +27,7 @@ SIGHTS = [*READS, message("GET", "/members/2", 1), message("GET", "/me/watches",
 FAILED = (b"HTTP/1.1 500 Internal Server Error\r\ncontent-type: application/json\r\ncontent-length: 17\r\n\r\n"
           b'{"error":"store"}')
 COMMANDS = MESSAGES[:-len(READS)]
-TABLES = {"house": 1, "member": 2, "category": 1, "item": 1, "bid": 1, "watch": 1, "question": 1, "feedback": 1}
+TABLES = {"house": 1, "member": 2, "category": 1, "item": 2, "bid": 1, "watch": 1, "question": 1, "feedback": 1}
 
 
 def seen(program, file):

@@ -25,7 +25,8 @@ def message(method, path, member, moment=None, body=""):
     return ("\r\n".join(fields) + "\r\n\r\n" + body).encode()
 
 
-# Two members, a category, an item, bids, a watch, a question, a close, a settlement, feedback and pages.
+# All twelve commands: two members, a category, an item, bids, a watch, a question, another item that is watched, bought and
+# watched no more, a close, a settlement and feedback; and pages.
 MESSAGES = [
     message("POST", "/members", 0, 1000, '{"name":"Ana"}'),
     message("POST", "/members", 0, 1000, '{"name":"Ben"}'),
@@ -37,6 +38,11 @@ MESSAGES = [
     message("POST", "/items/1/questions", 2, 1002, '{"text":"Is it signed?"}'),
     message("POST", "/items/1/questions/2/1/answer", 1, 1003, '{"text":"No"}'),
     message("POST", "/items/1/bids", 2, 1004, '{"maximum":400}'),
+    message("POST", "/items", 1, 1004,
+            '{"buy_now":900,"category":1,"end":5000,"lot":"B2","start":500,"text":"","title":"Globe"}'),
+    message("POST", "/items/2/watch", 2, 1004),
+    message("POST", "/items/2/purchase", 2, 1005),
+    message("POST", "/items/2/unwatch", 2, 1005),
     message("POST", "/close", 0, 5000),
     message("POST", "/items/1/settle", 0, 5001),
     message("POST", "/items/1/feedback", 2, 5002, '{"rating":1,"text":"Good"}'),
