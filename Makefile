@@ -4,14 +4,15 @@
 CASES ?= ../shared/conformance
 SUITES = site office
 
-# How many messages the fuzz sends at least, how often a server is killed, how many rows a lot file has, and the seed that
-# chooses them.
+# How many messages the fuzz sends at least, how many answers spoiled ones have to get, how often a server is killed, how many
+# rows a lot file has, and the seed that chooses them.
 MESSAGES ?= 5000
+MUTATED ?= 100000
 KILLS ?= 200
 ROWS ?= 20000
 SEED ?= 2026
 
-.PHONY: help demo session test auction program cases fuzz memory statement random file office kills stalls wrong
+.PHONY: help demo session test auction program cases fuzz mutated memory statement random file office kills stalls wrong
 
 help:
 	@echo "make demo      answers examples/first-bid.http, without waiting for the proofs"
@@ -22,6 +23,7 @@ help:
 	@echo "make cases     runs the conformance cases on the program that make test has left"
 	@echo "make fuzz      sends MESSAGES random ones to that program, some over TCP, and compares answers with plain lists and in"
 	@echo "               twin runs"
+	@echo "make mutated   sends streams of spoiled messages, until MUTATED are answered, and what was accepted plainly"
 	@echo "make memory    refuses each allocation of that program and of the crates below it (needs cc)"
 	@echo "make statement compares statements with those that Python makes"
 	@echo "make random    compares houses with plain lists, on random commands and on long lists, and with one another"
@@ -62,6 +64,9 @@ cases:
 
 fuzz:
 	python3 tests/fuzz.py crates/auction/out/auction $(MESSAGES) $(SEED)
+
+mutated:
+	python3 tests/mutated.py crates/auction/out/auction $(MUTATED) $(SEED)
 
 memory:
 	python3 tests/refused_memory.py crates/auction/out/auction
