@@ -5,14 +5,15 @@ CASES ?= ../shared/conformance
 SUITES = site office
 
 # How many messages the fuzz sends at least, how many answers spoiled ones have to get, how often a server is killed, how many
-# rows a lot file has, and the seed that chooses them.
+# rows a lot file has, and the seed that chooses them; and that each EVERYth call on files stops, or has a power cut behind it.
 MESSAGES ?= 5000
 MUTATED ?= 100000
 KILLS ?= 200
+EVERY ?= 1
 ROWS ?= 20000
 SEED ?= 2026
 
-.PHONY: help demo session test auction program cases fuzz mutated memory statement random file office kills stalls wrong
+.PHONY: help demo session test auction program cases fuzz mutated memory statement random file office kills stops cuts stalls wrong
 
 help:
 	@echo "make demo      answers examples/first-bid.http, without waiting for the proofs"
@@ -30,6 +31,8 @@ help:
 	@echo "make file      makes houses in files, opens, copies and damages them, kills who serves them, and reads them with sqlite3"
 	@echo "make office    imports lot files, one of ROWS rows, and reads statements"
 	@echo "make kills     kills who serves a house KILLS times at random moments, and looks what is in its file"
+	@echo "make stops     stops that program at each call on its files, or each EVERYth, and opens what is left (needs cc)"
+	@echo "make cuts      cuts the power behind each such call, as a model, and opens all that may be left (needs cc)"
 	@echo "make stalls    has clients that send or read nothing hold up one that asks, for up to two minutes"
 	@echo "make wrong     tries the wrong bodies that make test leaves out"
 
@@ -101,6 +104,12 @@ office:
 
 kills:
 	python3 tests/kills.py crates/auction/out/auction $(KILLS) $(SEED)
+
+stops:
+	python3 tests/stopped_calls.py crates/auction/out/auction $(EVERY)
+
+cuts:
+	python3 tests/power_cuts.py crates/auction/out/auction $(EVERY)
 
 stalls:
 	python3 tests/stalls.py crates/auction/out/auction

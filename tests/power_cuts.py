@@ -1,0 +1,75 @@
+#!/usr/bin/env python3
+"""Models power cuts of `init` and `serve`: `power_cuts.py PROGRAM [EVERY]`. It needs a C compiler, `cc`.
+
+The calls on its files of a house that is made, served all twelve commands and ended are noted once. Behind each of them,
+or each EVERYth, the power is cut: what was synced is there, and of the changes since then nothing, all, each beginning, all
+but any one, any one alone, those of either file alone, and every other sector of all. Each pair of files that may
+be left is opened by SQLite, which has to find a sound database, and by the program: both have to find the house behind the
+commands that were answered, or behind one more, and the program has to take another command. Files of a house that was
+being made hold no house, and one can be made there, or a house with no history. The last line is 'N calls, C cuts, F pairs of
+files, M of them with one command more than answered, W wrong'.
+"""
+import socket
+import sys
+
+from file_calls import COMMANDS, NONE, Disk, prepared
+from kills import Client
+from served import CHECKS, check, served
+
+
+class Cuts:
+    def __init__(self, calls, every):
+        self.calls, self.every = calls, every
+        self.count = self.cuts = self.more = 0
+
+    def follow(self, disk, calls, counts):
+        """Cuts the power behind each call, where so many commands may be found."""
+        for call in calls:
+            disk.call(*call)
+            self.count += 1
+            if self.count % self.every == 0:
+                self.cut(disk, counts)
+
+    def cut(self, disk, counts):
+        self.cuts += 1
+        for contents in disk.cuts():
+            before = len(self.calls.found)
+            found = self.calls.look(contents)
+            self.more += len(self.calls.found) > before and found == counts[-1] != counts[0]
+            check(f"behind {self.count} calls one of {counts}", (found, found in counts), (found, True))
+
+    def parts(self):
+        """Makes, serves and ends a house. Gives the calls of each part, with the numbers of commands that may be found in it and
+        behind it."""
+        calls, traced = self.calls, self.calls.noting()
+        check("made", traced.ended("init", "house", *calls.init), (0, b"created\n", b""))
+        yield calls.noted("house"), [NONE, 0], [0]
+        with traced.serving("house", 1) as server:
+            client = Client(server.port)
+            yield calls.noted("house"), [0], [0]
+            for answered, text in enumerate(COMMANDS):
+                check("accepted", client.asks(text), True)
+                yield calls.noted("house"), [answered, answered + 1], [answered + 1]
+            client.connection.shutdown(socket.SHUT_WR)
+        check("served", server.ending, served(1))
+        yield calls.noted("house"), [len(COMMANDS)], [len(COMMANDS)]
+
+    def run(self):
+        disk = Disk((b"", b""))
+        # All calls are made before the first cut, since a connection that waits is ended.
+        for calls, within, behind in list(self.parts()):
+            self.follow(disk, calls, within)
+            self.cut(disk, behind)
+
+
+def main():
+    with prepared(sys.argv[1]) as calls:
+        cuts = Cuts(calls, int(sys.argv[2]) if len(sys.argv) > 2 else 1)
+        cuts.run()
+    print(f"{cuts.count} calls, {cuts.cuts} cuts, {len(calls.found)} pairs of files, {cuts.more} of them with one command more "
+          f"than answered, {CHECKS.count(False)} wrong")
+    return 1 if not all(CHECKS) else 0
+
+
+if __name__ == "__main__":
+    sys.exit(main())

@@ -1,0 +1,102 @@
+#!/usr/bin/env python3
+"""Stops the program at each call on the files of a house: `stopped_calls.py PROGRAM [EVERY]`. It needs a C compiler, `cc`.
+
+For `init`, and for `serve` of each of the twelve commands, the k-th call fails and each later one on the same file, k from 1
+on until a run ends with no stop; or each EVERYth k. A write at which it stops writes half. In the opening, `serve` ends with
+`file: Store`. Else the answer is the command's own, or that the store failed, and then every later one to a read and to a
+command is so too. The files that are left, as they are and without what was not synced, are opened again: SQLite finds a
+sound database, both it and the program find the house before the command or behind it, behind it where that was answered
+as accepted, and the program takes another command. The last lines tell what was found by command, and 'S stops, W wrong'.
+"""
+import collections
+import sys
+
+from file_calls import COMMANDS, NONE, Disk, prepared
+from house_file import FAILED
+from served import CHECKS, MESSAGES, check, exchange, fault
+
+READ = MESSAGES[-1]
+LATER = MESSAGES[0].replace(b"Ana", b"Eve")
+# How serving may end behind a stop.
+ENDINGS = [(0, b""), (1, b"auction: file: Store\n")]
+
+
+class Stops:
+    def __init__(self, calls, every):
+        self.calls, self.every, self.stops = calls, every, 0
+        # How often what was found was told to the client, by the first line of the command.
+        self.told = collections.defaultdict(collections.Counter)
+
+    def places(self, first, last, shift=0):
+        """The numbers of calls, each EVERYth."""
+        return range(first + shift % self.every, last + 1, self.every)
+
+    def judge(self, name, disk, allowed):
+        """Opens what is left, as it is and without what was not synced."""
+        for call in self.calls.noted("house"):
+            disk.call(*call)
+        for contents in (self.calls.contents("house"), disk.left([])):
+            found = self.calls.look(contents)
+            check(f"{name}: one of {allowed}", (found, found in allowed), (found, True))
+            self.told[name]["after" if found == allowed[-1] else "before"] += 1
+
+    def make(self):
+        """Stops `init`."""
+        calls = self.calls
+        calls.lay("house", (b"", b""))
+        check("made", calls.noting().ended("init", "house", *calls.init), (0, b"created\n", b""))
+        for stop in self.places(1, len(calls.noted())):
+            self.stops += 1
+            calls.lay("house", (b"", b""))
+            ending = calls.noting(STOP=str(stop)).ended("init", "house", *calls.init)
+            made = ending == (0, b"created\n", b"")
+            check(f"init, stopped at {stop}", ending if not made else fault("file: Store"), fault("file: Store"))
+            self.judge("init", Disk((b"", b"")), [0] if made else [NONE, 0])
+
+    def session(self, place, stop):
+        """Serves a command and two messages behind it: what these are answered, and how serving ends."""
+        calls = self.calls
+        calls.lay("house", calls.states[place][0])
+        with calls.noting(**stop).serving("house", 3) as server:
+            self.opening = len(calls.trace.read_bytes())
+            told = []
+            if server.is_listening:
+                told.append(exchange(server.port, COMMANDS[place]))
+                told += [exchange(server.port, text) for text in ([READ, LATER] if told[0] == FAILED else [READ, READ])]
+        return told, server.ending
+
+    def serve(self, place):
+        """Stops `serve` of one command, in its opening only of the first."""
+        calls, name = self.calls, COMMANDS[place].split(b" HTTP")[0].decode()
+        own, _ = self.session(place, {})
+        trace = calls.trace.read_bytes()[:self.opening]
+        last = len(calls.noted())
+        calls.trace.write_bytes(trace)
+        first = len(calls.noted()) + 1
+        for stop in self.places(1 if place == 0 else first, last, place):
+            self.stops += 1
+            told, ending = self.session(place, {"STOP": str(stop)})
+            if not told:
+                check(f"{name}, stopped at {stop}", ending, fault("file: Store"))
+            else:
+                check(f"{name}, stopped at {stop}, ends", (ending[0], ending[2]) in ENDINGS or ending, True)
+                first = told.index(FAILED) if FAILED in told else len(told)
+                check(f"{name}, stopped at {stop}, answers", told, own[:first] + [FAILED] * (len(told) - first))
+            acted = bool(told) and told[0] == own[0]
+            self.judge(name, Disk(calls.states[place][0]), [place + 1] if acted else [place, place + 1])
+
+
+def main():
+    with prepared(sys.argv[1]) as calls:
+        stops = Stops(calls, int(sys.argv[2]) if len(sys.argv) > 2 else 1)
+        stops.make()
+        for place in range(len(COMMANDS)):
+            stops.serve(place)
+    for name, found in stops.told.items():
+        print(f"{name}: {found['before']} before, {found['after']} after")
+    print(f"{stops.stops} stops, {CHECKS.count(False)} wrong")
+    return 1 if not all(CHECKS) else 0
+
+
+if __name__ == "__main__":
+    sys.exit(main())
