@@ -67,6 +67,7 @@ cases:
 
 fuzz:
 	python3 tests/fuzz.py crates/auction/out/auction $(MESSAGES) $(SEED)
+	python3 tests/plain_pages.py < crates/pages_tests/stdin | cmp - crates/pages_tests/stdout
 
 mutated:
 	python3 tests/mutated.py crates/auction/out/auction $(MUTATED) $(SEED)
