@@ -13,7 +13,8 @@ EVERY ?= 1
 ROWS ?= 20000
 SEED ?= 2026
 
-.PHONY: help demo session test auction program cases fuzz mutated memory statement random file office kills stops cuts stalls wrong
+.PHONY: help demo session test auction program cases rows fuzz mutated memory statement random file office kills stops \
+	cuts stalls wrong
 
 help:
 	@echo "make demo      answers examples/first-bid.http, without waiting for the proofs"
@@ -22,6 +23,7 @@ help:
 	@echo "make session   plays the README's sessions on bin/auction: a first bid, and a house in a file with curl"
 	@echo "make program   runs the program that make test has left on words, tables, streams, files and clients (needs cc)"
 	@echo "make cases     runs the conformance cases on the program that make test has left"
+	@echo "make rows      plays those cases and random lists of messages message by message and as runs, in memory and in databases"
 	@echo "make fuzz      sends MESSAGES random ones to that program, some over TCP, and compares answers with plain lists and in"
 	@echo "               twin runs"
 	@echo "make mutated   sends streams of spoiled messages, until MUTATED are answered, and what was accepted plainly"
@@ -65,6 +67,9 @@ cases:
 		python3 $(CASES)/compare.py --program crates/auction/out/auction $(CASES)/$$suite || exit 1; \
 	done
 
+rows:
+	python3 tests/rows.py crates/run_tests/out/run_tests $(CASES)/site
+
 fuzz:
 	python3 tests/fuzz.py crates/auction/out/auction $(MESSAGES) $(SEED)
 	python3 tests/plain_pages.py < crates/pages_tests/stdin | cmp - crates/pages_tests/stdout
@@ -80,6 +85,7 @@ memory:
 	python3 tests/refused_house.py crates/house_tests/out/house_tests
 	python3 tests/refused_house.py crates/store_tests/out/store_tests 5
 	python3 tests/refused_store.py crates/store_tests/out/store_tests 11
+	python3 tests/refused_rows.py crates/run_tests/out/run_tests 17
 	python3 tests/refused_device.py crates/device_tests/out/device_tests
 	python3 tests/refused_bands.py crates/proxy_tests/out/proxy_tests
 

@@ -1,0 +1,278 @@
+"""Lists of messages with what each has to be answered, written by hand from the rules of the house and its formats.
+
+Where a body is given it is the one that the rules give; the head, and each body that is left out, is the one of
+tests/plain_site.py. `stored()` is the script of crates/run_tests and what has to be told of it.
+"""
+import dataclasses
+
+from plain_site import READS, Site, setup
+from routes import answered, asked, bid, listed, rated
+from sent import Answer, Request, command, compact, lengthened, read
+
+ATLAS = ('{"buy_now":null,"category":1,"closed":%s,"count":%d,"end":5000,"floor":%s,"item":1,"leader":%s,"lot":"A1",'
+         '"price":%d,"seller":1,"start":500,"state":"%s","text":"","title":"Atlas"}')
+FIRST_BID = (b'POST /items/1/bids HTTP/1.1\r\nhost: h\r\nx-member: 2\r\nx-moment: 1001\r\ncontent-length: 15\r\n\r\n'
+             b'{"maximum":500}')
+FORMS = ("in a database", "run", "run in a database")
+
+
+def placed(count, floor, leader, price):
+    return '{"count":%d,"floor":%d,"leader":%d,"price":%d}' % (count, floor, leader, price)
+
+
+def refusal(name, number):
+    return '{"error":"%s","number":%d}' % (name, number)
+
+
+def close(moment):
+    return command("/close", 0, moment)
+
+
+def purchase(member, moment):
+    return command("/items/2/purchase", member, moment)
+
+
+def broken(status, fault):
+    return Answer(status, {"error": fault}, "", True)
+
+
+@dataclasses.dataclass
+class Case:
+    """A list: pairs of a message and the body of its answer, of a text and its answer, or a message alone."""
+    name: str
+    steps: list
+    preset: bool = True
+    zone: str = "UTC0"
+    # Whether it comes as a stream too.
+    is_streamed: bool = False
+
+
+def bids():
+    """Bids on the atlas, from the first to a maximum that is no raise."""
+    first = [(read("/items/1", 2), ATLAS % ("null", 0, "500", "null", 500, "open")),
+             (bid(1, 2, 1001, 500), placed(1, 550, 2, 500)),
+             (read("/items/1", 2), ATLAS % ("null", 1, "550", "2", 500, "open")),
+             (bid(1, 3, 1002, 549), '{"error":"Low","floor":550,"number":9}'),
+             (bid(1, 3, 1002, 1000), placed(2, 600, 3, 550))]
+    more = [(bid(1, 2, 1003, 1000), placed(3, 1050, 3, 1000)),
+            (bid(1, 3, 1004, 1001), placed(4, 1051, 3, 1001)),
+            (bid(1, 3, 1005, 2000), placed(5, 1100, 3, 1050)),
+            (bid(1, 3, 1006, 3000), placed(6, 1100, 3, 1050)),
+            (bid(1, 3, 1007, 3000), refusal("NotHigher", 10)),
+            (read("/me/bids/1", 2),
+             '{"bids":[{"item":1,"leading":false,"maximum":1000,"mine":2,"price":1050,"state":"open"}]}')]
+    yield Case("A first bid, one that is too low, and one that leads", first)
+    yield Case("A tie, raises, and a maximum that is no raise", first + more, is_streamed=True)
+    for maximum, price, floor in ((2499, 2549, 2649), (2500, 2600, 2700)):
+        yield Case("Steps on either side of a band's beginning",
+                   [(listed(1, 1000, "B2", 6000, start=100), '{"item":2}'), (bid(2, 2, 1001, 9000), placed(1, 125, 2, 100)),
+                    (bid(2, 3, 1002, maximum), placed(2, floor, 2, price))])
+    yield Case("The greatest amount, and one over it",
+               [(bid(1, 2, 1001, 1_000_000_000), placed(1, 550, 2, 500)),
+                (bid(1, 2, 1002, 1_000_000_001), refusal("Range", 20)),
+                (bid(1, 3, 1003, 1_000_000_000), placed(2, 1_000_010_000, 2, 1_000_000_000))])
+    yield Case("The end of an item, and a close at it",
+               [(bid(1, 2, 5000, 500), refusal("Ended", 6)), (close(4999), '{"sold":0,"unsold":0}'),
+                (bid(1, 2, 4999, 500), placed(1, 550, 2, 500)), (close(5000), '{"sold":1,"unsold":0}'),
+                (read("/items/1", 3), ATLAS % ("5000", 1, "null", "2", 500, "sold")),
+                (bid(1, 3, 5001, 1000), refusal("NotOpen", 7))])
+    yield Case("A moment before the clock",
+               [(bid(1, 2, 1001, 500), placed(1, 550, 2, 500)), (bid(1, 3, 1000, 1000), refusal("MomentBehind", 5)),
+                (bid(1, 3, 1001, 1000), placed(2, 600, 3, 550))])
+
+
+def sales():
+    """Purchases, closes, settlements and ratings."""
+    globe = (listed(1, 1000, "B2", 6000, buy_now=2000), '{"item":2}')
+    bought = '{"item":2,"price":2000}'
+    yield Case("A purchase", [globe, (purchase(2, 1001), bought)])
+    yield Case("A purchase behind a refused bid",
+               [globe, (bid(2, 3, 1001, 400), '{"error":"Low","floor":500,"number":9}'), (purchase(2, 1001), bought)])
+    yield Case("A purchase behind a bid",
+               [globe, (bid(2, 3, 1001, 500), placed(1, 550, 3, 500)), (purchase(2, 1001), refusal("HasBids", 11))])
+    yield Case("A statement, by a zone in which a day begins before that of UTC",
+               [command("/members", 0, 1000, compact({"name": "Ana"})), command("/members", 0, 1000, compact({"name": "Ben"})),
+                command("/categories", 0, 1000, compact({"name": "Books"})),
+                listed(1, 1000, "A1", 5000, start=999), listed(1, 1000, "B2", 84_600, start=1),
+                bid(1, 2, 1001, 999), bid(2, 2, 1001, 1), (close(84_600), '{"sold":2,"unsold":0}'),
+                (read("/me/statement/1970-01-01/1970-01-02", 1),
+                 '{"bought":0,"fees":99,"lines":[{"day":"1970-01-01","fee":99,"item":1,"net":900,"other":2,"price":999,'
+                 '"role":"sell"},{"day":"1970-01-02","fee":0,"item":2,"net":1,"other":2,"price":1,"role":"sell"}],'
+                 '"member":1,"net":901,"sold":1000}'),
+                read("/me/statement/1970-01-01/1970-01-01", 1)], preset=False, zone="CET-1")
+    yield Case("A bid behind a close", [(close(4999), '{"sold":0,"unsold":0}'), (bid(1, 2, 4998, 500), refusal("MomentBehind", 5))])
+    yield Case("A watch doesn't move the clock",
+               [(command("/items/1/watch", 2, 3000), '{"item":1,"watched":true}'), (bid(1, 2, 1001, 500), placed(1, 550, 2, 500))])
+    rating = compact({"rating": 1, "text": ""})
+    yield Case("A settlement, and ratings",
+               [(bid(1, 2, 1001, 999), placed(1, 550, 2, 500)), (close(5000), '{"sold":1,"unsold":0}'),
+                (command("/items/1/settle", 0, 5000), '{"fee":50,"item":1,"net":450,"price":500}'),
+                (command("/items/1/feedback", 2, 5000, rating), '{"item":1,"rating":1,"to":1}'),
+                (command("/items/1/feedback", 2, 5000, rating), refusal("AlreadyGiven", 16)),
+                (command("/items/1/feedback", 3, 5000, rating), refusal("NotParty", 17))])
+
+
+def talk():
+    """Questions and answers."""
+    yield Case("Questions of two, one of which is answered",
+               [(asked(1, 2, 1001), '{"asker":2,"item":1,"number":1}'),
+                (asked(1, 3, 1002, "How old?"), '{"asker":3,"item":1,"number":1}'),
+                (answered(1, 1, 1003, 3), '{"asker":3,"item":1,"number":1}'),
+                (read("/items/1/questions/1", 2),
+                 '{"questions":[{"answer":"1952","asker":3,"item":1,"number":1,"text":"How old?"}]}'),
+                (read("/me/questions/1", 2),
+                 '{"questions":[{"answer":null,"asker":2,"item":1,"number":1,"text":"Is it signed?"}]}')])
+    yield Case("One question over the limit of an asker",
+               [*((asked(1, 2, 1001), '{"asker":2,"item":1,"number":%d}' % number) for number in range(1, 21)),
+                (asked(1, 2, 1001), refusal("Limit", 19)), (asked(1, 3, 1001), '{"asker":3,"item":1,"number":1}')])
+    yield Case("A question of the seller", [(asked(1, 1, 1001), refusal("OwnItem", 8))])
+
+
+def frames():
+    """Texts that are no message, and spellings of one that is."""
+    empty = b"POST /items/1/bids HTTP/1.1\r\nhost: h\r\nx-member: 2\r\nx-moment: 1001\r\n"
+    half = b'{"maximum":12.5}'
+    yield Case("Broken frames, each followed by a message that is answered",
+               [(b"", broken(400, "head")), (FIRST_BID[:-1], broken(400, "end")), (FIRST_BID[:60], broken(400, "head")),
+                (FIRST_BID + b"x", broken(400, "excess")), (FIRST_BID + FIRST_BID, broken(400, "excess")),
+                (FIRST_BID.replace(b"host: h\r\n", b""), broken(400, "host")),
+                (empty + b"content-length: 16385\r\n\r\n", broken(413, "size")),
+                (empty + b"content-length: 15\r\ncontent-length: 15\r\n\r\n", broken(400, "length")),
+                (empty + b"transfer-encoding: chunked\r\n\r\n", broken(501, "transfer")),
+                (command("/items/1/bids", 2, 1001, half), '{"error":"field","field":"maximum"}'),
+                (FIRST_BID, Answer(201, {"count": 1, "floor": 550, "leader": 2, "price": 500}))])
+    names = (("Host", " 127.0.0.1:8080"), ("User-Agent", " client/1"), ("Accept", " */*"), ("x-member", " 2"),
+             ("x-moment", " 1001"), ("Content-Type", " application/x-www-form-urlencoded"))
+    other = bid(1, 2, 1001, 500)
+    other = dataclasses.replace(other, fields=names + lengthened(other.body))
+    yield Case("Other fields", [(other, placed(1, 550, 2, 500))])
+    yield Case("No message", [], preset=False)
+    twice = listed(1, 1000, "B2", 6000)
+    yield Case("A lot that is listed twice", [(twice, '{"item":2}'), (twice, refusal("LotExists", 13))])
+    place = read("/items/1", 2)
+    yield Case("Other methods, paths and callers",
+               [(dataclasses.replace(place, method="DELETE"), '{"error":"method"}'),
+                (read("/items/01", 2), '{"error":"path"}'), (read("/items/1?x", 2), '{"error":"path"}'),
+                (read("/items/9", 2), refusal("Unknown", 4)), (read("/items/1", 9), refusal("NoCaller", 1)),
+                (place.with_field("connection", " close"), ATLAS % ("null", 0, "500", "null", 500, "open")),
+                (dataclasses.replace(place, version="HTTP/1.0"), ATLAS % ("null", 0, "500", "null", 500, "open"))])
+
+
+def whole():
+    """Lists of many items, and of every command and every page."""
+    yield Case("A category of 120 items, of which a page shows 50, and a bid behind it",
+               [*((listed(1, 1000, f"L{number}", 6000), '{"item":%d}' % number) for number in range(2, 121)),
+                read("/categories/1/items/1", 2), read("/categories/1/items/71", 2), read("/categories/1/items/72", 2),
+                (bid(120, 2, 1001, 500), placed(1, 550, 2, 500))])
+    numbers = {"I": 1, "C": 1, "M": 1, "F": 1, "FROM": "1970-01-01", "TO": "1970-01-02"}
+    pages = ["/".join(str(numbers.get(part, part)) for part in path.split("/")) for path in READS.values()]
+    yield Case("Every command is accepted, and then every page is read",
+               [command("/members", 0, 1000, compact({"name": "Dora"})),
+                command("/categories", 0, 1000, compact({"name": "Maps"})),
+                listed(1, 1000, "B2", 6000, category=2, buy_now=2000, title="\u00c9toile"), bid(1, 2, 1001, 500),
+                bid(1, 3, 1001, 1000), command("/items/1/watch", 3, 1001), command("/items/2/watch", 3, 1001),
+                command("/items/2/unwatch", 3, 1001), asked(1, 3, 1001, "How old?"), asked(1, 3, 1001),
+                asked(1, 2, 1001), answered(1, 1, 1002, 3), purchase(4, 1003), close(5000),
+                command("/items/1/settle", 0, 5000), rated(1, 3, 5001, 1), rated(1, 1, 5001, 0),
+                *(read(page, caller) for page in pages for caller in (3, 1))])
+
+
+def cases():
+    yield from (*bids(), *sales(), *talk(), *frames(), *whole())
+
+
+def is_new(site):
+    return not (site.house.names or site.house.kinds or site.house.rows or site.house.now)
+
+
+def told(site, answers):
+    """What has to be told of a list with these answers, behind which the house is the plain site's."""
+    ends = ["not new", "new"]
+    lines = [b"new", *(answer.text() for answer in answers), ends[is_new(site)].encode(), site.record()]
+    return b"".join(line + b"\n" for line in [*lines, *(f"{form}: the same".encode() for form in FORMS)])
+
+
+class Wrong(Exception):
+    """The plain site answers otherwise than the rules."""
+
+
+def steps(case):
+    """The site behind a list, and each of its messages with its answer."""
+    site = Site(zone=case.zone)
+    pairs = [(request, site.answer(request)) for request in (setup() if case.preset else [])]
+    for step in case.steps:
+        given, body = step if isinstance(step, tuple) else (step, None)
+        answer = body if isinstance(given, bytes) else site.answer(given)
+        if isinstance(given, bytes) and body.status == 201:
+            answer = site.answer(bid(1, 2, 1001, 500))
+        if isinstance(body, str) and compact(answer.value) != body.encode() or isinstance(body, Answer) and body != answer:
+            raise Wrong(case.name, given, body, answer)
+        pairs.append((given, answer))
+    return site, pairs
+
+
+def block(given):
+    """A message in a script."""
+    text = given if isinstance(given, bytes) else given.text()
+    return f"text {len(text)}\n".encode() + text + b"\n"
+
+
+def line(given):
+    """A message in a script, in its shortest spelling; there a command tells its length also where it is none."""
+    if isinstance(given, Request):
+        member, moment = "".join(given.values("x-member")), "".join(given.values("x-moment"))
+        if given == read(given.target, member):
+            return f"get {member} {given.target}\n".encode()
+        if given == command(given.target, member, moment, given.body):
+            return f"post {member} {moment} {given.target} {given.body.decode()}".strip().encode() + b"\n"
+    return block(given)
+
+
+# The devices of a stream: their pieces, and which call of which fails.
+DEVICES = ((1, "", 0), (7, "", 0), (24_576, "", 0), (7, "take", 1), (7, "take", 60), (100, "take", 9), (100, "take", 14),
+           (24_576, "take", 2), (24_576, "give", 1), (24_576, "give", 8), (24_576, "give", 16))
+
+
+def streamed(case, piece, word, number):
+    """What has to be told of a list of messages that ends none, where it comes as a stream."""
+    _, pairs = steps(case)
+    texts, answered = [line_text(given) for given, _ in pairs], len(pairs)
+    acted, ending = len(pairs), f"Ok(Served {{ messages: {len(pairs)}, ending: Clean }})"
+    if word == "take":
+        # What came is answered, as far as it is whole.
+        came = piece * (number - 1)
+        answered = acted = sum(len(b"".join(texts[:at + 1])) <= came for at in range(len(texts)))
+        ending = "Err(Read)"
+    if word == "give":
+        # All came at once, and each answer is given at once: the message whose answer isn't taken has acted.
+        answered, acted, ending = number - 1, number, "Err(Write)"
+    site = Site(zone=case.zone)
+    for given, _ in pairs[:acted]:
+        site.answer(given)
+    written = b"".join(answer.text() for _, answer in pairs[:answered])
+    lines = [b"new", written, ending.encode(), b"new" if is_new(site) else b"not new", site.record()]
+    return b"".join(text + b"\n" for text in [*lines, f"{FORMS[0]}: the same".encode()])
+
+
+def line_text(given):
+    """The text of the message that a line of a script stands for."""
+    first, _, _ = line(given).partition(b" ")
+    if first == b"post" and not given.body:
+        given = given.with_field("content-length", " 0")
+    return given.text()
+
+
+def stored():
+    """The script and what has to be told."""
+    script, output = [], []
+    for case in cases():
+        site, pairs = steps(case)
+        script.append(f"-- {case.name}.\nhouse 1000 {case.zone}\n".encode())
+        script += [line(given) for given, _ in pairs]
+        script.append(b"all\n")
+        output.append(told(site, [answer for _, answer in pairs]))
+        if case.is_streamed:
+            script += ["serve {} {} {}".format(*devices).removesuffix("  0").encode() + b"\n" for devices in DEVICES]
+            output += [streamed(case, *devices) for devices in DEVICES]
+        script.append(b"\n")
+    return b"".join(script), b"".join(output)
