@@ -2,19 +2,21 @@
 
 # Conformance cases that lie beside the checkout, and the suites of today.
 CASES ?= ../shared/conformance
-SUITES = site office
+SUITES = site office audit
 
-# How many messages the fuzz sends at least, how many answers spoiled ones have to get, how often a server is killed, how many
-# rows a lot file has, and the seed that chooses them; and that each EVERYth call on files stops, or has a power cut behind it.
+# How many messages the fuzz sends at least, how many answers spoiled ones have to get, how many pairs of lists are audited
+# that are equal and that are apart, how often a server is killed, how many rows a lot file has, and the seed that chooses
+# them; and that each EVERYth call on files stops, or has a power cut behind it.
 MESSAGES ?= 5000
 MUTATED ?= 100000
 KILLS ?= 200
 EVERY ?= 1
 ROWS ?= 20000
+PAIRS ?= 1000
 SEED ?= 2026
 
-.PHONY: help demo session test auction program cases rows fuzz mutated memory statement random file office kills stops \
-	cuts stalls wrong
+.PHONY: help demo session test auction program cases rows fuzz mutated twins memory statement random file office kills \
+	stops cuts stalls wrong
 
 help:
 	@echo "make demo      answers examples/first-bid.http, without waiting for the proofs"
@@ -27,6 +29,7 @@ help:
 	@echo "make fuzz      sends MESSAGES random ones to that program, some over TCP, and compares answers with plain lists and in"
 	@echo "               twin runs"
 	@echo "make mutated   sends streams of spoiled messages, until MUTATED are answered, and what was accepted plainly"
+	@echo "make twins     audits PAIRS random pairs of lists that differ in what others sealed, and PAIRS that are apart"
 	@echo "make memory    refuses each allocation of that program and of the crates below it (needs cc)"
 	@echo "make statement compares statements with those that Python makes"
 	@echo "make random    compares houses with plain lists, on random commands and on long lists, and with one another"
@@ -76,6 +79,9 @@ fuzz:
 
 mutated:
 	python3 tests/mutated.py crates/auction/out/auction $(MUTATED) $(SEED)
+
+twins:
+	python3 tests/twins.py crates/auction/out/auction $(PAIRS) $(PAIRS) $(SEED)
 
 memory:
 	python3 tests/refused_memory.py crates/auction/out/auction

@@ -1,7 +1,7 @@
 #!/usr/bin/env python3
-"""Lists lots and prints statements: `office.py PROGRAM`.
+"""Lists lots, prints statements and audits runs: `office.py PROGRAM`.
 
-Each fault of `import` and `statement` has its line and its exit status, and of two faults the one that comes
+Each fault of `import`, `statement` and `audit` has its line and its exit status, and of two faults the one that comes
 first in order is told. What is printed has to be what the worked rows have; an import that is made again lists nothing
 and leaves every table as it was; and the file alone is then the house. The last line is 'N checks, M wrong'.
 """
@@ -64,6 +64,8 @@ bought 0.01
 NO_DAY = COLUMNS + b"sold 0.00\nfees 0.00\nnet 0.00\nbought 0.00\n"
 AS_CSV = (b"day,item,role,other,price,fee,net\n1970-01-01,1,sell,2,9.99,0.99,9.00\n"
           b"1970-01-02,2,sell,2,0.01,0.00,0.01\n")
+
+READ_ITEM = message("GET", "/items/1", 2)
 
 
 def printed(text, status=0):
@@ -183,16 +185,64 @@ def statements(program, folder):
     check("full", on_full_device(program, "statement", "sales", *words), (1, b"auction: output: Write\n"))
 
 
+def run(third, behind=()):
+    """A run in which one member bids and another bids so much, and the first looks at the item."""
+    return b"".join([*PRESET, message("POST", "/items/1/bids", 2, 1001, '{"maximum":1000}'),
+                     message("POST", "/items/1/bids", 3, 1002, '{"maximum":%d}' % third), READ_ITEM, *behind])
+
+
+def audits(program, folder):
+    """Runs that look alike to a member or don't."""
+    files = {"left": run(3000), "right": run(8000), "near": run(1040), "mid": run(1500),
+             "long": run(3000, [READ_ITEM]), "empty": b"", "named": b"".join(PRESET[:2]),
+             "broken": run(3000) + b"GET", "other": run(3000, [b"G\r\n\r\n"])}
+    for name, data in files.items():
+        written(folder, name, data)
+
+    def audit(left, right, member="2", *more):
+        return program.ended("audit", left, right, "--member", member, *more)
+
+    check("equal", audit("left", "right"), printed(b"equal, 2 replies\n"))
+    check("another price", audit("left", "near"), printed(b"apart at step 7\n", 1))
+    check("for who bid", audit("left", "right", "3"), printed(b"apart at step 7\n", 1))
+    check("for another", audit("left", "right", "1"), printed(b"equal, 1 replies\n"))
+    check("one more on the right", audit("left", "long"), printed(b"apart at step 9\n", 1))
+    check("one more on the left", audit("long", "left"), printed(b"apart at step 9\n", 1))
+    check("no message", audit("empty", "empty"), printed(b"equal, 0 replies\n"))
+    check("no message and one", audit("empty", "named"), printed(b"apart at step 1\n", 1))
+    settings = ["--bands", "bands.csv", "--rate", "2000", "--zone", "CET-1"]
+    check("by other settings", audit("left", "right", "2", *settings), printed(b"equal, 2 replies\n"))
+    # A step over 1000 is 1050 by the example table, and 2000 by the wide one, which is over what was sealed.
+    check("by narrow bands", audit("left", "mid"), printed(b"equal, 2 replies\n"))
+    check("by wide bands", audit("left", "mid", "2", "--bands", "wide.csv"), printed(b"apart at step 7\n", 1))
+    for broken in ("broken", "other"):
+        check(f"{broken} left", audit(broken, "left"), fault("LEFT is no list of messages"))
+        check(f"{broken} right", audit("left", broken), fault("RIGHT is no list of messages"))
+    check("both broken", audit("broken", "broken"), fault("LEFT is no list of messages"))
+    check("no left", audit("missing", "left"), fault("input: Read"))
+    check("no right", audit("left", "missing"), fault("input: Read"))
+    check("a folder on the left", audit(".", "left"), fault("input: Read"))
+    check("left before right", audit("missing", "broken"), fault("input: Read"))
+    check("a broken left before right", audit("broken", "missing"), fault("LEFT is no list of messages"))
+    wrong = ["--bands", "missing.csv", "--zone", "nowhere"]
+    check("bands before the zone", audit("missing", "left", "2", *wrong), fault("bands: Device"))
+    check("the zone before left", audit("missing", "left", "2", *wrong[2:]), fault("zone"))
+    check("full", on_full_device(program, "audit", "left", "right", "--member", "2"),
+          (1, b"auction: output: Write\n"))
+
+
 def main():
     with tempfile.TemporaryDirectory() as name:
         folder = pathlib.Path(name)
         program = Program(str(pathlib.Path(sys.argv[1]).resolve()), name)
         written(folder, "bands.csv", "at,step\n" + "".join(f"{at},{step}\n" for at, step in EXAMPLE))
+        written(folder, "wide.csv", "at,step\n0,1000\n")
         house(program, "house", ["--bands", "bands.csv", "--rate", "1000", "--zone", "UTC0"], PRESET)
         house(program, "sales", ["--bands", "bands.csv", "--rate", "1000", "--zone", "CET-1"], SALES)
         imports(program, folder)
         import_faults(program, folder)
         statements(program, folder)
+        audits(program, folder)
     print(f"{len(CHECKS)} checks, {CHECKS.count(False)} wrong")
     return 1 if not all(CHECKS) else 0
 

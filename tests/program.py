@@ -66,6 +66,13 @@ REFUSED_WORDS = [
     ["statement", "house", "--member", "0", "--from", "1970-01-01", "--to", "1970-01-01"],
     ["statement", "house", "--member", "100001", "--from", "1970-01-01", "--to", "1970-01-01"],
     ["statement", "house", "--member", "1", "--from", "1970-01-01", "--to", "1970-01-01", "--csv", "--csv"],
+    ["audit", "left", "--member", "1"],
+    ["audit", "left", "right"],
+    ["audit", "left", "right", "--member", "0"],
+    ["audit", "left", "right", "--member", "100001"],
+    ["audit", "left", "right", "more", "--member", "1"],
+    ["audit", "left", "right", "--member", "1", "--rate", "2001"],
+    ["audit", "left", "right", "--member", "1", "--preset"],
 ]
 
 # The text of a band table, and how its fault is told.
@@ -123,7 +130,7 @@ def cases(folder, full):
     yield over_memory(["replay", "--record", "--bands", str(table), "--rate", "2000", "--zone", "CET-1"],
                       ended(0, EMPTY_RECORD, b""))
     for words in (["--help"], ["help"], ["replay", "--help"], ["help", "replay"], ["init", "--help"],
-                  ["serve", "--help"], ["import", "--help"], ["statement", "--help"]):
+                  ["serve", "--help"], ["import", "--help"], ["statement", "--help"], ["audit", "--help"]):
         yield over_memory(words, helped)
     for rule in ("", "UTC", "CET-1\n", "CET-25", "Europe/Berlin"):
         yield over_memory(["replay", "--zone", rule], fault("zone"), READ)

@@ -200,9 +200,11 @@ def cases(library, table):
     reads = -(-len(FIRST) // 7)
     for calls in range(reads + 1):
         told = TOLD if calls >= reads else b""
-        yield (f"{calls} reads", [], FIRST,
-               {"LD_PRELOAD": library, "READ_MOST": "7", "READ_CALLS": str(calls)},
-               (1, told, b"auction: input: Read\n"))
+        # No record follows a reader that has failed.
+        for words in ([], ["--record"]):
+            yield (f"{calls} reads {words}", words, FIRST,
+                   {"LD_PRELOAD": library, "READ_MOST": "7", "READ_CALLS": str(calls)},
+                   (1, told, b"auction: input: Read\n"))
 
 
 def main():

@@ -1,4 +1,5 @@
 pub mod Accounts
+pub mod Compared
 pub mod Outcomes
 pub mod Rows
 pub mod Zones

@@ -1,7 +1,9 @@
 -- Which fault of the program stands for a fault of a layer below it.
+use Rattle.std.specs.Prelude.{◌≡◌}
 use Rattle.auction.specs.declared.fault.Fault.{Fault}
 use Rattle.auction.specs.declared.fault.Fault.TheVariants.{Memory as NoMemory, Store as FailedStore, Damaged as DamagedFile, Read as FailedInput, Write as FailedOutput}
 use Rattle.auction.specs.declared.fault.Fault.TheVariants as told
+use Rattle.auction.specs.declared.fault.Side.{Side}
 use Rattle.house_rows.specs.declared.fault.KeepFault.{KeepFault}
 use Rattle.house_rows.specs.declared.fault.KeepFault.TheVariants.{Memory, Store, Damaged}
 use Rattle.office.specs.declared.account.StatementFault.{StatementFault}
@@ -10,6 +12,10 @@ use Rattle.office.specs.declared.fault.ImportFault.{ImportFault}
 use Rattle.office.specs.declared.fault.ImportFault.TheVariants as importing
 use Rattle.settle.specs.declared.fault.SettleFault.{SettleFault}
 use Rattle.settle.specs.declared.fault.SettleFault.TheVariants as settling
+use Rattle.site_audit.specs.declared.fault.AuditFault.{AuditFault}
+use Rattle.site_audit.specs.declared.fault.AuditFault.TheVariants as auditing
+use Rattle.site_audit.specs.declared.messages.MessagesFault.{MessagesFault}
+use Rattle.site_audit.specs.declared.messages.MessagesFault.TheVariants as reading
 use Rattle.site_serve.specs.declared.serving.ServeFault.{ServeFault}
 use Rattle.site_serve.specs.declared.serving.ServeFault.TheVariants.{Memory as UnbegunMemory, Read, Write}
 
@@ -18,6 +24,10 @@ abbrev pub fault_of_keep : KeepFault → Fault
 fault_of_keep Memory = NoMemory
 fault_of_keep Store = FailedStore
 fault_of_keep Damaged = DamagedFile
+
+-- a fault that a keep told
+abbrev pub IsOfKeep : Fault → Type 0
+IsOfKeep fault = (kept : KeepFault) × (fault ≡ fault_of_keep kept)
 
 -- what stands for a fault of serving
 abbrev pub fault_of_serving : ServeFault → Fault
@@ -51,3 +61,15 @@ fault_of_settling settling.Order = told.Order
 fault_of_settling settling.Zone = told.Zone
 fault_of_settling settling.Memory = told.Memory
 fault_of_settling settling.Write = told.Write
+
+-- what stands for a fault of an audit. A house that isn't new is none that the program made
+abbrev pub fault_of_audit : AuditFault → Fault
+fault_of_audit auditing.Memory = told.Memory
+fault_of_audit auditing.Store = told.Store
+fault_of_audit auditing.NotNew = told.Damaged
+
+-- what stands for a fault of a side's messages
+abbrev pub fault_of_messages : Side → MessagesFault → Fault
+fault_of_messages side reading.Read = told.Read
+fault_of_messages side reading.Memory = told.Memory
+fault_of_messages side (reading.Broken fault) = told.Broken side

@@ -1,3 +1,4 @@
+pub mod Audited
 pub mod Faults
 pub mod Lines
 pub mod Listed

@@ -1,8 +1,10 @@
 -- The lines on standard error.
 use Rattle.std.specs.Prelude.{ℕ, List, Option, Some, None, ◌++◌, codes, decimal}
 use Rattle.auction.specs.declared.fault.Fault.{Fault}
-use Rattle.auction.specs.declared.fault.Fault.TheVariants.{Memory, Store, Damaged, Bands, Zone, Read, Write, Socket, Date, Order, Member}
+use Rattle.auction.specs.declared.fault.Fault.TheVariants.{Memory, Store, Damaged, Bands, Zone, Read, Write, Socket, Date, Order, Member, Broken}
 use Rattle.auction.specs.declared.fault.Fault.TheVariants as lots
+use Rattle.auction.specs.declared.fault.Side.{Side}
+use Rattle.auction.specs.declared.fault.Side.TheVariants.{Left, Right}
 use Rattle.steps.specs.Fault.{name_of, row_of}
 use Rattle.steps.specs.declared.fault.BandsFault.{BandsFault}
 use Rattle.steps.specs.declared.fault.BandsFault.TheVariants.{Csv, Head, Row, First, Order as OutOfOrder, Falls, TooMany, Device, Memory as NoMemory}
@@ -24,6 +26,11 @@ bands_line (Falls row) = named_with (name_of (Falls row)) (Some row)
 bands_line TooMany = named_with (name_of TooMany) None
 bands_line Device = named_with (name_of Device) None
 
+-- the word for a side of an audit
+abbrev pub side_name : Side → List ℕ
+side_name Left = codes "LEFT"
+side_name Right = codes "RIGHT"
+
 -- the line of a fault
 abbrev pub line_of : Fault → List ℕ
 line_of Memory = codes "auction: memory"
@@ -39,3 +46,4 @@ line_of Order = codes "auction: order"
 line_of Member = codes "auction: no member"
 line_of lots.Head = codes "auction: lots: Head"
 line_of lots.Csv = codes "auction: lots: Csv"
+line_of (Broken side) = codes "auction: " ++ side_name side ++ codes " is no list of messages"

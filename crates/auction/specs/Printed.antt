@@ -12,3 +12,11 @@ listening = codes "listening" ++ 10 ∷ []
 -- so many connections were answered
 abbrev pub served : ℕ → List ℕ
 served count = codes "served " ++ decimal count ++ 10 ∷ []
+
+-- two runs are equal to a member, who got so many replies in each
+abbrev pub equal_line : ℕ → List ℕ
+equal_line count = codes "equal, " ++ decimal count ++ codes " replies" ++ 10 ∷ []
+
+-- they are apart from this place on
+abbrev pub apart_line : ℕ → List ℕ
+apart_line step = codes "apart at step " ++ decimal step ++ 10 ∷ []

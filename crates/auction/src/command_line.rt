@@ -56,6 +56,17 @@ pub struct StatementWords<'a> {
     pub csv: bool,
 }
 
+/// What an audit is asked for.
+#[derive(Clone, Copy, Debug, PartialEq, Eq)]
+pub struct AuditWords<'a> {
+    /// The file of one list of messages.
+    pub left: &'a str,
+    /// The file of the other.
+    pub right: &'a str,
+    /// The member, from 1 to 100000.
+    pub member: u64,
+}
+
 /// What the words ask for.
 #[derive(Clone, Copy, Debug, PartialEq, Eq)]
 pub enum Task<'a> {
@@ -69,6 +80,8 @@ pub enum Task<'a> {
     Import(&'a str, ImportWords<'a>),
     /// To print a statement from the house in a file.
     Statement(&'a str, StatementWords<'a>),
+    /// To compare two runs over new houses in memory.
+    Audit(HouseWords<'a>, AuditWords<'a>),
 }
 
 // What the words of a subcommand say of the house. None is answered for no words that were taken.
@@ -131,6 +144,19 @@ fn statement_task<'a>(words: &ArgMatches<'a>) -> Option<Task<'a>> {
     Some(Task::Statement(file, asked))
 }
 
+// What the words of `audit` ask for.
+fn audit_task<'a>(words: &ArgMatches<'a>) -> Option<Task<'a>> {
+    let asked = AuditWords {
+        left: words.get_str("left")?,
+        right: words.get_str("right")?,
+        member: words.get_one("member")?,
+    };
+    match house_words(words) {
+        Some(house) => Some(Task::Audit(house, asked)),
+        None => None,
+    }
+}
+
 // What the words of a subcommand ask for.
 fn task_of<'a>(name: &str, words: &ArgMatches<'a>) -> Option<Task<'a>> {
     match name {
@@ -139,6 +165,7 @@ fn task_of<'a>(name: &str, words: &ArgMatches<'a>) -> Option<Task<'a>> {
         "replay" => replay_task(words),
         "import" => import_task(words),
         "statement" => statement_task(words),
+        "audit" => audit_task(words),
         _ => None,
     }
 }

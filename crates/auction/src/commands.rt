@@ -8,9 +8,11 @@ auction replay --preset --record < messages.http > answers.http\n  \
 auction init house --bands bands.csv --rate 1000 --zone UTC0\n  \
 auction serve house --port 8080 --count 100\n  \
 auction import house lots.csv --member 1 --moment 1000\n  \
-auction statement house --member 1 --from 2026-01-01 --to 2026-12-31\n\n\
+auction statement house --member 1 --from 2026-01-01 --to 2026-12-31\n  \
+auction audit left.http right.http --member 2\n\n\
 Exit status: 0 where it is done, 1 at a fault, which a line on standard error tells, and 2 where \
-the command line is refused. It is 1 too where import refused a row.";
+the command line is refused. It is 1 too where import refused a row, and where audit finds two \
+runs apart.";
 
 // The band table's file.
 fn bands<'a>(alloc: Global) -> Arg<'a> {
@@ -200,6 +202,31 @@ fn statement_command<'a>(alloc: Global) -> Result<Command<'a>, AllocError> {
         ))
 }
 
+// `audit`, of two runs for one member.
+fn audit_command<'a>(alloc: Global) -> Result<Command<'a>, AllocError> {
+    Command::new(alloc, "audit")
+        .about("Compares two runs of messages as one member sees them")
+        .after_help(
+            "Both runs begin with a new house in memory. It prints equal and the number of the \
+             member's replies where every message of the member, the public record after each \
+             message and the questions that wait for the member are the same in both; else it \
+             prints apart and the first place at which they differ, and the exit status is 1. \
+             Without --bands the houses have a table of ten bands.\n\n\
+             Example: auction audit left.http right.http --member 2",
+        )
+        .arg(file(
+            alloc,
+            "left",
+            "LEFT",
+            "The messages of one run, one behind the other",
+        ))?
+        .arg(file(alloc, "right", "RIGHT", "The messages of the other run"))?
+        .arg(member(alloc, "The member as whom the runs are seen, 1 to 100000"))?
+        .arg(bands(alloc))?
+        .arg(rate(alloc).default_value("1000"))?
+        .arg(zone(alloc).default_value("UTC0"))
+}
+
 /// The command line: one subcommand.
 pub fn command<'a>(alloc: Global) -> Result<Command<'a>, AllocError> {
     Command::new(alloc, "auction")
@@ -210,5 +237,6 @@ pub fn command<'a>(alloc: Global) -> Result<Command<'a>, AllocError> {
         .subcommand(serve_command(alloc)?)?
         .subcommand(replay_command(alloc)?)?
         .subcommand(import_command(alloc)?)?
-        .subcommand(statement_command(alloc)?)
+        .subcommand(statement_command(alloc)?)?
+        .subcommand(audit_command(alloc)?)
 }

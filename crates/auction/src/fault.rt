@@ -1,11 +1,12 @@
 //! Why the program ends at a fault: the lines on standard error and the exit statuses.
 ghost use Rattle.std.specs.Prelude.{◌≡◌, ◌≤◌, ◌↔◌, Some, IsErr, IsOk};
-ghost use Rattle.auction.specs.Faults.{fault_of_import, fault_of_keep, fault_of_serving, fault_of_settling, fault_of_statement};
-ghost use Rattle.auction.specs.Lines.{line_of};
+ghost use Rattle.auction.specs.Faults.{fault_of_audit, fault_of_import, fault_of_keep, fault_of_serving, fault_of_settling, fault_of_statement};
+ghost use Rattle.auction.specs.Lines.{line_of, side_name};
 
 use house_rows::KeepFault;
 use office::{ImportFault, StatementFault};
 use settle::SettleFault;
+use site_audit::AuditFault;
 use site_serve::ServeFault;
 use std::fmt;
 use std::io::Write;
@@ -40,6 +41,29 @@ pub enum Fault {
     Head,
     /// A record of a lot file has another number of fields than its head.
     Csv,
+    /// The bytes of one side of an audit are no list of messages.
+    Broken(Side),
+}
+
+/// A side of an audit.
+#[derive(Clone, Copy, Debug, PartialEq, Eq)]
+pub enum Side {
+    /// The first file.
+    Left,
+    /// The second file.
+    Right,
+}
+
+impl Side {
+    /// The word for it on the command line.
+    pub fn name(self) -> &'static str
+        ensures { result.now ≡ side_name self }
+    {
+        match self {
+            Side::Left => "LEFT",
+            Side::Right => "RIGHT",
+        }
+    }
 }
 
 impl fmt::Display for Fault {
@@ -63,6 +87,7 @@ impl fmt::Display for Fault {
             Fault::Member => write!(f, "auction: no member"),
             Fault::Head => write!(f, "auction: lots: Head"),
             Fault::Csv => write!(f, "auction: lots: Csv"),
+            Fault::Broken(side) => write!(f, "auction: {} is no list of messages", side.name()),
         }
     }
 }
@@ -132,6 +157,19 @@ impl From<SettleFault> for Fault {
             SettleFault::Zone => Fault::Zone,
             SettleFault::Memory => Fault::Memory,
             SettleFault::Write => Fault::Write,
+        }
+    }
+}
+
+impl From<AuditFault> for Fault {
+    ghost from_gives = { λ fault told. told ≡ fault_of_audit fault };
+
+    // A house that isn't new is none that the program made.
+    fn from(fault: AuditFault) -> Fault {
+        match fault {
+            AuditFault::Memory => Fault::Memory,
+            AuditFault::Store => Fault::Store,
+            AuditFault::NotNew => Fault::Damaged,
         }
     }
 }

@@ -1,5 +1,6 @@
 //! Files that are read.
 use crate::fault::Fault;
+use device::Reading;
 use std::fs::File;
 use std::io;
 use std::rt::Files;
@@ -10,5 +11,13 @@ pub fn open_input<R: Files>(rt: &R, path: &str) -> Result<R::File, Fault> {
         Ok(file) => Ok(file),
         Err(error) if error.kind() == io::ErrorKind::OutOfMemory => Err(Fault::Memory),
         Err(_) => Err(Fault::Read),
+    }
+}
+
+/// A file, as a source.
+pub fn open_source<R: Files>(rt: &R, path: &str) -> Result<Reading<R::File>, Fault> {
+    match open_input(rt, path) {
+        Ok(file) => Ok(Reading::new(file)),
+        Err(fault) => Err(fault),
     }
 }

@@ -1,15 +1,18 @@
 //! The program's run: words in, an exit status out.
 ghost use Rattle.std.specs.Prelude.{◌≡◌, ◌≤◌};
 
-use crate::command_line::{self, HouseWords, ImportWords, Replay, Serve, StatementWords, Task};
+use crate::audit::{Run, audit_run};
+use crate::command_line::{
+    self, AuditWords, HouseWords, ImportWords, Replay, Serve, StatementWords, Task,
+};
 use crate::fault::{Fault, ended};
 use crate::files::{FileKeep, create_house, open_keep, open_site};
 use crate::import::import_house;
 use crate::init::init_run;
-use crate::input::open_input;
+use crate::input::{open_input, open_source};
 use crate::replay::replay_run;
 use crate::serve::{answer_each, serve_run};
-use crate::settings::settings;
+use crate::settings::{copied, settings};
 use crate::statement::{Inquiry, statement_house};
 use clap::Error;
 use device::{Reading, Writing};
@@ -60,6 +63,7 @@ fn start(rt: &HostRuntime, alloc: Global, words: &[String]) -> u8
         Ok(Some(Task::Replay(house, asked))) => replay_input(rt, alloc, &house, asked),
         Ok(Some(Task::Import(path, asked))) => import_file(rt, alloc, path, asked),
         Ok(Some(Task::Statement(path, asked))) => statement_file(rt, alloc, path, &asked),
+        Ok(Some(Task::Audit(house, asked))) => audit_files(rt, alloc, &house, asked),
         // Words that ask for nothing are refused there.
         Ok(None) => REFUSED,
         Err(error) => refuse(rt, &error),
@@ -193,6 +197,41 @@ fn statement_file(rt: &HostRuntime, alloc: Global, path: &str, words: &Statement
         Ok((keep, asked)) => {
             let mut sink = Writing::new(rt.stdout());
             statement_house(alloc, keep, asked, &mut sink, &mut errors)
+        }
+        Err(fault) => ended(&mut errors, Err(fault)),
+    }
+}
+
+// Two new houses in memory, set up alike.
+fn new_houses(
+    rt: &HostRuntime,
+    alloc: Global,
+    words: &HouseWords<'_>,
+) -> Result<(ListKeep, ListKeep), Fault> {
+    let settings = settings(rt, alloc, words)?;
+    let same = copied(alloc, &settings)?;
+    let left = ListKeep::create(alloc, settings)?;
+    let right = ListKeep::create(alloc, same)?;
+    Ok((left, right))
+}
+
+// Compares the messages of two files.
+fn audit_files(rt: &HostRuntime, alloc: Global, words: &HouseWords<'_>, asked: AuditWords<'_>) -> u8
+    ensures { result ≤ 1 }
+{
+    let mut errors = rt.stderr();
+    match new_houses(rt, alloc, words) {
+        Ok((left_keep, right_keep)) => {
+            let left = Run {
+                keep: left_keep,
+                source: open_source(rt, asked.left),
+            };
+            let right = Run {
+                keep: right_keep,
+                source: open_source(rt, asked.right),
+            };
+            let caller = asked.member;
+            audit_run(alloc, left, right, caller, &mut rt.stdout(), &mut errors)
         }
         Err(fault) => ended(&mut errors, Err(fault)),
     }

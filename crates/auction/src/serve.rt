@@ -1,6 +1,7 @@
 //! `serve`: the answers to the messages of connections, one connection after the other.
-ghost use Rattle.std.specs.Prelude.{◌≡◌, ◌≤◌, IfOk, IsOk, OnOk};
+ghost use Rattle.std.specs.Prelude.{◌≡◌, ◌≤◌, IfErr, IfOk, IsOk, OnOk};
 ghost use Rattle.std.specs.Io.KnownBytes.{Appends};
+ghost use Rattle.auction.specs.Faults.{IsOfKeep};
 ghost use Rattle.auction.specs.Printed.{listening, served};
 ghost use Rattle.settle.specs.Zoned.{IsZoneOf};
 ghost use Rattle.site.specs.Answers.{zone_of};
@@ -33,6 +34,7 @@ pub fn begun<K: Keep + Drop>(alloc: Global, keep: K) -> Result<Site<K>, Fault>
     ensures keep { IfOk result (λ site. keep_of site ≡ keep) }
     ensures zone { K.is_honest keep → IfOk result (λ site.
         IsZoneOf (K.content keep).settings.zone (zone_of site)) }
+    ensures fault { IfErr result IsOfKeep }
 {
     Ok(Site::new(alloc, keep)?)
 }

@@ -36,6 +36,18 @@ fn zone(alloc: Global, rule: &str) -> Result<Text, Fault>
     Text::copy_of(alloc, rule).map_err(|_| Fault::Memory)
 }
 
+/// The same once more, for a second house.
+pub fn copied(alloc: Global, settings: &Settings) -> Result<Settings, Fault>
+    ensures { IfOk result (λ same. same ≡ settings.now) }
+{
+    let bands = Bands::of_rows(alloc, settings.bands.rows()).map_err(Fault::Bands)?;
+    Ok(Settings {
+        bands,
+        rate: settings.rate,
+        zone: Text::copy_of(alloc, settings.zone.as_str()).map_err(|_| Fault::Memory)?,
+    })
+}
+
 /// What a house is set up with. A fault of the band table is told before one of the zone.
 pub fn settings<R: Files>(rt: &R, alloc: Global, words: &HouseWords<'_>) -> Result<Settings, Fault>
     ensures bands { words.now.bands ≡ None → IfOk result (λ s. s.bands ≡ example_table) }

@@ -1,0 +1,160 @@
+//! `audit`: two runs of messages, compared as one member sees them.
+ghost use Rattle.std.specs.Prelude.{◌≡◌, ◌≤◌, true, IfErr, IfOk, OnOk, map};
+ghost use Rattle.std.specs.Io.KnownBytes.{Appends};
+ghost use Rattle.auction.specs.Audited.{HasAudited, HasMessages, HasTold, IsTold, IsUncompared, IsUnread, IsUntold};
+ghost use Rattle.auction.specs.Faults.{fault_of_messages};
+ghost use Rattle.auction.specs.Printed.{apart_line, equal_line};
+
+use crate::fault::{Fault, Side, ended};
+use crate::serve::begun;
+use device::Source;
+use house_rows::Keep;
+use site_audit::{MessagesFault, Verdict, audit, read_messages};
+use std::alloc::Global;
+use std::io::Write;
+
+/// One side of an audit: a new house, and where its messages come from, or why they can't be read.
+#[derive(Drop)]
+pub struct Run<K: Drop, S: Drop> {
+    /// The keep of the house.
+    pub keep: K,
+    /// The source of the messages.
+    pub source: Result<S, Fault>,
+}
+
+// Why a side gives no list of messages.
+fn fault_of(fault: MessagesFault, side: Side) -> Fault
+    ensures { result ≡ fault_of_messages side fault }
+{
+    match fault {
+        MessagesFault::Read => Fault::Read,
+        MessagesFault::Memory => Fault::Memory,
+        MessagesFault::Broken(_) => Fault::Broken(side),
+    }
+}
+
+// The messages of a side.
+fn messages<S: Source + Drop>(
+    alloc: Global,
+    source: Result<S, Fault>,
+    side: Side,
+) -> Result<Vec<Vec<u8>>, Fault>
+    ensures ok { IfOk result (λ list. HasMessages S.left source (map (λ m. m.items) list.items)) }
+    ensures fault { IfErr result (λ fault. IsUnread S.left side source fault) }
+{
+    let mut source = source?;
+    match read_messages(alloc, &mut source) {
+        Ok(messages) => Ok(messages),
+        Err(fault) => Err(fault_of(fault, side)),
+    }
+}
+
+// What an audit of two runs finds. What is wrong on the left is told before what is wrong on the
+// right.
+fn compare<L: Source + Drop, R: Source + Drop, K: Keep + Drop>(
+    alloc: Global,
+    left: Run<K, L>,
+    right: Run<K, R>,
+    caller: u64,
+) -> Result<Verdict, Fault>
+    ensures found { IfOk result
+        (HasAudited K.content K.is_failed K.is_honest L.left R.left caller left right) }
+    ensures fault { IfErr result (IsUncompared L.left R.left left right) }
+{
+    let mut left_site = begun(alloc, left.keep)?;
+    let mut right_site = begun(alloc, right.keep)?;
+    let lefts = messages(alloc, left.source, Side::Left)?;
+    let rights = messages(alloc, right.source, Side::Right)?;
+    let verdict = audit(
+        alloc,
+        &mut left_site,
+        &mut right_site,
+        &lefts,
+        &rights,
+        caller,
+    )?;
+    Ok(verdict)
+}
+
+// Tells that the runs are equal, with so many replies.
+fn tell_equal<W: Write>(output: &mut W, count: usize) -> Result<(), Fault>
+    ensures told { OnOk result
+        (Appends (W.contents output.old) (W.contents output.new) (equal_line count)) }
+    ensures fault { IfErr result (λ fault. fault ≡ Fault.Write) }
+{
+    match writeln!(output, "equal, {count} replies") {
+        Ok(()) => Ok(()),
+        Err(_) => Err(Fault::Write),
+    }
+}
+
+// Tells that they are apart from a place on.
+fn tell_apart<W: Write>(output: &mut W, step: u64) -> Result<(), Fault>
+    ensures told { OnOk result
+        (Appends (W.contents output.old) (W.contents output.new) (apart_line step)) }
+    ensures fault { IfErr result (λ fault. fault ≡ Fault.Write) }
+{
+    match writeln!(output, "apart at step {step}") {
+        Ok(()) => Ok(()),
+        Err(_) => Err(Fault::Write),
+    }
+}
+
+// Tells a verdict, and whether the runs are equal.
+fn tell<W: Write>(output: &mut W, verdict: &Verdict) -> Result<bool, Fault>
+    ensures told { IfOk result
+        (IsTold (W.contents output.old) (W.contents output.new) verdict.now) }
+    ensures fault { IfErr result (λ fault. fault ≡ Fault.Write) }
+{
+    match verdict {
+        Verdict::Equal { replies } => {
+            tell_equal(output, replies.len())?;
+            Ok(true)
+        }
+        Verdict::Apart { step } => {
+            tell_apart(output, *step)?;
+            Ok(false)
+        }
+    }
+}
+
+/// Compares two runs of messages over new houses as a member sees them, and tells what was found.
+/// Ok is whether they are equal. What is wrong on the left is told before what is wrong on the
+/// right.
+pub fn tell_compared<L: Source + Drop, R: Source + Drop, W: Write, K: Keep + Drop>(
+    alloc: Global,
+    left: Run<K, L>,
+    right: Run<K, R>,
+    caller: u64,
+    output: &mut W,
+) -> Result<bool, Fault>
+    ensures told { IfOk result
+        (HasTold K.content K.is_failed K.is_honest L.left R.left caller left right
+        (W.contents output.old) (W.contents output.new)) }
+    ensures fault { IfErr result (IsUntold L.left R.left left right) }
+{
+    let verdict = compare(alloc, left, right, caller)?;
+    tell(output, &verdict)
+}
+
+/// The same as an exit status: 0 where the runs are equal, and else 1. A fault is told in its line
+/// on `errors`.
+pub fn audit_run<L: Source + Drop, R: Source + Drop, W: Write, E: Write, K: Keep + Drop>(
+    alloc: Global,
+    left: Run<K, L>,
+    right: Run<K, R>,
+    caller: u64,
+    output: &mut W,
+    errors: &mut E,
+) -> u8
+    ensures equal { result ≡ 0
+        → HasTold K.content K.is_failed K.is_honest L.left R.left caller left right
+        (W.contents output.old) (W.contents output.new) true }
+    ensures within { result ≤ 1 }
+{
+    match tell_compared(alloc, left, right, caller, output) {
+        Ok(true) => 0,
+        Ok(false) => 1,
+        Err(fault) => ended(errors, Err(fault)),
+    }
+}

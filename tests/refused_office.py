@@ -1,0 +1,131 @@
+#!/usr/bin/env python3
+"""Refuses allocations of `import`, `statement` and `audit`: `refused_office.py PROGRAM [IMPORT [STATEMENT [AUDIT]]]`.
+
+Each run ends as one that finds memory, or with `auction: memory` and 1. What was printed before stands: of an import
+the lines of its first rows, of a statement its beginning, of an audit nothing. The house's file then has the items
+that were printed and those that it had, every other table is as it was, and SQLite finds no fault in it. IMPORT,
+STATEMENT and AUDIT are how many allocations are passed over for each that is refused, 1 without them. It needs a C
+compiler, `cc`. The last line is 'N runs, M wrong'.
+"""
+import collections
+import pathlib
+import shutil
+import sqlite3
+import sys
+import tempfile
+
+from office import AS_CSV, BOTH_DAYS, BY_ANA, HEAD, SALES, house, run as audited
+from refusal import allocations, built_library, ended, run, told
+from served import EXAMPLE, PRESET, Program
+
+MEMORY = b"auction: memory\n"
+ROWS = ["A1,1,Atlas,,5.00,,5000", "B2,1,Globe,,7.50,20.00,6000", "C3,2,Chart,,5.00,,6000", "D4,1,Novel,,1,,6000",
+        "E5,1,Map,,x,,6000"]
+LINES = [b"row 1: there already\n", b"row 2: item 2\n", b"row 3: refused Unknown\n", b"row 4: item 3\n",
+         b"row 5: fault start\n", b"2 listed, 1 there already, 2 refused\n"]
+# The items that the house has, and those that are listed, each behind the line that tells so.
+ITEMS = [(1, "A1", "Atlas", 500, None, 5000), (2, "B2", "Globe", 750, 2000, 6000), (3, "D4", "Novel", 100, None, 6000)]
+OTHER_TABLES = ["house", "band", "member", "category", "bid", "watch", "question", "feedback"]
+PERIOD = ["--member", "1", "--from", "1970-01-01", "--to", "1970-01-02"]
+
+
+def content(path):
+    """What a house's file has, with its log: the items, the other tables, and the faults that SQLite finds."""
+    database = sqlite3.connect(path)
+    items = database.execute("SELECT id, lot, title, start, buy_now, ending FROM item ORDER BY id").fetchall()
+    others = [database.execute(f"SELECT * FROM {table} ORDER BY 1, 2").fetchall() for table in OTHER_TABLES]
+    faults = [database.execute(f"PRAGMA {check}").fetchall() for check in ("integrity_check", "foreign_key_check")]
+    database.close()
+    return items, others, faults
+
+
+class Refusals:
+    """Runs that were refused an allocation: how many, how they ended, and which were wrong."""
+
+    def __init__(self, program, library, folder):
+        self.program, self.library, self.folder = program, library, pathlib.Path(folder)
+        self.count, self.wrong, self.ends = 0, [], collections.Counter()
+
+    def each(self, name, words, every, judge, file=None):
+        """Refuses allocations of a run, over a copy of a house where it has one."""
+        self.ends.clear()
+        self.renew(file)
+        count = allocations([self.program, *words], self.library)
+        for number in range(1, count + 1, every):
+            self.renew(file)
+            result = run([self.program, *words], LD_PRELOAD=self.library, REFUSE=str(number))
+            end = judge(*ended(result))
+            self.count += 1
+            self.ends[end or "wrong"] += 1
+            if end is None:
+                self.wrong.append((f"{number} of {name}", result))
+        print(f"{name}: {count} allocations;", ", ".join(f"{end} {runs}" for end, runs in sorted(self.ends.items())))
+        # Each run has a first allocation, which it can't do without.
+        if not any(end.startswith("stopped") for end in self.ends):
+            self.wrong.append((f"none of {name}", self.ends))
+
+    def renew(self, file):
+        for left in self.folder.glob("refused*"):
+            left.unlink()
+        if file:
+            shutil.copy(self.folder / file, self.folder / "refused")
+
+    def imports(self, every):
+        before = content(self.folder / "whole")
+
+        def judge(status, output, error):
+            lines = output.splitlines(keepends=True)
+            count = 1 + (LINES[1] in lines) + (LINES[3] in lines)
+            right = lines == LINES[:len(lines)] and content(self.folder / "refused") == (ITEMS[:count], *before[1:])
+            if right and (status, error) == (1, MEMORY):
+                return f"stopped behind {len(lines)} lines"
+            return "as ever" if right and (status, lines, error) == (1, LINES, b"") else None
+
+        (self.folder / "lots.csv").write_text(HEAD + "".join(row + "\n" for row in ROWS))
+        self.each("import", ["import", f"{self.folder}/refused", f"{self.folder}/lots.csv", *BY_ANA], every, judge,
+                  "whole")
+
+    def statements(self, every):
+        before = content(self.folder / "sales")
+        for text, more in ((BOTH_DAYS, []), (AS_CSV, ["--csv"])):
+            def judge(status, output, error):
+                if content(self.folder / "refused") != before or not text.startswith(output):
+                    return None
+                if (status, error) == (1, MEMORY):
+                    return "stopped behind some of it" if output else "stopped"
+                return "as ever" if (status, output, error) == (0, text, b"") else None
+
+            self.each(" ".join(["statement", *more]), ["statement", f"{self.folder}/refused", *PERIOD, *more], every,
+                      judge, "sales")
+
+    def audits(self, every):
+        for name, third, whole in (("equal", 8000, (0, b"equal, 2 replies\n", b"")),
+                                   ("apart", 1040, (1, b"apart at step 7\n", b""))):
+            def judge(*ending):
+                return {(1, b"", MEMORY): "stopped", whole: "as ever"}.get(ending)
+
+            files = [self.folder / name for name in ("left", "right")]
+            for file, bid in zip(files, (3000, third)):
+                file.write_bytes(audited(bid))
+            bands = ["--bands", f"{self.folder}/bands.csv"]
+            self.each(f"audit, {name}", ["audit", *map(str, files), "--member", "2", *bands], every, judge)
+
+
+def main():
+    path = str(pathlib.Path(sys.argv[1]).resolve())
+    every = [int(word) for word in [*sys.argv[2:], "1", "1", "1"][:3]]
+    with built_library() as library, tempfile.TemporaryDirectory() as folder:
+        rows = "".join(f"{at},{step}\n" for at, step in EXAMPLE)
+        pathlib.Path(folder, "bands.csv").write_text("at,step\n" + rows)
+        program = Program(path, folder)
+        house(program, "whole", ["--bands", "bands.csv", "--rate", "1000", "--zone", "UTC0"], PRESET)
+        house(program, "sales", ["--bands", "bands.csv", "--rate", "1000", "--zone", "CET-1"], SALES)
+        refusals = Refusals(path, library, folder)
+        refusals.imports(every[0])
+        refusals.statements(every[1])
+        refusals.audits(every[2])
+    return told(refusals.count, refusals.wrong)
+
+
+if __name__ == "__main__":
+    sys.exit(main())

@@ -1,0 +1,249 @@
+#!/usr/bin/env python3
+"""Audits pairs of random lists: `twins.py PROGRAM [EQUAL [APART [SEED]]]`.
+
+EQUAL pairs, 1,000 without it, differ in what others than the member have sealed, maxima, watches and questions that
+wait, and agree in what is public and in what waits for the member: `audit` has to print `equal, N replies`, and two
+replays have to give the member N replies which are the same, byte for byte. APART pairs, 1,000 too, differ at some
+step for the member: `audit` has to print `apart at step K`, the first at which the plain site of tests/plain_site.py
+finds the lists of another length, a message of the member's another, or the record or what waits for it another. A
+file with a broken frame is no list. The last line is 'N equal, M apart, K wrong'.
+"""
+import collections
+import dataclasses
+import itertools
+import pathlib
+import random
+import subprocess
+import sys
+import tempfile
+
+from fuzz import Sender, named, sealed_changes
+from plain_site import AHEAD, Site, frame_fault, setup
+from sent import answers_in, command, compact, read, replayed
+
+SEED = 2026
+LONGEST = 80
+# How many changes of what others sealed are tried on a list, and how many are kept at most.
+TRIED, KEPT = 20, 4
+# What may be sealed, by the last part of its target.
+SEALED = [("bids",), ("bids",), ("questions",), ("watch", "unwatch"), ("bids", "questions", "watch", "unwatch")]
+
+
+def caller(request):
+    """The number whose message it is: its frame is whole, and it names one; or none."""
+    return None if frame_fault(request) else named(request)
+
+
+class Run:
+    """What the plain site makes of a list: its answers, and after each what is public and what waits for a member.
+
+    It ends where that is otherwise than in a run that it has to be like, which is told as `is_like`.
+    """
+
+    def __init__(self, settings, requests, member, like=None):
+        self.requests, self.site, self.answers, self.seen = requests, Site(**settings), [], []
+        self.is_like, seen, accepted = True, None, None
+        for at, request in enumerate(requests):
+            self.answers.append(self.site.answer(request))
+            # What was refused changed nothing.
+            if accepted != sum(self.site.accepted.values()):
+                accepted = sum(self.site.accepted.values())
+                seen = self.site.record(), [dataclasses.astuple(question) for question in self.site.waiting(member)]
+            self.seen.append(seen)
+            if like and seen != like.seen[at]:
+                self.is_like = False
+                return
+
+
+def apart(member, left, right):
+    """The first step at which two runs are apart for a member, or none."""
+    for step in range(1, max(len(left.requests), len(right.requests)) + 1):
+        if step > min(len(left.requests), len(right.requests)):
+            return step
+        one, other = left.requests[step - 1], right.requests[step - 1]
+        if one != other and member in (caller(one), caller(other)):
+            return step
+        if left.seen[step - 1] != right.seen[step - 1]:
+            return step
+    return None
+
+
+class Pairs:
+    """Pairs of lists that were audited, and which were wrong."""
+
+    def __init__(self, program, folder, seed):
+        self.program, self.folder = str(pathlib.Path(program).resolve()), pathlib.Path(folder)
+        self.random = random.Random(seed)
+        self.equal = self.apart = self.wrong = self.replies = 0
+        # What was changed in lists that are equal, and at which part of the shorter list others are apart.
+        self.kinds, self.parts = collections.Counter(), collections.Counter()
+
+    def fail(self, what, expected, got):
+        self.wrong += 1
+        if self.wrong <= 5:
+            print(f"{what}\n  expected {expected}\n  told     {got}")
+
+    def first(self):
+        """Settings, a list at random, and a member, mostly one who sends some of it."""
+        settings = {"rate": self.random.choice([0, 1_000, 2_000]), "zone": self.random.choice(list(AHEAD))}
+        site = Site(**settings)
+        sender = Sender(site, self.random.random())
+        requests = []
+        begun = setup() if self.random.random() < 0.7 else []
+        for request in itertools.chain(begun, sender.messages(self.random.randint(1, LONGEST))):
+            site.answer(request)
+            requests.append(request)
+        senders = [number for number in map(caller, requests) if number and number <= len(site.house.names)]
+        return settings, requests, self.random.choice([*senders, 1])
+
+    # Lists that are twins.
+
+    def equal_pair(self):
+        """Audits a list and a twin of it, where one is found."""
+        settings, requests, member = self.first()
+        left, parts = Run(settings, requests, member), self.random.choice(SEALED)
+        changes = [(at, request) for at, request in sealed_changes(left, self.random)
+                   if requests[at].target.split("/")[-1] in parts and caller(request) != member]
+        right, kinds = left, []
+        for at, request in changes[:TRIED]:
+            tried = Run(settings, [*right.requests[:at], request, *right.requests[at + 1:]], member, left)
+            if tried.is_like and tried.answers[at].status in (200, 201):
+                right = tried
+                kinds.append(request.target.split("/")[-1])
+            if len(kinds) == KEPT:
+                break
+        if not kinds:
+            return
+        self.equal += 1
+        self.kinds.update(kinds)
+        count = sum(caller(request) == member for request in requests)
+        self.replies += count
+        self.judge(settings, left, right, member, (0, b"equal, %d replies\n" % count, b""))
+        told = [self.answers(settings, run, member) for run in (left, right)]
+        if told[0] != told[1] or len(told[0]) != count:
+            self.fail("replies", told[0], told[1])
+
+    def answers(self, settings, run, member):
+        """What a replay answers to a member in a list."""
+        stream = b"".join(request.text() for request in run.requests)
+        words = ["--rate", str(settings["rate"]), "--zone", settings["zone"]]
+        texts, _ = answers_in(replayed(self.program, stream, *words))
+        return [text for request, text in zip(run.requests, texts) if caller(request) == member]
+
+    # Lists that are not.
+
+    def apart_pair(self):
+        """Audits a list and one that is changed in any way, where they are apart."""
+        settings, requests, member = self.first()
+        left = Run(settings, requests, member)
+        right = Run(settings, self.changed(requests), member)
+        step = apart(member, left, right)
+        if step is None:
+            return
+        self.apart += 1
+        self.parts[min(3, 4 * step // (len(requests) + 1))] += 1
+        if self.random.random() < 0.5:
+            left, right = right, left
+        self.judge(settings, left, right, member, (1, b"apart at step %d\n" % step, b""))
+
+    def changed(self, requests):
+        """A list with one change, or some."""
+        for _ in range(self.random.choice([1, 1, 1, 3])):
+            at = self.random.randrange(len(requests) or 1)
+            change = self.random.choice([self.without, self.with_more, self.with_other, self.with_other])
+            requests = change(requests, at)
+        return requests
+
+    def without(self, requests, at):
+        return requests[:at] + requests[at + self.random.choice([1, 1, len(requests)]):]
+
+    def with_more(self, requests, at):
+        more = read("/house", self.random.randint(0, 4))
+        return self.random.choice([[*requests, more], [*requests[:at], more, *requests[at:]]])
+
+    def with_other(self, requests, at):
+        """A list with another message in a place: of another sender, spelled otherwise, of another body or a read."""
+        if not requests:
+            return requests
+        request = requests[at]
+        other = self.random.choice([
+            lambda: request.without("x-member").with_field("x-member", f" {self.random.randint(0, 4)}"),
+            lambda: request.with_field("x-more", " 1"),
+            lambda: dataclasses.replace(request, line_end="\n" if request.line_end == "\r\n" else "\r\n"),
+            lambda: self.random.choice(requests),
+            lambda: read("/bands", self.random.randint(0, 4)),
+            lambda: command("/members", 0, self.moment(request), compact({"name": f"n{self.random.randint(1, 99)}"})),
+            lambda: dict(sealed_changes(self.alone(requests), self.random)).get(at, request)])()
+        return [*requests[:at], other, *requests[at + 1:]]
+
+    def moment(self, request):
+        values = request.values("x-moment")
+        return values[0] if values else 1
+
+    def alone(self, requests):
+        """The list as the plain site plays it by itself."""
+        return Run({}, requests, 1)
+
+    # Audits.
+
+    def judge(self, settings, left, right, member, expected):
+        words = ["--member", str(member), "--rate", str(settings["rate"]), "--zone", settings["zone"]]
+        got = self.audited(b"".join(request.text() for request in left.requests),
+                           b"".join(request.text() for request in right.requests), *words)
+        if got != expected:
+            self.fail(f"audit for {member} of {[request.text() for request in left.requests]} and "
+                      f"{[request.text() for request in right.requests]}", expected, got)
+
+    def audited(self, left, right, *words):
+        """How an audit of two texts ends."""
+        (self.folder / "left").write_bytes(left)
+        (self.folder / "right").write_bytes(right)
+        ran = subprocess.run([self.program, "audit", "left", "right", *words], cwd=self.folder, capture_output=True,
+                             timeout=60)
+        return ran.returncode, ran.stdout, ran.stderr
+
+    def broken(self):
+        """Files that are no lists; one that asks to close is one, and goes on."""
+        page = read("/house", 0)
+        whole = [page.text(), page.text(), command("/close", 0, 5).text()]
+        closing = page.with_field("connection", " close").text()
+        last = dataclasses.replace(page, version="HTTP/1.0").text()
+        long = page.with_field("a", " " + "b" * 8192).text()
+        for left, right, expected in [
+                (b"", b"", (0, b"equal, 0 replies\n", b"")),
+                (b"".join(whole), b"".join(whole), (0, b"equal, 0 replies\n", b"")),
+                (closing + whole[0] + last + whole[2], closing + whole[0] + last + whole[2],
+                 (0, b"equal, 0 replies\n", b"")),
+                (closing + whole[2], whole[0] + whole[2], (0, b"equal, 0 replies\n", b"")),
+                (b"", whole[0], (1, b"apart at step 1\n", b"")),
+                (b"".join(whole), b"".join(whole[:2]), (1, b"apart at step 3\n", b"")),
+                (whole[0][:-1], whole[0], (1, b"", b"auction: LEFT is no list of messages\n")),
+                (whole[0], whole[0] + b"\r\n", (1, b"", b"auction: RIGHT is no list of messages\n")),
+                (whole[0], whole[0] + b"x" + whole[0][1:], (1, b"apart at step 2\n", b"")),
+                (b"GET\r\n\r\n" + whole[0], b"x", (1, b"", b"auction: LEFT is no list of messages\n")),
+                (whole[0], page.without("host").text(), (1, b"", b"auction: RIGHT is no list of messages\n")),
+                (whole[0] + long, whole[0], (1, b"", b"auction: LEFT is no list of messages\n")),
+                (command("/close", 0, 5, b"x").text()[:-1], b"", (1, b"", b"auction: LEFT is no list of messages\n"))]:
+            got = self.audited(left, right, "--member", "1")
+            if got != expected:
+                self.fail(f"audit of {left[:200]} and {right[:200]}", expected, got)
+
+
+def main():
+    equal, apart_count, seed = (int(word) for word in [*sys.argv[2:], *("1000", "1000", str(SEED))[len(sys.argv) - 2:]])
+    with tempfile.TemporaryDirectory() as folder:
+        pairs = Pairs(sys.argv[1], folder, seed)
+        pairs.broken()
+        while pairs.equal < equal:
+            pairs.equal_pair()
+        while pairs.apart < apart_count:
+            pairs.apart_pair()
+    print("others sealed otherwise:", ", ".join(f"{kind} {count}" for kind, count in sorted(pairs.kinds.items())),
+          f"with {pairs.replies} replies")
+    print("apart in the quarters of the list:", ", ".join(f"{pairs.parts[part]}" for part in range(4)))
+    print(f"{pairs.equal} equal, {pairs.apart} apart, {pairs.wrong} wrong")
+    return 1 if pairs.wrong else 0
+
+
+if __name__ == "__main__":
+    sys.exit(main())
