@@ -1,12 +1,15 @@
-"""How many instructions the item page, a list of fifty items and the public record take, at several sizes.
+"""How many instructions, and how long, the item page, a list of fifty items and the public record take, at several sizes.
 
 `pages.py PROGRAM [PLAIN]` measures the program that `make test` leaves, or `make auction`, on houses of 1,000 and 100,000
 items. A page is what `auction replay` takes for a message more, by the difference of two streams, and the record what it
 takes with `--record` more than without. Beside it stands what a house in plain Rust takes for the same message (PLAIN, which takes
 the words `replay --preset`, and has no record). The text alone is a page less an empty one; beside it stands
 what `bench/plain`, by `serde_json` and `derive`, takes to make the same text from the same rows, which it reads from the
-record. All texts are compared. It needs `valgrind`, and `cargo` with Debian's packages, as `wire.sh` says.
+record. All texts are compared. Times are medians of runs of both in turn by processor time; of the record of the smaller house
+none is told, since it is within a run's noise. It needs `valgrind`, and `cargo` with Debian's packages, as `wire.sh` says.
 """
+import dataclasses
+import os
 import pathlib
 import subprocess
 import sys
@@ -14,13 +17,31 @@ import sys
 ROOT = pathlib.Path(__file__).resolve().parent.parent
 sys.path.insert(0, str(ROOT / "tests"))
 import workload  # noqa: E402
-from measured import counted, shown  # noqa: E402
-from sent import command, compact, read  # noqa: E402
+from measured import counted, in_turn, medians, seconds, shown  # noqa: E402
+from sent import Request, command, compact, read  # noqa: E402
 
 SIZES = [1_000, 100_000]
 CATEGORIES, MOMENT = 20, 1_001
 WORDS = ["replay", "--preset"]
-PAGES = ROOT / "bench" / "plain" / "target" / "release" / "pages"
+PLAIN = ROOT / "bench" / "plain"
+PAGES = pathlib.Path(os.environ.get("CARGO_TARGET_DIR", PLAIN / "target")) / "release" / "pages"
+
+
+@dataclasses.dataclass(frozen=True)
+class Kind:
+    """A page: a message that asks for it, how many more are counted and timed, and the words by which plain Rust makes its text."""
+    request: Request
+    tallied: int
+    timed: int
+    words: tuple = ()
+
+
+@dataclasses.dataclass(frozen=True)
+class More:
+    """Two runs, each its words and its input, of which the second does so much more of something."""
+    few: tuple
+    many: tuple
+    count: int
 
 
 def made(items):
@@ -37,10 +58,23 @@ def made(items):
 
 
 def kinds(items):
-    """Of each page a message that asks for it, how many more are asked, and the words by which plain Rust makes its text."""
-    return {"item": (read(f"/items/{items}", 2), 1_000, ("item", items)),
-            "list of fifty": (read("/categories/1/items/1", 2), 100, ("list", 1, 1)),
-            "empty list": (read("/items/1/questions/1", 2), 1_000, None)}
+    return {"item": Kind(read(f"/items/{items}", 2), 1_000, 200_000, ("item", items)),
+            "list of fifty": Kind(read("/categories/1/items/1", 2), 100, 10_000, ("list", 1, 1)),
+            "empty list": Kind(read("/items/1/questions/1", 2), 1_000, 200_000)}
+
+
+def instructions(runs):
+    """For each name, how many instructions its second run takes for one thing more."""
+    return {name: (counted(*run.many) - counted(*run.few)) / run.count for name, run in runs.items()}
+
+
+def nanoseconds(runs):
+    """For each name, how long that takes by the clock of the processor, in billionths of a second."""
+    found = medians(in_turn(runs, lambda run: seconds(*run.many)[0] - seconds(*run.few)[0]))
+    return {name: 1e9 * time / runs[name].count for name, time in found.items()}
+
+
+UNITS = {"instructions": (instructions, "tallied"), "ns": (nanoseconds, "timed")}
 
 
 def told(program, stream, *more):
@@ -52,29 +86,57 @@ def last(answers):
     return answers[answers.rindex(b"\r\n\r\n") + 4:]
 
 
-def page(programs, stream, request, count):
-    """What a page costs each program, and its body, which has to be the same; a page that plain Rust doesn't have is left out."""
-    bodies = {name: last(told(program, stream + request.text())) for name, program in programs.items()}
-    if bodies["ours"] != bodies.get("plain", bodies["ours"]):
-        programs = {"ours": programs["ours"]}
-    costs = {}
-    for name, program in programs.items():
-        few, many = (counted([program, *WORDS], stream + request.text() * times) for times in (count, 2 * count))
-        costs[name] = (many - few) / count
-    return costs, bodies["ours"]
-
-
-def by_plain(words, record, count):
-    """What plain Rust takes to make a text from the rows of a record, and the text."""
-    what, *numbers = map(str, words)
-    text = subprocess.run([PAGES, what, "1", *numbers], input=record, capture_output=True, check=True).stdout
-    few, many = (counted([PAGES, what, times, *numbers], record) for times in (count, 2 * count))
-    return (many - few) / count, text
-
-
 def same(text, other):
     if text != other:
         sys.exit(f"pages.py: the texts differ: {text[:200]}, {other[:200]}")
+
+
+def asked(program, stream, kind, count):
+    """A run that asks for a page once, and one that asks so many times more."""
+    words = [program, *WORDS]
+    return More((words, stream + kind.request.text()), (words, stream + kind.request.text() * (count + 1)), count)
+
+
+def by_plain(words, record, count):
+    """A run of plain Rust that makes a text from the rows of a record once, and one that makes it so many times more."""
+    what, *numbers = map(str, words)
+    return More(([PAGES, what, 1, *numbers], record), ([PAGES, what, count + 1, *numbers], record), count)
+
+
+def shows(programs, stream, kind, record):
+    """The programs that show a page as ours does; what plain Rust makes of the rows has to be the same."""
+    bodies = {name: last(told(program, stream + kind.request.text())) for name, program in programs.items()}
+    if kind.words:
+        same(seconds(*by_plain(kind.words, record, 1).few)[1], bodies["ours"])
+    return {name: program for name, program in programs.items() if bodies[name] == bodies["ours"]}
+
+
+def pages(programs, items, stream, record):
+    every = kinds(items)
+    for unit, (measure, counts) in UNITS.items():
+        costs, texts = {}, {}
+        for name, kind in every.items():
+            count = getattr(kind, counts)
+            runs = {who: asked(program, stream, kind, count)
+                    for who, program in shows(programs, stream, kind, record).items()}
+            costs[name] = measure(runs)
+            shown(f"{items} items: {name}", costs[name], unit)
+            if kind.words:
+                texts[name] = measure({"plain": by_plain(kind.words, record, count)})["plain"]
+        for name, plain in texts.items():
+            ours = costs[name]["ours"] - costs["empty list"]["ours"]
+            shown(f"{items} items: text of {name}", {"ours": ours, "plain": plain}, unit)
+
+
+def records(program, items, stream, record):
+    plain = by_plain(("record",), record, 1)
+    same(seconds(*plain.few)[1], record)
+    runs = {"ours": More(([program, *WORDS], stream), ([program, *WORDS, "--record"], stream), 1), "plain": plain}
+    costs = instructions(runs)
+    shown(f"{items} items: record", costs, "instructions")
+    shown(f"of {len(record):,} bytes, a byte", {name: cost / len(record) for name, cost in costs.items()}, "instructions", 1)
+    if items == SIZES[-1]:
+        shown(f"{items} items: record", nanoseconds(runs), "ns")
 
 
 def measured(programs, items):
@@ -83,25 +145,12 @@ def measured(programs, items):
     if answered.count(b"HTTP/1.1 201 ") != stream.count(b" HTTP/1.1\r\n"):
         sys.exit("pages.py: a house is not made")
     record = whole[len(answered):-1]
-    costs = {}
-    for kind, (request, count, words) in kinds(items).items():
-        costs[kind], body = page(programs, stream, request, count)
-        shown(f"{items} items: {kind}", costs[kind], "instructions")
-        if words:
-            costs[kind]["text"], text = by_plain(words, record, count)
-            same(text, body)
-    for kind in ("item", "list of fifty"):
-        shown(f"{items} items: text of {kind}", {"ours": costs[kind]["ours"] - costs["empty list"]["ours"],
-                                                "plain": costs[kind]["text"]}, "instructions")
-    ours = counted([programs["ours"], *WORDS, "--record"], stream) - counted([programs["ours"], *WORDS], stream)
-    plain, text = by_plain(("record",), record, 1)
-    same(text, record)
-    shown(f"{items} items: record", {"ours": ours, "plain": plain}, "instructions")
-    print(f"{len(record):,} bytes, {ours / len(record):.1f} instructions a byte, {plain / len(record):.1f} by plain Rust")
+    pages(programs, items, stream, record)
+    records(programs["ours"], items, stream, record)
 
 
 def main(program, *plain):
-    subprocess.run(["cargo", "build", "--release", "--offline", "--quiet"], cwd=ROOT / "bench" / "plain", check=True)
+    subprocess.run(["cargo", "build", "--release", "--offline", "--quiet"], cwd=PLAIN, check=True)
     programs = {name: str(pathlib.Path(path).resolve()) for name, path in zip(("ours", "plain"), (program, *plain))}
     for items in SIZES:
         measured(programs, items)
