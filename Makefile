@@ -59,6 +59,7 @@ program:
 	python3 tests/program.py crates/auction/out/auction
 	python3 tests/streams.py crates/auction/out/auction
 	python3 tests/served.py crates/auction/out/auction
+	python3 tests/served_pages.py crates/auction/out/auction
 	python3 tests/office.py crates/auction/out/auction
 	if command -v curl > /dev/null; then \
 		python3 tests/real_clients.py crates/auction/out/auction && \
@@ -91,6 +92,7 @@ memory:
 	python3 tests/refused_inbox.py crates/wire_bench/out/wire_bench
 	python3 tests/refused_house.py crates/house_tests/out/house_tests
 	python3 tests/refused_house.py crates/store_tests/out/store_tests 5
+	python3 tests/refused_pages.py crates/pages_tests/out/pages_tests
 	python3 tests/refused_store.py crates/store_tests/out/store_tests 11
 	python3 tests/refused_rows.py crates/run_tests/out/run_tests 17
 	python3 tests/refused_device.py crates/device_tests/out/device_tests
