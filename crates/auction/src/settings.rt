@@ -36,13 +36,22 @@ fn zone(alloc: Global, rule: &str) -> Result<Text, Fault>
     Text::copy_of(alloc, rule).map_err(|_| Fault::Memory)
 }
 
+// The same table once more.
+fn same_bands(alloc: Global, bands: &Bands) -> Result<Bands, Fault>
+    ensures { IfOk result (λ same. same ≡ bands.now) }
+{
+    match Bands::of_rows(alloc, bands.rows()) {
+        Ok(same) => Ok(same),
+        Err(fault) => Err(Fault::Bands(fault)),
+    }
+}
+
 /// The same once more, for a second house.
 pub fn copied(alloc: Global, settings: &Settings) -> Result<Settings, Fault>
     ensures { IfOk result (λ same. same ≡ settings.now) }
 {
-    let bands = Bands::of_rows(alloc, settings.bands.rows()).map_err(Fault::Bands)?;
     Ok(Settings {
-        bands,
+        bands: same_bands(alloc, &settings.bands)?,
         rate: settings.rate,
         zone: Text::copy_of(alloc, settings.zone.as_str()).map_err(|_| Fault::Memory)?,
     })
