@@ -94,7 +94,7 @@ memory:
 	python3 tests/refused_house.py crates/store_tests/out/store_tests 5
 	python3 tests/refused_pages.py crates/pages_tests/out/pages_tests
 	python3 tests/refused_store.py crates/store_tests/out/store_tests 11
-	python3 tests/refused_rows.py crates/run_tests/out/run_tests 17
+	python3 tests/refused_rows.py crates/run_tests/out/run_tests 7
 	python3 tests/refused_device.py crates/device_tests/out/device_tests
 	python3 tests/refused_bands.py crates/proxy_tests/out/proxy_tests
 
