@@ -21,6 +21,11 @@ const LISTS: [&[u8]; 2] = [
     b"POST /items HTTP/1.1\r\nhost: h\r\nx-member: 2\r\nx-moment: 1001\r\ncontent-length: 79\r\n\r\n{\"category\":2,\"end\":6000,\"lot\":\"B2\",\"start\":750,\"text\":\"Good.\",\"title\":\"Globe\"}",
 ];
 
+const NAMES: [&[u8]; 2] = [
+    b"POST /members HTTP/1.1\r\nhost: h\r\nx-member: 0\r\nx-moment: 1000\r\ncontent-length: 14\r\n\r\n{\"name\":\"Ana\"}",
+    b"POST /members HTTP/1.1\r\nhost: h\r\nx-member: 0\r\nx-moment: 1001\r\ncontent-length: 14\r\n\r\n{\"name\":\"Bea\"}",
+];
+
 const LAST_MOMENT: u64 = 4_102_444_800;
 
 struct Request<'b> {
@@ -267,6 +272,7 @@ fn main() {
     let texts = match words[2].as_str() {
         "bid" => BIDS,
         "spaced" => SPACED,
+        "name" => NAMES,
         _ => LISTS,
     };
     let asks = words[1] == "asks";

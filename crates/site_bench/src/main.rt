@@ -1,5 +1,5 @@
 //! What it costs to read what a message asks: `site_bench WHAT MESSAGE N` reads N messages, a bid (`bid`),
-//! a bid whose body has spaces and another field (`spaced`) or a listing (`list`). WHAT is `frames`,
+//! a bid whose body has spaces (`spaced`), a listing (`list`) or a registration (`name`). WHAT is `frames`,
 //! which reads their frames alone, or `asks`, which also reads what they ask. It prints a sum over what it
 //! saw. Where memory is wanting it prints `site_bench: memory` on standard error.
 #![tactic(auto)]
@@ -26,6 +26,11 @@ const SPACED: [&[u8]; 2] = [
 const LISTS: [&[u8]; 2] = [
     b"POST /items HTTP/1.1\r\nhost: h\r\nx-member: 1\r\nx-moment: 1000\r\ncontent-length: 79\r\n\r\n{\"category\":1,\"end\":5000,\"lot\":\"A1\",\"start\":500,\"text\":\"Good.\",\"title\":\"Atlas\"}",
     b"POST /items HTTP/1.1\r\nhost: h\r\nx-member: 2\r\nx-moment: 1001\r\ncontent-length: 79\r\n\r\n{\"category\":2,\"end\":6000,\"lot\":\"B2\",\"start\":750,\"text\":\"Good.\",\"title\":\"Globe\"}",
+];
+
+const NAMES: [&[u8]; 2] = [
+    b"POST /members HTTP/1.1\r\nhost: h\r\nx-member: 0\r\nx-moment: 1000\r\ncontent-length: 14\r\n\r\n{\"name\":\"Ana\"}",
+    b"POST /members HTTP/1.1\r\nhost: h\r\nx-member: 0\r\nx-moment: 1001\r\ncontent-length: 14\r\n\r\n{\"name\":\"Bea\"}",
 ];
 
 // What is seen of a message that was read.
@@ -77,6 +82,7 @@ fn sum_of(rt: &(impl Env + AllocGlobal), alloc: Global) -> Result<u64, AllocErro
     let texts = match message.as_str() {
         "bid" => BIDS,
         "spaced" => SPACED,
+        "name" => NAMES,
         _ => LISTS,
     };
     rounds(
