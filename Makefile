@@ -87,6 +87,7 @@ twins:
 memory:
 	python3 tests/refused_memory.py crates/auction/out/auction
 	python3 tests/refused_routes.py crates/auction/out/auction 1 200 50
+	python3 tests/refused_office.py crates/auction/out/auction 400 100 100
 	python3 tests/refused_statement.py crates/settle_bench/out/settle_bench
 	python3 tests/refused_asks.py crates/site_tests/out/site_tests
 	python3 tests/refused_inbox.py crates/wire_bench/out/wire_bench

@@ -138,7 +138,8 @@ class Pairs:
         left = Run(settings, requests, member)
         right = Run(settings, self.changed(requests), member)
         step = apart(member, left, right)
-        if step is None:
+        # A change may give a message a field more than it may have: a file of that is no list.
+        if step is None or any(map(frame_fault, [*left.requests, *right.requests])):
             return
         self.apart += 1
         self.parts[min(3, 4 * step // (len(requests) + 1))] += 1
