@@ -122,7 +122,9 @@ fn serve_command<'a>(alloc: Global) -> Result<Command<'a>, AllocError> {
         .after_help(
             "It prints listening, answers the connections one after the other, at most 10000 \
              messages each, and prints served and their number. A connection on which nothing \
-             moves for 30 seconds, reading or writing, is given up.",
+             moves for 30 seconds, reading or writing, is given up. FILE-wal beside FILE is its \
+             log: while serve runs, and behind one that was killed, it belongs to FILE, so keep, \
+             move and copy both together; once serve has ended, FILE alone is the house.",
         )
         .arg(house(alloc))?
         .arg(number(

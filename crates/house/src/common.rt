@@ -6,9 +6,7 @@ ghost use Rattle.house_rows.specs.Text.{has_length, is_text};
 ghost use Rattle.house_rows.specs.Verdict.{common_rules};
 
 use house_rows::{Keep, KeepFault, Refusal, Text};
-
-/// The last moment, 2100-01-01T00:00:00Z, in seconds.
-pub(crate) const LAST_MOMENT: u64 = 4_102_444_800;
+use settle::LAST_MOMENT;
 
 /// Why a command is refused whatever it asks for, if it is. A caller that passes has a number that
 /// fits a `u32`.

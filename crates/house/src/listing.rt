@@ -16,12 +16,10 @@ ghost use Rattle.house.specs.Own.{IsOf};
 ghost use Rattle.house.specs.Judged.{first_rules};
 ghost use Rattle.house.specs.Offered.{AreOf, offer_rules, terms_rules, told};
 
-use crate::common::{LAST_MOMENT, common, is_text};
+use crate::common::{common, is_text};
 use cents::Cents;
-use house_rows::{Change, Keep, KeepFault, Refusal, Text};
-
-/// The most items.
-const MOST_ITEMS: u32 = 1_000_000;
+use house_rows::{Change, Keep, KeepFault, MOST_ITEMS, Refusal, Text};
+use settle::LAST_MOMENT;
 
 /// What a member offers for sale, in range or not. Amounts are in cents, and the end is in whole
 /// seconds since 1970-01-01T00:00:00Z.

@@ -14,13 +14,7 @@ ghost use Rattle.house.specs.Decided.{IfAccepted, IsDecided};
 ghost use Rattle.house.specs.Own.{IsOf};
 
 use crate::common::{common, is_text};
-use house_rows::{Change, Keep, KeepFault, Refusal, Text};
-
-/// The most members.
-const MOST_MEMBERS: u32 = 100_000;
-
-/// The most categories.
-const MOST_CATEGORIES: u32 = 1_000;
+use house_rows::{Change, Keep, KeepFault, MOST_CATEGORIES, MOST_MEMBERS, Refusal, Text};
 
 /// Decides on a registration.
 pub fn register<'c, K: Keep>(

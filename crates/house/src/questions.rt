@@ -13,10 +13,7 @@ ghost use Rattle.house.specs.Own.{IsOf};
 
 use crate::common::is_text;
 use crate::targets::{on_item, open_refused};
-use house_rows::{Change, Keep, KeepFault, Refusal, Terms, Text};
-
-/// The most questions of one asker on one item.
-const MOST_QUESTIONS: u64 = 20;
+use house_rows::{Change, Keep, KeepFault, MOST_QUESTIONS, Refusal, Terms, Text};
 
 /// Decides on a question, which takes the next number among the caller's on the item.
 pub fn ask<'c, K: Keep>(
@@ -69,7 +66,7 @@ fn next_number(
     if !is_text(1, 500, text) {
         return Err(Refusal::Range);
     }
-    if count >= MOST_QUESTIONS {
+    if count >= u64::from(MOST_QUESTIONS) {
         return Err(Refusal::Limit);
     }
     Ok(count as u32 + 1)

@@ -13,10 +13,7 @@ ghost use Rattle.house.specs.Decided.{IfAccepted, IsDecided};
 ghost use Rattle.house.specs.Own.{IsOf};
 
 use crate::targets::on_item;
-use house_rows::{Change, Keep, KeepFault, Refusal};
-
-/// The most items that a member watches.
-const MOST_WATCHES: u64 = 200;
+use house_rows::{Change, Keep, KeepFault, MOST_WATCHES, Refusal};
 
 /// Decides on a watch. One of an item that the caller watches is accepted, and changes nothing.
 pub fn watch<'c, K: Keep>(

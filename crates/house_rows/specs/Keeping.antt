@@ -1,6 +1,6 @@
 -- What every call of a keep promises beside its answer. A keep that rests on a disk promises of its rows only while the disk
 -- has returned what was written: while it is honest.
-use Rattle.std.specs.Prelude.{◌≡◌, ◌≤◌, ◌+◌, ◌⊎◌, length, ◌↔◌, ℕ, List, [], ◌∷◌, Bool, true, false, Option, Some, IfSome, Result, OnOk, IsErrOf, ◌==◌}
+use Rattle.std.specs.Prelude.{◌≡◌, ◌≤◌, ◌+◌, ◌⊎◌, length, ◌↔◌, ℕ, List, [], ◌∷◌, Bool, true, false, Option, Some, IfSome, Result, OnOk, IsErrOf, ◌==◌, filter}
 use Rattle.std.specs.List.{AllByRecursion}
 use Rattle.proxy.specs.Accepted.{AreAccepted}
 use Rattle.proxy.specs.Bids.{standing_of}
@@ -12,6 +12,7 @@ use Rattle.house_rows.specs.declared.fault.KeepFault.{KeepFault}
 use Rattle.house_rows.specs.declared.fault.KeepFault.TheVariants.{Store, Damaged}
 use Rattle.house_rows.specs.Asks.{IsFree}
 use Rattle.house_rows.specs.Fits.{BidRowFits, CategoryFits, FeedbackFits, IsMoment, ItemFits, MemberFits, QuestionFits, WatchRowFits}
+use Rattle.house_rows.specs.Found.{terms_at}
 use Rattle.house_rows.specs.History.{counted}
 use Rattle.house_rows.specs.Limits.{most_bids, most_categories, most_cents, most_items, most_members, most_watches}
 use Rattle.house_rows.specs.Tables.{ItemRow, Tables}
@@ -42,6 +43,14 @@ pub record IsPurchase (t : Terms) : Type 0 where
 
 abbrev pub Stands : List (ℕ × ℕ) → Terms → Type 0
 Stands bands t = IsByStanding bands t ⊎ IsPurchase t
+
+-- every item's row that passes a test stands, by the bands of the house
+abbrev pub AllStand : (ItemRow → Bool) → Tables → Type 0
+AllStand test t = AllByRecursion (λ row. Stands t.settings.bands row.item.terms) (filter test t.items)
+
+-- the item of a number stands, if there is one
+abbrev pub StandsAt : Tables → ℕ → Type 0
+StandsAt t item = IfSome (terms_at t item) (Stands t.settings.bands)
 
 -- the rows of an item fit: the item itself, and its standing, which is that of some accepted bids in range
 pub record ItemRowFits (bands : List (ℕ × ℕ)) (row : ItemRow) : Type 0 where

@@ -1,14 +1,15 @@
 //! Whatever keeps the tables of the house.
 ghost use Rattle.std.specs.Prelude.{◌≡◌, ◌≢◌, ◌≤◌, ◌⊎◌, All, AllPairs, true, false, Bool, IfOk, IfSome, OnOk, OnErr, is_some, length};
-ghost use Rattle.settle.specs.Statement.{IsSale};
-ghost use Rattle.std.specs.List.{AllByRecursion};
+ghost use Rattle.settle.specs.Statement.{IsSale, is_party};
+ghost use Rattle.std.specs.List.{AllByRecursion, list_any};
 ghost use Rattle.house_rows.specs.Asks.{ChangeFits};
 ghost use Rattle.house_rows.specs.Changed.{changed};
 ghost use Rattle.house_rows.specs.Fits.{CategoryFits, FeedbackFits, IsItem, IsMember, IsMoment, IsWithin, ItemFits, MemberFits, OwnBidFits, QuestionFits, StandingFits, TermsFit};
 ghost use Rattle.house_rows.specs.Found.{all_items, all_published, ask_count, best_of, category_at, category_named, counts_of, due_at, feedback_to, first_waiting, is_given, is_watched, item_at, item_with_lot, items_in, items_watched, member_named, own_bids, published_on, question_at, questions_of, sales_to, standing_at, terms_at, waiting_for, watch_count};
-ghost use Rattle.house_rows.specs.Keeping.{AreSound, ChangeFaults, Faults, IsRead, Stands};
+ghost use Rattle.house_rows.specs.Items.{is_due};
+ghost use Rattle.house_rows.specs.Keeping.{AllStand, AreSound, ChangeFaults, Faults, IsRead, Stands, StandsAt};
 ghost use Rattle.house_rows.specs.Limits.{most_categories, most_items};
-ghost use Rattle.house_rows.specs.Pages.{member_at, ratings_of};
+ghost use Rattle.house_rows.specs.Pages.{member_at, ratings_of, sale_of};
 ghost use Rattle.house_rows.specs.Tables.{Tables};
 
 use crate::change::Change;
@@ -179,6 +180,7 @@ pub trait Keep {
     /// How many items a close at the moment would leave sold, and how many unsold.
     fn due(&mut self, moment: u64) -> Result<Due, KeepFault>
         ensures value { is_honest self.new → IfOk result (λ v. v ≡ due_at (content self.old) moment) }
+        ensures stands { is_honest self.new → OnOk result (AllStand (λ row. is_due moment row.item.terms) (content self.old)) }
         ensures faults { Faults result (is_honest self.new) (is_failed self.new) (content self.old) }
         ensures read { IsRead content is_failed is_honest may_leave self.old self.new };
 
@@ -194,6 +196,7 @@ pub trait Keep {
     fn bids_of(&mut self, member: u64, from: u64) -> Result<Vec<OwnBid>, KeepFault>
         ensures value { is_honest self.new → IfOk result (λ v. v.items ≡ own_bids (content self.old) member from) }
         ensures fits { IfOk result (λ v. AllByRecursion OwnBidFits v.items) }
+        ensures stands { is_honest self.new → IfOk result (λ v. AllByRecursion (λ b. StandsAt (content self.old) b.item) v.items) }
         ensures faults { Faults result (is_honest self.new) (is_failed self.new) (content self.old) }
         ensures read { IsRead content is_failed is_honest may_leave self.old self.new };
 
@@ -266,6 +269,7 @@ pub trait Keep {
     fn waiting_for(&mut self, member: u64) -> Result<Vec<Question>, KeepFault>
         ensures value { is_honest self.new → IfOk result (λ v. v.items ≡ waiting_for (content self.old) member) }
         ensures fits { IfOk result (λ v. AllByRecursion QuestionFits v.items) }
+        ensures stands { is_honest self.new → IfOk result (λ v. AllByRecursion (λ q. StandsAt (content self.old) q.item) v.items) }
         ensures faults { Faults result (is_honest self.new) (is_failed self.new) (content self.old) }
         ensures read { IsRead content is_failed is_honest may_leave self.old self.new };
 
@@ -274,12 +278,14 @@ pub trait Keep {
     fn first_waiting(&mut self, member: u64) -> Result<Vec<Question>, KeepFault>
         ensures value { is_honest self.new → IfOk result (λ v. v.items ≡ first_waiting (content self.old) member) }
         ensures fits { IfOk result (λ v. AllByRecursion QuestionFits v.items) }
+        ensures stands { is_honest self.new → IfOk result (λ v. AllByRecursion (λ q. StandsAt (content self.old) q.item) v.items) }
         ensures faults { Faults result (is_honest self.new) (is_failed self.new) (content self.old) }
         ensures read { IsRead content is_failed is_honest may_leave self.old self.new };
 
     /// The sales to which a member is a party, by item.
     fn sold_of(&mut self, member: u64) -> Result<Vec<Sold>, KeepFault>
         ensures value { is_honest self.new → IfOk result (λ v. v.items ≡ sales_to (content self.old) member) }
+        ensures stands { is_honest self.new → OnOk result (AllStand (λ row. list_any (is_party member) (sale_of row.item.terms)) (content self.old)) }
         ensures fits { IfOk result (λ v. All IsSale v.items) }
         ensures apart { IfOk result (λ v. AllPairs (λ a b. a.item ≢ b.item) v.items) }
         ensures few { IfOk result (λ v. length v.items ≤ most_items) }

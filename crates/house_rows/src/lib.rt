@@ -11,6 +11,7 @@ mod command;
 mod fault;
 mod item;
 mod keep;
+mod limits;
 mod message;
 mod page;
 mod people;
@@ -30,6 +31,9 @@ pub use command::Command;
 pub use fault::KeepFault;
 pub use item::{Due, Item, ItemShown, OwnBest, OwnBid, Terms};
 pub use keep::Keep;
+pub use limits::{
+    MOST_CATEGORIES, MOST_ITEMS, MOST_MEMBERS, MOST_QUESTIONS, MOST_SHOWN, MOST_WATCHES,
+};
 pub use message::Message;
 pub use page::Page;
 pub use people::{Category, Counts, Member, Ratings};
@@ -38,7 +42,7 @@ pub use rating::Rating;
 pub use refusal::Refusal;
 pub use reply::Reply;
 pub use rows::Rows;
-pub use settings::{Rate, Settings};
+pub use settings::{MOST_RATE, Rate, Settings};
 pub use state::State;
 pub use talk::{Feedback, Question};
 pub use text::Text;

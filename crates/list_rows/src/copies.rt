@@ -6,9 +6,6 @@ ghost use Rattle.house_rows.specs.declared.fault.KeepFault.TheVariants as fault;
 use house_rows::{Category, Feedback, Item, KeepFault, Member, Question, Text};
 use std::alloc::{AllocError, Global};
 
-/// The most rows of a list that begins at a number.
-pub const MOST_SHOWN: usize = 50;
-
 /// A row that can be copied.
 pub trait Copied {
     /// A copy of it.

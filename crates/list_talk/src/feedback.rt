@@ -11,8 +11,8 @@ ghost use Rattle.list_talk.specs.Rated.{unrated, with_rating};
 
 use crate::concerns::Concerns;
 use crate::lists::{push_passing, push_shown};
-use house_rows::{Feedback, KeepFault, Rating, Ratings};
-use list_rows::{MOST_SHOWN, RowKey, block, put, row, text_of};
+use house_rows::{Feedback, KeepFault, MOST_SHOWN, Rating, Ratings};
+use list_rows::{RowKey, block, put, row, text_of};
 use std::alloc::Global;
 use std::marker::Model;
 

@@ -3,8 +3,8 @@ ghost use Rattle.std.specs.Prelude.{◌≡◌, ◌≤◌, ◌++◌, Bool, IfErr,
 ghost use Rattle.house_rows.specs.Limits.{most_shown};
 ghost use Rattle.house_rows.specs.declared.fault.KeepFault.TheVariants as fault;
 
-use house_rows::KeepFault;
-use list_rows::{Copied, MOST_SHOWN, push_copy};
+use house_rows::{KeepFault, MOST_SHOWN};
+use list_rows::{Copied, push_copy};
 use std::alloc::Global;
 
 /// Copies of the rows that pass go behind what was found.

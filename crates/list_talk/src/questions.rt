@@ -12,8 +12,8 @@ ghost use Rattle.list_talk.specs.Sorted.{AreRisen, AreSorted};
 
 use crate::concerns::Concerns;
 use crate::lists::{push_passing, push_shown};
-use house_rows::{KeepFault, Question, Text};
-use list_rows::{Changes, MOST_SHOWN, RowKey, block, chosen, put, row, text_of, update};
+use house_rows::{KeepFault, MOST_SHOWN, Question, Text};
+use list_rows::{Changes, RowKey, block, chosen, put, row, text_of, update};
 use std::alloc::Global;
 use std::marker::Model;
 

@@ -2,11 +2,9 @@
 ghost use Rattle.std.specs.Prelude.{◌≡◌};
 ghost use Rattle.site_asks.specs.Heads.{caller_in, moment_in, numbered};
 
+use settle::LAST_MOMENT;
 use site_digits::count;
 use wire::Request;
-
-// The last moment, 2100-01-01T00:00:00Z, in seconds.
-const LAST_MOMENT: u64 = 4_102_444_800;
 
 // The number of a field that stands exactly once.
 #[tactic(auto, unfolding(crate::specs::Heads::numbered))]

@@ -1,13 +1,14 @@
 -- A list by a number of more than 32 bits is empty.
 use Rattle.std.proofs.Common.{◌≡◌, ◌<◌, ◌≤◌, ◌^◌, ◌&&◌, ◌∙◌, ℕ, List, [], ◌∷◌, Bool, true, false, not, Option, Some, None, cond, find, filter, map, refl, ap, arith}
 use Rattle.std.specs.Prelude.{◌==◌, is_some, nat_le, nat_lt, take, unwrap_or}
-use Rattle.std.specs.List.{AllByRecursion}
+use Rattle.std.specs.List.{AllByRecursion, list_any}
 use Rattle.std.proofs.lemmas.List.Elements.{filter-append}
 use Rattle.sqlite_trees.specs.Tree.{Trees}
 use Rattle.settle.specs.Statement.{is_party}
 use Rattle.proxy.specs.Bids.{is_leader}
 use Rattle.house_rows.specs.Changed.{is_item}
 use Rattle.house_rows.specs.Found.{feedback_to, first_waiting, is_watched, items_in, items_watched, own_bid, own_bids, published_on, questions_of, sales_in, sales_to, sells, waiting_for}
+use Rattle.house_rows.specs.Keeping.{AllStand, Stands}
 use Rattle.house_rows.specs.Limits.{most_shown}
 use Rattle.house_rows.specs.Pages.{sale_of}
 use Rattle.house_rows.specs.Tables.{ItemRow}
@@ -51,6 +52,20 @@ none_sold [] n high sellers leaders = refl
 none_sold (row ∷ rows) n high sellers leaders =
     filter-append (is_party n) (sale_of row.item.terms) (sales_in (map (λ (r : ItemRow). r.item) rows))
     ∙ (rw (no_sale row.item.terms n high sellers.0 leaders.0, none_sold rows n high sellers.1 leaders.1) refl)
+
+no_party : (terms : Terms) (n : ℕ) → 2 ^ 32 ≤ n → (terms.seller == n) ≡ false → is_leader terms.leader n ≡ false → list_any (is_party n) (sale_of terms) ≡ false
+no_party terms n high seller leader = told (was_sold terms.state)
+  where
+    told : (b : Bool)
+        → list_any (is_party n) (cond b (record { item = terms.item; seller = terms.seller; buyer = unwrap_or terms.leader 0; closed = unwrap_or terms.closed 0; price = terms.price } ∷ []) []) ≡ false
+    told true = rw (seller, buyer_other terms.leader n high leader) refl
+    told false = refl
+
+-- and no row is one of such a sale
+none_party : (P : ItemRow → Type 0) (rows : List ItemRow) (n : ℕ) → 2 ^ 32 ≤ n → AllByRecursion (λ (row : ItemRow). (row.item.terms.seller == n) ≡ false) rows
+    → AllByRecursion (λ (row : ItemRow). is_leader row.item.terms.leader n ≡ false) rows → AllByRecursion P (filter (λ (row : ItemRow). list_any (is_party n) (sale_of row.item.terms)) rows)
+none_party P [] n high sellers leaders = tt
+none_party P (row ∷ rows) n high sellers leaders = rw (no_party row.item.terms n high sellers.0 leaders.0) (none_party P rows n high sellers.1 leaders.1)
 
 -- ---- what waits
 
@@ -119,4 +134,10 @@ module _ (db : Trees) (n : ℕ) (high : 2 ^ 32 ≤ n) (low : n < 2 ^ 64) where
   unfolding tables_in
   no_sales =
       none_sold (stored.items_in db) n high sellers_other
+      (each_fails (λ (row : ItemRow). is_leader row.item.terms.leader n) (stored.items_in db) (no_items_led db n high low))
+
+  pub no_rows_sold : AllStand (λ (row : ItemRow). list_any (is_party n) (sale_of row.item.terms)) (tables_in db)
+  unfolding tables_in
+  no_rows_sold =
+      none_party (λ (row : ItemRow). Stands (tables_in db).settings.bands row.item.terms) (stored.items_in db) n high sellers_other
       (each_fails (λ (row : ItemRow). is_leader row.item.terms.leader n) (stored.items_in db) (no_items_led db n high low))

@@ -6,17 +6,8 @@ ghost use Rattle.house_rows.specs.Found.{counts_of};
 ghost use Rattle.house_rows.specs.Tables.{Tables};
 ghost use Rattle.store.specs.After.{clock_after, counts_after};
 
-use house_rows::{Change, Counts};
-
-// The last moment, 2100-01-01T00:00:00Z.
-const LAST_MOMENT: u64 = 4_102_444_800;
-
-// The most that a house has of each.
-const MOST_MEMBERS: u32 = 100_000;
-
-const MOST_CATEGORIES: u32 = 1_000;
-
-const MOST_ITEMS: u32 = 1_000_000;
+use house_rows::{Change, Counts, MOST_CATEGORIES, MOST_ITEMS, MOST_MEMBERS};
+use settle::LAST_MOMENT;
 
 // One more, if there is room.
 fn one_more(count: u32, most: u32) -> Option<u32>
@@ -69,7 +60,10 @@ pub(crate) fn clock_after(clock: u64, change: &Change<'_>) -> Option<u64>
 /// The counts after a change; none where there is no room for one more.
 pub(crate) fn counts_after(counts: Counts, change: &Change<'_>) -> Option<Counts>
     ensures value { IfSome result (λ after. after ≡ counts_after counts change.now) }
-    ensures room { (t : Tables) → counts_of t ≡ counts → ChangeFits t change.now → is_some result ≡ true }
+    ensures room { (t : Tables)
+        → counts_of t ≡ counts
+        → ChangeFits t change.now
+        → is_some result ≡ true }
 {
     match *change {
         Change::Register { .. } => Some(Counts {

@@ -16,15 +16,26 @@ use sqlite::Alter;
 impl<S: Alter> SqlKeep<S> {
     // Makes a change, as `apply` of `Keep` does.
     pub(crate) fn change(&mut self, change: &Change<'_>) -> Result<(), KeepFault>
-        requires fits { IsHonest S.Store self.old → AreSound (content S.Store self.old) → ChangeFits (content S.Store self.old) change.now }
-        ensures ok { IsHonest S.Store self.new → OnOk result (content S.Store self.new ≡ changed (content S.Store self.old) change.now) }
-        ensures err { IsHonest S.Store self.new → is_failed self.new ≡ false → OnErr result (content S.Store self.new ≡ content S.Store self.old) }
-        ensures faults { ChangeFaults result (IsHonest S.Store self.new) (is_failed self.new) (content S.Store self.old) change.now }
+        requires fits { IsHonest S.Store self.old
+            → AreSound (content S.Store self.old)
+            → ChangeFits (content S.Store self.old) change.now }
+        ensures ok { IsHonest S.Store self.new
+            → OnOk result (content S.Store self.new ≡ changed
+            (content S.Store self.old) change.now) }
+        ensures err { IsHonest S.Store self.new
+            → is_failed self.new ≡ false
+            → OnErr result (content S.Store self.new ≡ content S.Store self.old) }
+        ensures faults { ChangeFaults result (IsHonest S.Store self.new) (is_failed self.new)
+            (content S.Store self.old) change.now }
         ensures honest { IsHonest S.Store self.new → IsHonest S.Store self.old }
         ensures stays { is_failed self.old ≡ true → is_failed self.new ≡ true }
-        ensures kept { IsHonest S.Store self.new → OnOk result ((t : Tables) → MayLeave S.Store self.new t → t ≡ content S.Store self.new) }
-        ensures crash { IsHonest S.Store self.new → OnErr result ((t : Tables) → MayLeave S.Store self.new t → MayLeave S.Store self.old t
-            ⊎ ((is_failed self.old ≡ false) × (is_failed self.new ≡ true) × (t ≡ changed (content S.Store self.old) change.now))) }
+        ensures kept { IsHonest S.Store self.new
+            → OnOk result ((t : Tables) → MayLeave S.Store self.new t
+            → t ≡ content S.Store self.new) }
+        ensures crash { IsHonest S.Store self.new
+            → OnErr result ((t : Tables) → MayLeave S.Store self.new t → MayLeave S.Store self.old t
+            ⊎ ((is_failed self.old ≡ false) × (is_failed self.new ≡ true)
+            × (t ≡ changed (content S.Store self.old) change.now))) }
     {
         if self.failed {
             return Err(KeepFault::Store);

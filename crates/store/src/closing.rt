@@ -26,8 +26,11 @@ impl<D: Disk + Drop> SqlKeep<FileStore<D>> {
     /// then holds the house alone, with no need of its log. After an `Err` a crash of file and log
     /// leaves nothing that it could not have left before.
     pub fn close_files(self) -> Result<Files<D>, (KeepFault, FileStore<D>)>
-        ensures usable { IfOk result (λ files. IsTrue (D.Disk.is_usable files.log) × IsTrue (D.Disk.is_usable files.db)) }
-        ensures house { IfOk result (λ files. AreClean D.Disk files.log files.db → self.failed ≡ false → HoldHouse D.Disk files (tables_in (file_state self.conn).now.trees)) }
+        ensures usable { IfOk result (λ files. IsTrue (D.Disk.is_usable files.log)
+            × IsTrue (D.Disk.is_usable files.db)) }
+        ensures house { IfOk result (λ files. AreClean D.Disk files.log files.db
+            → self.failed ≡ false → HoldHouse D.Disk files
+            (tables_in (file_state self.conn).now.trees)) }
         ensures left { IfErr result (λ e. IsClosed self.conn e.1) }
         ensures sound { IfErr result (λ e. e.0 ≢ Damaged) }
     {

@@ -545,7 +545,7 @@ impl<S: Alter> Keep for SqlKeep<S> {
         }
     }
 
-    #[tactic(auto, using(crate::proofs::AbsentLists::no_sales))]
+    #[tactic(auto, using(crate::proofs::AbsentLists::no_sales, crate::proofs::AbsentLists::no_rows_sold))]
     fn sold_of(&mut self, member: u64) -> Result<Vec<Sold>, KeepFault> {
         if self.failed {
             return Err(KeepFault::Store);

@@ -1,14 +1,13 @@
 //! The changes, each made by the function that writes its rows.
-ghost use Rattle.std.specs.Prelude.{◌≡◌, false, IsTrue, OnOk, OnErr, IsErrOf};
-ghost use Rattle.sqlite_trees.specs.Tree.{Trees};
-ghost use Rattle.sqlite.specs.Effect.{Database};
-ghost use Rattle.sqlite.specs.State.{HasCleanDisk, Survives};
+ghost use Rattle.std.specs.Prelude.{◌≡◌, false, OnOk, IsErrOf};
+ghost use Rattle.sqlite.specs.State.{HasCleanDisk};
 ghost use Rattle.sqlite.specs.Held.{state};
 ghost use Rattle.house_rows.specs.Asks.{ChangeFits, IsFree};
 ghost use Rattle.house_rows.specs.Found.{counts_of};
 ghost use Rattle.house_rows.specs.Keeping.{AreSound};
 ghost use Rattle.house_rows.specs.declared.fault.KeepFault.TheVariants.{Damaged};
-ghost use Rattle.store_lists.specs.Tables.{Changes, Rests, tables_in};
+ghost use Rattle.store_lists.specs.Tables.{Rests, tables_in};
+ghost use Rattle.store_lists.specs.Commits.{Commits};
 ghost use Rattle.store.specs.After.{counts_after};
 
 use house_rows::{Change, Counts, KeepFault};
@@ -30,16 +29,19 @@ pub(crate) fn make_change<S: Alter>(
 ) -> Result<(), KeepFault>
     requires rests { Rests (state S.Store conn.old) }
     requires mode { conn.old.in_transaction ≡ false }
-    requires bands { HasCleanDisk (state S.Store conn.old) → (tables_in (state S.Store conn.old).now.trees).settings.bands ≡ bands.now }
-    requires counted { HasCleanDisk (state S.Store conn.old) → after ≡ counts_after (counts_of (tables_in (state S.Store conn.old).now.trees)) change.now }
-    ensures ok { HasCleanDisk (state S.Store conn.new) → OnOk result (IsTrue (state S.Store conn.new).is_open × ((state S.Store conn.new).now ≡ (state S.Store conn.new).committed) × Changes change.now (state S.Store conn.old).now (state S.Store conn.new).now) }
-    ensures taken { HasCleanDisk (state S.Store conn.new) → OnOk result (IsFree (tables_in (state S.Store conn.old).now.trees) change.now) }
-    ensures damaged { HasCleanDisk (state S.Store conn.new) → AreSound (tables_in (state S.Store conn.old).now.trees) → ChangeFits (tables_in (state S.Store conn.old).now.trees) change.now
-        → IsFree (tables_in (state S.Store conn.old).now.trees) change.now → ¬ (IsErrOf result Damaged) }
-    ensures err { HasCleanDisk (state S.Store conn.new) → IsTrue (state S.Store conn.new).is_open → OnErr result (((state S.Store conn.new).now ≡ (state S.Store conn.old).committed) × ((state S.Store conn.new).committed ≡ (state S.Store conn.old).committed)) }
-    ensures only { HasCleanDisk (state S.Store conn.new) → OnOk result ((db : Trees) → (state S.Store conn.new).may_leave db → db ≡ (state S.Store conn.new).now.trees) }
-    ensures mode { conn.new.in_transaction ≡ false }
-    ensures crash { Survives (state S.Store conn.old) (state S.Store conn.new) (λ trees. (db : Database) × Changes change.now (state S.Store conn.old).now db × (trees ≡ db.trees)) }
+    requires bands { HasCleanDisk (state S.Store conn.old)
+        → (tables_in (state S.Store conn.old).now.trees).settings.bands ≡ bands.now }
+    requires counted { HasCleanDisk (state S.Store conn.old)
+        → after ≡ counts_after (counts_of (tables_in
+        (state S.Store conn.old).now.trees)) change.now }
+    ensures commit { Commits change.now (state S.Store conn.old) (state S.Store conn.new) result }
+    ensures taken { HasCleanDisk (state S.Store conn.new)
+        → OnOk result (IsFree (tables_in (state S.Store conn.old).now.trees) change.now) }
+    ensures damaged { HasCleanDisk (state S.Store conn.new)
+        → AreSound (tables_in (state S.Store conn.old).now.trees)
+        → ChangeFits (tables_in (state S.Store conn.old).now.trees) change.now
+        → IsFree (tables_in (state S.Store conn.old).now.trees) change.now
+        → ¬ (IsErrOf result Damaged) }
 {
     match *change {
         Change::Register { moment, name } => register(conn, after.members, moment, name),

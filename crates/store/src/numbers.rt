@@ -2,8 +2,7 @@
 ghost use Rattle.std.specs.Prelude.{IfSome, IsTrue};
 ghost use Rattle.house_rows.specs.Fits.{IsItem};
 
-// The greatest number of an item.
-const MOST_ITEMS: u32 = 1_000_000;
+use house_rows::MOST_ITEMS;
 
 /// Whether what was found, if anything, is the number of an item.
 pub(crate) fn is_item_number(found: Option<u32>) -> bool

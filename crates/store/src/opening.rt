@@ -1,12 +1,12 @@
 //! How a keep begins: in an empty database, or over a house that is there.
-ghost use Rattle.std.specs.Prelude.{◌≡◌, ◌≢◌, ◌↔◌, ◌⊎◌, [], true, false, IfOk, IsErrOf};
+ghost use Rattle.std.specs.Prelude.{◌≡◌, ◌≢◌, ◌↔◌, ◌⊎◌, [], true, false, IfOk, OnErr, IsErrOf};
 ghost use Rattle.sqlite.specs.Held.{state};
 ghost use Rattle.house_rows.specs.Tables.{Tables, tables_of};
 ghost use Rattle.house_rows.specs.Text.{is_plain};
 ghost use Rattle.house_rows.specs.declared.fault.KeepFault.TheVariants.{Damaged};
 ghost use Rattle.store_rows.specs.Schema.{no_schema};
 ghost use Rattle.store_lists.specs.Tables.{tables_in};
-ghost use Rattle.store_open.specs.Opening.{IsSoundHouse, Leaves};
+ghost use Rattle.store_open.specs.Opening.{IsSoundHouse, Leaves, LeavesMade};
 ghost use Rattle.store.specs.Kept.{IsHonest, MayLeave, content};
 
 use crate::keep::SqlKeep;
@@ -23,16 +23,22 @@ impl<S: Alter + Drop> SqlKeep<S> {
     /// no control characters.
     ///
     /// `Damaged` where the database lists a table, an index or a view, and where a transaction is open.
+    /// After an error the database is as it was, or holds the new house where the disk failed.
     pub fn create(
         alloc: Global,
         conn: Connection<S>,
         settings: Settings,
     ) -> Result<SqlKeep<S>, KeepFault>
-        ensures empty { IfOk result (λ k. IsHonest S.Store k → content S.Store k ≡ tables_of settings []) }
-        ensures opens { IfOk result (λ k. IsHonest S.Store k → is_plain settings.zone ≡ true → IsSoundHouse (state S.Store k.conn).now) }
-        ensures only { IfOk result (λ k. IsHonest S.Store k → (tables : Tables) → MayLeave S.Store k tables → tables ≡ content S.Store k) }
+        ensures empty { IfOk result (λ k. IsHonest S.Store k
+            → content S.Store k ≡ tables_of settings []) }
+        ensures opens { IfOk result (λ k. IsHonest S.Store k → is_plain settings.zone ≡ true
+            → IsSoundHouse (state S.Store k.conn).now) }
+        ensures only { IfOk result (λ k. IsHonest S.Store k → (tables : Tables)
+            → MayLeave S.Store k tables → tables ≡ content S.Store k) }
         ensures works { IfOk result (λ k. k.failed ≡ false) }
-        ensures damaged { IsErrOf result Damaged ↔ ((conn.in_transaction ≡ true) ⊎ ((state S.Store conn).now.schema ≢ no_schema)) }
+        ensures left { OnErr result (LeavesMade S.Store conn settings) }
+        ensures damaged { IsErrOf result Damaged ↔ ((conn.in_transaction ≡ true)
+            ⊎ ((state S.Store conn).now.schema ≢ no_schema)) }
     {
         let mut conn = conn;
         make_house(&mut conn, &settings)?;
@@ -54,10 +60,13 @@ impl<S: Alter + Drop> SqlKeep<S> {
     ///
     /// `Damaged` where it holds no house of this version, or one whose settings or numbers don't fit.
     pub fn open(alloc: Global, conn: Connection<S>) -> Result<SqlKeep<S>, KeepFault>
-        ensures same { IfOk result (λ k. IsHonest S.Store k → content S.Store k ≡ tables_in (state S.Store conn).committed.trees) }
-        ensures only { IfOk result (λ k. IsHonest S.Store k → (tables : Tables) → MayLeave S.Store k tables → tables ≡ content S.Store k) }
+        ensures same { IfOk result (λ k. IsHonest S.Store k
+            → content S.Store k ≡ tables_in (state S.Store conn).committed.trees) }
+        ensures only { IfOk result (λ k. IsHonest S.Store k → (tables : Tables)
+            → MayLeave S.Store k tables → tables ≡ content S.Store k) }
         ensures works { IfOk result (λ k. k.failed ≡ false) }
-        ensures damaged { IsErrOf result Damaged → Leaves S.Store conn (¬ (IsSoundHouse (state S.Store conn).committed)) }
+        ensures damaged { IsErrOf result Damaged
+            → Leaves S.Store conn (¬ (IsSoundHouse (state S.Store conn).committed)) }
     {
         let house = opened(alloc, conn)?;
         Ok(SqlKeep {

@@ -10,7 +10,9 @@ use sqlite::{Alter, Connection};
 // Whether the connection still serves: a failure of the disk shuts it, and after want of memory
 // nothing else says that it is open.
 fn is_still_open<S: Alter>(conn: &mut Connection<S>) -> bool
-    ensures same { HasCleanDisk (state S.Store conn.new) → IsTrue result → IsUnchanged (state S.Store conn.old) (state S.Store conn.new) }
+    ensures same { HasCleanDisk (state S.Store conn.new)
+        → IsTrue result
+        → IsUnchanged (state S.Store conn.old) (state S.Store conn.new) }
     ensures mode { conn.old.in_transaction ≡ false → conn.new.in_transaction ≡ false }
     ensures crash { Survives (state S.Store conn.old) (state S.Store conn.new) (λ _. ⊥) }
 {
@@ -27,7 +29,9 @@ pub(crate) fn told_fault<S: Alter>(
     requires { failed.old ≡ false }
     ensures fault { failed.new ≡ false → result ≡ fault }
     ensures store { (result ≡ Store) ↔ (failed.new ≡ true) }
-    ensures same { HasCleanDisk (state S.Store conn.new) → failed.new ≡ false → IsUnchanged (state S.Store conn.old) (state S.Store conn.new) }
+    ensures same { HasCleanDisk (state S.Store conn.new)
+        → failed.new ≡ false
+        → IsUnchanged (state S.Store conn.old) (state S.Store conn.new) }
     ensures mode { conn.old.in_transaction ≡ false → conn.new.in_transaction ≡ false }
     ensures crash { Survives (state S.Store conn.old) (state S.Store conn.new) (λ _. ⊥) }
 {

@@ -4,6 +4,7 @@ pub mod Joined
 pub mod OwnBidItems
 pub mod PartySales
 pub mod Sound
+pub mod Standing
 pub mod Steps
 pub mod WaitingItems
 pub mod WatchedItems

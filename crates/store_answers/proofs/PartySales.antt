@@ -110,7 +110,7 @@ are_sales items fits up =
 
 -- ---- the items that a member sells or leads
 
-all_kept : {A : Type 0} (P : A → Type 0) (p : A → Bool) (xs : List A) → AllByRecursion P (filter p xs) → AllByRecursion (λ x. p x ≡ true → P x) xs
+pub all_kept : {A : Type 0} (P : A → Type 0) (p : A → Bool) (xs : List A) → AllByRecursion P (filter p xs) → AllByRecursion (λ x. p x ≡ true → P x) xs
 all_kept P p [] all = tt
 all_kept P p (x ∷ xs) all =
     elim (by_test (p x)) [
@@ -225,7 +225,7 @@ both_fit sold led all one other both = recursion_from_All TermsFit all (All-perm
 
 -- ---- their sales
 
-buyer_is : (leader : Option ℕ) (member : ℕ) → 1 ≤ member → (unwrap_or leader 0 == member) ≡ is_leader leader member
+pub buyer_is : (leader : Option ℕ) (member : ℕ) → 1 ≤ member → (unwrap_or leader 0 == member) ≡ is_leader leader member
 buyer_is None member some = grind (arith, nat_tests, some)
 buyer_is (Some l) member some = refl
 

@@ -1,3 +1,4 @@
 pub mod Joined
 pub mod OwnBids
 pub mod Rising
+pub mod Standing

@@ -1,21 +1,23 @@
 //! The items on which a member has bid.
-ghost use Rattle.std.specs.Prelude.{◌≡◌, ◌≤◌, ◌+◌, ◌++◌, false, length, filter, flat_map, nat_lt, option_map, take, IfOk, IfSome, OnOk, OnErr, IsErrOf};
+ghost use Rattle.std.specs.Prelude.{◌≡◌, ◌≤◌, ◌+◌, ◌++◌, length, filter, flat_map, nat_lt, option_map, take, IfOk, IfSome, OnOk, IsErrOf};
 ghost use Rattle.std.specs.List.{AllByRecursion};
-ghost use Rattle.sqlite.specs.State.{HasCleanDisk, IsUnchanged, Survives};
+ghost use Rattle.sqlite.specs.State.{HasCleanDisk};
 ghost use Rattle.sqlite.specs.Held.{state};
 ghost use Rattle.house_rows.specs.Fits.{OwnBidFits, TermsFit};
 ghost use Rattle.house_rows.specs.Found.{own_bids};
 ghost use Rattle.house_rows.specs.Keeping.{AreSoundBy};
 ghost use Rattle.house_rows.specs.Limits.{most_shown};
 ghost use Rattle.house_rows.specs.declared.fault.KeepFault.TheVariants.{Damaged};
-ghost use Rattle.store_rows.specs.House.{Serves, KeepsCommitted};
+ghost use Rattle.store_rows.specs.House.{Serves};
 ghost use Rattle.store_lists.specs.Tables.{tables_in};
 ghost use Rattle.store_answers.specs.Joined.{found_of};
 ghost use Rattle.store_answers.specs.OwnBids.{bid_told, numbers_from, own_found};
+ghost use Rattle.store_answers.specs.Standing.{StandsIn};
+ghost use Rattle.store_rows.specs.Frames.{OnlyReads};
 
 use crate::own::own_best;
-use house_rows::{KeepFault, OwnBest, OwnBid, Terms};
-use list_rows::{MOST_SHOWN, push};
+use house_rows::{KeepFault, MOST_SHOWN, OwnBest, OwnBid, Terms};
+use list_rows::push;
 use sqlite::{Alter, Connection};
 use std::alloc::Global;
 use steps::Bands;
@@ -41,7 +43,8 @@ fn items_from(alloc: Global, bids: &[PlacedBid], from: u64) -> Result<Vec<u32>, 
 
 // What a member has bid on the item of these terms, if it is there and the member has bid on it.
 fn own_bid(terms: Option<Terms>, best: OwnBest, member: u32) -> Option<OwnBid>
-    ensures value { found_of result ≡ filter (λ b. nat_lt 0 b.mine) (found_of (option_map (bid_told member best) terms)) }
+    ensures value { found_of result ≡ filter (λ b. nat_lt 0 b.mine)
+        (found_of (option_map (bid_told member best) terms)) }
     ensures fits { IfSome terms TermsFit → IfSome result OwnBidFits }
 {
     let terms = terms?;
@@ -67,13 +70,17 @@ fn own_bid_at<S: Alter>(
     member: u32,
 ) -> Result<Option<OwnBid>, KeepFault>
     requires { Serves (state S.Store conn.old) }
-    ensures value { HasCleanDisk (state S.Store conn.new) → IfOk result (λ bid. found_of bid ≡ own_found (tables_in (state S.Store conn.old).now.trees) member item) }
+    ensures value { HasCleanDisk (state S.Store conn.new)
+        → IfOk result (λ bid. found_of bid ≡ own_found
+        (tables_in (state S.Store conn.old).now.trees) member item) }
     ensures fits { IfOk result (λ bid. IfSome bid OwnBidFits) }
-    ensures damaged { HasCleanDisk (state S.Store conn.new) → AreSoundBy bands.now (tables_in (state S.Store conn.old).now.trees) → ¬ (IsErrOf result Damaged) }
-    ensures same { HasCleanDisk (state S.Store conn.new) → OnOk result (IsUnchanged (state S.Store conn.old) (state S.Store conn.new)) }
-    ensures err { HasCleanDisk (state S.Store conn.new) → OnErr result (KeepsCommitted (state S.Store conn.old) (state S.Store conn.new)) }
-    ensures mode { conn.old.in_transaction ≡ false → conn.new.in_transaction ≡ false }
-    ensures crash { Survives (state S.Store conn.old) (state S.Store conn.new) (λ _. ⊥) }
+    ensures stands { HasCleanDisk (state S.Store conn.new)
+        → IfOk result (λ bid. IfSome bid
+        (λ b. StandsIn bands.now (state S.Store conn.old).now.trees b.item)) }
+    ensures damaged { HasCleanDisk (state S.Store conn.new)
+        → AreSoundBy bands.now (tables_in (state S.Store conn.old).now.trees)
+        → ¬ (IsErrOf result Damaged) }
+    ensures read { OnlyReads (state S.Store conn.old) (state S.Store conn.new) result }
 {
     let terms = terms_at(conn, bands, item)?;
     let best = own_best(alloc, conn, item, member)?;
@@ -90,14 +97,21 @@ fn add_own_bid<S: Alter>(
     found: &mut Vec<OwnBid>,
 ) -> Result<(), KeepFault>
     requires { Serves (state S.Store conn.old) }
-    ensures value { HasCleanDisk (state S.Store conn.new) → OnOk result (found.new.items ≡ found.old.items ++ own_found (tables_in (state S.Store conn.old).now.trees) member item) }
+    ensures value { HasCleanDisk (state S.Store conn.new)
+        → OnOk result (found.new.items ≡ found.old.items
+        ++ own_found (tables_in (state S.Store conn.old).now.trees) member item) }
     ensures few { OnOk result (length found.new.items ≤ length found.old.items + 1) }
-    ensures fits { AllByRecursion OwnBidFits found.old.items → OnOk result (AllByRecursion OwnBidFits found.new.items) }
-    ensures damaged { HasCleanDisk (state S.Store conn.new) → AreSoundBy bands.now (tables_in (state S.Store conn.old).now.trees) → ¬ (IsErrOf result Damaged) }
-    ensures same { HasCleanDisk (state S.Store conn.new) → OnOk result (IsUnchanged (state S.Store conn.old) (state S.Store conn.new)) }
-    ensures err { HasCleanDisk (state S.Store conn.new) → OnErr result (KeepsCommitted (state S.Store conn.old) (state S.Store conn.new)) }
-    ensures mode { conn.old.in_transaction ≡ false → conn.new.in_transaction ≡ false }
-    ensures crash { Survives (state S.Store conn.old) (state S.Store conn.new) (λ _. ⊥) }
+    ensures fits { AllByRecursion OwnBidFits found.old.items
+        → OnOk result (AllByRecursion OwnBidFits found.new.items) }
+    ensures stands { HasCleanDisk (state S.Store conn.new)
+        → AllByRecursion (λ b. StandsIn bands.now (state S.Store conn.old).now.trees b.item)
+        found.old.items
+        → OnOk result (AllByRecursion
+        (λ b. StandsIn bands.now (state S.Store conn.old).now.trees b.item) found.new.items) }
+    ensures damaged { HasCleanDisk (state S.Store conn.new)
+        → AreSoundBy bands.now (tables_in (state S.Store conn.old).now.trees)
+        → ¬ (IsErrOf result Damaged) }
+    ensures read { OnlyReads (state S.Store conn.old) (state S.Store conn.new) result }
 {
     match own_bid_at(alloc, conn, bands, item, member)? {
         Some(bid) => push(found, bid),
@@ -114,13 +128,18 @@ fn own_bids_at<S: Alter>(
     member: u32,
 ) -> Result<Vec<OwnBid>, KeepFault>
     requires { Serves (state S.Store conn.old) }
-    ensures value { HasCleanDisk (state S.Store conn.new) → IfOk result (λ found. found.items ≡ take most_shown (flat_map (own_found (tables_in (state S.Store conn.old).now.trees) member) numbers.now)) }
+    ensures value { HasCleanDisk (state S.Store conn.new)
+        → IfOk result (λ found. found.items ≡ take most_shown
+        (flat_map
+        (own_found (tables_in (state S.Store conn.old).now.trees) member) numbers.now)) }
     ensures fits { IfOk result (λ found. AllByRecursion OwnBidFits found.items) }
-    ensures damaged { HasCleanDisk (state S.Store conn.new) → AreSoundBy bands.now (tables_in (state S.Store conn.old).now.trees) → ¬ (IsErrOf result Damaged) }
-    ensures same { HasCleanDisk (state S.Store conn.new) → OnOk result (IsUnchanged (state S.Store conn.old) (state S.Store conn.new)) }
-    ensures err { HasCleanDisk (state S.Store conn.new) → OnErr result (KeepsCommitted (state S.Store conn.old) (state S.Store conn.new)) }
-    ensures mode { conn.old.in_transaction ≡ false → conn.new.in_transaction ≡ false }
-    ensures crash { Survives (state S.Store conn.old) (state S.Store conn.new) (λ _. ⊥) }
+    ensures stands { HasCleanDisk (state S.Store conn.new)
+        → IfOk result (λ found. AllByRecursion
+        (λ b. StandsIn bands.now (state S.Store conn.old).now.trees b.item) found.items) }
+    ensures damaged { HasCleanDisk (state S.Store conn.new)
+        → AreSoundBy bands.now (tables_in (state S.Store conn.old).now.trees)
+        → ¬ (IsErrOf result Damaged) }
+    ensures read { OnlyReads (state S.Store conn.old) (state S.Store conn.new) result }
 {
     let mut found = Vec::new(alloc);
     for number in numbers {
@@ -144,13 +163,17 @@ pub fn own_bids<S: Alter>(
     from: u64,
 ) -> Result<Vec<OwnBid>, KeepFault>
     requires { Serves (state S.Store conn.old) }
-    ensures value { HasCleanDisk (state S.Store conn.new) → IfOk result (λ found. found.items ≡ own_bids (tables_in (state S.Store conn.old).now.trees) member from) }
+    ensures value { HasCleanDisk (state S.Store conn.new)
+        → IfOk result (λ found. found.items ≡ own_bids
+        (tables_in (state S.Store conn.old).now.trees) member from) }
     ensures fits { IfOk result (λ found. AllByRecursion OwnBidFits found.items) }
-    ensures damaged { HasCleanDisk (state S.Store conn.new) → AreSoundBy bands.now (tables_in (state S.Store conn.old).now.trees) → ¬ (IsErrOf result Damaged) }
-    ensures same { HasCleanDisk (state S.Store conn.new) → OnOk result (IsUnchanged (state S.Store conn.old) (state S.Store conn.new)) }
-    ensures err { HasCleanDisk (state S.Store conn.new) → OnErr result (KeepsCommitted (state S.Store conn.old) (state S.Store conn.new)) }
-    ensures mode { conn.old.in_transaction ≡ false → conn.new.in_transaction ≡ false }
-    ensures crash { Survives (state S.Store conn.old) (state S.Store conn.new) (λ _. ⊥) }
+    ensures stands { HasCleanDisk (state S.Store conn.new)
+        → IfOk result (λ found. AllByRecursion
+        (λ b. StandsIn bands.now (state S.Store conn.old).now.trees b.item) found.items) }
+    ensures damaged { HasCleanDisk (state S.Store conn.new)
+        → AreSoundBy bands.now (tables_in (state S.Store conn.old).now.trees)
+        → ¬ (IsErrOf result Damaged) }
+    ensures read { OnlyReads (state S.Store conn.old) (state S.Store conn.new) result }
 {
     let bids = own_bid_rows(alloc, conn, member)?;
     let numbers = items_from(alloc, &bids, from)?;

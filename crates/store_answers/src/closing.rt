@@ -1,14 +1,16 @@
 //! What a close would take.
-ghost use Rattle.std.specs.Prelude.{◌≡◌, ◌&&◌, false, not, IfOk, OnOk, OnErr, IsErrOf};
-ghost use Rattle.sqlite.specs.State.{HasCleanDisk, IsUnchanged, Survives};
+ghost use Rattle.std.specs.Prelude.{◌≡◌, ◌&&◌, not, IfOk, OnOk, IsErrOf};
+ghost use Rattle.sqlite.specs.State.{HasCleanDisk};
 ghost use Rattle.sqlite.specs.Held.{state};
 ghost use Rattle.house_rows.specs.Found.{due_at};
 ghost use Rattle.house_rows.specs.History.{counted};
 ghost use Rattle.house_rows.specs.Items.{close_sells, is_due};
 ghost use Rattle.house_rows.specs.Keeping.{AreSoundBy};
 ghost use Rattle.house_rows.specs.declared.fault.KeepFault.TheVariants.{Damaged};
-ghost use Rattle.store_rows.specs.House.{Serves, KeepsCommitted};
+ghost use Rattle.store_rows.specs.House.{Serves};
 ghost use Rattle.store_lists.specs.Tables.{tables_in};
+ghost use Rattle.store_answers.specs.Standing.{RowsStand};
+ghost use Rattle.store_rows.specs.Frames.{OnlyReads};
 
 use house_rows::{Due, Item, KeepFault, State, Terms};
 use sqlite::{Alter, Connection};
@@ -36,8 +38,10 @@ fn counts_of(due: &[Terms]) -> Due
 
 // The same of those among all items that are due.
 fn due_counts_of(items: &[Item], moment: u64) -> Due
-    ensures sold { result.sold ≡ counted (λ it. is_due moment it.terms && close_sells it.terms.leader) items.now }
-    ensures unsold { result.unsold ≡ counted (λ it. is_due moment it.terms && not (close_sells it.terms.leader)) items.now }
+    ensures sold { result.sold ≡ counted (λ it. is_due moment it.terms
+        && close_sells it.terms.leader) items.now }
+    ensures unsold { result.unsold ≡ counted (λ it. is_due moment it.terms
+        && not (close_sells it.terms.leader)) items.now }
 {
     let mut sold = 0;
     let mut unsold = 0;
@@ -62,12 +66,15 @@ fn due_by<S: Alter>(
     moment: u32,
 ) -> Result<Due, KeepFault>
     requires { Serves (state S.Store conn.old) }
-    ensures value { HasCleanDisk (state S.Store conn.new) → IfOk result (λ due. due ≡ due_at (tables_in (state S.Store conn.old).now.trees) moment) }
-    ensures damaged { HasCleanDisk (state S.Store conn.new) → AreSoundBy bands.now (tables_in (state S.Store conn.old).now.trees) → ¬ (IsErrOf result Damaged) }
-    ensures same { HasCleanDisk (state S.Store conn.new) → OnOk result (IsUnchanged (state S.Store conn.old) (state S.Store conn.new)) }
-    ensures err { HasCleanDisk (state S.Store conn.new) → OnErr result (KeepsCommitted (state S.Store conn.old) (state S.Store conn.new)) }
-    ensures mode { conn.old.in_transaction ≡ false → conn.new.in_transaction ≡ false }
-    ensures crash { Survives (state S.Store conn.old) (state S.Store conn.new) (λ _. ⊥) }
+    ensures value { HasCleanDisk (state S.Store conn.new)
+        → IfOk result (λ due. due ≡ due_at (tables_in (state S.Store conn.old).now.trees) moment) }
+    ensures stands { HasCleanDisk (state S.Store conn.new)
+        → OnOk result (RowsStand bands.now (λ row. is_due moment row.item.terms)
+        (state S.Store conn.old).now.trees) }
+    ensures damaged { HasCleanDisk (state S.Store conn.new)
+        → AreSoundBy bands.now (tables_in (state S.Store conn.old).now.trees)
+        → ¬ (IsErrOf result Damaged) }
+    ensures read { OnlyReads (state S.Store conn.old) (state S.Store conn.new) result }
 {
     let due = due_terms(alloc, conn, bands, moment)?;
     Ok(counts_of(&due))
@@ -81,12 +88,15 @@ fn due_among_all<S: Alter>(
     moment: u64,
 ) -> Result<Due, KeepFault>
     requires { Serves (state S.Store conn.old) }
-    ensures value { HasCleanDisk (state S.Store conn.new) → IfOk result (λ due. due ≡ due_at (tables_in (state S.Store conn.old).now.trees) moment) }
-    ensures damaged { HasCleanDisk (state S.Store conn.new) → AreSoundBy bands.now (tables_in (state S.Store conn.old).now.trees) → ¬ (IsErrOf result Damaged) }
-    ensures same { HasCleanDisk (state S.Store conn.new) → OnOk result (IsUnchanged (state S.Store conn.old) (state S.Store conn.new)) }
-    ensures err { HasCleanDisk (state S.Store conn.new) → OnErr result (KeepsCommitted (state S.Store conn.old) (state S.Store conn.new)) }
-    ensures mode { conn.old.in_transaction ≡ false → conn.new.in_transaction ≡ false }
-    ensures crash { Survives (state S.Store conn.old) (state S.Store conn.new) (λ _. ⊥) }
+    ensures value { HasCleanDisk (state S.Store conn.new)
+        → IfOk result (λ due. due ≡ due_at (tables_in (state S.Store conn.old).now.trees) moment) }
+    ensures stands { HasCleanDisk (state S.Store conn.new)
+        → OnOk result (RowsStand bands.now (λ row. is_due moment row.item.terms)
+        (state S.Store conn.old).now.trees) }
+    ensures damaged { HasCleanDisk (state S.Store conn.new)
+        → AreSoundBy bands.now (tables_in (state S.Store conn.old).now.trees)
+        → ¬ (IsErrOf result Damaged) }
+    ensures read { OnlyReads (state S.Store conn.old) (state S.Store conn.new) result }
 {
     let items = all_items(alloc, conn, bands)?;
     Ok(due_counts_of(&items, moment))
@@ -101,12 +111,15 @@ pub fn due<S: Alter>(
     moment: u64,
 ) -> Result<Due, KeepFault>
     requires { Serves (state S.Store conn.old) }
-    ensures value { HasCleanDisk (state S.Store conn.new) → IfOk result (λ due. due ≡ due_at (tables_in (state S.Store conn.old).now.trees) moment) }
-    ensures damaged { HasCleanDisk (state S.Store conn.new) → AreSoundBy bands.now (tables_in (state S.Store conn.old).now.trees) → ¬ (IsErrOf result Damaged) }
-    ensures same { HasCleanDisk (state S.Store conn.new) → OnOk result (IsUnchanged (state S.Store conn.old) (state S.Store conn.new)) }
-    ensures err { HasCleanDisk (state S.Store conn.new) → OnErr result (KeepsCommitted (state S.Store conn.old) (state S.Store conn.new)) }
-    ensures mode { conn.old.in_transaction ≡ false → conn.new.in_transaction ≡ false }
-    ensures crash { Survives (state S.Store conn.old) (state S.Store conn.new) (λ _. ⊥) }
+    ensures value { HasCleanDisk (state S.Store conn.new)
+        → IfOk result (λ due. due ≡ due_at (tables_in (state S.Store conn.old).now.trees) moment) }
+    ensures stands { HasCleanDisk (state S.Store conn.new)
+        → OnOk result (RowsStand bands.now (λ row. is_due moment row.item.terms)
+        (state S.Store conn.old).now.trees) }
+    ensures damaged { HasCleanDisk (state S.Store conn.new)
+        → AreSoundBy bands.now (tables_in (state S.Store conn.old).now.trees)
+        → ¬ (IsErrOf result Damaged) }
+    ensures read { OnlyReads (state S.Store conn.old) (state S.Store conn.new) result }
 {
     match u32::try_from(moment) {
         Ok(moment) => due_by(alloc, conn, bands, moment),

@@ -1,14 +1,15 @@
 //! How members were rated.
-ghost use Rattle.std.specs.Prelude.{◌≡◌, false, IfOk, OnOk, OnErr, IsErrOf};
-ghost use Rattle.sqlite.specs.State.{HasCleanDisk, IsUnchanged, Survives};
+ghost use Rattle.std.specs.Prelude.{◌≡◌, IfOk, IsErrOf};
+ghost use Rattle.sqlite.specs.State.{HasCleanDisk};
 ghost use Rattle.sqlite.specs.Held.{state};
 ghost use Rattle.house_rows.specs.History.{counted};
 ghost use Rattle.house_rows.specs.Keeping.{AreSound};
 ghost use Rattle.house_rows.specs.Pages.{ratings_of};
 ghost use Rattle.house_rows.specs.Ratings.{is_minus, is_plus, is_zero};
 ghost use Rattle.house_rows.specs.declared.fault.KeepFault.TheVariants.{Damaged};
-ghost use Rattle.store_rows.specs.House.{Serves, KeepsCommitted};
+ghost use Rattle.store_rows.specs.House.{Serves};
 ghost use Rattle.store_lists.specs.Tables.{tables_in};
+ghost use Rattle.store_rows.specs.Frames.{OnlyReads};
 
 use house_rows::{Feedback, KeepFault, Rating, Ratings};
 use sqlite::{Alter, Connection};
@@ -41,12 +42,13 @@ pub fn ratings<S: Alter>(
     member: u32,
 ) -> Result<Ratings, KeepFault>
     requires { Serves (state S.Store conn.old) }
-    ensures value { HasCleanDisk (state S.Store conn.new) → IfOk result (λ counts. counts ≡ ratings_of (tables_in (state S.Store conn.old).now.trees).feedback member) }
-    ensures damaged { HasCleanDisk (state S.Store conn.new) → AreSound (tables_in (state S.Store conn.old).now.trees) → ¬ (IsErrOf result Damaged) }
-    ensures same { HasCleanDisk (state S.Store conn.new) → OnOk result (IsUnchanged (state S.Store conn.old) (state S.Store conn.new)) }
-    ensures err { HasCleanDisk (state S.Store conn.new) → OnErr result (KeepsCommitted (state S.Store conn.old) (state S.Store conn.new)) }
-    ensures mode { conn.old.in_transaction ≡ false → conn.new.in_transaction ≡ false }
-    ensures crash { Survives (state S.Store conn.old) (state S.Store conn.new) (λ _. ⊥) }
+    ensures value { HasCleanDisk (state S.Store conn.new)
+        → IfOk result (λ counts. counts ≡ ratings_of
+        (tables_in (state S.Store conn.old).now.trees).feedback member) }
+    ensures damaged { HasCleanDisk (state S.Store conn.new)
+        → AreSound (tables_in (state S.Store conn.old).now.trees)
+        → ¬ (IsErrOf result Damaged) }
+    ensures read { OnlyReads (state S.Store conn.old) (state S.Store conn.new) result }
 {
     let given = feedback_to(alloc, conn, member)?;
     Ok(counts_of(&given))

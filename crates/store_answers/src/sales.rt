@@ -1,19 +1,22 @@
 //! The sales of a member.
-ghost use Rattle.std.specs.Prelude.{◌≡◌, ◌≢◌, ◌≤◌, ◌++◌, All, AllPairs, false, flat_map, length, IfOk, OnOk, OnErr, IsErrOf};
+ghost use Rattle.std.specs.Prelude.{◌≡◌, ◌≢◌, ◌≤◌, ◌++◌, All, AllPairs, false, flat_map, length, IfOk, OnOk, IsErrOf};
+ghost use Rattle.std.specs.List.{list_any};
 ghost use Rattle.std.specs.List.Sorted.{IsNonDecreasingBy, IsPermutation};
-ghost use Rattle.sqlite.specs.State.{HasCleanDisk, IsUnchanged, Survives};
+ghost use Rattle.sqlite.specs.State.{HasCleanDisk};
 ghost use Rattle.sqlite.specs.Held.{state};
-ghost use Rattle.settle.specs.Statement.{IsSale};
+ghost use Rattle.settle.specs.Statement.{IsSale, is_party};
 ghost use Rattle.house_rows.specs.Found.{sales_to};
 ghost use Rattle.house_rows.specs.Keeping.{AreSoundBy};
 ghost use Rattle.house_rows.specs.Limits.{most_items};
 ghost use Rattle.house_rows.specs.Pages.{sale_of};
 ghost use Rattle.house_rows.specs.declared.fault.KeepFault.TheVariants.{Damaged};
 ghost use Rattle.house_rows.specs.declared.item.Terms.{Terms as TermsRow};
-ghost use Rattle.store_rows.specs.House.{Serves, KeepsCommitted};
+ghost use Rattle.store_rows.specs.House.{Serves};
 ghost use Rattle.store_lists.specs.Tables.{tables_in};
 ghost use Rattle.store_answers.specs.Joined.{found_of};
 ghost use Rattle.store_answers.specs.Rising.{rise_from};
+ghost use Rattle.store_answers.specs.Standing.{RowsStand};
+ghost use Rattle.store_rows.specs.Frames.{OnlyReads};
 
 use house_rows::{KeepFault, State, Terms};
 use list_rows::push;
@@ -104,15 +107,20 @@ fn sales_of_member<S: Alter>(
 ) -> Result<Vec<Sold>, KeepFault>
     requires serves { Serves (state S.Store conn.old) }
     requires numbered { 1 ≤ member }
-    ensures value { HasCleanDisk (state S.Store conn.new) → IfOk result (λ sales. sales.items ≡ sales_to (tables_in (state S.Store conn.old).now.trees) member) }
+    ensures value { HasCleanDisk (state S.Store conn.new)
+        → IfOk result (λ sales. sales.items ≡ sales_to
+        (tables_in (state S.Store conn.old).now.trees) member) }
+    ensures stands { HasCleanDisk (state S.Store conn.new)
+        → OnOk result (RowsStand bands.now
+        (λ row. list_any (is_party member) (sale_of row.item.terms))
+        (state S.Store conn.old).now.trees) }
     ensures fits { IfOk result (λ sales. All IsSale sales.items) }
     ensures apart { IfOk result (λ sales. AllPairs (λ a b. a.item ≢ b.item) sales.items) }
     ensures few { IfOk result (λ sales. length sales.items ≤ most_items) }
-    ensures damaged { HasCleanDisk (state S.Store conn.new) → AreSoundBy bands.now (tables_in (state S.Store conn.old).now.trees) → ¬ (IsErrOf result Damaged) }
-    ensures same { HasCleanDisk (state S.Store conn.new) → OnOk result (IsUnchanged (state S.Store conn.old) (state S.Store conn.new)) }
-    ensures err { HasCleanDisk (state S.Store conn.new) → OnErr result (KeepsCommitted (state S.Store conn.old) (state S.Store conn.new)) }
-    ensures mode { conn.old.in_transaction ≡ false → conn.new.in_transaction ≡ false }
-    ensures crash { Survives (state S.Store conn.old) (state S.Store conn.new) (λ _. ⊥) }
+    ensures damaged { HasCleanDisk (state S.Store conn.new)
+        → AreSoundBy bands.now (tables_in (state S.Store conn.old).now.trees)
+        → ¬ (IsErrOf result Damaged) }
+    ensures read { OnlyReads (state S.Store conn.old) (state S.Store conn.new) result }
 {
     let sold = terms_of_seller(alloc, conn, bands, member)?;
     let led = terms_led_by(alloc, conn, bands, member)?;
@@ -131,15 +139,20 @@ fn sales_of_nobody<S: Alter>(
     bands: &Bands,
 ) -> Result<Vec<Sold>, KeepFault>
     requires { Serves (state S.Store conn.old) }
-    ensures value { HasCleanDisk (state S.Store conn.new) → IfOk result (λ sales. sales.items ≡ sales_to (tables_in (state S.Store conn.old).now.trees) 0) }
+    ensures value { HasCleanDisk (state S.Store conn.new)
+        → IfOk result (λ sales. sales.items ≡ sales_to
+        (tables_in (state S.Store conn.old).now.trees) 0) }
+    ensures stands { HasCleanDisk (state S.Store conn.new)
+        → OnOk result (RowsStand bands.now
+        (λ row. list_any (is_party 0) (sale_of row.item.terms))
+        (state S.Store conn.old).now.trees) }
     ensures fits { IfOk result (λ sales. All IsSale sales.items) }
     ensures apart { IfOk result (λ sales. AllPairs (λ a b. a.item ≢ b.item) sales.items) }
     ensures few { IfOk result (λ sales. length sales.items ≤ most_items) }
-    ensures damaged { HasCleanDisk (state S.Store conn.new) → AreSoundBy bands.now (tables_in (state S.Store conn.old).now.trees) → ¬ (IsErrOf result Damaged) }
-    ensures same { HasCleanDisk (state S.Store conn.new) → OnOk result (IsUnchanged (state S.Store conn.old) (state S.Store conn.new)) }
-    ensures err { HasCleanDisk (state S.Store conn.new) → OnErr result (KeepsCommitted (state S.Store conn.old) (state S.Store conn.new)) }
-    ensures mode { conn.old.in_transaction ≡ false → conn.new.in_transaction ≡ false }
-    ensures crash { Survives (state S.Store conn.old) (state S.Store conn.new) (λ _. ⊥) }
+    ensures damaged { HasCleanDisk (state S.Store conn.new)
+        → AreSoundBy bands.now (tables_in (state S.Store conn.old).now.trees)
+        → ¬ (IsErrOf result Damaged) }
+    ensures read { OnlyReads (state S.Store conn.old) (state S.Store conn.new) result }
 {
     all_items(alloc, conn, bands)?;
     Ok(Vec::new(alloc))
@@ -154,15 +167,20 @@ pub fn sales_to<S: Alter>(
     member: u32,
 ) -> Result<Vec<Sold>, KeepFault>
     requires { Serves (state S.Store conn.old) }
-    ensures value { HasCleanDisk (state S.Store conn.new) → IfOk result (λ sales. sales.items ≡ sales_to (tables_in (state S.Store conn.old).now.trees) member) }
+    ensures value { HasCleanDisk (state S.Store conn.new)
+        → IfOk result (λ sales. sales.items ≡ sales_to
+        (tables_in (state S.Store conn.old).now.trees) member) }
+    ensures stands { HasCleanDisk (state S.Store conn.new)
+        → OnOk result (RowsStand bands.now
+        (λ row. list_any (is_party member) (sale_of row.item.terms))
+        (state S.Store conn.old).now.trees) }
     ensures fits { IfOk result (λ sales. All IsSale sales.items) }
     ensures apart { IfOk result (λ sales. AllPairs (λ a b. a.item ≢ b.item) sales.items) }
     ensures few { IfOk result (λ sales. length sales.items ≤ most_items) }
-    ensures damaged { HasCleanDisk (state S.Store conn.new) → AreSoundBy bands.now (tables_in (state S.Store conn.old).now.trees) → ¬ (IsErrOf result Damaged) }
-    ensures same { HasCleanDisk (state S.Store conn.new) → OnOk result (IsUnchanged (state S.Store conn.old) (state S.Store conn.new)) }
-    ensures err { HasCleanDisk (state S.Store conn.new) → OnErr result (KeepsCommitted (state S.Store conn.old) (state S.Store conn.new)) }
-    ensures mode { conn.old.in_transaction ≡ false → conn.new.in_transaction ≡ false }
-    ensures crash { Survives (state S.Store conn.old) (state S.Store conn.new) (λ _. ⊥) }
+    ensures damaged { HasCleanDisk (state S.Store conn.new)
+        → AreSoundBy bands.now (tables_in (state S.Store conn.old).now.trees)
+        → ¬ (IsErrOf result Damaged) }
+    ensures read { OnlyReads (state S.Store conn.old) (state S.Store conn.new) result }
 {
     if member == 0 {
         sales_of_nobody(alloc, conn, bands)

@@ -1,7 +1,7 @@
 //! The questions that wait for a member's answer.
-ghost use Rattle.std.specs.Prelude.{◌≡◌, ◌≤◌, ◌++◌, false, flat_map, length, take, IfOk, OnOk, OnErr, IsErrOf};
+ghost use Rattle.std.specs.Prelude.{◌≡◌, ◌≤◌, ◌++◌, flat_map, length, take, IfOk, OnOk, IsErrOf};
 ghost use Rattle.std.specs.List.{AllByRecursion};
-ghost use Rattle.sqlite.specs.State.{HasCleanDisk, IsUnchanged, Survives};
+ghost use Rattle.sqlite.specs.State.{HasCleanDisk};
 ghost use Rattle.sqlite.specs.Held.{state};
 ghost use Rattle.house_rows.specs.Fits.{QuestionFits};
 ghost use Rattle.house_rows.specs.Found.{first_waiting, waiting_for};
@@ -9,13 +9,14 @@ ghost use Rattle.house_rows.specs.Keeping.{AreSoundBy};
 ghost use Rattle.house_rows.specs.Limits.{most_shown};
 ghost use Rattle.house_rows.specs.declared.item.Terms.{Terms as TermsRow};
 ghost use Rattle.house_rows.specs.declared.fault.KeepFault.TheVariants.{Damaged};
-ghost use Rattle.store_rows.specs.House.{Serves, KeepsCommitted};
+ghost use Rattle.store_rows.specs.House.{Serves};
 ghost use Rattle.store_rows.specs.Rows.{questions_in};
 ghost use Rattle.store_lists.specs.Tables.{tables_in};
 ghost use Rattle.store_answers.specs.Joined.{waiting_in};
+ghost use Rattle.store_answers.specs.Standing.{StandsIn};
+ghost use Rattle.store_rows.specs.Frames.{OnlyReads};
 
-use house_rows::{KeepFault, Question, Terms};
-use list_rows::MOST_SHOWN;
+use house_rows::{KeepFault, MOST_SHOWN, Question, Terms};
 use sqlite::{Alter, Connection};
 use std::alloc::Global;
 use steps::Bands;
@@ -31,13 +32,15 @@ fn add_waiting<S: Alter>(
     asked: &mut Vec<Question>,
 ) -> Result<(), KeepFault>
     requires { Serves (state S.Store conn.old) }
-    ensures asked { HasCleanDisk (state S.Store conn.new) → OnOk result (asked.new.items ≡ asked.old.items ++ waiting_in (state S.Store conn.old).now.trees item) }
-    ensures fits { AllByRecursion QuestionFits asked.old.items → OnOk result (AllByRecursion QuestionFits asked.new.items) }
-    ensures damaged { HasCleanDisk (state S.Store conn.new) → AllByRecursion QuestionFits (questions_in (state S.Store conn.old).now.trees) → ¬ (IsErrOf result Damaged) }
-    ensures same { HasCleanDisk (state S.Store conn.new) → OnOk result (IsUnchanged (state S.Store conn.old) (state S.Store conn.new)) }
-    ensures err { HasCleanDisk (state S.Store conn.new) → OnErr result (KeepsCommitted (state S.Store conn.old) (state S.Store conn.new)) }
-    ensures mode { conn.old.in_transaction ≡ false → conn.new.in_transaction ≡ false }
-    ensures crash { Survives (state S.Store conn.old) (state S.Store conn.new) (λ _. ⊥) }
+    ensures asked { HasCleanDisk (state S.Store conn.new)
+        → OnOk result (asked.new.items ≡ asked.old.items
+        ++ waiting_in (state S.Store conn.old).now.trees item) }
+    ensures fits { AllByRecursion QuestionFits asked.old.items
+        → OnOk result (AllByRecursion QuestionFits asked.new.items) }
+    ensures damaged { HasCleanDisk (state S.Store conn.new)
+        → AllByRecursion QuestionFits (questions_in (state S.Store conn.old).now.trees)
+        → ¬ (IsErrOf result Damaged) }
+    ensures read { OnlyReads (state S.Store conn.old) (state S.Store conn.new) result }
 {
     let mut more = waiting_on(alloc, conn, item)?;
     match asked.append(&mut more) {
@@ -53,13 +56,14 @@ fn waiting_on_each<S: Alter>(
     own: &[Terms],
 ) -> Result<Vec<Question>, KeepFault>
     requires { Serves (state S.Store conn.old) }
-    ensures asked { HasCleanDisk (state S.Store conn.new) → IfOk result (λ asked. asked.items ≡ flat_map (λ (t : TermsRow). waiting_in (state S.Store conn.old).now.trees t.item) own.now) }
+    ensures asked { HasCleanDisk (state S.Store conn.new)
+        → IfOk result (λ asked. asked.items ≡ flat_map
+        (λ (t : TermsRow). waiting_in (state S.Store conn.old).now.trees t.item) own.now) }
     ensures fits { IfOk result (λ asked. AllByRecursion QuestionFits asked.items) }
-    ensures damaged { HasCleanDisk (state S.Store conn.new) → AllByRecursion QuestionFits (questions_in (state S.Store conn.old).now.trees) → ¬ (IsErrOf result Damaged) }
-    ensures same { HasCleanDisk (state S.Store conn.new) → OnOk result (IsUnchanged (state S.Store conn.old) (state S.Store conn.new)) }
-    ensures err { HasCleanDisk (state S.Store conn.new) → OnErr result (KeepsCommitted (state S.Store conn.old) (state S.Store conn.new)) }
-    ensures mode { conn.old.in_transaction ≡ false → conn.new.in_transaction ≡ false }
-    ensures crash { Survives (state S.Store conn.old) (state S.Store conn.new) (λ _. ⊥) }
+    ensures damaged { HasCleanDisk (state S.Store conn.new)
+        → AllByRecursion QuestionFits (questions_in (state S.Store conn.old).now.trees)
+        → ¬ (IsErrOf result Damaged) }
+    ensures read { OnlyReads (state S.Store conn.old) (state S.Store conn.new) result }
 {
     let mut asked = Vec::new(alloc);
     for terms in own {
@@ -79,13 +83,17 @@ pub fn waiting_for<S: Alter>(
     member: u32,
 ) -> Result<Vec<Question>, KeepFault>
     requires { Serves (state S.Store conn.old) }
-    ensures value { HasCleanDisk (state S.Store conn.new) → IfOk result (λ asked. asked.items ≡ waiting_for (tables_in (state S.Store conn.old).now.trees) member) }
+    ensures value { HasCleanDisk (state S.Store conn.new)
+        → IfOk result (λ asked. asked.items ≡ waiting_for
+        (tables_in (state S.Store conn.old).now.trees) member) }
+    ensures stands { HasCleanDisk (state S.Store conn.new)
+        → IfOk result (λ asked. AllByRecursion
+        (λ q. StandsIn bands.now (state S.Store conn.old).now.trees q.item) asked.items) }
     ensures fits { IfOk result (λ asked. AllByRecursion QuestionFits asked.items) }
-    ensures damaged { HasCleanDisk (state S.Store conn.new) → AreSoundBy bands.now (tables_in (state S.Store conn.old).now.trees) → ¬ (IsErrOf result Damaged) }
-    ensures same { HasCleanDisk (state S.Store conn.new) → OnOk result (IsUnchanged (state S.Store conn.old) (state S.Store conn.new)) }
-    ensures err { HasCleanDisk (state S.Store conn.new) → OnErr result (KeepsCommitted (state S.Store conn.old) (state S.Store conn.new)) }
-    ensures mode { conn.old.in_transaction ≡ false → conn.new.in_transaction ≡ false }
-    ensures crash { Survives (state S.Store conn.old) (state S.Store conn.new) (λ _. ⊥) }
+    ensures damaged { HasCleanDisk (state S.Store conn.new)
+        → AreSoundBy bands.now (tables_in (state S.Store conn.old).now.trees)
+        → ¬ (IsErrOf result Damaged) }
+    ensures read { OnlyReads (state S.Store conn.old) (state S.Store conn.new) result }
 {
     let own = terms_of_seller(alloc, conn, bands, member)?;
     waiting_on_each(alloc, conn, &own)
@@ -99,14 +107,16 @@ fn add_first_waiting<S: Alter>(
     asked: &mut Vec<Question>,
 ) -> Result<(), KeepFault>
     requires { Serves (state S.Store conn.old) }
-    ensures asked { HasCleanDisk (state S.Store conn.new) → OnOk result (asked.new.items ≡ take most_shown (asked.old.items ++ waiting_in (state S.Store conn.old).now.trees item)) }
+    ensures asked { HasCleanDisk (state S.Store conn.new)
+        → OnOk result (asked.new.items ≡ take most_shown
+        (asked.old.items ++ waiting_in (state S.Store conn.old).now.trees item)) }
     ensures few { OnOk result (length asked.new.items ≤ most_shown) }
-    ensures fits { AllByRecursion QuestionFits asked.old.items → OnOk result (AllByRecursion QuestionFits asked.new.items) }
-    ensures damaged { HasCleanDisk (state S.Store conn.new) → AllByRecursion QuestionFits (questions_in (state S.Store conn.old).now.trees) → ¬ (IsErrOf result Damaged) }
-    ensures same { HasCleanDisk (state S.Store conn.new) → OnOk result (IsUnchanged (state S.Store conn.old) (state S.Store conn.new)) }
-    ensures err { HasCleanDisk (state S.Store conn.new) → OnErr result (KeepsCommitted (state S.Store conn.old) (state S.Store conn.new)) }
-    ensures mode { conn.old.in_transaction ≡ false → conn.new.in_transaction ≡ false }
-    ensures crash { Survives (state S.Store conn.old) (state S.Store conn.new) (λ _. ⊥) }
+    ensures fits { AllByRecursion QuestionFits asked.old.items
+        → OnOk result (AllByRecursion QuestionFits asked.new.items) }
+    ensures damaged { HasCleanDisk (state S.Store conn.new)
+        → AllByRecursion QuestionFits (questions_in (state S.Store conn.old).now.trees)
+        → ¬ (IsErrOf result Damaged) }
+    ensures read { OnlyReads (state S.Store conn.old) (state S.Store conn.new) result }
 {
     let mut more = first_waiting_on(alloc, conn, item)?;
     match asked.append(&mut more) {
@@ -125,13 +135,15 @@ fn first_on_each<S: Alter>(
     own: &[Terms],
 ) -> Result<Vec<Question>, KeepFault>
     requires { Serves (state S.Store conn.old) }
-    ensures asked { HasCleanDisk (state S.Store conn.new) → IfOk result (λ asked. asked.items ≡ take most_shown (flat_map (λ (t : TermsRow). waiting_in (state S.Store conn.old).now.trees t.item) own.now)) }
+    ensures asked { HasCleanDisk (state S.Store conn.new)
+        → IfOk result (λ asked. asked.items ≡ take most_shown
+        (flat_map (λ (t : TermsRow). waiting_in
+        (state S.Store conn.old).now.trees t.item) own.now)) }
     ensures fits { IfOk result (λ asked. AllByRecursion QuestionFits asked.items) }
-    ensures damaged { HasCleanDisk (state S.Store conn.new) → AllByRecursion QuestionFits (questions_in (state S.Store conn.old).now.trees) → ¬ (IsErrOf result Damaged) }
-    ensures same { HasCleanDisk (state S.Store conn.new) → OnOk result (IsUnchanged (state S.Store conn.old) (state S.Store conn.new)) }
-    ensures err { HasCleanDisk (state S.Store conn.new) → OnErr result (KeepsCommitted (state S.Store conn.old) (state S.Store conn.new)) }
-    ensures mode { conn.old.in_transaction ≡ false → conn.new.in_transaction ≡ false }
-    ensures crash { Survives (state S.Store conn.old) (state S.Store conn.new) (λ _. ⊥) }
+    ensures damaged { HasCleanDisk (state S.Store conn.new)
+        → AllByRecursion QuestionFits (questions_in (state S.Store conn.old).now.trees)
+        → ¬ (IsErrOf result Damaged) }
+    ensures read { OnlyReads (state S.Store conn.old) (state S.Store conn.new) result }
 {
     let mut asked = Vec::new(alloc);
     for terms in own {
@@ -158,13 +170,17 @@ pub fn first_waiting<S: Alter>(
     member: u32,
 ) -> Result<Vec<Question>, KeepFault>
     requires { Serves (state S.Store conn.old) }
-    ensures value { HasCleanDisk (state S.Store conn.new) → IfOk result (λ asked. asked.items ≡ first_waiting (tables_in (state S.Store conn.old).now.trees) member) }
+    ensures value { HasCleanDisk (state S.Store conn.new)
+        → IfOk result (λ asked. asked.items ≡ first_waiting
+        (tables_in (state S.Store conn.old).now.trees) member) }
+    ensures stands { HasCleanDisk (state S.Store conn.new)
+        → IfOk result (λ asked. AllByRecursion
+        (λ q. StandsIn bands.now (state S.Store conn.old).now.trees q.item) asked.items) }
     ensures fits { IfOk result (λ asked. AllByRecursion QuestionFits asked.items) }
-    ensures damaged { HasCleanDisk (state S.Store conn.new) → AreSoundBy bands.now (tables_in (state S.Store conn.old).now.trees) → ¬ (IsErrOf result Damaged) }
-    ensures same { HasCleanDisk (state S.Store conn.new) → OnOk result (IsUnchanged (state S.Store conn.old) (state S.Store conn.new)) }
-    ensures err { HasCleanDisk (state S.Store conn.new) → OnErr result (KeepsCommitted (state S.Store conn.old) (state S.Store conn.new)) }
-    ensures mode { conn.old.in_transaction ≡ false → conn.new.in_transaction ≡ false }
-    ensures crash { Survives (state S.Store conn.old) (state S.Store conn.new) (λ _. ⊥) }
+    ensures damaged { HasCleanDisk (state S.Store conn.new)
+        → AreSoundBy bands.now (tables_in (state S.Store conn.old).now.trees)
+        → ¬ (IsErrOf result Damaged) }
+    ensures read { OnlyReads (state S.Store conn.old) (state S.Store conn.new) result }
 {
     let own = terms_of_seller(alloc, conn, bands, member)?;
     first_on_each(alloc, conn, &own)

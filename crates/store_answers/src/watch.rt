@@ -1,17 +1,18 @@
 //! What a member watches.
-ghost use Rattle.std.specs.Prelude.{◌≡◌, ◌<◌, ◌^◌, ◌++◌, false, flat_map, IfOk, OnOk, OnErr, IsErrOf};
+ghost use Rattle.std.specs.Prelude.{◌≡◌, ◌<◌, ◌^◌, ◌++◌, flat_map, IfOk, OnOk, IsErrOf};
 ghost use Rattle.std.specs.List.{AllByRecursion};
-ghost use Rattle.sqlite.specs.State.{HasCleanDisk, IsUnchanged, Survives};
+ghost use Rattle.sqlite.specs.State.{HasCleanDisk};
 ghost use Rattle.sqlite.specs.Held.{state};
 ghost use Rattle.house_rows.specs.Fits.{ItemFits};
 ghost use Rattle.house_rows.specs.Found.{items_watched, watch_count};
 ghost use Rattle.house_rows.specs.Keeping.{AreSound, AreSoundBy, ItemRowFits, Stands};
 ghost use Rattle.house_rows.specs.Tables.{ItemRow};
 ghost use Rattle.house_rows.specs.declared.fault.KeepFault.TheVariants.{Damaged};
-ghost use Rattle.store_rows.specs.House.{Serves, KeepsCommitted};
+ghost use Rattle.store_rows.specs.House.{Serves};
 ghost use Rattle.store_rows.specs.ItemRows.{items_in};
 ghost use Rattle.store_lists.specs.Tables.{tables_in};
 ghost use Rattle.store_answers.specs.Joined.{item_found};
+ghost use Rattle.store_rows.specs.Frames.{OnlyReads};
 
 use house_rows::{Item, KeepFault};
 use list_rows::push;
@@ -28,12 +29,13 @@ pub fn watch_count<S: Alter>(
     member: u32,
 ) -> Result<u64, KeepFault>
     requires { Serves (state S.Store conn.old) }
-    ensures value { HasCleanDisk (state S.Store conn.new) → IfOk result (λ count. count ≡ watch_count (tables_in (state S.Store conn.old).now.trees) member) }
-    ensures damaged { HasCleanDisk (state S.Store conn.new) → AreSound (tables_in (state S.Store conn.old).now.trees) → ¬ (IsErrOf result Damaged) }
-    ensures same { HasCleanDisk (state S.Store conn.new) → OnOk result (IsUnchanged (state S.Store conn.old) (state S.Store conn.new)) }
-    ensures err { HasCleanDisk (state S.Store conn.new) → OnErr result (KeepsCommitted (state S.Store conn.old) (state S.Store conn.new)) }
-    ensures mode { conn.old.in_transaction ≡ false → conn.new.in_transaction ≡ false }
-    ensures crash { Survives (state S.Store conn.old) (state S.Store conn.new) (λ _. ⊥) }
+    ensures value { HasCleanDisk (state S.Store conn.new)
+        → IfOk result (λ count. count ≡ watch_count
+        (tables_in (state S.Store conn.old).now.trees) member) }
+    ensures damaged { HasCleanDisk (state S.Store conn.new)
+        → AreSound (tables_in (state S.Store conn.old).now.trees)
+        → ¬ (IsErrOf result Damaged) }
+    ensures read { OnlyReads (state S.Store conn.old) (state S.Store conn.new) result }
 {
     let items = watched_by(alloc, conn, member)?;
     Ok(items.len() as u64)
@@ -47,14 +49,17 @@ fn add_item<S: Alter>(
     items: &mut Vec<Item>,
 ) -> Result<(), KeepFault>
     requires { Serves (state S.Store conn.old) }
-    ensures items { HasCleanDisk (state S.Store conn.new) → OnOk result (items.new.items ≡ items.old.items ++ item_found (state S.Store conn.old).now.trees number) }
-    ensures fits { AllByRecursion ItemFits items.old.items → OnOk result (AllByRecursion ItemFits items.new.items) }
-    ensures stands { AllByRecursion (λ it. Stands bands.now it.terms) items.old.items → OnOk result (AllByRecursion (λ it. Stands bands.now it.terms) items.new.items) }
-    ensures damaged { HasCleanDisk (state S.Store conn.new) → AllByRecursion (ItemRowFits bands.now) (items_in (state S.Store conn.old).now.trees) → ¬ (IsErrOf result Damaged) }
-    ensures same { HasCleanDisk (state S.Store conn.new) → OnOk result (IsUnchanged (state S.Store conn.old) (state S.Store conn.new)) }
-    ensures err { HasCleanDisk (state S.Store conn.new) → OnErr result (KeepsCommitted (state S.Store conn.old) (state S.Store conn.new)) }
-    ensures mode { conn.old.in_transaction ≡ false → conn.new.in_transaction ≡ false }
-    ensures crash { Survives (state S.Store conn.old) (state S.Store conn.new) (λ _. ⊥) }
+    ensures items { HasCleanDisk (state S.Store conn.new)
+        → OnOk result (items.new.items ≡ items.old.items
+        ++ item_found (state S.Store conn.old).now.trees number) }
+    ensures fits { AllByRecursion ItemFits items.old.items
+        → OnOk result (AllByRecursion ItemFits items.new.items) }
+    ensures stands { AllByRecursion (λ it. Stands bands.now it.terms) items.old.items
+        → OnOk result (AllByRecursion (λ it. Stands bands.now it.terms) items.new.items) }
+    ensures damaged { HasCleanDisk (state S.Store conn.new)
+        → AllByRecursion (ItemRowFits bands.now) (items_in (state S.Store conn.old).now.trees)
+        → ¬ (IsErrOf result Damaged) }
+    ensures read { OnlyReads (state S.Store conn.old) (state S.Store conn.new) result }
 {
     match item_at(conn, bands, number)? {
         Some(item) => push(items, item),
@@ -70,15 +75,17 @@ fn items_at<S: Alter>(
     numbers: &[u32],
 ) -> Result<Vec<Item>, KeepFault>
     requires { Serves (state S.Store conn.old) }
-    ensures items { HasCleanDisk (state S.Store conn.new) → IfOk result (λ items. items.items ≡ flat_map (item_found (state S.Store conn.old).now.trees) numbers.now) }
+    ensures items { HasCleanDisk (state S.Store conn.new)
+        → IfOk result (λ items. items.items ≡ flat_map
+        (item_found (state S.Store conn.old).now.trees) numbers.now) }
     ensures fits { IfOk result (λ items. AllByRecursion ItemFits items.items) }
-    ensures stands { IfOk result (λ items. AllByRecursion (λ it. Stands bands.now it.terms) items.items) }
+    ensures stands { IfOk result (λ items. AllByRecursion
+        (λ it. Stands bands.now it.terms) items.items) }
     ensures small { AllByRecursion (λ n. n < 2 ^ 64) numbers.now }
-    ensures damaged { HasCleanDisk (state S.Store conn.new) → AllByRecursion (ItemRowFits bands.now) (items_in (state S.Store conn.old).now.trees) → ¬ (IsErrOf result Damaged) }
-    ensures same { HasCleanDisk (state S.Store conn.new) → OnOk result (IsUnchanged (state S.Store conn.old) (state S.Store conn.new)) }
-    ensures err { HasCleanDisk (state S.Store conn.new) → OnErr result (KeepsCommitted (state S.Store conn.old) (state S.Store conn.new)) }
-    ensures mode { conn.old.in_transaction ≡ false → conn.new.in_transaction ≡ false }
-    ensures crash { Survives (state S.Store conn.old) (state S.Store conn.new) (λ _. ⊥) }
+    ensures damaged { HasCleanDisk (state S.Store conn.new)
+        → AllByRecursion (ItemRowFits bands.now) (items_in (state S.Store conn.old).now.trees)
+        → ¬ (IsErrOf result Damaged) }
+    ensures read { OnlyReads (state S.Store conn.old) (state S.Store conn.new) result }
 {
     let mut items = Vec::new(alloc);
     for number in numbers {
@@ -98,14 +105,16 @@ pub fn items_watched<S: Alter>(
     member: u32,
 ) -> Result<Vec<Item>, KeepFault>
     requires { Serves (state S.Store conn.old) }
-    ensures value { HasCleanDisk (state S.Store conn.new) → IfOk result (λ items. items.items ≡ items_watched (tables_in (state S.Store conn.old).now.trees) member) }
+    ensures value { HasCleanDisk (state S.Store conn.new)
+        → IfOk result (λ items. items.items ≡ items_watched
+        (tables_in (state S.Store conn.old).now.trees) member) }
     ensures fits { IfOk result (λ items. AllByRecursion ItemFits items.items) }
-    ensures stands { IfOk result (λ items. AllByRecursion (λ it. Stands bands.now it.terms) items.items) }
-    ensures damaged { HasCleanDisk (state S.Store conn.new) → AreSoundBy bands.now (tables_in (state S.Store conn.old).now.trees) → ¬ (IsErrOf result Damaged) }
-    ensures same { HasCleanDisk (state S.Store conn.new) → OnOk result (IsUnchanged (state S.Store conn.old) (state S.Store conn.new)) }
-    ensures err { HasCleanDisk (state S.Store conn.new) → OnErr result (KeepsCommitted (state S.Store conn.old) (state S.Store conn.new)) }
-    ensures mode { conn.old.in_transaction ≡ false → conn.new.in_transaction ≡ false }
-    ensures crash { Survives (state S.Store conn.old) (state S.Store conn.new) (λ _. ⊥) }
+    ensures stands { IfOk result (λ items. AllByRecursion
+        (λ it. Stands bands.now it.terms) items.items) }
+    ensures damaged { HasCleanDisk (state S.Store conn.new)
+        → AreSoundBy bands.now (tables_in (state S.Store conn.old).now.trees)
+        → ¬ (IsErrOf result Damaged) }
+    ensures read { OnlyReads (state S.Store conn.old) (state S.Store conn.new) result }
 {
     let numbers = watched_by(alloc, conn, member)?;
     items_at(alloc, conn, bands, &numbers)

@@ -7,7 +7,7 @@ use Rattle.sqlite.specs.State.{State, HasCleanDisk, IsUnchanged, Survives}
 use Rattle.sqlite.proofs.StateLemmas.{survives_then}
 use Rattle.house_rows.specs.declared.change.Change.{Change}
 use Rattle.store_lists.specs.Tables.{Changes}
-use Rattle.store_entries.specs.Entries.{MadeBy}
+use Rattle.store_lists.specs.Commits.{MadeBy}
 
 -- A commit leaves the change that was made in the transaction, or what was there.
 pub survives_commit : {S : Type 0} (g : Ghosts S) (old begun mid : Held S) (new : State) (change : Change) → begun ≡ record old { in_transaction = true }

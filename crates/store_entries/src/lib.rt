@@ -2,8 +2,8 @@
 //!
 //! Promised: what answers Ok has made the whole change and committed it; an error leaves what was
 //! committed before; a crash leaves the tables before the change or after it. Read
-//! `specs/Entries.antt` first, which names these, then `store_lists/specs/Tables.antt`, which says
-//! what tables a database holds.
+//! `store_lists/specs/Commits.antt` first, which names these, then `specs/Tables.antt` there, which
+//! says what tables a database holds.
 //!
 //! A change is `Damaged` where its new key is taken, where its moment has more than 32 bits, or
 //! where a row that it looks up does not fit.

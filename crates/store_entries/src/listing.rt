@@ -1,15 +1,16 @@
 //! New items.
-ghost use Rattle.std.specs.Prelude.{◌≡◌, ◌+◌, false, length, OnOk, OnErr, IsTrue, IsErrOf};
-ghost use Rattle.sqlite.specs.State.{HasCleanDisk, KeepsCommit, Survives};
+ghost use Rattle.std.specs.Prelude.{◌≡◌, ◌+◌, false, length, OnOk, IsTrue, IsErrOf};
+ghost use Rattle.sqlite.specs.State.{HasCleanDisk};
 ghost use Rattle.sqlite.specs.Held.{state};
 ghost use Rattle.house_rows.specs.Asks.{ChangeFits, IsFree};
 ghost use Rattle.house_rows.specs.Keeping.{AreSound};
 ghost use Rattle.house_rows.specs.declared.fault.KeepFault.TheVariants.{Damaged};
-ghost use Rattle.store_rows.specs.House.{IsInside, Serves};
+ghost use Rattle.store_rows.specs.House.{Serves};
 ghost use Rattle.store_rows.specs.ItemRows.{items_in};
 ghost use Rattle.store_lists.specs.Tables.{Changes, IsNumbered, Rests, tables_in};
-ghost use Rattle.store_entries.specs.Entries.{IsBack, IsMade, LeavesShown, MadeBy};
 ghost use Rattle.store_entries.specs.Listed.{listed, offered};
+ghost use Rattle.store_rows.specs.Frames.{WritesMany};
+ghost use Rattle.store_lists.specs.Commits.{Commits};
 
 use crate::moment::stored_moment;
 use cents::Cents;
@@ -47,15 +48,19 @@ fn list_within<S: Alter>(
     offer: &Offer<'_>,
 ) -> Result<(), KeepFault>
     requires serves { Serves (state S.Store tx.old.conn.now) }
-    requires numbered { HasCleanDisk (state S.Store tx.old.conn.now) → IsNumbered (state S.Store tx.old.conn.now).now.trees }
-    requires begun { HasCleanDisk (state S.Store tx.old.conn.now) → IsTrue tx.old.conn.now.in_transaction }
-    requires next { HasCleanDisk (state S.Store tx.old.conn.now) → number ≡ length (items_in (state S.Store tx.old.conn.now).now.trees) + 1 }
+    requires numbered { HasCleanDisk (state S.Store tx.old.conn.now)
+        → IsNumbered (state S.Store tx.old.conn.now).now.trees }
+    requires begun { HasCleanDisk (state S.Store tx.old.conn.now)
+        → IsTrue tx.old.conn.now.in_transaction }
+    requires next { HasCleanDisk (state S.Store tx.old.conn.now)
+        → number ≡ length (items_in (state S.Store tx.old.conn.now).now.trees) + 1 }
     ensures same_reference { tx.new.conn.ghost_name ≡ tx.old.conn.ghost_name }
-    ensures ok { HasCleanDisk (state S.Store tx.new.conn.now) → OnOk result (Changes (offered moment offer.now) (state S.Store tx.old.conn.now).now (state S.Store tx.new.conn.now).now) }
+    ensures ok { HasCleanDisk (state S.Store tx.new.conn.now)
+        → OnOk result (Changes (offered moment offer.now) (state S.Store tx.old.conn.now).now
+        (state S.Store tx.new.conn.now).now) }
     ensures sound { ¬ (IsErrOf result Damaged) }
-    ensures inside { HasCleanDisk (state S.Store tx.new.conn.now) → OnOk result (IsInside (state S.Store tx.old.conn.now) (state S.Store tx.new.conn.now)) }
-    ensures err { HasCleanDisk (state S.Store tx.new.conn.now) → OnErr result (KeepsCommit (state S.Store tx.old.conn.now) (state S.Store tx.new.conn.now)) }
-    ensures crash { Survives (state S.Store tx.old.conn.now) (state S.Store tx.new.conn.now) (λ _. ⊥) }
+    ensures write { WritesMany (state S.Store tx.old.conn.now)
+        (state S.Store tx.new.conn.now) result }
 {
     put_item(tx, number, offer)?;
     set_clock(tx, moment)
@@ -70,13 +75,11 @@ fn commit_list<S: Alter>(
 ) -> Result<(), KeepFault>
     requires rests { Rests (state S.Store conn.old) }
     requires mode { conn.old.in_transaction ≡ false }
-    requires numbered { HasCleanDisk (state S.Store conn.old) → number ≡ length (items_in (state S.Store conn.old).now.trees) + 1 }
-    ensures ok { HasCleanDisk (state S.Store conn.new) → OnOk result (IsMade (offered moment offer.now) (state S.Store conn.old) (state S.Store conn.new)) }
+    requires numbered { HasCleanDisk (state S.Store conn.old)
+        → number ≡ length (items_in (state S.Store conn.old).now.trees) + 1 }
+    ensures commit { Commits (offered moment offer.now) (state S.Store conn.old)
+        (state S.Store conn.new) result }
     ensures sound { ¬ (IsErrOf result Damaged) }
-    ensures err { HasCleanDisk (state S.Store conn.new) → IsTrue (state S.Store conn.new).is_open → OnErr result (IsBack (state S.Store conn.old) (state S.Store conn.new)) }
-    ensures only { HasCleanDisk (state S.Store conn.new) → OnOk result (LeavesShown (state S.Store conn.new)) }
-    ensures mode { conn.new.in_transaction ≡ false }
-    ensures crash { Survives (state S.Store conn.old) (state S.Store conn.new) (MadeBy (offered moment offer.now) (state S.Store conn.old)) }
 {
     let mut tx = conn.transaction();
     list_within(&mut tx, number, moment, offer)?;
@@ -96,14 +99,18 @@ pub fn list<S: Alter>(
 ) -> Result<(), KeepFault>
     requires rests { Rests (state S.Store conn.old) }
     requires mode { conn.old.in_transaction ≡ false }
-    requires numbered { HasCleanDisk (state S.Store conn.old) → number ≡ length (items_in (state S.Store conn.old).now.trees) + 1 }
-    ensures ok { HasCleanDisk (state S.Store conn.new) → OnOk result (IsMade (listed moment listing.now) (state S.Store conn.old) (state S.Store conn.new)) }
-    ensures taken { HasCleanDisk (state S.Store conn.new) → OnOk result (IsFree (tables_in (state S.Store conn.old).now.trees) (listed moment listing.now)) }
-    ensures damaged { HasCleanDisk (state S.Store conn.new) → AreSound (tables_in (state S.Store conn.old).now.trees) → ChangeFits (tables_in (state S.Store conn.old).now.trees) (listed moment listing.now) → IsFree (tables_in (state S.Store conn.old).now.trees) (listed moment listing.now) → ¬ (IsErrOf result Damaged) }
-    ensures err { HasCleanDisk (state S.Store conn.new) → IsTrue (state S.Store conn.new).is_open → OnErr result (IsBack (state S.Store conn.old) (state S.Store conn.new)) }
-    ensures only { HasCleanDisk (state S.Store conn.new) → OnOk result (LeavesShown (state S.Store conn.new)) }
-    ensures mode { conn.new.in_transaction ≡ false }
-    ensures crash { Survives (state S.Store conn.old) (state S.Store conn.new) (MadeBy (listed moment listing.now) (state S.Store conn.old)) }
+    requires numbered { HasCleanDisk (state S.Store conn.old)
+        → number ≡ length (items_in (state S.Store conn.old).now.trees) + 1 }
+    ensures commit { Commits (listed moment listing.now) (state S.Store conn.old)
+        (state S.Store conn.new) result }
+    ensures taken { HasCleanDisk (state S.Store conn.new)
+        → OnOk result (IsFree (tables_in (state S.Store conn.old).now.trees)
+        (listed moment listing.now)) }
+    ensures damaged { HasCleanDisk (state S.Store conn.new)
+        → AreSound (tables_in (state S.Store conn.old).now.trees)
+        → ChangeFits (tables_in (state S.Store conn.old).now.trees) (listed moment listing.now)
+        → IsFree (tables_in (state S.Store conn.old).now.trees) (listed moment listing.now)
+        → ¬ (IsErrOf result Damaged) }
 {
     let moment = stored_moment(moment)?;
     let end = stored_moment(listing.end)?;

@@ -1,15 +1,16 @@
 //! New members and categories.
-ghost use Rattle.std.specs.Prelude.{◌≡◌, ◌+◌, false, length, OnOk, OnErr, IsTrue, IsErrOf};
-ghost use Rattle.sqlite.specs.State.{HasCleanDisk, KeepsCommit, Survives};
+ghost use Rattle.std.specs.Prelude.{◌≡◌, ◌+◌, false, length, OnOk, IsTrue, IsErrOf};
+ghost use Rattle.sqlite.specs.State.{HasCleanDisk};
 ghost use Rattle.sqlite.specs.Held.{state};
 ghost use Rattle.house_rows.specs.Asks.{ChangeFits, IsFree};
 ghost use Rattle.house_rows.specs.Keeping.{AreSound};
 ghost use Rattle.house_rows.specs.declared.change.Change.TheVariants.{AddCategory, Register};
 ghost use Rattle.house_rows.specs.declared.fault.KeepFault.TheVariants.{Damaged};
-ghost use Rattle.store_rows.specs.House.{IsInside, Serves};
+ghost use Rattle.store_rows.specs.House.{Serves};
 ghost use Rattle.store_rows.specs.Rows.{categories_in, members_in};
 ghost use Rattle.store_lists.specs.Tables.{Changes, IsNumbered, Rests, tables_in};
-ghost use Rattle.store_entries.specs.Entries.{IsBack, IsMade, LeavesShown, MadeBy};
+ghost use Rattle.store_rows.specs.Frames.{WritesMany};
+ghost use Rattle.store_lists.specs.Commits.{Commits};
 
 use crate::moment::stored_moment;
 use house_rows::KeepFault;
@@ -24,15 +25,19 @@ fn register_within<S: Alter>(
     name: &str,
 ) -> Result<(), KeepFault>
     requires serves { Serves (state S.Store tx.old.conn.now) }
-    requires numbered { HasCleanDisk (state S.Store tx.old.conn.now) → IsNumbered (state S.Store tx.old.conn.now).now.trees }
-    requires begun { HasCleanDisk (state S.Store tx.old.conn.now) → IsTrue tx.old.conn.now.in_transaction }
-    requires next { HasCleanDisk (state S.Store tx.old.conn.now) → number ≡ length (members_in (state S.Store tx.old.conn.now).now.trees) + 1 }
+    requires numbered { HasCleanDisk (state S.Store tx.old.conn.now)
+        → IsNumbered (state S.Store tx.old.conn.now).now.trees }
+    requires begun { HasCleanDisk (state S.Store tx.old.conn.now)
+        → IsTrue tx.old.conn.now.in_transaction }
+    requires next { HasCleanDisk (state S.Store tx.old.conn.now)
+        → number ≡ length (members_in (state S.Store tx.old.conn.now).now.trees) + 1 }
     ensures same_reference { tx.new.conn.ghost_name ≡ tx.old.conn.ghost_name }
-    ensures ok { HasCleanDisk (state S.Store tx.new.conn.now) → OnOk result (Changes (Register moment name.entry) (state S.Store tx.old.conn.now).now (state S.Store tx.new.conn.now).now) }
+    ensures ok { HasCleanDisk (state S.Store tx.new.conn.now)
+        → OnOk result (Changes (Register moment name.entry) (state S.Store tx.old.conn.now).now
+        (state S.Store tx.new.conn.now).now) }
     ensures sound { ¬ (IsErrOf result Damaged) }
-    ensures inside { HasCleanDisk (state S.Store tx.new.conn.now) → OnOk result (IsInside (state S.Store tx.old.conn.now) (state S.Store tx.new.conn.now)) }
-    ensures err { HasCleanDisk (state S.Store tx.new.conn.now) → OnErr result (KeepsCommit (state S.Store tx.old.conn.now) (state S.Store tx.new.conn.now)) }
-    ensures crash { Survives (state S.Store tx.old.conn.now) (state S.Store tx.new.conn.now) (λ _. ⊥) }
+    ensures write { WritesMany (state S.Store tx.old.conn.now)
+        (state S.Store tx.new.conn.now) result }
 {
     put_member(tx, number, name)?;
     set_clock(tx, moment)
@@ -47,13 +52,11 @@ fn commit_register<S: Alter>(
 ) -> Result<(), KeepFault>
     requires rests { Rests (state S.Store conn.old) }
     requires mode { conn.old.in_transaction ≡ false }
-    requires numbered { HasCleanDisk (state S.Store conn.old) → number ≡ length (members_in (state S.Store conn.old).now.trees) + 1 }
-    ensures ok { HasCleanDisk (state S.Store conn.new) → OnOk result (IsMade (Register moment name.entry) (state S.Store conn.old) (state S.Store conn.new)) }
+    requires numbered { HasCleanDisk (state S.Store conn.old)
+        → number ≡ length (members_in (state S.Store conn.old).now.trees) + 1 }
+    ensures commit { Commits (Register moment name.entry) (state S.Store conn.old)
+        (state S.Store conn.new) result }
     ensures sound { ¬ (IsErrOf result Damaged) }
-    ensures err { HasCleanDisk (state S.Store conn.new) → IsTrue (state S.Store conn.new).is_open → OnErr result (IsBack (state S.Store conn.old) (state S.Store conn.new)) }
-    ensures only { HasCleanDisk (state S.Store conn.new) → OnOk result (LeavesShown (state S.Store conn.new)) }
-    ensures mode { conn.new.in_transaction ≡ false }
-    ensures crash { Survives (state S.Store conn.old) (state S.Store conn.new) (MadeBy (Register moment name.entry) (state S.Store conn.old)) }
 {
     let mut tx = conn.transaction();
     register_within(&mut tx, number, moment, name)?;
@@ -73,14 +76,18 @@ pub fn register<S: Alter>(
 ) -> Result<(), KeepFault>
     requires rests { Rests (state S.Store conn.old) }
     requires mode { conn.old.in_transaction ≡ false }
-    requires numbered { HasCleanDisk (state S.Store conn.old) → number ≡ length (members_in (state S.Store conn.old).now.trees) + 1 }
-    ensures ok { HasCleanDisk (state S.Store conn.new) → OnOk result (IsMade (Register moment name.entry) (state S.Store conn.old) (state S.Store conn.new)) }
-    ensures taken { HasCleanDisk (state S.Store conn.new) → OnOk result (IsFree (tables_in (state S.Store conn.old).now.trees) (Register moment name.entry)) }
-    ensures damaged { HasCleanDisk (state S.Store conn.new) → AreSound (tables_in (state S.Store conn.old).now.trees) → ChangeFits (tables_in (state S.Store conn.old).now.trees) (Register moment name.entry) → IsFree (tables_in (state S.Store conn.old).now.trees) (Register moment name.entry) → ¬ (IsErrOf result Damaged) }
-    ensures err { HasCleanDisk (state S.Store conn.new) → IsTrue (state S.Store conn.new).is_open → OnErr result (IsBack (state S.Store conn.old) (state S.Store conn.new)) }
-    ensures only { HasCleanDisk (state S.Store conn.new) → OnOk result (LeavesShown (state S.Store conn.new)) }
-    ensures mode { conn.new.in_transaction ≡ false }
-    ensures crash { Survives (state S.Store conn.old) (state S.Store conn.new) (MadeBy (Register moment name.entry) (state S.Store conn.old)) }
+    requires numbered { HasCleanDisk (state S.Store conn.old)
+        → number ≡ length (members_in (state S.Store conn.old).now.trees) + 1 }
+    ensures commit { Commits (Register moment name.entry) (state S.Store conn.old)
+        (state S.Store conn.new) result }
+    ensures taken { HasCleanDisk (state S.Store conn.new)
+        → OnOk result (IsFree (tables_in (state S.Store conn.old).now.trees)
+        (Register moment name.entry)) }
+    ensures damaged { HasCleanDisk (state S.Store conn.new)
+        → AreSound (tables_in (state S.Store conn.old).now.trees)
+        → ChangeFits (tables_in (state S.Store conn.old).now.trees) (Register moment name.entry)
+        → IsFree (tables_in (state S.Store conn.old).now.trees) (Register moment name.entry)
+        → ¬ (IsErrOf result Damaged) }
 {
     let moment = stored_moment(moment)?;
     if member_named(conn, name)?.is_some() {
@@ -97,15 +104,19 @@ fn add_category_within<S: Alter>(
     name: &str,
 ) -> Result<(), KeepFault>
     requires serves { Serves (state S.Store tx.old.conn.now) }
-    requires numbered { HasCleanDisk (state S.Store tx.old.conn.now) → IsNumbered (state S.Store tx.old.conn.now).now.trees }
-    requires begun { HasCleanDisk (state S.Store tx.old.conn.now) → IsTrue tx.old.conn.now.in_transaction }
-    requires next { HasCleanDisk (state S.Store tx.old.conn.now) → number ≡ length (categories_in (state S.Store tx.old.conn.now).now.trees) + 1 }
+    requires numbered { HasCleanDisk (state S.Store tx.old.conn.now)
+        → IsNumbered (state S.Store tx.old.conn.now).now.trees }
+    requires begun { HasCleanDisk (state S.Store tx.old.conn.now)
+        → IsTrue tx.old.conn.now.in_transaction }
+    requires next { HasCleanDisk (state S.Store tx.old.conn.now)
+        → number ≡ length (categories_in (state S.Store tx.old.conn.now).now.trees) + 1 }
     ensures same_reference { tx.new.conn.ghost_name ≡ tx.old.conn.ghost_name }
-    ensures ok { HasCleanDisk (state S.Store tx.new.conn.now) → OnOk result (Changes (AddCategory moment name.entry) (state S.Store tx.old.conn.now).now (state S.Store tx.new.conn.now).now) }
+    ensures ok { HasCleanDisk (state S.Store tx.new.conn.now)
+        → OnOk result (Changes (AddCategory moment name.entry) (state S.Store tx.old.conn.now).now
+        (state S.Store tx.new.conn.now).now) }
     ensures sound { ¬ (IsErrOf result Damaged) }
-    ensures inside { HasCleanDisk (state S.Store tx.new.conn.now) → OnOk result (IsInside (state S.Store tx.old.conn.now) (state S.Store tx.new.conn.now)) }
-    ensures err { HasCleanDisk (state S.Store tx.new.conn.now) → OnErr result (KeepsCommit (state S.Store tx.old.conn.now) (state S.Store tx.new.conn.now)) }
-    ensures crash { Survives (state S.Store tx.old.conn.now) (state S.Store tx.new.conn.now) (λ _. ⊥) }
+    ensures write { WritesMany (state S.Store tx.old.conn.now)
+        (state S.Store tx.new.conn.now) result }
 {
     put_category(tx, number, name)?;
     set_clock(tx, moment)
@@ -120,13 +131,11 @@ fn commit_add_category<S: Alter>(
 ) -> Result<(), KeepFault>
     requires rests { Rests (state S.Store conn.old) }
     requires mode { conn.old.in_transaction ≡ false }
-    requires numbered { HasCleanDisk (state S.Store conn.old) → number ≡ length (categories_in (state S.Store conn.old).now.trees) + 1 }
-    ensures ok { HasCleanDisk (state S.Store conn.new) → OnOk result (IsMade (AddCategory moment name.entry) (state S.Store conn.old) (state S.Store conn.new)) }
+    requires numbered { HasCleanDisk (state S.Store conn.old)
+        → number ≡ length (categories_in (state S.Store conn.old).now.trees) + 1 }
+    ensures commit { Commits (AddCategory moment name.entry) (state S.Store conn.old)
+        (state S.Store conn.new) result }
     ensures sound { ¬ (IsErrOf result Damaged) }
-    ensures err { HasCleanDisk (state S.Store conn.new) → IsTrue (state S.Store conn.new).is_open → OnErr result (IsBack (state S.Store conn.old) (state S.Store conn.new)) }
-    ensures only { HasCleanDisk (state S.Store conn.new) → OnOk result (LeavesShown (state S.Store conn.new)) }
-    ensures mode { conn.new.in_transaction ≡ false }
-    ensures crash { Survives (state S.Store conn.old) (state S.Store conn.new) (MadeBy (AddCategory moment name.entry) (state S.Store conn.old)) }
 {
     let mut tx = conn.transaction();
     add_category_within(&mut tx, number, moment, name)?;
@@ -146,14 +155,18 @@ pub fn add_category<S: Alter>(
 ) -> Result<(), KeepFault>
     requires rests { Rests (state S.Store conn.old) }
     requires mode { conn.old.in_transaction ≡ false }
-    requires numbered { HasCleanDisk (state S.Store conn.old) → number ≡ length (categories_in (state S.Store conn.old).now.trees) + 1 }
-    ensures ok { HasCleanDisk (state S.Store conn.new) → OnOk result (IsMade (AddCategory moment name.entry) (state S.Store conn.old) (state S.Store conn.new)) }
-    ensures taken { HasCleanDisk (state S.Store conn.new) → OnOk result (IsFree (tables_in (state S.Store conn.old).now.trees) (AddCategory moment name.entry)) }
-    ensures damaged { HasCleanDisk (state S.Store conn.new) → AreSound (tables_in (state S.Store conn.old).now.trees) → ChangeFits (tables_in (state S.Store conn.old).now.trees) (AddCategory moment name.entry) → IsFree (tables_in (state S.Store conn.old).now.trees) (AddCategory moment name.entry) → ¬ (IsErrOf result Damaged) }
-    ensures err { HasCleanDisk (state S.Store conn.new) → IsTrue (state S.Store conn.new).is_open → OnErr result (IsBack (state S.Store conn.old) (state S.Store conn.new)) }
-    ensures only { HasCleanDisk (state S.Store conn.new) → OnOk result (LeavesShown (state S.Store conn.new)) }
-    ensures mode { conn.new.in_transaction ≡ false }
-    ensures crash { Survives (state S.Store conn.old) (state S.Store conn.new) (MadeBy (AddCategory moment name.entry) (state S.Store conn.old)) }
+    requires numbered { HasCleanDisk (state S.Store conn.old)
+        → number ≡ length (categories_in (state S.Store conn.old).now.trees) + 1 }
+    ensures commit { Commits (AddCategory moment name.entry) (state S.Store conn.old)
+        (state S.Store conn.new) result }
+    ensures taken { HasCleanDisk (state S.Store conn.new)
+        → OnOk result (IsFree (tables_in (state S.Store conn.old).now.trees)
+        (AddCategory moment name.entry)) }
+    ensures damaged { HasCleanDisk (state S.Store conn.new)
+        → AreSound (tables_in (state S.Store conn.old).now.trees)
+        → ChangeFits (tables_in (state S.Store conn.old).now.trees) (AddCategory moment name.entry)
+        → IsFree (tables_in (state S.Store conn.old).now.trees) (AddCategory moment name.entry)
+        → ¬ (IsErrOf result Damaged) }
 {
     let moment = stored_moment(moment)?;
     if category_named(conn, name)?.is_some() {

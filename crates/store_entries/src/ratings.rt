@@ -1,14 +1,15 @@
 //! Feedback between the parties of a sale.
-ghost use Rattle.std.specs.Prelude.{◌≡◌, false, OnOk, OnErr, IsTrue, IsErrOf};
-ghost use Rattle.sqlite.specs.State.{HasCleanDisk, KeepsCommit, Survives};
+ghost use Rattle.std.specs.Prelude.{◌≡◌, false, OnOk, IsTrue, IsErrOf};
+ghost use Rattle.sqlite.specs.State.{HasCleanDisk};
 ghost use Rattle.sqlite.specs.Held.{state};
 ghost use Rattle.house_rows.specs.Asks.{ChangeFits, IsFree};
 ghost use Rattle.house_rows.specs.Keeping.{AreSound};
 ghost use Rattle.house_rows.specs.declared.change.Change.TheVariants.{Feedback};
 ghost use Rattle.house_rows.specs.declared.fault.KeepFault.TheVariants.{Damaged};
-ghost use Rattle.store_rows.specs.House.{IsInside, Serves};
+ghost use Rattle.store_rows.specs.House.{Serves};
 ghost use Rattle.store_lists.specs.Tables.{Changes, IsNumbered, Rests, tables_in};
-ghost use Rattle.store_entries.specs.Entries.{IsBack, IsMade, LeavesShown, MadeBy};
+ghost use Rattle.store_rows.specs.Frames.{WritesMany};
+ghost use Rattle.store_lists.specs.Commits.{Commits};
 
 use crate::moment::stored_moment;
 use house_rows::{KeepFault, Rating};
@@ -27,14 +28,17 @@ fn give_within<S: Alter>(
     text: &str,
 ) -> Result<(), KeepFault>
     requires serves { Serves (state S.Store tx.old.conn.now) }
-    requires numbered { HasCleanDisk (state S.Store tx.old.conn.now) → IsNumbered (state S.Store tx.old.conn.now).now.trees }
-    requires begun { HasCleanDisk (state S.Store tx.old.conn.now) → IsTrue tx.old.conn.now.in_transaction }
+    requires numbered { HasCleanDisk (state S.Store tx.old.conn.now)
+        → IsNumbered (state S.Store tx.old.conn.now).now.trees }
+    requires begun { HasCleanDisk (state S.Store tx.old.conn.now)
+        → IsTrue tx.old.conn.now.in_transaction }
     ensures same_reference { tx.new.conn.ghost_name ≡ tx.old.conn.ghost_name }
-    ensures ok { HasCleanDisk (state S.Store tx.new.conn.now) → OnOk result (Changes (Feedback moment item from to rating text.entry) (state S.Store tx.old.conn.now).now (state S.Store tx.new.conn.now).now) }
+    ensures ok { HasCleanDisk (state S.Store tx.new.conn.now)
+        → OnOk result (Changes (Feedback moment item from to rating text.entry)
+        (state S.Store tx.old.conn.now).now (state S.Store tx.new.conn.now).now) }
     ensures sound { ¬ (IsErrOf result Damaged) }
-    ensures inside { HasCleanDisk (state S.Store tx.new.conn.now) → OnOk result (IsInside (state S.Store tx.old.conn.now) (state S.Store tx.new.conn.now)) }
-    ensures err { HasCleanDisk (state S.Store tx.new.conn.now) → OnErr result (KeepsCommit (state S.Store tx.old.conn.now) (state S.Store tx.new.conn.now)) }
-    ensures crash { Survives (state S.Store tx.old.conn.now) (state S.Store tx.new.conn.now) (λ _. ⊥) }
+    ensures write { WritesMany (state S.Store tx.old.conn.now)
+        (state S.Store tx.new.conn.now) result }
 {
     put_feedback(tx, item, from, to, rating, text)?;
     set_clock(tx, moment)
@@ -52,12 +56,9 @@ fn commit_feedback<S: Alter>(
 ) -> Result<(), KeepFault>
     requires rests { Rests (state S.Store conn.old) }
     requires mode { conn.old.in_transaction ≡ false }
-    ensures ok { HasCleanDisk (state S.Store conn.new) → OnOk result (IsMade (Feedback moment item from to rating text.entry) (state S.Store conn.old) (state S.Store conn.new)) }
+    ensures commit { Commits (Feedback moment item from to rating text.entry)
+        (state S.Store conn.old) (state S.Store conn.new) result }
     ensures sound { ¬ (IsErrOf result Damaged) }
-    ensures err { HasCleanDisk (state S.Store conn.new) → IsTrue (state S.Store conn.new).is_open → OnErr result (IsBack (state S.Store conn.old) (state S.Store conn.new)) }
-    ensures only { HasCleanDisk (state S.Store conn.new) → OnOk result (LeavesShown (state S.Store conn.new)) }
-    ensures mode { conn.new.in_transaction ≡ false }
-    ensures crash { Survives (state S.Store conn.old) (state S.Store conn.new) (MadeBy (Feedback moment item from to rating text.entry) (state S.Store conn.old)) }
 {
     let mut tx = conn.transaction();
     give_within(&mut tx, moment, item, from, to, rating, text)?;
@@ -80,13 +81,18 @@ pub fn give_feedback<S: Alter>(
 ) -> Result<(), KeepFault>
     requires rests { Rests (state S.Store conn.old) }
     requires mode { conn.old.in_transaction ≡ false }
-    ensures ok { HasCleanDisk (state S.Store conn.new) → OnOk result (IsMade (Feedback moment item from to rating text.entry) (state S.Store conn.old) (state S.Store conn.new)) }
-    ensures taken { HasCleanDisk (state S.Store conn.new) → OnOk result (IsFree (tables_in (state S.Store conn.old).now.trees) (Feedback moment item from to rating text.entry)) }
-    ensures damaged { HasCleanDisk (state S.Store conn.new) → AreSound (tables_in (state S.Store conn.old).now.trees) → ChangeFits (tables_in (state S.Store conn.old).now.trees) (Feedback moment item from to rating text.entry) → IsFree (tables_in (state S.Store conn.old).now.trees) (Feedback moment item from to rating text.entry) → ¬ (IsErrOf result Damaged) }
-    ensures err { HasCleanDisk (state S.Store conn.new) → IsTrue (state S.Store conn.new).is_open → OnErr result (IsBack (state S.Store conn.old) (state S.Store conn.new)) }
-    ensures only { HasCleanDisk (state S.Store conn.new) → OnOk result (LeavesShown (state S.Store conn.new)) }
-    ensures mode { conn.new.in_transaction ≡ false }
-    ensures crash { Survives (state S.Store conn.old) (state S.Store conn.new) (MadeBy (Feedback moment item from to rating text.entry) (state S.Store conn.old)) }
+    ensures commit { Commits (Feedback moment item from to rating text.entry)
+        (state S.Store conn.old) (state S.Store conn.new) result }
+    ensures taken { HasCleanDisk (state S.Store conn.new)
+        → OnOk result (IsFree (tables_in (state S.Store conn.old).now.trees)
+        (Feedback moment item from to rating text.entry)) }
+    ensures damaged { HasCleanDisk (state S.Store conn.new)
+        → AreSound (tables_in (state S.Store conn.old).now.trees)
+        → ChangeFits (tables_in (state S.Store conn.old).now.trees)
+        (Feedback moment item from to rating text.entry)
+        → IsFree (tables_in (state S.Store conn.old).now.trees)
+        (Feedback moment item from to rating text.entry)
+        → ¬ (IsErrOf result Damaged) }
 {
     let moment = stored_moment(moment)?;
     let given = is_given(conn, item, from)?;

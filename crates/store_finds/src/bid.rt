@@ -1,13 +1,14 @@
 //! Bids, by item and number.
-ghost use Rattle.std.specs.Prelude.{◌≡◌, ◌==◌, ◌&&◌, false, filter, IfOk, OnOk, OnErr, IsErrOf};
+ghost use Rattle.std.specs.Prelude.{◌≡◌, ◌==◌, ◌&&◌, filter, IfOk, IsErrOf};
 ghost use Rattle.std.specs.List.{AllByRecursion, list_any};
-ghost use Rattle.sqlite.specs.State.{HasCleanDisk, IsUnchanged, Survives};
+ghost use Rattle.sqlite.specs.State.{HasCleanDisk};
 ghost use Rattle.sqlite.specs.Held.{state};
 ghost use Rattle.house_rows.specs.Fits.{BidRowFits};
 ghost use Rattle.house_rows.specs.declared.fault.KeepFault.TheVariants.{Damaged};
-ghost use Rattle.store_rows.specs.House.{Serves, KeepsCommitted};
+ghost use Rattle.store_rows.specs.House.{Serves};
 ghost use Rattle.store_rows.specs.Rows.{bids_in};
 ghost use Rattle.store_lists.specs.Sorted.{sorted_bids};
+ghost use Rattle.store_rows.specs.Frames.{OnlyReads};
 
 use crate::placed::PlacedBid;
 use house_rows::KeepFault;
@@ -22,12 +23,11 @@ pub fn has_bid<S: Alter>(
     number: u32,
 ) -> Result<bool, KeepFault>
     requires { Serves (state S.Store conn.old) }
-    ensures found { HasCleanDisk (state S.Store conn.new) → IfOk result (λ is. is ≡ list_any (λ b. (b.item == item) && (b.bid.no == number)) (sorted_bids (state S.Store conn.old).now.trees)) }
+    ensures found { HasCleanDisk (state S.Store conn.new)
+        → IfOk result (λ is. is ≡ list_any (λ b. (b.item == item) && (b.bid.no == number))
+        (sorted_bids (state S.Store conn.old).now.trees)) }
     ensures sound { ¬ (IsErrOf result Damaged) }
-    ensures same { HasCleanDisk (state S.Store conn.new) → OnOk result (IsUnchanged (state S.Store conn.old) (state S.Store conn.new)) }
-    ensures err { HasCleanDisk (state S.Store conn.new) → OnErr result (KeepsCommitted (state S.Store conn.old) (state S.Store conn.new)) }
-    ensures mode { conn.old.in_transaction ≡ false → conn.new.in_transaction ≡ false }
-    ensures crash { Survives (state S.Store conn.old) (state S.Store conn.new) (λ _. ⊥) }
+    ensures read { OnlyReads (state S.Store conn.old) (state S.Store conn.new) result }
 {
     let rows = rows_shown(
         conn,
@@ -44,13 +44,14 @@ pub fn own_bid_rows<S: Alter>(
     member: u32,
 ) -> Result<Vec<PlacedBid>, KeepFault>
     requires { Serves (state S.Store conn.old) }
-    ensures bids { HasCleanDisk (state S.Store conn.new) → IfOk result (λ bids. bids.items ≡ filter (λ b. b.bid.member == member) (sorted_bids (state S.Store conn.old).now.trees)) }
+    ensures bids { HasCleanDisk (state S.Store conn.new)
+        → IfOk result (λ bids. bids.items ≡ filter (λ b. b.bid.member == member)
+        (sorted_bids (state S.Store conn.old).now.trees)) }
     ensures fits { IfOk result (λ bids. AllByRecursion BidRowFits bids.items) }
-    ensures damaged { HasCleanDisk (state S.Store conn.new) → AllByRecursion BidRowFits (bids_in (state S.Store conn.old).now.trees) → ¬ (IsErrOf result Damaged) }
-    ensures same { HasCleanDisk (state S.Store conn.new) → OnOk result (IsUnchanged (state S.Store conn.old) (state S.Store conn.new)) }
-    ensures err { HasCleanDisk (state S.Store conn.new) → OnErr result (KeepsCommitted (state S.Store conn.old) (state S.Store conn.new)) }
-    ensures mode { conn.old.in_transaction ≡ false → conn.new.in_transaction ≡ false }
-    ensures crash { Survives (state S.Store conn.old) (state S.Store conn.new) (λ _. ⊥) }
+    ensures damaged { HasCleanDisk (state S.Store conn.new)
+        → AllByRecursion BidRowFits (bids_in (state S.Store conn.old).now.trees)
+        → ¬ (IsErrOf result Damaged) }
+    ensures read { OnlyReads (state S.Store conn.old) (state S.Store conn.new) result }
 {
     let rows = rows_shown(
         conn,

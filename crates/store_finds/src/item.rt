@@ -1,7 +1,7 @@
 //! Items without their texts, by number.
-ghost use Rattle.std.specs.Prelude.{◌≡◌, ◌==◌, false, filter, map, IfOk, OnOk, OnErr, IsErrOf};
+ghost use Rattle.std.specs.Prelude.{◌≡◌, ◌==◌, filter, map, IfOk, IsErrOf};
 ghost use Rattle.std.specs.List.{AllByRecursion};
-ghost use Rattle.sqlite.specs.State.{HasCleanDisk, IsUnchanged, Survives};
+ghost use Rattle.sqlite.specs.State.{HasCleanDisk};
 ghost use Rattle.sqlite.specs.Held.{state};
 ghost use Rattle.proxy.specs.Bids.{is_leader};
 ghost use Rattle.house_rows.specs.Fits.{TermsFit};
@@ -9,8 +9,9 @@ ghost use Rattle.house_rows.specs.Items.{is_due};
 ghost use Rattle.house_rows.specs.Keeping.{ItemRowFits, Stands};
 ghost use Rattle.house_rows.specs.Tables.{ItemRow};
 ghost use Rattle.house_rows.specs.declared.fault.KeepFault.TheVariants.{Damaged};
-ghost use Rattle.store_rows.specs.House.{Serves, KeepsCommitted};
+ghost use Rattle.store_rows.specs.House.{Serves};
 ghost use Rattle.store_rows.specs.ItemRows.{items_in};
+ghost use Rattle.store_rows.specs.Frames.{OnlyReads};
 
 use house_rows::{KeepFault, Terms};
 use sqlite::{Alter, Connection, params};
@@ -27,14 +28,16 @@ pub fn terms_of_seller<S: Alter>(
     seller: u32,
 ) -> Result<Vec<Terms>, KeepFault>
     requires { Serves (state S.Store conn.old) }
-    ensures terms { HasCleanDisk (state S.Store conn.new) → IfOk result (λ terms. terms.items ≡ map (λ (row : ItemRow). row.item.terms) (filter (λ row. row.item.terms.seller == seller) (items_in (state S.Store conn.old).now.trees))) }
+    ensures terms { HasCleanDisk (state S.Store conn.new)
+        → IfOk result (λ terms. terms.items ≡ map (λ (row : ItemRow). row.item.terms)
+        (filter (λ row. row.item.terms.seller == seller)
+        (items_in (state S.Store conn.old).now.trees))) }
     ensures fits { IfOk result (λ terms. AllByRecursion TermsFit terms.items) }
     ensures stands { IfOk result (λ terms. AllByRecursion (Stands bands.now) terms.items) }
-    ensures damaged { HasCleanDisk (state S.Store conn.new) → AllByRecursion (ItemRowFits bands.now) (items_in (state S.Store conn.old).now.trees) → ¬ (IsErrOf result Damaged) }
-    ensures same { HasCleanDisk (state S.Store conn.new) → OnOk result (IsUnchanged (state S.Store conn.old) (state S.Store conn.new)) }
-    ensures err { HasCleanDisk (state S.Store conn.new) → OnErr result (KeepsCommitted (state S.Store conn.old) (state S.Store conn.new)) }
-    ensures mode { conn.old.in_transaction ≡ false → conn.new.in_transaction ≡ false }
-    ensures crash { Survives (state S.Store conn.old) (state S.Store conn.new) (λ _. ⊥) }
+    ensures damaged { HasCleanDisk (state S.Store conn.new)
+        → AllByRecursion (ItemRowFits bands.now) (items_in (state S.Store conn.old).now.trees)
+        → ¬ (IsErrOf result Damaged) }
+    ensures read { OnlyReads (state S.Store conn.old) (state S.Store conn.new) result }
 {
     let rows = rows_shown(
         conn,
@@ -52,14 +55,16 @@ pub fn terms_led_by<S: Alter>(
     member: u32,
 ) -> Result<Vec<Terms>, KeepFault>
     requires { Serves (state S.Store conn.old) }
-    ensures terms { HasCleanDisk (state S.Store conn.new) → IfOk result (λ terms. terms.items ≡ map (λ (row : ItemRow). row.item.terms) (filter (λ row. is_leader row.item.terms.leader member) (items_in (state S.Store conn.old).now.trees))) }
+    ensures terms { HasCleanDisk (state S.Store conn.new)
+        → IfOk result (λ terms. terms.items ≡ map (λ (row : ItemRow). row.item.terms)
+        (filter (λ row. is_leader row.item.terms.leader member)
+        (items_in (state S.Store conn.old).now.trees))) }
     ensures fits { IfOk result (λ terms. AllByRecursion TermsFit terms.items) }
     ensures stands { IfOk result (λ terms. AllByRecursion (Stands bands.now) terms.items) }
-    ensures damaged { HasCleanDisk (state S.Store conn.new) → AllByRecursion (ItemRowFits bands.now) (items_in (state S.Store conn.old).now.trees) → ¬ (IsErrOf result Damaged) }
-    ensures same { HasCleanDisk (state S.Store conn.new) → OnOk result (IsUnchanged (state S.Store conn.old) (state S.Store conn.new)) }
-    ensures err { HasCleanDisk (state S.Store conn.new) → OnErr result (KeepsCommitted (state S.Store conn.old) (state S.Store conn.new)) }
-    ensures mode { conn.old.in_transaction ≡ false → conn.new.in_transaction ≡ false }
-    ensures crash { Survives (state S.Store conn.old) (state S.Store conn.new) (λ _. ⊥) }
+    ensures damaged { HasCleanDisk (state S.Store conn.new)
+        → AllByRecursion (ItemRowFits bands.now) (items_in (state S.Store conn.old).now.trees)
+        → ¬ (IsErrOf result Damaged) }
+    ensures read { OnlyReads (state S.Store conn.old) (state S.Store conn.new) result }
 {
     let rows = rows_shown(
         conn,
@@ -78,14 +83,16 @@ pub fn due_terms<S: Alter>(
     moment: u32,
 ) -> Result<Vec<Terms>, KeepFault>
     requires { Serves (state S.Store conn.old) }
-    ensures terms { HasCleanDisk (state S.Store conn.new) → IfOk result (λ terms. terms.items ≡ map (λ (row : ItemRow). row.item.terms) (filter (λ row. is_due moment row.item.terms) (items_in (state S.Store conn.old).now.trees))) }
+    ensures terms { HasCleanDisk (state S.Store conn.new)
+        → IfOk result (λ terms. terms.items ≡ map (λ (row : ItemRow). row.item.terms)
+        (filter (λ row. is_due moment row.item.terms)
+        (items_in (state S.Store conn.old).now.trees))) }
     ensures fits { IfOk result (λ terms. AllByRecursion TermsFit terms.items) }
     ensures stands { IfOk result (λ terms. AllByRecursion (Stands bands.now) terms.items) }
-    ensures damaged { HasCleanDisk (state S.Store conn.new) → AllByRecursion (ItemRowFits bands.now) (items_in (state S.Store conn.old).now.trees) → ¬ (IsErrOf result Damaged) }
-    ensures same { HasCleanDisk (state S.Store conn.new) → OnOk result (IsUnchanged (state S.Store conn.old) (state S.Store conn.new)) }
-    ensures err { HasCleanDisk (state S.Store conn.new) → OnErr result (KeepsCommitted (state S.Store conn.old) (state S.Store conn.new)) }
-    ensures mode { conn.old.in_transaction ≡ false → conn.new.in_transaction ≡ false }
-    ensures crash { Survives (state S.Store conn.old) (state S.Store conn.new) (λ _. ⊥) }
+    ensures damaged { HasCleanDisk (state S.Store conn.new)
+        → AllByRecursion (ItemRowFits bands.now) (items_in (state S.Store conn.old).now.trees)
+        → ¬ (IsErrOf result Damaged) }
+    ensures read { OnlyReads (state S.Store conn.old) (state S.Store conn.new) result }
 {
     // An end below 0 is none of ours, so it never comes.
     let rows = rows_shown(

@@ -4,14 +4,11 @@ ghost use Rattle.house_rows.specs.Fits.{BidRowFits};
 ghost use Rattle.house_rows.specs.Limits.{most_items};
 ghost use Rattle.store_rows.specs.Rows.{bid_of};
 
-use house_rows::KeepFault;
+use house_rows::{KeepFault, MOST_ITEMS};
 use proxy::Bid;
 use sqlite::Row;
 use std::marker::Model;
 use store_rows::{Stored, number_at};
-
-// The greatest number of an item.
-const MOST_ITEMS: u32 = 1_000_000;
 
 /// A bid and the number of the item that it is on.
 #[derive(Clone, Copy, Debug)]

@@ -1,12 +1,13 @@
 //! Watches, by member and item.
-ghost use Rattle.std.specs.Prelude.{◌≡◌, false, IfOk, OnOk, OnErr, IsErrOf};
+ghost use Rattle.std.specs.Prelude.{◌≡◌, IfOk, IsErrOf};
 ghost use Rattle.std.specs.List.{list_any};
-ghost use Rattle.sqlite.specs.State.{HasCleanDisk, IsUnchanged, Survives};
+ghost use Rattle.sqlite.specs.State.{HasCleanDisk};
 ghost use Rattle.sqlite.specs.Held.{state};
 ghost use Rattle.house_rows.specs.Watches.{is_watch};
 ghost use Rattle.house_rows.specs.declared.fault.KeepFault.TheVariants.{Damaged};
-ghost use Rattle.store_rows.specs.House.{Serves, KeepsCommitted};
+ghost use Rattle.store_rows.specs.House.{Serves};
 ghost use Rattle.store_lists.specs.Sorted.{sorted_watches};
+ghost use Rattle.store_rows.specs.Frames.{OnlyReads};
 
 use house_rows::KeepFault;
 use sqlite::{Alter, Connection, params};
@@ -19,12 +20,11 @@ pub fn is_watched<S: Alter>(
     item: u32,
 ) -> Result<bool, KeepFault>
     requires { Serves (state S.Store conn.old) }
-    ensures found { HasCleanDisk (state S.Store conn.new) → IfOk result (λ is. is ≡ list_any (is_watch member item) (sorted_watches (state S.Store conn.old).now.trees)) }
+    ensures found { HasCleanDisk (state S.Store conn.new)
+        → IfOk result (λ is. is ≡ list_any (is_watch member item)
+        (sorted_watches (state S.Store conn.old).now.trees)) }
     ensures sound { ¬ (IsErrOf result Damaged) }
-    ensures same { HasCleanDisk (state S.Store conn.new) → OnOk result (IsUnchanged (state S.Store conn.old) (state S.Store conn.new)) }
-    ensures err { HasCleanDisk (state S.Store conn.new) → OnErr result (KeepsCommitted (state S.Store conn.old) (state S.Store conn.new)) }
-    ensures mode { conn.old.in_transaction ≡ false → conn.new.in_transaction ≡ false }
-    ensures crash { Survives (state S.Store conn.old) (state S.Store conn.new) (λ _. ⊥) }
+    ensures read { OnlyReads (state S.Store conn.old) (state S.Store conn.new) result }
 {
     let rows = rows_shown(
         conn,

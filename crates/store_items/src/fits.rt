@@ -2,10 +2,8 @@
 ghost use Rattle.std.specs.Prelude.{◌≡◌};
 ghost use Rattle.store_items.specs.Fitting.{standing_fits};
 
+use house_rows::MOST_MEMBERS;
 use proxy::{MOST_BIDS, Standing};
-
-// The greatest number of a member.
-const MOST_MEMBERS: u32 = 100_000;
 
 /// Whether a standing's leader and count fit.
 pub(crate) fn standing_fits(standing: &Standing) -> bool

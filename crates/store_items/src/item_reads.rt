@@ -1,6 +1,6 @@
 //! Look-ups in the table of items.
-ghost use Rattle.std.specs.Prelude.{◌≡◌, ◌==◌, ◌&&◌, false, find, map, option_map, IfOk, IfSome, IsErrOf, OnOk, OnErr};
-ghost use Rattle.sqlite.specs.State.{HasCleanDisk, IsUnchanged, Survives};
+ghost use Rattle.std.specs.Prelude.{◌≡◌, ◌==◌, ◌&&◌, find, map, option_map, IfOk, IfSome, IsErrOf};
+ghost use Rattle.sqlite.specs.State.{HasCleanDisk};
 ghost use Rattle.sqlite.specs.Held.{state};
 ghost use Rattle.house_rows.specs.Changed.{is_item};
 ghost use Rattle.house_rows.specs.Tables.{ItemRow};
@@ -9,8 +9,9 @@ ghost use Rattle.std.specs.List.{AllByRecursion};
 ghost use Rattle.house_rows.specs.Fits.{ItemFits, StandingFits, TermsFit};
 ghost use Rattle.house_rows.specs.Keeping.{ItemRowFits, Stands};
 ghost use Rattle.house_rows.specs.declared.fault.KeepFault.TheVariants.{Damaged};
-ghost use Rattle.store_rows.specs.House.{Serves, KeepsCommitted};
+ghost use Rattle.store_rows.specs.House.{Serves};
 ghost use Rattle.store_rows.specs.ItemRows.{items_in};
+ghost use Rattle.store_rows.specs.Frames.{OnlyReads};
 
 use crate::reads::{first_item, first_terms, item_list};
 use crate::standing::first_standing;
@@ -28,14 +29,15 @@ pub fn item_at<S: Alter>(
     number: u32,
 ) -> Result<Option<Item>, KeepFault>
     requires { Serves (state S.Store conn.old) }
-    ensures found { HasCleanDisk (state S.Store conn.new) → IfOk result (λ found. found ≡ option_map (λ (row : ItemRow). row.item) (find (is_item number) (items_in (state S.Store conn.old).now.trees))) }
+    ensures found { HasCleanDisk (state S.Store conn.new)
+        → IfOk result (λ found. found ≡ option_map (λ (row : ItemRow). row.item)
+        (find (is_item number) (items_in (state S.Store conn.old).now.trees))) }
     ensures fits { IfOk result (λ found. IfSome found ItemFits) }
     ensures stands { IfOk result (λ found. IfSome found (λ it. Stands bands.now it.terms)) }
-    ensures damaged { HasCleanDisk (state S.Store conn.new) → AllByRecursion (ItemRowFits bands.now) (items_in (state S.Store conn.old).now.trees) → ¬ (IsErrOf result Damaged) }
-    ensures same { HasCleanDisk (state S.Store conn.new) → OnOk result (IsUnchanged (state S.Store conn.old) (state S.Store conn.new)) }
-    ensures err { HasCleanDisk (state S.Store conn.new) → OnErr result (KeepsCommitted (state S.Store conn.old) (state S.Store conn.new)) }
-    ensures mode { conn.old.in_transaction ≡ false → conn.new.in_transaction ≡ false }
-    ensures crash { Survives (state S.Store conn.old) (state S.Store conn.new) (λ _. ⊥) }
+    ensures damaged { HasCleanDisk (state S.Store conn.new)
+        → AllByRecursion (ItemRowFits bands.now) (items_in (state S.Store conn.old).now.trees)
+        → ¬ (IsErrOf result Damaged) }
+    ensures read { OnlyReads (state S.Store conn.old) (state S.Store conn.new) result }
 {
     let rows = rows_shown(
         conn,
@@ -52,14 +54,15 @@ pub fn terms_at<S: Alter>(
     number: u32,
 ) -> Result<Option<Terms>, KeepFault>
     requires { Serves (state S.Store conn.old) }
-    ensures found { HasCleanDisk (state S.Store conn.new) → IfOk result (λ found. found ≡ option_map (λ (row : ItemRow). row.item.terms) (find (is_item number) (items_in (state S.Store conn.old).now.trees))) }
+    ensures found { HasCleanDisk (state S.Store conn.new)
+        → IfOk result (λ found. found ≡ option_map (λ (row : ItemRow). row.item.terms)
+        (find (is_item number) (items_in (state S.Store conn.old).now.trees))) }
     ensures fits { IfOk result (λ found. IfSome found TermsFit) }
     ensures stands { IfOk result (λ found. IfSome found (λ it. Stands bands.now it)) }
-    ensures damaged { HasCleanDisk (state S.Store conn.new) → AllByRecursion (ItemRowFits bands.now) (items_in (state S.Store conn.old).now.trees) → ¬ (IsErrOf result Damaged) }
-    ensures same { HasCleanDisk (state S.Store conn.new) → OnOk result (IsUnchanged (state S.Store conn.old) (state S.Store conn.new)) }
-    ensures err { HasCleanDisk (state S.Store conn.new) → OnErr result (KeepsCommitted (state S.Store conn.old) (state S.Store conn.new)) }
-    ensures mode { conn.old.in_transaction ≡ false → conn.new.in_transaction ≡ false }
-    ensures crash { Survives (state S.Store conn.old) (state S.Store conn.new) (λ _. ⊥) }
+    ensures damaged { HasCleanDisk (state S.Store conn.new)
+        → AllByRecursion (ItemRowFits bands.now) (items_in (state S.Store conn.old).now.trees)
+        → ¬ (IsErrOf result Damaged) }
+    ensures read { OnlyReads (state S.Store conn.old) (state S.Store conn.new) result }
 {
     let rows = rows_shown(
         conn,
@@ -77,13 +80,14 @@ pub fn standing_at<S: Alter>(
     number: u32,
 ) -> Result<Option<Standing>, KeepFault>
     requires { Serves (state S.Store conn.old) }
-    ensures found { HasCleanDisk (state S.Store conn.new) → IfOk result (λ found. found ≡ option_map (λ (row : ItemRow). row.standing) (find (is_item number) (items_in (state S.Store conn.old).now.trees))) }
+    ensures found { HasCleanDisk (state S.Store conn.new)
+        → IfOk result (λ found. found ≡ option_map (λ (row : ItemRow). row.standing)
+        (find (is_item number) (items_in (state S.Store conn.old).now.trees))) }
     ensures fits { IfOk result (λ found. IfSome found StandingFits) }
-    ensures damaged { HasCleanDisk (state S.Store conn.new) → AllByRecursion (ItemRowFits bands.now) (items_in (state S.Store conn.old).now.trees) → ¬ (IsErrOf result Damaged) }
-    ensures same { HasCleanDisk (state S.Store conn.new) → OnOk result (IsUnchanged (state S.Store conn.old) (state S.Store conn.new)) }
-    ensures err { HasCleanDisk (state S.Store conn.new) → OnErr result (KeepsCommitted (state S.Store conn.old) (state S.Store conn.new)) }
-    ensures mode { conn.old.in_transaction ≡ false → conn.new.in_transaction ≡ false }
-    ensures crash { Survives (state S.Store conn.old) (state S.Store conn.new) (λ _. ⊥) }
+    ensures damaged { HasCleanDisk (state S.Store conn.new)
+        → AllByRecursion (ItemRowFits bands.now) (items_in (state S.Store conn.old).now.trees)
+        → ¬ (IsErrOf result Damaged) }
+    ensures read { OnlyReads (state S.Store conn.old) (state S.Store conn.new) result }
 {
     let rows = rows_shown(
         conn,
@@ -100,13 +104,15 @@ pub fn item_with_lot<S: Alter>(
     lot: &str,
 ) -> Result<Option<u32>, KeepFault>
     requires { Serves (state S.Store conn.old) }
-    ensures found { HasCleanDisk (state S.Store conn.new) → IfOk result (λ found. found ≡ option_map (λ (row : ItemRow). row.item.terms.item)
-        (find (λ row. (row.item.terms.seller == seller) && same_text row.item.lot lot.now) (items_in (state S.Store conn.old).now.trees))) }
-    ensures damaged { HasCleanDisk (state S.Store conn.new) → AllByRecursion (λ (row : ItemRow). ItemFits row.item) (items_in (state S.Store conn.old).now.trees) → ¬ (IsErrOf result Damaged) }
-    ensures same { HasCleanDisk (state S.Store conn.new) → OnOk result (IsUnchanged (state S.Store conn.old) (state S.Store conn.new)) }
-    ensures err { HasCleanDisk (state S.Store conn.new) → OnErr result (KeepsCommitted (state S.Store conn.old) (state S.Store conn.new)) }
-    ensures mode { conn.old.in_transaction ≡ false → conn.new.in_transaction ≡ false }
-    ensures crash { Survives (state S.Store conn.old) (state S.Store conn.new) (λ _. ⊥) }
+    ensures found { HasCleanDisk (state S.Store conn.new)
+        → IfOk result (λ found. found ≡ option_map (λ (row : ItemRow). row.item.terms.item)
+        (find (λ row. (row.item.terms.seller == seller) && same_text row.item.lot lot.now)
+        (items_in (state S.Store conn.old).now.trees))) }
+    ensures damaged { HasCleanDisk (state S.Store conn.new)
+        → AllByRecursion (λ (row : ItemRow). ItemFits row.item)
+        (items_in (state S.Store conn.old).now.trees)
+        → ¬ (IsErrOf result Damaged) }
+    ensures read { OnlyReads (state S.Store conn.old) (state S.Store conn.new) result }
 {
     let rows = rows_shown(
         conn,
@@ -123,14 +129,16 @@ pub fn all_items<S: Alter>(
     bands: &Bands,
 ) -> Result<Vec<Item>, KeepFault>
     requires { Serves (state S.Store conn.old) }
-    ensures items { HasCleanDisk (state S.Store conn.new) → IfOk result (λ items. items.items ≡ map (λ (row : ItemRow). row.item) (items_in (state S.Store conn.old).now.trees)) }
+    ensures items { HasCleanDisk (state S.Store conn.new)
+        → IfOk result (λ items. items.items ≡ map (λ (row : ItemRow). row.item)
+        (items_in (state S.Store conn.old).now.trees)) }
     ensures fits { IfOk result (λ items. AllByRecursion ItemFits items.items) }
-    ensures stands { IfOk result (λ items. AllByRecursion (λ it. Stands bands.now it.terms) items.items) }
-    ensures damaged { HasCleanDisk (state S.Store conn.new) → AllByRecursion (ItemRowFits bands.now) (items_in (state S.Store conn.old).now.trees) → ¬ (IsErrOf result Damaged) }
-    ensures same { HasCleanDisk (state S.Store conn.new) → OnOk result (IsUnchanged (state S.Store conn.old) (state S.Store conn.new)) }
-    ensures err { HasCleanDisk (state S.Store conn.new) → OnErr result (KeepsCommitted (state S.Store conn.old) (state S.Store conn.new)) }
-    ensures mode { conn.old.in_transaction ≡ false → conn.new.in_transaction ≡ false }
-    ensures crash { Survives (state S.Store conn.old) (state S.Store conn.new) (λ _. ⊥) }
+    ensures stands { IfOk result (λ items. AllByRecursion
+        (λ it. Stands bands.now it.terms) items.items) }
+    ensures damaged { HasCleanDisk (state S.Store conn.new)
+        → AllByRecursion (ItemRowFits bands.now) (items_in (state S.Store conn.old).now.trees)
+        → ¬ (IsErrOf result Damaged) }
+    ensures read { OnlyReads (state S.Store conn.old) (state S.Store conn.new) result }
 {
     let rows = rows_shown(
         conn,

@@ -67,7 +67,9 @@ fn judge_by(
 fn judge(bands: &Bands, terms: &Terms, row: &Row, at: usize) -> Result<(), KeepFault>
     requires { at < 20 }
     ensures stands { OnOk result (Stands bands.now terms.now) }
-    ensures damaged { terms.now ≡ terms_of row.now → AreSealed bands.now at row.now → ¬ (IsErrOf result Damaged) }
+    ensures damaged { terms.now ≡ terms_of row.now
+        → AreSealed bands.now at row.now
+        → ¬ (IsErrOf result Damaged) }
 {
     let top = maybe_cents_at(row, at)?;
     let second = maybe_cents_at(row, at + 1)?;
@@ -103,7 +105,8 @@ pub(crate) fn first_terms(bands: &Bands, rows: &[Row]) -> Result<Option<Terms>, 
     ensures value { IfOk result (λ found. found ≡ option_map terms_of (slice_get rows.now 0)) }
     ensures fits { IfOk result (λ found. IfSome found TermsFit) }
     ensures stands { IfOk result (λ found. IfSome found (λ it. Stands bands.now it)) }
-    ensures damaged { IfSome (slice_get rows.now 0) (TermsHold bands.now) → ¬ (IsErrOf result Damaged) }
+    ensures damaged { IfSome (slice_get rows.now 0) (TermsHold bands.now)
+        → ¬ (IsErrOf result Damaged) }
 {
     match rows.first() {
         None => Ok(None),
@@ -116,7 +119,8 @@ pub(crate) fn first_item(bands: &Bands, rows: &[Row]) -> Result<Option<Item>, Ke
     ensures value { IfOk result (λ found. found ≡ option_map item_of (slice_get rows.now 0)) }
     ensures fits { IfOk result (λ found. IfSome found ItemFits) }
     ensures stands { IfOk result (λ found. IfSome found (λ it. Stands bands.now it.terms)) }
-    ensures damaged { IfSome (slice_get rows.now 0) (ItemHolds bands.now) → ¬ (IsErrOf result Damaged) }
+    ensures damaged { IfSome (slice_get rows.now 0) (ItemHolds bands.now)
+        → ¬ (IsErrOf result Damaged) }
 {
     match rows.first() {
         None => Ok(None),
@@ -127,8 +131,10 @@ pub(crate) fn first_item(bands: &Bands, rows: &[Row]) -> Result<Option<Item>, Ke
 // Adds the terms that a row tells.
 fn add_terms(bands: &Bands, row: &Row, all: &mut Vec<Terms>) -> Result<(), KeepFault>
     ensures value { OnOk result (all.new.items ≡ all.old.items ++ terms_of row.now ∷ []) }
-    ensures fits { AllByRecursion TermsFit all.old.items → OnOk result (AllByRecursion TermsFit all.new.items) }
-    ensures stands { AllByRecursion (λ it. Stands bands.now it) all.old.items → OnOk result (AllByRecursion (λ it. Stands bands.now it) all.new.items) }
+    ensures fits { AllByRecursion TermsFit all.old.items
+        → OnOk result (AllByRecursion TermsFit all.new.items) }
+    ensures stands { AllByRecursion (λ it. Stands bands.now it) all.old.items
+        → OnOk result (AllByRecursion (λ it. Stands bands.now it) all.new.items) }
     ensures damaged { TermsHold bands.now row.now → ¬ (IsErrOf result Damaged) }
 {
     // As `terms_read`: the prover wants Option and Cents, which Terms holds, named where one is added.
@@ -159,8 +165,10 @@ pub fn terms_list(alloc: Global, bands: &Bands, rows: &[Row]) -> Result<Vec<Term
 // Adds the item that a row tells.
 fn add_item(bands: &Bands, row: &Row, all: &mut Vec<Item>) -> Result<(), KeepFault>
     ensures value { OnOk result (all.new.items ≡ all.old.items ++ item_of row.now ∷ []) }
-    ensures fits { AllByRecursion ItemFits all.old.items → OnOk result (AllByRecursion ItemFits all.new.items) }
-    ensures stands { AllByRecursion (λ it. Stands bands.now it.terms) all.old.items → OnOk result (AllByRecursion (λ it. Stands bands.now it.terms) all.new.items) }
+    ensures fits { AllByRecursion ItemFits all.old.items
+        → OnOk result (AllByRecursion ItemFits all.new.items) }
+    ensures stands { AllByRecursion (λ it. Stands bands.now it.terms) all.old.items
+        → OnOk result (AllByRecursion (λ it. Stands bands.now it.terms) all.new.items) }
     ensures damaged { ItemHolds bands.now row.now → ¬ (IsErrOf result Damaged) }
 {
     let item = item_read(bands, row)?;
@@ -171,7 +179,8 @@ fn add_item(bands: &Bands, row: &Row, all: &mut Vec<Item>) -> Result<(), KeepFau
 pub fn item_list(alloc: Global, bands: &Bands, rows: &[Row]) -> Result<Vec<Item>, KeepFault>
     ensures value { IfOk result (λ all. all.items ≡ map item_of rows.now) }
     ensures fits { IfOk result (λ all. AllByRecursion ItemFits all.items) }
-    ensures stands { IfOk result (λ all. AllByRecursion (λ it. Stands bands.now it.terms) all.items) }
+    ensures stands { IfOk result (λ all. AllByRecursion
+        (λ it. Stands bands.now it.terms) all.items) }
     ensures damaged { AllByRecursion (ItemHolds bands.now) rows.now → ¬ (IsErrOf result Damaged) }
 {
     let mut all = Vec::new(alloc);

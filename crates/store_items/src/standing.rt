@@ -17,7 +17,15 @@ use store_rows::{cents_at, maybe_cents_at, maybe_number_at, number_at};
 // The standing of no bids, where a row tells of none.
 fn no_bids(start: Cents, second: Option<Cents>, count: u32) -> Option<Standing>
     ensures fits { is_some result ≡ (is_none second && (count == 0)) }
-    ensures value { IfSome result (λ s. s ≡ record { start = start; price = start; leader = None; top = None; second = second; count = count }) }
+    ensures value { IfSome result
+        (λ s. s ≡ record {
+          start = start;
+          price = start;
+          leader = None;
+          top = None;
+          second = second;
+          count = count;
+        }) }
 {
     if second.is_none() && count == 0 {
         Some(Standing::open(start))
@@ -36,7 +44,8 @@ fn standing_from(
     second: Option<Cents>,
     count: u32,
 ) -> Option<Standing>
-    ensures fits { is_some result ≡ is_standing bands.now (kept_from start price leader top second count) }
+    ensures fits { is_some result ≡ is_standing bands.now
+        (kept_from start price leader top second count) }
     ensures value { IfSome result (λ s. s ≡ kept_from start price leader top second count) }
 {
     let is_bought = leader.is_some() && top.is_none();
@@ -83,7 +92,8 @@ fn read_standing(bands: &Bands, row: &Row) -> Result<Standing, KeepFault>
 pub(crate) fn first_standing(bands: &Bands, rows: &[Row]) -> Result<Option<Standing>, KeepFault>
     ensures value { IfOk result (λ found. found ≡ option_map kept_of (slice_get rows.now 0)) }
     ensures fits { IfOk result (λ found. IfSome found StandingFits) }
-    ensures damaged { IfSome (slice_get rows.now 0) (AreStanding bands.now) → ¬ (IsErrOf result Damaged) }
+    ensures damaged { IfSome (slice_get rows.now 0) (AreStanding bands.now)
+        → ¬ (IsErrOf result Damaged) }
 {
     match rows.first() {
         None => Ok(None),

@@ -1,7 +1,7 @@
 -- What is found in a table whose rows fit, fits.
 use Rattle.std.proofs.Common.{◌≡◌, ℕ, zero, suc, List, [], ◌∷◌, length, take, map, filter, Bool, true, ◌∙◌, ap, sym, arith, inl, inr, refl, Bor, Option, Some, None, Result, Ok, Err}
 use Rattle.std.specs.Option.{option_copied}
-use Rattle.std.specs.Prelude.{IfOk, IfSome, Vec, find, is_some, option_map, ◌&&◌, nat_le, nat_lt}
+use Rattle.std.specs.Prelude.{IfOk, IfSome, OnOk, Vec, find, is_some, option_map, ◌&&◌, nat_le, nat_lt}
 use Rattle.std.specs.List.{AllByRecursion}
 use Rattle.std.proofs.lemmas.Bool.Decides.{nat_tests}
 use Rattle.proxy.specs.declared.bid.Bid.{Bid}
@@ -12,7 +12,8 @@ use Rattle.house_rows.specs.declared.item.Item.{Item}
 use Rattle.house_rows.specs.declared.item.OwnBid.{OwnBid}
 use Rattle.house_rows.specs.Fits.{IsItem, IsMember, ItemFits, OwnBidFits, StandingFits}
 use Rattle.house_rows.specs.Found.{all_items, own_bid, own_bids}
-use Rattle.house_rows.specs.Keeping.{AreSound, ItemRowFits, Stands}
+use Rattle.house_rows.specs.Changed.{is_item}
+use Rattle.house_rows.specs.Keeping.{AllStand, AreSound, ItemRowFits, Stands, StandsAt}
 use Rattle.house_rows.specs.Limits.{most_shown}
 use Rattle.house_rows.specs.Tables.{ItemRow, Tables}
 use Rattle.house_rows.proofs.Every.{every_as, every_map}
@@ -67,6 +68,28 @@ items_fit t sound = every_map (λ (row : ItemRow). row.item) ItemFits t.items
 pub items_stand : (t : Tables) → AreSound t → AllByRecursion (λ (it : Item). Stands t.settings.bands it.terms) (all_items t)
 items_stand t sound = every_map (λ (row : ItemRow). row.item) (λ (it : Item). Stands t.settings.bands it.terms) t.items
     (every_as (ItemRowFits t.settings.bands) (λ (row : ItemRow). Stands t.settings.bands row.item.terms) t.items (row_stands t.settings.bands) sound.items)
+
+-- whichever rows of items are looked at, they stand
+pub all_stand : (t : Tables) (test : ItemRow → Bool) → AreSound t → AllStand test t
+all_stand t test sound = filter_fits (λ (row : ItemRow). Stands t.settings.bands row.item.terms) test t.items
+    (every_as (ItemRowFits t.settings.bands) (λ (row : ItemRow). Stands t.settings.bands row.item.terms) t.items (row_stands t.settings.bands) sound.items)
+
+pub stands_at : (t : Tables) → AreSound t → (item : ℕ) → StandsAt t item
+stands_at t sound item = some_as (λ (row : ItemRow). row.item.terms) (ItemRowFits t.settings.bands) (Stands t.settings.bands) _ (row_stands t.settings.bands)
+    (find_fits (ItemRowFits t.settings.bands) (is_item item) t.items sound.items)
+
+each : {A : Type 0} (P : A → Type 0) → ((x : A) → P x) → (xs : List A) → AllByRecursion P xs
+each P all [] = tt
+each P all (x ∷ xs) = (all x, each P all xs)
+
+-- what holds of everything holds of what was answered
+pub ok_each : {A Z E : Type 0} (P : A → Type 0) (r : Result (Vec A Z) E) → ((x : A) → P x) → IfOk r (λ v. AllByRecursion P v.items)
+ok_each P (Ok v) all = each P all v.items
+ok_each P (Err e) all = tt
+
+pub ok_so : {A E : Type 0} {P : Type 0} (r : Result A E) → P → OnOk r P
+ok_so (Ok a) so = so
+ok_so (Err e) so = tt
 
 none_leads : (bands : List (ℕ × ℕ)) (start : ℕ) (bids : List Bid) (k : Kept) → k ≡ standing_of bands start bids → k.count ≡ 0 → IfSome k.leader IsMember
 none_leads bands start [] k is none = rw (is ∙ standing-none bands start) tt

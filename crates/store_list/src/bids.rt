@@ -8,10 +8,10 @@ ghost use Rattle.list_bids.specs.Tallies.{AreRisingFrom, numbers_in};
 ghost use Rattle.list_items.specs.Indexed.{number_of};
 ghost use Rattle.list_items.specs.Rising.{is_among};
 
-use house_rows::{KeepFault, OwnBid};
+use house_rows::{KeepFault, MOST_SHOWN, OwnBid};
 use list_bids::{Bids, Tally};
 use list_items::Items;
-use list_rows::{MOST_SHOWN, push};
+use list_rows::push;
 use std::alloc::Global;
 
 /// The items on which a member has bid, from a number on; at most fifty.
@@ -23,7 +23,10 @@ pub(crate) fn own_bids(
     from: u64,
 ) -> Result<Vec<OwnBid>, KeepFault>
     requires in_turn { AreInTurn number_of 1 items.now }
-    ensures value { (t : Tables) → t.items ≡ items.now → t.bids ≡ bids.now → IfOk result (λ v. v.items ≡ own_bids t member from) }
+    ensures value { (t : Tables)
+        → t.items ≡ items.now
+        → t.bids ≡ bids.now
+        → IfOk result (λ v. v.items ≡ own_bids t member from) }
     ensures memory { IfErr result (λ e. e ≡ fault.Memory) }
 {
     let tallies = tallies_from(bids.tallies_of(member), from);
@@ -41,7 +44,10 @@ pub(crate) fn own_bids(
 
 /// The numbers of the items of a member's tallies, which has all those on which it has bid.
 pub(crate) fn bid_on(alloc: Global, bids: &Bids, member: u64) -> Result<Vec<u32>, KeepFault>
-    ensures value { (t : Tables) (item : ℕ) → t.bids ≡ bids.now → 0 < (best_of t member item).mine → IfOk result (λ v. is_among v.items item ≡ true) }
+    ensures value { (t : Tables) (item : ℕ)
+        → t.bids ≡ bids.now
+        → 0 < (best_of t member item).mine
+        → IfOk result (λ v. is_among v.items item ≡ true) }
     ensures memory { IfErr result (λ e. e ≡ fault.Memory) }
 {
     let mut numbers = Vec::new(alloc);
@@ -53,7 +59,8 @@ pub(crate) fn bid_on(alloc: Global, bids: &Bids, member: u64) -> Result<Vec<u32>
 
 // Those of rising tallies whose items' numbers aren't below a number.
 fn tallies_from(tallies: &[Tally], from: u64) -> &[Tally]
-    ensures { AreRisingFrom 0 (numbers_in tallies.now) → result.now ≡ filter (λ tally. nat_le from tally.item) tallies.now }
+    ensures { AreRisingFrom 0 (numbers_in tallies.now)
+        → result.now ≡ filter (λ tally. nat_le from tally.item) tallies.now }
 {
     let first = tallies.partition_point(|tally| u64::from(tally.item) < from);
     &tallies[first..]
@@ -62,7 +69,9 @@ fn tallies_from(tallies: &[Tally], from: u64) -> &[Tally]
 // What a member's tally tells of its item, if the member has bid there.
 fn own_bid(items: &Items, tally: &Tally, member: u64) -> Option<OwnBid>
     ensures { (t : Tables) → t.items ≡ items.now → tally.now.best ≡ best_of t member tally.now.item
-        → result ≡ (if nat_lt 0 tally.now.best.mine then option_map (λ (row : ItemRow). own_bid t member row.item) (row_at t tally.now.item) else None) }
+        → result ≡ (if nat_lt 0 tally.now.best.mine
+        then option_map (λ (row : ItemRow). own_bid t member row.item) (row_at t tally.now.item)
+        else None) }
 {
     if tally.best.mine == 0 {
         return None;

@@ -118,7 +118,8 @@ impl ListKeep {
         placed: Bid,
         standing: Standing,
     ) -> Result<(), KeepFault>
-        requires fits { AreSound self.old → ChangeFits self.old (change.Bid moment item placed standing) }
+        requires fits { AreSound self.old
+            → ChangeFits self.old (change.Bid moment item placed standing) }
         ensures { Applies result self.old self.new (change.Bid moment item placed standing) }
     {
         // The one step that can fail comes first.
@@ -129,7 +130,8 @@ impl ListKeep {
     }
 
     fn buy(&mut self, moment: u64, item: u32, buyer: u32, price: Cents) -> Result<(), KeepFault>
-        requires fits { AreSound self.old → ChangeFits self.old (change.Buy moment item buyer price) }
+        requires fits { AreSound self.old
+            → ChangeFits self.old (change.Buy moment item buyer price) }
         ensures { Applies result self.old self.new (change.Buy moment item buyer price) }
     {
         self.items.buy(self.alloc, item, buyer, price, moment)?;
@@ -172,7 +174,8 @@ impl ListKeep {
     }
 
     fn ask(&mut self, item: u32, asker: u32, number: u32, text: &str) -> Result<(), KeepFault>
-        requires fits { AreSound self.old → ChangeFits self.old (change.Ask item asker number text) }
+        requires fits { AreSound self.old
+            → ChangeFits self.old (change.Ask item asker number text) }
         ensures { Applies result self.old self.new (change.Ask item asker number text.entry) }
     {
         self.questions.ask(self.alloc, item, asker, number, text)
@@ -186,8 +189,10 @@ impl ListKeep {
         number: u32,
         text: &str,
     ) -> Result<(), KeepFault>
-        requires fits { AreSound self.old → ChangeFits self.old (change.Answer moment item asker number text) }
-        ensures { Applies result self.old self.new (change.Answer moment item asker number text.entry) }
+        requires fits { AreSound self.old
+            → ChangeFits self.old (change.Answer moment item asker number text) }
+        ensures { Applies result self.old self.new
+            (change.Answer moment item asker number text.entry) }
     {
         self.questions
             .answer(self.alloc, item, asker, number, text)?;
@@ -204,8 +209,10 @@ impl ListKeep {
         rating: Rating,
         text: &str,
     ) -> Result<(), KeepFault>
-        requires fits { AreSound self.old → ChangeFits self.old (change.Feedback moment item from to rating text) }
-        ensures { Applies result self.old self.new (change.Feedback moment item from to rating text.entry) }
+        requires fits { AreSound self.old
+            → ChangeFits self.old (change.Feedback moment item from to rating text) }
+        ensures { Applies result self.old self.new
+            (change.Feedback moment item from to rating text.entry) }
     {
         self.feedback
             .give(self.alloc, item, from, to, rating, text)?;

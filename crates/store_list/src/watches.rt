@@ -18,7 +18,9 @@ pub(crate) fn items_watched(
     watches: &Watches,
     member: u64,
 ) -> Result<Vec<Item>, KeepFault>
-    ensures value { IfOk result (λ v. v.items ≡ filter (λ it. list_any (is_watch member it.terms.item) watches.now) (map (λ (row : ItemRow). row.item) items.now)) }
+    ensures value { IfOk result (λ v. v.items ≡ filter
+        (λ it. list_any (is_watch member it.terms.item) watches.now)
+        (map (λ (row : ItemRow). row.item) items.now)) }
     ensures memory { IfErr result (λ e. e ≡ fault.Memory) }
 {
     let numbers = numbers_of(alloc, watches.of(member))?;

@@ -1,2 +1,3 @@
 pub mod Sorted
 pub mod Tables
+pub mod Commits

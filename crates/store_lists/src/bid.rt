@@ -1,15 +1,16 @@
 //! Bids, by item and number.
-ghost use Rattle.std.specs.Prelude.{◌≡◌, ◌==◌, ◌&&◌, false, map, filter, IfOk, OnOk, OnErr, IsErrOf};
+ghost use Rattle.std.specs.Prelude.{◌≡◌, ◌==◌, ◌&&◌, map, filter, IfOk, IsErrOf};
 ghost use Rattle.std.specs.List.{AllByRecursion};
-ghost use Rattle.sqlite.specs.State.{HasCleanDisk, IsUnchanged, Survives};
+ghost use Rattle.sqlite.specs.State.{HasCleanDisk};
 ghost use Rattle.sqlite.specs.Held.{state};
 ghost use Rattle.house_rows.specs.Bids.{BidRow};
 ghost use Rattle.house_rows.specs.Fits.{BidRowFits};
 ghost use Rattle.house_rows.specs.declared.fault.KeepFault.TheVariants.{Damaged};
 ghost use Rattle.store_rows.specs.Fitting.{BidFits};
-ghost use Rattle.store_rows.specs.House.{Serves, KeepsCommitted};
+ghost use Rattle.store_rows.specs.House.{Serves};
 ghost use Rattle.store_rows.specs.Rows.{bids_in};
 ghost use Rattle.store_lists.specs.Sorted.{sorted_bids};
+ghost use Rattle.store_rows.specs.Frames.{OnlyReads};
 
 use house_rows::KeepFault;
 use proxy::Bid;
@@ -25,13 +26,15 @@ pub fn bids_of_on<S: Alter>(
     item: u32,
 ) -> Result<Vec<Bid>, KeepFault>
     requires { Serves (state S.Store conn.old) }
-    ensures bids { HasCleanDisk (state S.Store conn.new) → IfOk result (λ bids. bids.items ≡ map (λ (b : BidRow). b.bid) (filter (λ b. (b.bid.member == member) && (b.item == item)) (sorted_bids (state S.Store conn.old).now.trees))) }
+    ensures bids { HasCleanDisk (state S.Store conn.new)
+        → IfOk result (λ bids. bids.items ≡ map (λ (b : BidRow). b.bid)
+        (filter (λ b. (b.bid.member == member) && (b.item == item))
+        (sorted_bids (state S.Store conn.old).now.trees))) }
     ensures fits { IfOk result (λ bids. AllByRecursion BidFits bids.items) }
-    ensures damaged { HasCleanDisk (state S.Store conn.new) → AllByRecursion BidRowFits (bids_in (state S.Store conn.old).now.trees) → ¬ (IsErrOf result Damaged) }
-    ensures same { HasCleanDisk (state S.Store conn.new) → OnOk result (IsUnchanged (state S.Store conn.old) (state S.Store conn.new)) }
-    ensures err { HasCleanDisk (state S.Store conn.new) → OnErr result (KeepsCommitted (state S.Store conn.old) (state S.Store conn.new)) }
-    ensures mode { conn.old.in_transaction ≡ false → conn.new.in_transaction ≡ false }
-    ensures crash { Survives (state S.Store conn.old) (state S.Store conn.new) (λ _. ⊥) }
+    ensures damaged { HasCleanDisk (state S.Store conn.new)
+        → AllByRecursion BidRowFits (bids_in (state S.Store conn.old).now.trees)
+        → ¬ (IsErrOf result Damaged) }
+    ensures read { OnlyReads (state S.Store conn.old) (state S.Store conn.new) result }
 {
     let rows = rows_shown(
         conn,

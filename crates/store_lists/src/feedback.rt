@@ -1,13 +1,14 @@
 //! Feedback, by item and giver.
-ghost use Rattle.std.specs.Prelude.{◌≡◌, false, IfOk, OnOk, OnErr, IsErrOf};
+ghost use Rattle.std.specs.Prelude.{◌≡◌, IfOk, IsErrOf};
 ghost use Rattle.std.specs.List.{AllByRecursion};
-ghost use Rattle.sqlite.specs.State.{HasCleanDisk, IsUnchanged, Survives};
+ghost use Rattle.sqlite.specs.State.{HasCleanDisk};
 ghost use Rattle.sqlite.specs.Held.{state};
 ghost use Rattle.house_rows.specs.Fits.{FeedbackFits};
 ghost use Rattle.house_rows.specs.declared.fault.KeepFault.TheVariants.{Damaged};
-ghost use Rattle.store_rows.specs.House.{Serves, KeepsCommitted};
+ghost use Rattle.store_rows.specs.House.{Serves};
 ghost use Rattle.store_rows.specs.Rows.{feedback_in};
 ghost use Rattle.store_lists.specs.Sorted.{sorted_feedback};
+ghost use Rattle.store_rows.specs.Frames.{OnlyReads};
 
 use house_rows::{Feedback, KeepFault};
 use sqlite::{Alter, Connection, params};
@@ -20,13 +21,13 @@ pub fn all_feedback<S: Alter>(
     conn: &mut Connection<S>,
 ) -> Result<Vec<Feedback>, KeepFault>
     requires { Serves (state S.Store conn.old) }
-    ensures given { HasCleanDisk (state S.Store conn.new) → IfOk result (λ given. given.items ≡ sorted_feedback (state S.Store conn.old).now.trees) }
+    ensures given { HasCleanDisk (state S.Store conn.new)
+        → IfOk result (λ given. given.items ≡ sorted_feedback (state S.Store conn.old).now.trees) }
     ensures fits { IfOk result (λ given. AllByRecursion FeedbackFits given.items) }
-    ensures damaged { HasCleanDisk (state S.Store conn.new) → AllByRecursion FeedbackFits (feedback_in (state S.Store conn.old).now.trees) → ¬ (IsErrOf result Damaged) }
-    ensures same { HasCleanDisk (state S.Store conn.new) → OnOk result (IsUnchanged (state S.Store conn.old) (state S.Store conn.new)) }
-    ensures err { HasCleanDisk (state S.Store conn.new) → OnErr result (KeepsCommitted (state S.Store conn.old) (state S.Store conn.new)) }
-    ensures mode { conn.old.in_transaction ≡ false → conn.new.in_transaction ≡ false }
-    ensures crash { Survives (state S.Store conn.old) (state S.Store conn.new) (λ _. ⊥) }
+    ensures damaged { HasCleanDisk (state S.Store conn.new)
+        → AllByRecursion FeedbackFits (feedback_in (state S.Store conn.old).now.trees)
+        → ¬ (IsErrOf result Damaged) }
+    ensures read { OnlyReads (state S.Store conn.old) (state S.Store conn.new) result }
 {
     let rows = rows_shown(
         conn,

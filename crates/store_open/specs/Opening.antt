@@ -1,20 +1,23 @@
 -- What is read of a house as it is opened, and which houses are taken.
-use Rattle.std.specs.Prelude.{◌≡◌, ◌≤◌, ◌<◌, ◌^◌, ◌==◌, ℕ, true, find, is_some, length, map}
+use Rattle.std.specs.Prelude.{◌≡◌, ◌≤◌, ◌<◌, ◌^◌, ◌==◌, ℕ, [], IsTrue, false, true, find, is_some, length, map}
 use Rattle.std.specs.List.{AllByRecursion}
 use Rattle.sqlite_trees.specs.declared.store.Store.{Ghosts}
 use Rattle.sqlite_trees.specs.Tree.{Trees}
 use Rattle.sqlite_trees.specs.View.{IsClean, doubt}
 use Rattle.sqlite.specs.Effect.{Database}
 use Rattle.sqlite.specs.Held.{Held, state}
+use Rattle.sqlite.specs.State.{HasCleanDisk, Survives}
 use Rattle.steps.specs.Table.{IsBandTable}
 use Rattle.house_rows.specs.Fits.{IsWithin}
 use Rattle.house_rows.specs.declared.people.Counts.{Counts}
+use Rattle.house_rows.specs.Tables.{tables_of}
 use Rattle.house_rows.specs.declared.settings.Settings.{Settings}
 use Rattle.store_rows.specs.Fitting.{HouseRowFits}
 use Rattle.store_rows.specs.House.{IsHouse}
 use Rattle.store_rows.specs.ItemRows.{items_in}
 use Rattle.store_rows.specs.Rows.{bands_in, categories_in, houses_in, members_in}
-use Rattle.store_lists.specs.Tables.{house_row_in, settings_in}
+use Rattle.store_lists.specs.Commits.{IsBack}
+use Rattle.store_lists.specs.Tables.{house_row_in, settings_in, tables_in}
 
 -- members, categories and items have numbers from 1 to how many there are, which has 32 bits
 pub record AreNumbered (db : Trees) : Type 0 where
@@ -53,7 +56,18 @@ pub record IsSoundHouse (db : Database) : Type 0 where
   pub set_up : IsSetUp db.trees
   pub numbered : AreNumbered db.trees
 
+-- what a crash finds is a house to which nothing has happened yet
+abbrev pub NewHouse : Settings → Trees → Type 0
+NewHouse settings trees = (db : Database) × IsHouse db × (tables_in db.trees ≡ tables_of settings []) × (trees ≡ db.trees)
+
 -- ---- a call that takes a connection and hands none out
+
+-- The connection that a creation has left was not handed out: it shows what was committed before, and a crash finds what it
+-- could find before, or the new house.
+pub record LeavesMade {S : Type 0} (g : Ghosts S) (conn : Held S) (settings : Settings) : Type 0 where
+  pub last : Held S
+  pub back : HasCleanDisk (state g last) → IsTrue (state g last).is_open → conn.in_transaction ≡ false → IsBack (state g conn) (state g last)
+  pub survives : Survives (state g conn) (state g last) (NewHouse settings)
 
 -- What the store of a connection may become: that a wrong answer of the disk was taken as true is not forgotten, and a shield is kept.
 pub record Follows {S : Type 0} (g : Ghosts S) (conn : Held S) (store : S) : Type 0 where

@@ -1,11 +1,11 @@
 //! A connection made anew, which has read its whole file.
 ghost use Rattle.std.specs.Prelude.{◌≡◌, ◌↔◌, false, IfOk, OnOk, IsErrOf, IsTrue};
 ghost use Rattle.sqlite.specs.Held.{state};
-ghost use Rattle.sqlite.specs.State.{HasCleanDisk, Survives};
+ghost use Rattle.sqlite.specs.State.{HasCleanDisk};
 ghost use Rattle.sqlite.specs.Steps.{over_memory};
 ghost use Rattle.house_rows.specs.declared.fault.KeepFault.TheVariants.{Damaged};
 ghost use Rattle.store_rows.specs.House.{IsHouse};
-ghost use Rattle.store_rows.specs.Making.{IsBlank, IsEmptyHouse};
+ghost use Rattle.store_rows.specs.Making.{IsBlank};
 ghost use Rattle.store_rows.specs.Schema.{house_schema};
 ghost use Rattle.store_open.specs.Opening.{Follows, Leaves};
 
@@ -24,12 +24,17 @@ fn made_anew<S: Alter + Drop>(
     alloc: Global,
     conn: Connection<S>,
 ) -> Result<Connection<S>, KeepFault>
-    ensures house { IfOk result (λ c. HasCleanDisk (state S.Store c) → (state S.Store c).now.schema ≡ house_schema → IsHouse (state S.Store c).now) }
-    ensures rests { IfOk result (λ c. HasCleanDisk (state S.Store c) → IsTrue (state S.Store c).is_open × ((state S.Store c).now ≡ (state S.Store c).committed)) }
-    ensures same { IfOk result (λ c. HasCleanDisk (state S.Store c) → (state S.Store c).now.trees ≡ (state S.Store conn).committed.trees) }
+    ensures house { IfOk result (λ c. HasCleanDisk (state S.Store c)
+        → (state S.Store c).now.schema ≡ house_schema → IsHouse (state S.Store c).now) }
+    ensures rests { IfOk result (λ c. HasCleanDisk (state S.Store c)
+        → IsTrue (state S.Store c).is_open
+        × ((state S.Store c).now ≡ (state S.Store c).committed)) }
+    ensures same { IfOk result (λ c. HasCleanDisk (state S.Store c)
+        → (state S.Store c).now.trees ≡ (state S.Store conn).committed.trees) }
     ensures mode { IfOk result (λ c. c.in_transaction ≡ false) }
     ensures follows { IfOk result (λ c. Follows S.Store conn c.store) }
-    ensures damaged { IsErrOf result Damaged → Leaves S.Store conn (¬ (IsHouse (state S.Store conn).committed)) }
+    ensures damaged { IsErrOf result Damaged
+        → Leaves S.Store conn (¬ (IsHouse (state S.Store conn).committed)) }
 {
     let store = conn.into_store();
     if store.is_broken() {
@@ -46,7 +51,8 @@ fn made_anew<S: Alter + Drop>(
 fn make_schema<S: Alter>(conn: &mut Connection<S>) -> Result<(), KeepFault>
     requires blank { IsBlank (state S.Store conn.old) }
     requires mode { conn.old.in_transaction ≡ false }
-    ensures ok { HasCleanDisk (state S.Store conn.new) → OnOk result ((state S.Store conn.new).now.schema ≡ house_schema) }
+    ensures ok { HasCleanDisk (state S.Store conn.new)
+        → OnOk result ((state S.Store conn.new).now.schema ≡ house_schema) }
     ensures sound { ¬ (IsErrOf result Damaged) }
 {
     let mut tx = conn.transaction();
@@ -83,12 +89,16 @@ pub fn house_anew<S: Alter + Drop>(
     alloc: Global,
     conn: Connection<S>,
 ) -> Result<Connection<S>, KeepFault>
-    ensures house { IfOk result (λ c. HasCleanDisk (state S.Store c) → IsTrue (state S.Store c).is_open × IsHouse (state S.Store c).now) }
-    ensures rests { IfOk result (λ c. HasCleanDisk (state S.Store c) → (state S.Store c).now ≡ (state S.Store c).committed) }
-    ensures same { IfOk result (λ c. HasCleanDisk (state S.Store c) → (state S.Store c).now.trees ≡ (state S.Store conn).committed.trees) }
+    ensures house { IfOk result (λ c. HasCleanDisk (state S.Store c)
+        → IsTrue (state S.Store c).is_open × IsHouse (state S.Store c).now) }
+    ensures rests { IfOk result (λ c. HasCleanDisk (state S.Store c)
+        → (state S.Store c).now ≡ (state S.Store c).committed) }
+    ensures same { IfOk result (λ c. HasCleanDisk (state S.Store c)
+        → (state S.Store c).now.trees ≡ (state S.Store conn).committed.trees) }
     ensures mode { IfOk result (λ c. c.in_transaction ≡ false) }
     ensures follows { IfOk result (λ c. Follows S.Store conn c.store) }
-    ensures damaged { IsErrOf result Damaged → Leaves S.Store conn (¬ (IsHouse (state S.Store conn).committed)) }
+    ensures damaged { IsErrOf result Damaged
+        → Leaves S.Store conn (¬ (IsHouse (state S.Store conn).committed)) }
 {
     let again = made_anew(alloc, conn)?;
     if is_house_schema(alloc, again.schema())? {

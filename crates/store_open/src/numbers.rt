@@ -1,11 +1,11 @@
 //! How many members, categories and items there are, whose numbers run no higher.
-ghost use Rattle.std.specs.Prelude.{◌≡◌, ◌<◌, ◌^◌, List, [], false, length, IfOk, OnOk, IsErrOf};
+ghost use Rattle.std.specs.Prelude.{◌≡◌, ◌<◌, ◌^◌, List, [], length, IfOk, OnOk, IsErrOf};
 ghost use Rattle.std.specs.List.{AllByRecursion};
 ghost use Rattle.sqlite_value.specs.Order.{Row};
 ghost use Rattle.sqlite.specs.Given.{IsPlain};
 ghost use Rattle.sqlite.specs.Held.{state};
 ghost use Rattle.sqlite.specs.Listing.{understood};
-ghost use Rattle.sqlite.specs.State.{HasCleanDisk, IsUnchanged, Shown, Survives};
+ghost use Rattle.sqlite.specs.State.{HasCleanDisk, Shown};
 ghost use Rattle.sqlite.specs.Values.{bound};
 ghost use Rattle.house_rows.specs.Fits.{IsWithin};
 ghost use Rattle.house_rows.specs.declared.fault.KeepFault.TheVariants.{Damaged};
@@ -14,6 +14,7 @@ ghost use Rattle.store_rows.specs.ItemRows.{items_in};
 ghost use Rattle.store_rows.specs.Rows.{categories_in, members_in};
 ghost use Rattle.store_rows.specs.Schema.{house_schema};
 ghost use Rattle.store_open.specs.Opening.{AreNumbered, HaveNumbers};
+ghost use Rattle.store_rows.specs.Frames.{OnlyReads};
 
 use house_rows::{Counts, KeepFault};
 use sqlite::types::ValueRef;
@@ -29,11 +30,14 @@ fn shows_none<S: Alter>(
     requires serves { Serves (state S.Store conn.old) }
     requires plain { IsPlain (understood house_schema sql.now) }
     ensures house { HasCleanDisk (state S.Store conn.new) → IsHouse (state S.Store conn.old).now }
-    ensures none { HasCleanDisk (state S.Store conn.new) → OnOk result (Shown sql.now (bound params.now) (state S.Store conn.old) (state S.Store conn.new) []) }
-    ensures damaged { HasCleanDisk (state S.Store conn.new) → ((rows : List Row) → Shown sql.now (bound params.now) (state S.Store conn.old) (state S.Store conn.new) rows → rows ≡ []) → ¬ (IsErrOf result Damaged) }
-    ensures same { HasCleanDisk (state S.Store conn.new) → OnOk result (IsUnchanged (state S.Store conn.old) (state S.Store conn.new)) }
-    ensures mode { conn.old.in_transaction ≡ false → conn.new.in_transaction ≡ false }
-    ensures crash { Survives (state S.Store conn.old) (state S.Store conn.new) (λ _. ⊥) }
+    ensures none { HasCleanDisk (state S.Store conn.new)
+        → OnOk result (Shown sql.now (bound params.now) (state S.Store conn.old)
+        (state S.Store conn.new) []) }
+    ensures damaged { HasCleanDisk (state S.Store conn.new)
+        → ((rows : List Row) → Shown sql.now (bound params.now) (state S.Store conn.old)
+        (state S.Store conn.new) rows → rows ≡ [])
+        → ¬ (IsErrOf result Damaged) }
+    ensures read { OnlyReads (state S.Store conn.old) (state S.Store conn.new) result }
 {
     let rows = rows_shown(conn, sql, params)?;
     if rows.is_empty() {
@@ -57,11 +61,14 @@ fn small(count: u64) -> Result<u32, KeepFault>
 // Damaged where a member has a number that is not from 1 to this one.
 fn members_within<S: Alter>(conn: &mut Connection<S>, most: u32) -> Result<(), KeepFault>
     requires { Serves (state S.Store conn.old) }
-    ensures within { HasCleanDisk (state S.Store conn.new) → OnOk result (AllByRecursion (λ m. IsWithin 1 most m.member) (members_in (state S.Store conn.old).now.trees)) }
-    ensures damaged { HasCleanDisk (state S.Store conn.new) → AllByRecursion (λ m. IsWithin 1 most m.member) (members_in (state S.Store conn.old).now.trees) → ¬ (IsErrOf result Damaged) }
-    ensures same { HasCleanDisk (state S.Store conn.new) → OnOk result (IsUnchanged (state S.Store conn.old) (state S.Store conn.new)) }
-    ensures mode { conn.old.in_transaction ≡ false → conn.new.in_transaction ≡ false }
-    ensures crash { Survives (state S.Store conn.old) (state S.Store conn.new) (λ _. ⊥) }
+    ensures within { HasCleanDisk (state S.Store conn.new)
+        → OnOk result (AllByRecursion (λ m. IsWithin 1 most m.member)
+        (members_in (state S.Store conn.old).now.trees)) }
+    ensures damaged { HasCleanDisk (state S.Store conn.new)
+        → AllByRecursion (λ m. IsWithin 1 most m.member)
+        (members_in (state S.Store conn.old).now.trees)
+        → ¬ (IsErrOf result Damaged) }
+    ensures read { OnlyReads (state S.Store conn.old) (state S.Store conn.new) result }
 {
     shows_none(conn, "SELECT id FROM member WHERE id < 1 ORDER BY id", &[])?;
     shows_none(
@@ -74,11 +81,14 @@ fn members_within<S: Alter>(conn: &mut Connection<S>, most: u32) -> Result<(), K
 // Damaged where a category has a number that is not from 1 to this one.
 fn categories_within<S: Alter>(conn: &mut Connection<S>, most: u32) -> Result<(), KeepFault>
     requires { Serves (state S.Store conn.old) }
-    ensures within { HasCleanDisk (state S.Store conn.new) → OnOk result (AllByRecursion (λ k. IsWithin 1 most k.category) (categories_in (state S.Store conn.old).now.trees)) }
-    ensures damaged { HasCleanDisk (state S.Store conn.new) → AllByRecursion (λ k. IsWithin 1 most k.category) (categories_in (state S.Store conn.old).now.trees) → ¬ (IsErrOf result Damaged) }
-    ensures same { HasCleanDisk (state S.Store conn.new) → OnOk result (IsUnchanged (state S.Store conn.old) (state S.Store conn.new)) }
-    ensures mode { conn.old.in_transaction ≡ false → conn.new.in_transaction ≡ false }
-    ensures crash { Survives (state S.Store conn.old) (state S.Store conn.new) (λ _. ⊥) }
+    ensures within { HasCleanDisk (state S.Store conn.new)
+        → OnOk result (AllByRecursion (λ k. IsWithin 1 most k.category)
+        (categories_in (state S.Store conn.old).now.trees)) }
+    ensures damaged { HasCleanDisk (state S.Store conn.new)
+        → AllByRecursion (λ k. IsWithin 1 most k.category)
+        (categories_in (state S.Store conn.old).now.trees)
+        → ¬ (IsErrOf result Damaged) }
+    ensures read { OnlyReads (state S.Store conn.old) (state S.Store conn.new) result }
 {
     shows_none(
         conn,
@@ -95,11 +105,14 @@ fn categories_within<S: Alter>(conn: &mut Connection<S>, most: u32) -> Result<()
 // Damaged where an item has a number that is not from 1 to this one.
 fn items_within<S: Alter>(conn: &mut Connection<S>, most: u32) -> Result<(), KeepFault>
     requires { Serves (state S.Store conn.old) }
-    ensures within { HasCleanDisk (state S.Store conn.new) → OnOk result (AllByRecursion (λ row. IsWithin 1 most row.item.terms.item) (items_in (state S.Store conn.old).now.trees)) }
-    ensures damaged { HasCleanDisk (state S.Store conn.new) → AllByRecursion (λ row. IsWithin 1 most row.item.terms.item) (items_in (state S.Store conn.old).now.trees) → ¬ (IsErrOf result Damaged) }
-    ensures same { HasCleanDisk (state S.Store conn.new) → OnOk result (IsUnchanged (state S.Store conn.old) (state S.Store conn.new)) }
-    ensures mode { conn.old.in_transaction ≡ false → conn.new.in_transaction ≡ false }
-    ensures crash { Survives (state S.Store conn.old) (state S.Store conn.new) (λ _. ⊥) }
+    ensures within { HasCleanDisk (state S.Store conn.new)
+        → OnOk result (AllByRecursion (λ row. IsWithin 1 most row.item.terms.item)
+        (items_in (state S.Store conn.old).now.trees)) }
+    ensures damaged { HasCleanDisk (state S.Store conn.new)
+        → AllByRecursion (λ row. IsWithin 1 most row.item.terms.item)
+        (items_in (state S.Store conn.old).now.trees)
+        → ¬ (IsErrOf result Damaged) }
+    ensures read { OnlyReads (state S.Store conn.old) (state S.Store conn.new) result }
 {
     shows_none(conn, "SELECT id FROM item WHERE id < 1 ORDER BY id", &[])?;
     shows_none(
@@ -112,11 +125,14 @@ fn items_within<S: Alter>(conn: &mut Connection<S>, most: u32) -> Result<(), Kee
 // How many members there are; Damaged where one has a number that is 0 or over that.
 fn members_numbered<S: Alter>(conn: &mut Connection<S>) -> Result<u32, KeepFault>
     requires { Serves (state S.Store conn.old) }
-    ensures count { HasCleanDisk (state S.Store conn.new) → IfOk result (λ n. (length (members_in (state S.Store conn.old).now.trees) ≡ n) × (n < 2 ^ 32) × AllByRecursion (λ m. IsWithin 1 n m.member) (members_in (state S.Store conn.old).now.trees)) }
-    ensures damaged { HasCleanDisk (state S.Store conn.new) → AreNumbered (state S.Store conn.old).now.trees → ¬ (IsErrOf result Damaged) }
-    ensures same { HasCleanDisk (state S.Store conn.new) → OnOk result (IsUnchanged (state S.Store conn.old) (state S.Store conn.new)) }
-    ensures mode { conn.old.in_transaction ≡ false → conn.new.in_transaction ≡ false }
-    ensures crash { Survives (state S.Store conn.old) (state S.Store conn.new) (λ _. ⊥) }
+    ensures count { HasCleanDisk (state S.Store conn.new)
+        → IfOk result (λ n. (length (members_in (state S.Store conn.old).now.trees) ≡ n)
+        × (n < 2 ^ 32) × AllByRecursion (λ m. IsWithin 1 n m.member)
+        (members_in (state S.Store conn.old).now.trees)) }
+    ensures damaged { HasCleanDisk (state S.Store conn.new)
+        → AreNumbered (state S.Store conn.old).now.trees
+        → ¬ (IsErrOf result Damaged) }
+    ensures read { OnlyReads (state S.Store conn.old) (state S.Store conn.new) result }
 {
     let count = small(count_members(conn)?)?;
     members_within(conn, count)?;
@@ -126,11 +142,14 @@ fn members_numbered<S: Alter>(conn: &mut Connection<S>) -> Result<u32, KeepFault
 // How many categories there are; Damaged where one has a number that is 0 or over that.
 fn categories_numbered<S: Alter>(conn: &mut Connection<S>) -> Result<u32, KeepFault>
     requires { Serves (state S.Store conn.old) }
-    ensures count { HasCleanDisk (state S.Store conn.new) → IfOk result (λ n. (length (categories_in (state S.Store conn.old).now.trees) ≡ n) × (n < 2 ^ 32) × AllByRecursion (λ k. IsWithin 1 n k.category) (categories_in (state S.Store conn.old).now.trees)) }
-    ensures damaged { HasCleanDisk (state S.Store conn.new) → AreNumbered (state S.Store conn.old).now.trees → ¬ (IsErrOf result Damaged) }
-    ensures same { HasCleanDisk (state S.Store conn.new) → OnOk result (IsUnchanged (state S.Store conn.old) (state S.Store conn.new)) }
-    ensures mode { conn.old.in_transaction ≡ false → conn.new.in_transaction ≡ false }
-    ensures crash { Survives (state S.Store conn.old) (state S.Store conn.new) (λ _. ⊥) }
+    ensures count { HasCleanDisk (state S.Store conn.new)
+        → IfOk result (λ n. (length (categories_in (state S.Store conn.old).now.trees) ≡ n)
+        × (n < 2 ^ 32) × AllByRecursion (λ k. IsWithin 1 n k.category)
+        (categories_in (state S.Store conn.old).now.trees)) }
+    ensures damaged { HasCleanDisk (state S.Store conn.new)
+        → AreNumbered (state S.Store conn.old).now.trees
+        → ¬ (IsErrOf result Damaged) }
+    ensures read { OnlyReads (state S.Store conn.old) (state S.Store conn.new) result }
 {
     let count = small(count_categories(conn)?)?;
     categories_within(conn, count)?;
@@ -140,11 +159,14 @@ fn categories_numbered<S: Alter>(conn: &mut Connection<S>) -> Result<u32, KeepFa
 // How many items there are; Damaged where one has a number that is 0 or over that.
 fn items_numbered<S: Alter>(conn: &mut Connection<S>) -> Result<u32, KeepFault>
     requires { Serves (state S.Store conn.old) }
-    ensures count { HasCleanDisk (state S.Store conn.new) → IfOk result (λ n. (length (items_in (state S.Store conn.old).now.trees) ≡ n) × (n < 2 ^ 32) × AllByRecursion (λ row. IsWithin 1 n row.item.terms.item) (items_in (state S.Store conn.old).now.trees)) }
-    ensures damaged { HasCleanDisk (state S.Store conn.new) → AreNumbered (state S.Store conn.old).now.trees → ¬ (IsErrOf result Damaged) }
-    ensures same { HasCleanDisk (state S.Store conn.new) → OnOk result (IsUnchanged (state S.Store conn.old) (state S.Store conn.new)) }
-    ensures mode { conn.old.in_transaction ≡ false → conn.new.in_transaction ≡ false }
-    ensures crash { Survives (state S.Store conn.old) (state S.Store conn.new) (λ _. ⊥) }
+    ensures count { HasCleanDisk (state S.Store conn.new)
+        → IfOk result (λ n. (length (items_in (state S.Store conn.old).now.trees) ≡ n)
+        × (n < 2 ^ 32) × AllByRecursion (λ row. IsWithin 1 n row.item.terms.item)
+        (items_in (state S.Store conn.old).now.trees)) }
+    ensures damaged { HasCleanDisk (state S.Store conn.new)
+        → AreNumbered (state S.Store conn.old).now.trees
+        → ¬ (IsErrOf result Damaged) }
+    ensures read { OnlyReads (state S.Store conn.old) (state S.Store conn.new) result }
 {
     let count = small(count_items(conn)?)?;
     items_within(conn, count)?;
@@ -154,11 +176,12 @@ fn items_numbered<S: Alter>(conn: &mut Connection<S>) -> Result<u32, KeepFault>
 /// How many of each there are. `Damaged` where a number is 0 or over the count of its table.
 pub fn read_counts<S: Alter>(conn: &mut Connection<S>) -> Result<Counts, KeepFault>
     requires { Serves (state S.Store conn.old) }
-    ensures counts { HasCleanDisk (state S.Store conn.new) → IfOk result (HaveNumbers (state S.Store conn.old).now.trees) }
-    ensures damaged { HasCleanDisk (state S.Store conn.new) → AreNumbered (state S.Store conn.old).now.trees → ¬ (IsErrOf result Damaged) }
-    ensures same { HasCleanDisk (state S.Store conn.new) → OnOk result (IsUnchanged (state S.Store conn.old) (state S.Store conn.new)) }
-    ensures mode { conn.old.in_transaction ≡ false → conn.new.in_transaction ≡ false }
-    ensures crash { Survives (state S.Store conn.old) (state S.Store conn.new) (λ _. ⊥) }
+    ensures counts { HasCleanDisk (state S.Store conn.new)
+        → IfOk result (HaveNumbers (state S.Store conn.old).now.trees) }
+    ensures damaged { HasCleanDisk (state S.Store conn.new)
+        → AreNumbered (state S.Store conn.old).now.trees
+        → ¬ (IsErrOf result Damaged) }
+    ensures read { OnlyReads (state S.Store conn.old) (state S.Store conn.new) result }
 {
     let members = members_numbered(conn)?;
     let categories = categories_numbered(conn)?;

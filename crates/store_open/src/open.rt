@@ -1,7 +1,7 @@
 //! A house is opened: whatever a connection holds is tested until it is a house.
-ghost use Rattle.std.specs.Prelude.{◌≡◌, ◌≤◌, false, map, IfOk, OnOk, IsErrOf, IsTrue};
+ghost use Rattle.std.specs.Prelude.{◌≡◌, ◌≤◌, false, map, IfOk, IsErrOf};
 ghost use Rattle.sqlite.specs.Held.{state};
-ghost use Rattle.sqlite.specs.State.{HasCleanDisk, IsUnchanged, Survives};
+ghost use Rattle.sqlite.specs.State.{HasCleanDisk};
 ghost use Rattle.sqlite_trees.specs.Tree.{Trees};
 ghost use Rattle.house_rows.specs.Fits.{IsMoment};
 ghost use Rattle.house_rows.specs.Found.{counts_of};
@@ -10,6 +10,7 @@ ghost use Rattle.steps.specs.Table.{IsBandTable};
 ghost use Rattle.store_rows.specs.House.{Serves};
 ghost use Rattle.store_lists.specs.Tables.{IsAtRest, house_row_in, settings_in, tables_in};
 ghost use Rattle.store_open.specs.Opening.{AreNumbered, HasSettings, IsSetUp, IsSoundHouse, Leaves};
+ghost use Rattle.store_rows.specs.Frames.{OnlyReads};
 
 use crate::anew::house_anew;
 use crate::house::Opened;
@@ -22,7 +23,8 @@ use store_rows::{BandRow, HouseRow, all_bands, house_row};
 
 // The rows of the band table as pairs.
 fn pairs(alloc: Global, rows: &[BandRow]) -> Result<Vec<(u64, u64)>, KeepFault>
-    ensures value { IfOk result (λ pairs. pairs.items ≡ map (λ (b : _). (b.from, b.step)) rows.now) }
+    ensures value { IfOk result (λ pairs. pairs.items ≡ map
+        (λ (b : _). (b.from, b.step)) rows.now) }
     ensures sound { ¬ (IsErrOf result Damaged) }
 {
     let mut pairs = Vec::new(alloc);
@@ -37,7 +39,8 @@ fn pairs(alloc: Global, rows: &[BandRow]) -> Result<Vec<(u64, u64)>, KeepFault>
 // The band table of rows; Damaged where they are none.
 fn bands_of(alloc: Global, rows: &[BandRow]) -> Result<Bands, KeepFault>
     ensures value { IfOk result (λ bands. bands ≡ map (λ (b : _). (b.from, b.step)) rows.now) }
-    ensures damaged { IsBandTable (map (λ (b : _). (b.from, b.step)) rows.now) → ¬ (IsErrOf result Damaged) }
+    ensures damaged { IsBandTable (map (λ (b : _). (b.from, b.step)) rows.now)
+        → ¬ (IsErrOf result Damaged) }
 {
     let pairs = pairs(alloc, rows)?;
     match Bands::of_rows(alloc, &pairs) {
@@ -49,7 +52,8 @@ fn bands_of(alloc: Global, rows: &[BandRow]) -> Result<Bands, KeepFault>
 
 // What the house is set up with, by its row and its bands; Damaged where the rate is none.
 fn settings_of(house: HouseRow, bands: Bands) -> Result<Settings, KeepFault>
-    ensures value { IfOk result (λ settings. (settings.bands ≡ bands) × (settings.rate ≡ house.rate) × (settings.zone ≡ house.zone)) }
+    ensures value { IfOk result (λ settings. (settings.bands ≡ bands)
+        × (settings.rate ≡ house.rate) × (settings.zone ≡ house.zone)) }
     ensures damaged { house.rate ≤ 2000 → ¬ (IsErrOf result Damaged) }
 {
     let Some(rate) = Rate::new(house.rate) else {
@@ -69,12 +73,13 @@ fn read_settings<S: Alter>(
     conn: &mut Connection<S>,
 ) -> Result<(Settings, u64), KeepFault>
     requires { Serves (state S.Store conn.old) }
-    ensures settings { HasCleanDisk (state S.Store conn.new) → IfOk result (λ read. HasSettings (state S.Store conn.old).now.trees read.0 read.1) }
+    ensures settings { HasCleanDisk (state S.Store conn.new)
+        → IfOk result (λ read. HasSettings (state S.Store conn.old).now.trees read.0 read.1) }
     ensures moment { IfOk result (λ read. IsMoment read.1) }
-    ensures damaged { HasCleanDisk (state S.Store conn.new) → IsSetUp (state S.Store conn.old).now.trees → ¬ (IsErrOf result Damaged) }
-    ensures same { HasCleanDisk (state S.Store conn.new) → OnOk result (IsUnchanged (state S.Store conn.old) (state S.Store conn.new)) }
-    ensures mode { conn.old.in_transaction ≡ false → conn.new.in_transaction ≡ false }
-    ensures crash { Survives (state S.Store conn.old) (state S.Store conn.new) (λ _. ⊥) }
+    ensures damaged { HasCleanDisk (state S.Store conn.new)
+        → IsSetUp (state S.Store conn.old).now.trees
+        → ¬ (IsErrOf result Damaged) }
+    ensures read { OnlyReads (state S.Store conn.old) (state S.Store conn.new) result }
 {
     let Some(house) = house_row(conn)? else {
         return Err(KeepFault::Damaged);
@@ -92,17 +97,26 @@ fn read_settings<S: Alter>(
 /// house or bands that don't fit, or a member, a category or an item with a number that is 0 or over
 /// how many there are.
 pub fn opened<S: Alter + Drop>(alloc: Global, conn: Connection<S>) -> Result<Opened<S>, KeepFault>
-    ensures rests { IfOk result (λ o. HasCleanDisk (state S.Store o.conn) → IsAtRest (state S.Store o.conn)) }
-    ensures settings { IfOk result (λ o. HasCleanDisk (state S.Store o.conn) → settings_in (state S.Store o.conn).now.trees ≡ o.settings) }
-    ensures counts { IfOk result (λ o. HasCleanDisk (state S.Store o.conn) → counts_of (tables_in (state S.Store o.conn).now.trees) ≡ o.counts) }
-    ensures numbered { IfOk result (λ o. HasCleanDisk (state S.Store o.conn) → AreNumbered (state S.Store o.conn).now.trees) }
-    ensures clock { IfOk result (λ o. HasCleanDisk (state S.Store o.conn) → (tables_in (state S.Store o.conn).now.trees).clock ≡ o.clock) }
+    ensures rests { IfOk result (λ o. HasCleanDisk (state S.Store o.conn)
+        → IsAtRest (state S.Store o.conn)) }
+    ensures settings { IfOk result (λ o. HasCleanDisk (state S.Store o.conn)
+        → settings_in (state S.Store o.conn).now.trees ≡ o.settings) }
+    ensures counts { IfOk result (λ o. HasCleanDisk (state S.Store o.conn)
+        → counts_of (tables_in (state S.Store o.conn).now.trees) ≡ o.counts) }
+    ensures numbered { IfOk result (λ o. HasCleanDisk (state S.Store o.conn)
+        → AreNumbered (state S.Store o.conn).now.trees) }
+    ensures clock { IfOk result (λ o. HasCleanDisk (state S.Store o.conn)
+        → (tables_in (state S.Store o.conn).now.trees).clock ≡ o.clock) }
     ensures moment { IfOk result (λ o. IsMoment o.clock) }
-    ensures version { IfOk result (λ o. HasCleanDisk (state S.Store o.conn) → (house_row_in (state S.Store o.conn).now.trees).version ≡ 1) }
-    ensures only { IfOk result (λ o. HasCleanDisk (state S.Store o.conn) → (db : Trees) → (state S.Store o.conn).may_leave db → db ≡ (state S.Store o.conn).now.trees) }
+    ensures version { IfOk result (λ o. HasCleanDisk (state S.Store o.conn)
+        → (house_row_in (state S.Store o.conn).now.trees).version ≡ 1) }
+    ensures only { IfOk result (λ o. HasCleanDisk (state S.Store o.conn) → (db : Trees)
+        → (state S.Store o.conn).may_leave db → db ≡ (state S.Store o.conn).now.trees) }
     ensures mode { IfOk result (λ o. o.conn.in_transaction ≡ false) }
-    ensures same { IfOk result (λ o. HasCleanDisk (state S.Store o.conn) → (state S.Store o.conn).now.trees ≡ (state S.Store conn).committed.trees) }
-    ensures damaged { IsErrOf result Damaged → Leaves S.Store conn (¬ (IsSoundHouse (state S.Store conn).committed)) }
+    ensures same { IfOk result (λ o. HasCleanDisk (state S.Store o.conn)
+        → (state S.Store o.conn).now.trees ≡ (state S.Store conn).committed.trees) }
+    ensures damaged { IsErrOf result Damaged
+        → Leaves S.Store conn (¬ (IsSoundHouse (state S.Store conn).committed)) }
 {
     let mut conn = house_anew(alloc, conn)?;
     let (settings, clock) = read_settings(alloc, &mut conn)?;

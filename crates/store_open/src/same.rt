@@ -121,14 +121,17 @@ fn is_unstamped(stamps: &Stamps) -> bool
 
 // Whether a table has no checks and no defaults but values.
 fn is_simple(table: &Table) -> bool
-    ensures { IsTrue result ↔ ((table.now.checks ≡ []) × (table.now.computed ≡ []) × (table.now.stamps ≡ no_stamps)) }
+    ensures { IsTrue result ↔ ((table.now.checks ≡ []) × (table.now.computed ≡ [])
+        × (table.now.stamps ≡ no_stamps)) }
 {
     is_none(&table.checks) && table.computed.is_empty() && is_unstamped(&table.stamps)
 }
 
 // Whether the keys of two tables are the same.
 fn have_same_keys(this: &Table, that: &Table) -> bool
-    ensures { IsTrue result ↔ ((this.now.key ≡ that.now.key) × (this.now.primary ≡ that.now.primary) × (this.now.uniques ≡ that.now.uniques) × (this.now.orders ≡ that.now.orders) × (this.now.references ≡ that.now.references)) }
+    ensures { IsTrue result ↔ ((this.now.key ≡ that.now.key)
+        × (this.now.primary ≡ that.now.primary) × (this.now.uniques ≡ that.now.uniques)
+        × (this.now.orders ≡ that.now.orders) × (this.now.references ≡ that.now.references)) }
 {
     this.key == that.key
         && this.primary.is_same(&that.primary)

@@ -1,16 +1,17 @@
 //! Lists of feedback.
-ghost use Rattle.std.specs.Prelude.{◌≡◌, ◌==◌, ◌&&◌, false, filter, nat_le, take, IfOk, OnOk, OnErr, IsErrOf};
+ghost use Rattle.std.specs.Prelude.{◌≡◌, ◌==◌, ◌&&◌, filter, nat_le, take, IfOk, IsErrOf};
 ghost use Rattle.std.specs.List.{AllByRecursion};
 ghost use Rattle.house_rows.specs.Fits.{FeedbackFits};
 ghost use Rattle.house_rows.specs.Found.{feedback_to};
 ghost use Rattle.house_rows.specs.Limits.{most_shown};
 ghost use Rattle.house_rows.specs.declared.fault.KeepFault.TheVariants.{Damaged};
-ghost use Rattle.sqlite.specs.State.{HasCleanDisk, IsUnchanged, Survives};
+ghost use Rattle.sqlite.specs.State.{HasCleanDisk};
 ghost use Rattle.sqlite.specs.Held.{state};
-ghost use Rattle.store_rows.specs.House.{Serves, KeepsCommitted};
+ghost use Rattle.store_rows.specs.House.{Serves};
 ghost use Rattle.store_rows.specs.Rows.{feedback_in};
 ghost use Rattle.store_lists.specs.Sorted.{sorted_feedback};
 ghost use Rattle.store_lists.specs.Tables.{tables_in};
+ghost use Rattle.store_rows.specs.Frames.{OnlyReads};
 
 use crate::bound::bound_of;
 use crate::first::page_rows;
@@ -28,13 +29,15 @@ fn given_from<S: Alter>(
     from: u32,
 ) -> Result<Vec<Feedback>, KeepFault>
     requires { Serves (state S.Store conn.old) }
-    ensures given { HasCleanDisk (state S.Store conn.new) → IfOk result (λ given. given.items ≡ take most_shown (filter (λ f. (f.to == member) && nat_le from f.item) (sorted_feedback (state S.Store conn.old).now.trees))) }
+    ensures given { HasCleanDisk (state S.Store conn.new)
+        → IfOk result (λ given. given.items ≡ take most_shown
+        (filter (λ f. (f.to == member) && nat_le from f.item)
+        (sorted_feedback (state S.Store conn.old).now.trees))) }
     ensures fits { IfOk result (λ given. AllByRecursion FeedbackFits given.items) }
-    ensures damaged { HasCleanDisk (state S.Store conn.new) → AllByRecursion FeedbackFits (feedback_in (state S.Store conn.old).now.trees) → ¬ (IsErrOf result Damaged) }
-    ensures same { HasCleanDisk (state S.Store conn.new) → OnOk result (IsUnchanged (state S.Store conn.old) (state S.Store conn.new)) }
-    ensures err { HasCleanDisk (state S.Store conn.new) → OnErr result (KeepsCommitted (state S.Store conn.old) (state S.Store conn.new)) }
-    ensures mode { conn.old.in_transaction ≡ false → conn.new.in_transaction ≡ false }
-    ensures crash { Survives (state S.Store conn.old) (state S.Store conn.new) (λ _. ⊥) }
+    ensures damaged { HasCleanDisk (state S.Store conn.new)
+        → AllByRecursion FeedbackFits (feedback_in (state S.Store conn.old).now.trees)
+        → ¬ (IsErrOf result Damaged) }
+    ensures read { OnlyReads (state S.Store conn.old) (state S.Store conn.new) result }
 {
     let rows = page_rows(
         alloc,
@@ -55,13 +58,14 @@ pub fn feedback_to<S: Alter>(
     from: u64,
 ) -> Result<Vec<Feedback>, KeepFault>
     requires { Serves (state S.Store conn.old) }
-    ensures given { HasCleanDisk (state S.Store conn.new) → IfOk result (λ given. given.items ≡ feedback_to (tables_in (state S.Store conn.old).now.trees) member from) }
+    ensures given { HasCleanDisk (state S.Store conn.new)
+        → IfOk result (λ given. given.items ≡ feedback_to
+        (tables_in (state S.Store conn.old).now.trees) member from) }
     ensures fits { IfOk result (λ given. AllByRecursion FeedbackFits given.items) }
-    ensures damaged { HasCleanDisk (state S.Store conn.new) → AllByRecursion FeedbackFits (feedback_in (state S.Store conn.old).now.trees) → ¬ (IsErrOf result Damaged) }
-    ensures same { HasCleanDisk (state S.Store conn.new) → OnOk result (IsUnchanged (state S.Store conn.old) (state S.Store conn.new)) }
-    ensures err { HasCleanDisk (state S.Store conn.new) → OnErr result (KeepsCommitted (state S.Store conn.old) (state S.Store conn.new)) }
-    ensures mode { conn.old.in_transaction ≡ false → conn.new.in_transaction ≡ false }
-    ensures crash { Survives (state S.Store conn.old) (state S.Store conn.new) (λ _. ⊥) }
+    ensures damaged { HasCleanDisk (state S.Store conn.new)
+        → AllByRecursion FeedbackFits (feedback_in (state S.Store conn.old).now.trees)
+        → ¬ (IsErrOf result Damaged) }
+    ensures read { OnlyReads (state S.Store conn.old) (state S.Store conn.new) result }
 {
     given_from(alloc, conn, member, bound_of(from))
 }

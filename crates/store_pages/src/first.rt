@@ -1,18 +1,18 @@
 //! The first rows of an answer, read one at a time.
-ghost use Rattle.std.specs.Prelude.{◌≡◌, ◌<◌, ◌≤◌, false, [], length, IfOk, OnOk, OnErr, IsErrOf};
+ghost use Rattle.std.specs.Prelude.{◌<◌, ◌≤◌, [], length, IfOk, OnOk, IsErrOf};
 ghost use Rattle.house_rows.specs.Limits.{most_shown};
 ghost use Rattle.house_rows.specs.declared.fault.KeepFault.TheVariants.{Damaged};
-ghost use Rattle.sqlite.specs.State.{HasCleanDisk, IsUnchanged, Survives, Shown, Begins};
+ghost use Rattle.sqlite.specs.State.{HasCleanDisk, Shown, Begins};
 ghost use Rattle.sqlite.specs.Given.{IsPlain};
 ghost use Rattle.sqlite.specs.Listing.{understood};
 ghost use Rattle.sqlite.specs.Values.{bound};
 ghost use Rattle.sqlite.specs.Held.{state};
-ghost use Rattle.store_rows.specs.House.{Serves, IsHouse, KeepsCommitted};
+ghost use Rattle.store_rows.specs.House.{Serves, IsHouse};
 ghost use Rattle.store_rows.specs.Schema.{house_schema};
 ghost use Rattle.store_pages.specs.First.{IsFinite, ShowsFirst, ShowsSome};
+ghost use Rattle.store_rows.specs.Frames.{OnlyReads};
 
-use house_rows::KeepFault;
-use list_rows::MOST_SHOWN;
+use house_rows::{KeepFault, MOST_SHOWN};
 use sqlite::types::ValueRef;
 use sqlite::{Alter, Connection, Error, Row};
 use std::alloc::Global;
@@ -26,14 +26,17 @@ fn rows_given<S: Alter>(
     params: &[ValueRef<'_>],
     most: usize,
 ) -> Result<Vec<Row>, Error>
-    requires { HasCleanDisk (state S.Store conn.old) → IsPlain (understood conn.old.schema sql.now) }
-    ensures begin { HasCleanDisk (state S.Store conn.new) → IfOk result (λ rows. Begins sql.now (bound params.now) (state S.Store conn.new) rows.items) }
+    requires { HasCleanDisk (state S.Store conn.old)
+        → IsPlain (understood conn.old.schema sql.now) }
+    ensures begin { HasCleanDisk (state S.Store conn.new)
+        → IfOk result (λ rows. Begins sql.now (bound params.now)
+        (state S.Store conn.new) rows.items) }
     ensures few { IfOk result (λ rows. length rows.items ≤ most) }
-    ensures whole { HasCleanDisk (state S.Store conn.new) → IfOk result (λ rows. length rows.items < most → Shown sql.now (bound params.now) (state S.Store conn.old) (state S.Store conn.new) rows.items) }
-    ensures same { HasCleanDisk (state S.Store conn.new) → OnOk result (IsUnchanged (state S.Store conn.old) (state S.Store conn.new)) }
-    ensures err { HasCleanDisk (state S.Store conn.new) → OnErr result (KeepsCommitted (state S.Store conn.old) (state S.Store conn.new)) }
-    ensures mode { conn.old.in_transaction ≡ false → conn.new.in_transaction ≡ false }
-    ensures crash { Survives (state S.Store conn.old) (state S.Store conn.new) (λ _. ⊥) }
+    ensures whole { HasCleanDisk (state S.Store conn.new)
+        → IfOk result (λ rows. length rows.items < most
+        → Shown sql.now (bound params.now) (state S.Store conn.old)
+        (state S.Store conn.new) rows.items) }
+    ensures read { OnlyReads (state S.Store conn.old) (state S.Store conn.new) result }
 {
     let mut first = Vec::new(alloc);
     let mut rows = conn.query(sql, params)?;
@@ -59,12 +62,11 @@ pub fn first_rows<S: Alter>(
     requires plain { IsPlain (understood house_schema sql.now) }
     requires finite { IsFinite (understood house_schema sql.now) }
     ensures house { HasCleanDisk (state S.Store conn.new) → IsHouse (state S.Store conn.old).now }
-    ensures rows { HasCleanDisk (state S.Store conn.new) → IfOk result (λ rows. ShowsFirst most sql.now (bound params.now) (state S.Store conn.old) (state S.Store conn.new) rows.items) }
+    ensures rows { HasCleanDisk (state S.Store conn.new)
+        → IfOk result (λ rows. ShowsFirst most sql.now (bound params.now) (state S.Store conn.old)
+        (state S.Store conn.new) rows.items) }
     ensures sound { ¬ (IsErrOf result Damaged) }
-    ensures same { HasCleanDisk (state S.Store conn.new) → OnOk result (IsUnchanged (state S.Store conn.old) (state S.Store conn.new)) }
-    ensures err { HasCleanDisk (state S.Store conn.new) → OnErr result (KeepsCommitted (state S.Store conn.old) (state S.Store conn.new)) }
-    ensures mode { conn.old.in_transaction ≡ false → conn.new.in_transaction ≡ false }
-    ensures crash { Survives (state S.Store conn.old) (state S.Store conn.new) (λ _. ⊥) }
+    ensures read { OnlyReads (state S.Store conn.old) (state S.Store conn.new) result }
 {
     match rows_given(alloc, conn, sql, params, most) {
         Ok(rows) => Ok(rows),
@@ -82,12 +84,13 @@ fn no_row<S: Alter>(
     requires serves { Serves (state S.Store conn.old) }
     requires plain { IsPlain (understood house_schema sql.now) }
     requires finite { IsFinite (understood house_schema sql.now) }
-    ensures none { HasCleanDisk (state S.Store conn.new) → OnOk result (Shown sql.now (bound params.now) (state S.Store conn.old) (state S.Store conn.new) []) }
-    ensures damaged { HasCleanDisk (state S.Store conn.new) → IsErrOf result Damaged → ShowsSome sql.now (bound params.now) (state S.Store conn.old) (state S.Store conn.new) }
-    ensures same { HasCleanDisk (state S.Store conn.new) → OnOk result (IsUnchanged (state S.Store conn.old) (state S.Store conn.new)) }
-    ensures err { HasCleanDisk (state S.Store conn.new) → OnErr result (KeepsCommitted (state S.Store conn.old) (state S.Store conn.new)) }
-    ensures mode { conn.old.in_transaction ≡ false → conn.new.in_transaction ≡ false }
-    ensures crash { Survives (state S.Store conn.old) (state S.Store conn.new) (λ _. ⊥) }
+    ensures none { HasCleanDisk (state S.Store conn.new)
+        → OnOk result (Shown sql.now (bound params.now) (state S.Store conn.old)
+        (state S.Store conn.new) []) }
+    ensures damaged { HasCleanDisk (state S.Store conn.new)
+        → IsErrOf result Damaged
+        → ShowsSome sql.now (bound params.now) (state S.Store conn.old) (state S.Store conn.new) }
+    ensures read { OnlyReads (state S.Store conn.old) (state S.Store conn.new) result }
 {
     let shown = first_rows(alloc, conn, sql, params, 1)?;
     if shown.is_empty() {
@@ -113,13 +116,16 @@ pub(crate) fn page_rows<S: Alter>(
     requires strays_plain { IsPlain (understood house_schema strays.now) }
     requires strays_finite { IsFinite (understood house_schema strays.now) }
     ensures house { HasCleanDisk (state S.Store conn.new) → IsHouse (state S.Store conn.old).now }
-    ensures rows { HasCleanDisk (state S.Store conn.new) → IfOk result (λ rows. ShowsFirst most_shown sql.now (bound params.now) (state S.Store conn.old) (state S.Store conn.new) rows.items) }
-    ensures no_stray { HasCleanDisk (state S.Store conn.new) → OnOk result (Shown strays.now (bound of.now) (state S.Store conn.old) (state S.Store conn.new) []) }
-    ensures damaged { HasCleanDisk (state S.Store conn.new) → IsErrOf result Damaged → ShowsSome strays.now (bound of.now) (state S.Store conn.old) (state S.Store conn.new) }
-    ensures same { HasCleanDisk (state S.Store conn.new) → OnOk result (IsUnchanged (state S.Store conn.old) (state S.Store conn.new)) }
-    ensures err { HasCleanDisk (state S.Store conn.new) → OnErr result (KeepsCommitted (state S.Store conn.old) (state S.Store conn.new)) }
-    ensures mode { conn.old.in_transaction ≡ false → conn.new.in_transaction ≡ false }
-    ensures crash { Survives (state S.Store conn.old) (state S.Store conn.new) (λ _. ⊥) }
+    ensures rows { HasCleanDisk (state S.Store conn.new)
+        → IfOk result (λ rows. ShowsFirst most_shown sql.now (bound params.now)
+        (state S.Store conn.old) (state S.Store conn.new) rows.items) }
+    ensures no_stray { HasCleanDisk (state S.Store conn.new)
+        → OnOk result (Shown strays.now (bound of.now) (state S.Store conn.old)
+        (state S.Store conn.new) []) }
+    ensures damaged { HasCleanDisk (state S.Store conn.new)
+        → IsErrOf result Damaged
+        → ShowsSome strays.now (bound of.now) (state S.Store conn.old) (state S.Store conn.new) }
+    ensures read { OnlyReads (state S.Store conn.old) (state S.Store conn.new) result }
 {
     no_row(alloc, conn, strays, of)?;
     first_rows(alloc, conn, sql, params, MOST_SHOWN)

@@ -1,5 +1,5 @@
 //! Lists of items.
-ghost use Rattle.std.specs.Prelude.{◌≡◌, ◌==◌, ◌&&◌, false, filter, map, nat_le, take, IfOk, OnOk, OnErr, IsErrOf};
+ghost use Rattle.std.specs.Prelude.{◌≡◌, ◌==◌, ◌&&◌, filter, map, nat_le, take, IfOk, IsErrOf};
 ghost use Rattle.std.specs.List.{AllByRecursion};
 ghost use Rattle.house_rows.specs.Fits.{ItemFits};
 ghost use Rattle.house_rows.specs.Found.{items_in};
@@ -7,11 +7,12 @@ ghost use Rattle.house_rows.specs.Keeping.{ItemRowFits, Stands};
 ghost use Rattle.house_rows.specs.Limits.{most_shown};
 ghost use Rattle.house_rows.specs.Tables.{ItemRow};
 ghost use Rattle.house_rows.specs.declared.fault.KeepFault.TheVariants.{Damaged};
-ghost use Rattle.sqlite.specs.State.{HasCleanDisk, IsUnchanged, Survives};
+ghost use Rattle.sqlite.specs.State.{HasCleanDisk};
 ghost use Rattle.sqlite.specs.Held.{state};
-ghost use Rattle.store_rows.specs.House.{Serves, KeepsCommitted};
+ghost use Rattle.store_rows.specs.House.{Serves};
 ghost use Rattle.store_rows.specs.ItemRows as stored;
 ghost use Rattle.store_lists.specs.Tables.{tables_in};
+ghost use Rattle.store_rows.specs.Frames.{OnlyReads};
 
 use crate::bound::bound_of;
 use crate::first::page_rows;
@@ -30,14 +31,19 @@ fn items_from<S: Alter>(
     from: u32,
 ) -> Result<Vec<Item>, KeepFault>
     requires { Serves (state S.Store conn.old) }
-    ensures items { HasCleanDisk (state S.Store conn.new) → IfOk result (λ items. items.items ≡ take most_shown (filter (λ it. (it.terms.category == category) && nat_le from it.terms.item) (map (λ (row : ItemRow). row.item) (stored.items_in (state S.Store conn.old).now.trees)))) }
+    ensures items { HasCleanDisk (state S.Store conn.new)
+        → IfOk result (λ items. items.items ≡ take most_shown
+        (filter (λ it. (it.terms.category == category) && nat_le from it.terms.item)
+        (map (λ (row : ItemRow). row.item) (stored.items_in
+        (state S.Store conn.old).now.trees)))) }
     ensures fits { IfOk result (λ items. AllByRecursion ItemFits items.items) }
-    ensures stands { IfOk result (λ items. AllByRecursion (λ it. Stands bands.now it.terms) items.items) }
-    ensures damaged { HasCleanDisk (state S.Store conn.new) → AllByRecursion (ItemRowFits bands.now) (stored.items_in (state S.Store conn.old).now.trees) → ¬ (IsErrOf result Damaged) }
-    ensures same { HasCleanDisk (state S.Store conn.new) → OnOk result (IsUnchanged (state S.Store conn.old) (state S.Store conn.new)) }
-    ensures err { HasCleanDisk (state S.Store conn.new) → OnErr result (KeepsCommitted (state S.Store conn.old) (state S.Store conn.new)) }
-    ensures mode { conn.old.in_transaction ≡ false → conn.new.in_transaction ≡ false }
-    ensures crash { Survives (state S.Store conn.old) (state S.Store conn.new) (λ _. ⊥) }
+    ensures stands { IfOk result (λ items. AllByRecursion
+        (λ it. Stands bands.now it.terms) items.items) }
+    ensures damaged { HasCleanDisk (state S.Store conn.new)
+        → AllByRecursion (ItemRowFits bands.now)
+        (stored.items_in (state S.Store conn.old).now.trees)
+        → ¬ (IsErrOf result Damaged) }
+    ensures read { OnlyReads (state S.Store conn.old) (state S.Store conn.new) result }
 {
     let rows = page_rows(
         alloc,
@@ -59,14 +65,17 @@ pub fn items_in<S: Alter>(
     from: u64,
 ) -> Result<Vec<Item>, KeepFault>
     requires { Serves (state S.Store conn.old) }
-    ensures items { HasCleanDisk (state S.Store conn.new) → IfOk result (λ items. items.items ≡ items_in (tables_in (state S.Store conn.old).now.trees) category from) }
+    ensures items { HasCleanDisk (state S.Store conn.new)
+        → IfOk result (λ items. items.items ≡ items_in
+        (tables_in (state S.Store conn.old).now.trees) category from) }
     ensures fits { IfOk result (λ items. AllByRecursion ItemFits items.items) }
-    ensures stands { IfOk result (λ items. AllByRecursion (λ it. Stands bands.now it.terms) items.items) }
-    ensures damaged { HasCleanDisk (state S.Store conn.new) → AllByRecursion (ItemRowFits bands.now) (stored.items_in (state S.Store conn.old).now.trees) → ¬ (IsErrOf result Damaged) }
-    ensures same { HasCleanDisk (state S.Store conn.new) → OnOk result (IsUnchanged (state S.Store conn.old) (state S.Store conn.new)) }
-    ensures err { HasCleanDisk (state S.Store conn.new) → OnErr result (KeepsCommitted (state S.Store conn.old) (state S.Store conn.new)) }
-    ensures mode { conn.old.in_transaction ≡ false → conn.new.in_transaction ≡ false }
-    ensures crash { Survives (state S.Store conn.old) (state S.Store conn.new) (λ _. ⊥) }
+    ensures stands { IfOk result (λ items. AllByRecursion
+        (λ it. Stands bands.now it.terms) items.items) }
+    ensures damaged { HasCleanDisk (state S.Store conn.new)
+        → AllByRecursion (ItemRowFits bands.now)
+        (stored.items_in (state S.Store conn.old).now.trees)
+        → ¬ (IsErrOf result Damaged) }
+    ensures read { OnlyReads (state S.Store conn.old) (state S.Store conn.new) result }
 {
     items_from(alloc, conn, bands, category, bound_of(from))
 }

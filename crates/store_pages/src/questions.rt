@@ -1,21 +1,21 @@
 //! Lists of questions.
-ghost use Rattle.std.specs.Prelude.{◌≡◌, ◌==◌, ◌&&◌, false, filter, is_some, nat_le, not, take, IfOk, OnOk, OnErr, IsErrOf};
+ghost use Rattle.std.specs.Prelude.{◌≡◌, ◌==◌, ◌&&◌, filter, is_some, nat_le, not, take, IfOk, IsErrOf};
 ghost use Rattle.std.specs.List.{AllByRecursion};
 ghost use Rattle.house_rows.specs.Fits.{QuestionFits};
 ghost use Rattle.house_rows.specs.Found.{published_on, questions_of};
 ghost use Rattle.house_rows.specs.Limits.{most_shown};
 ghost use Rattle.house_rows.specs.declared.fault.KeepFault.TheVariants.{Damaged};
-ghost use Rattle.sqlite.specs.State.{HasCleanDisk, IsUnchanged, Survives};
+ghost use Rattle.sqlite.specs.State.{HasCleanDisk};
 ghost use Rattle.sqlite.specs.Held.{state};
-ghost use Rattle.store_rows.specs.House.{Serves, KeepsCommitted};
+ghost use Rattle.store_rows.specs.House.{Serves};
 ghost use Rattle.store_rows.specs.Rows.{questions_in};
 ghost use Rattle.store_lists.specs.Sorted.{sorted_questions};
 ghost use Rattle.store_lists.specs.Tables.{tables_in};
+ghost use Rattle.store_rows.specs.Frames.{OnlyReads};
 
 use crate::bound::bound_of;
 use crate::first::{first_rows, page_rows};
-use house_rows::{KeepFault, Question};
-use list_rows::MOST_SHOWN;
+use house_rows::{KeepFault, MOST_SHOWN, Question};
 use sqlite::{Alter, Connection, params};
 use std::alloc::Global;
 use store_rows::all_of;
@@ -28,13 +28,16 @@ fn published_from<S: Alter>(
     from: u32,
 ) -> Result<Vec<Question>, KeepFault>
     requires { Serves (state S.Store conn.old) }
-    ensures asked { HasCleanDisk (state S.Store conn.new) → IfOk result (λ asked. asked.items ≡ take most_shown (filter (λ q. (q.item == item) && nat_le from q.asker) (filter (λ q. is_some q.answer) (sorted_questions (state S.Store conn.old).now.trees)))) }
+    ensures asked { HasCleanDisk (state S.Store conn.new)
+        → IfOk result (λ asked. asked.items ≡ take most_shown
+        (filter (λ q. (q.item == item) && nat_le from q.asker)
+        (filter (λ q. is_some q.answer) (sorted_questions
+        (state S.Store conn.old).now.trees)))) }
     ensures fits { IfOk result (λ asked. AllByRecursion QuestionFits asked.items) }
-    ensures damaged { HasCleanDisk (state S.Store conn.new) → AllByRecursion QuestionFits (questions_in (state S.Store conn.old).now.trees) → ¬ (IsErrOf result Damaged) }
-    ensures same { HasCleanDisk (state S.Store conn.new) → OnOk result (IsUnchanged (state S.Store conn.old) (state S.Store conn.new)) }
-    ensures err { HasCleanDisk (state S.Store conn.new) → OnErr result (KeepsCommitted (state S.Store conn.old) (state S.Store conn.new)) }
-    ensures mode { conn.old.in_transaction ≡ false → conn.new.in_transaction ≡ false }
-    ensures crash { Survives (state S.Store conn.old) (state S.Store conn.new) (λ _. ⊥) }
+    ensures damaged { HasCleanDisk (state S.Store conn.new)
+        → AllByRecursion QuestionFits (questions_in (state S.Store conn.old).now.trees)
+        → ¬ (IsErrOf result Damaged) }
+    ensures read { OnlyReads (state S.Store conn.old) (state S.Store conn.new) result }
 {
     let rows = page_rows(
         alloc,
@@ -55,13 +58,14 @@ pub fn published_on<S: Alter>(
     from: u64,
 ) -> Result<Vec<Question>, KeepFault>
     requires { Serves (state S.Store conn.old) }
-    ensures asked { HasCleanDisk (state S.Store conn.new) → IfOk result (λ asked. asked.items ≡ published_on (tables_in (state S.Store conn.old).now.trees) item from) }
+    ensures asked { HasCleanDisk (state S.Store conn.new)
+        → IfOk result (λ asked. asked.items ≡ published_on
+        (tables_in (state S.Store conn.old).now.trees) item from) }
     ensures fits { IfOk result (λ asked. AllByRecursion QuestionFits asked.items) }
-    ensures damaged { HasCleanDisk (state S.Store conn.new) → AllByRecursion QuestionFits (questions_in (state S.Store conn.old).now.trees) → ¬ (IsErrOf result Damaged) }
-    ensures same { HasCleanDisk (state S.Store conn.new) → OnOk result (IsUnchanged (state S.Store conn.old) (state S.Store conn.new)) }
-    ensures err { HasCleanDisk (state S.Store conn.new) → OnErr result (KeepsCommitted (state S.Store conn.old) (state S.Store conn.new)) }
-    ensures mode { conn.old.in_transaction ≡ false → conn.new.in_transaction ≡ false }
-    ensures crash { Survives (state S.Store conn.old) (state S.Store conn.new) (λ _. ⊥) }
+    ensures damaged { HasCleanDisk (state S.Store conn.new)
+        → AllByRecursion QuestionFits (questions_in (state S.Store conn.old).now.trees)
+        → ¬ (IsErrOf result Damaged) }
+    ensures read { OnlyReads (state S.Store conn.old) (state S.Store conn.new) result }
 {
     published_from(alloc, conn, item, bound_of(from))
 }
@@ -73,13 +77,15 @@ pub fn first_waiting_on<S: Alter>(
     item: u32,
 ) -> Result<Vec<Question>, KeepFault>
     requires { Serves (state S.Store conn.old) }
-    ensures asked { HasCleanDisk (state S.Store conn.new) → IfOk result (λ asked. asked.items ≡ take most_shown (filter (λ q. (q.item == item) && not (is_some q.answer)) (sorted_questions (state S.Store conn.old).now.trees))) }
+    ensures asked { HasCleanDisk (state S.Store conn.new)
+        → IfOk result (λ asked. asked.items ≡ take most_shown
+        (filter (λ q. (q.item == item) && not (is_some q.answer))
+        (sorted_questions (state S.Store conn.old).now.trees))) }
     ensures fits { IfOk result (λ asked. AllByRecursion QuestionFits asked.items) }
-    ensures damaged { HasCleanDisk (state S.Store conn.new) → AllByRecursion QuestionFits (questions_in (state S.Store conn.old).now.trees) → ¬ (IsErrOf result Damaged) }
-    ensures same { HasCleanDisk (state S.Store conn.new) → OnOk result (IsUnchanged (state S.Store conn.old) (state S.Store conn.new)) }
-    ensures err { HasCleanDisk (state S.Store conn.new) → OnErr result (KeepsCommitted (state S.Store conn.old) (state S.Store conn.new)) }
-    ensures mode { conn.old.in_transaction ≡ false → conn.new.in_transaction ≡ false }
-    ensures crash { Survives (state S.Store conn.old) (state S.Store conn.new) (λ _. ⊥) }
+    ensures damaged { HasCleanDisk (state S.Store conn.new)
+        → AllByRecursion QuestionFits (questions_in (state S.Store conn.old).now.trees)
+        → ¬ (IsErrOf result Damaged) }
+    ensures read { OnlyReads (state S.Store conn.old) (state S.Store conn.new) result }
 {
     // A row with a negative number of its asker comes first, and doesn't fit: no stray is looked for.
     let rows = first_rows(
@@ -100,13 +106,15 @@ fn questions_from<S: Alter>(
     from: u32,
 ) -> Result<Vec<Question>, KeepFault>
     requires { Serves (state S.Store conn.old) }
-    ensures asked { HasCleanDisk (state S.Store conn.new) → IfOk result (λ asked. asked.items ≡ take most_shown (filter (λ q. (q.asker == asker) && nat_le from q.item) (sorted_questions (state S.Store conn.old).now.trees))) }
+    ensures asked { HasCleanDisk (state S.Store conn.new)
+        → IfOk result (λ asked. asked.items ≡ take most_shown
+        (filter (λ q. (q.asker == asker) && nat_le from q.item)
+        (sorted_questions (state S.Store conn.old).now.trees))) }
     ensures fits { IfOk result (λ asked. AllByRecursion QuestionFits asked.items) }
-    ensures damaged { HasCleanDisk (state S.Store conn.new) → AllByRecursion QuestionFits (questions_in (state S.Store conn.old).now.trees) → ¬ (IsErrOf result Damaged) }
-    ensures same { HasCleanDisk (state S.Store conn.new) → OnOk result (IsUnchanged (state S.Store conn.old) (state S.Store conn.new)) }
-    ensures err { HasCleanDisk (state S.Store conn.new) → OnErr result (KeepsCommitted (state S.Store conn.old) (state S.Store conn.new)) }
-    ensures mode { conn.old.in_transaction ≡ false → conn.new.in_transaction ≡ false }
-    ensures crash { Survives (state S.Store conn.old) (state S.Store conn.new) (λ _. ⊥) }
+    ensures damaged { HasCleanDisk (state S.Store conn.new)
+        → AllByRecursion QuestionFits (questions_in (state S.Store conn.old).now.trees)
+        → ¬ (IsErrOf result Damaged) }
+    ensures read { OnlyReads (state S.Store conn.old) (state S.Store conn.new) result }
 {
     let rows = page_rows(
         alloc,
@@ -127,13 +135,14 @@ pub fn questions_of<S: Alter>(
     from: u64,
 ) -> Result<Vec<Question>, KeepFault>
     requires { Serves (state S.Store conn.old) }
-    ensures asked { HasCleanDisk (state S.Store conn.new) → IfOk result (λ asked. asked.items ≡ questions_of (tables_in (state S.Store conn.old).now.trees) member from) }
+    ensures asked { HasCleanDisk (state S.Store conn.new)
+        → IfOk result (λ asked. asked.items ≡ questions_of
+        (tables_in (state S.Store conn.old).now.trees) member from) }
     ensures fits { IfOk result (λ asked. AllByRecursion QuestionFits asked.items) }
-    ensures damaged { HasCleanDisk (state S.Store conn.new) → AllByRecursion QuestionFits (questions_in (state S.Store conn.old).now.trees) → ¬ (IsErrOf result Damaged) }
-    ensures same { HasCleanDisk (state S.Store conn.new) → OnOk result (IsUnchanged (state S.Store conn.old) (state S.Store conn.new)) }
-    ensures err { HasCleanDisk (state S.Store conn.new) → OnErr result (KeepsCommitted (state S.Store conn.old) (state S.Store conn.new)) }
-    ensures mode { conn.old.in_transaction ≡ false → conn.new.in_transaction ≡ false }
-    ensures crash { Survives (state S.Store conn.old) (state S.Store conn.new) (λ _. ⊥) }
+    ensures damaged { HasCleanDisk (state S.Store conn.new)
+        → AllByRecursion QuestionFits (questions_in (state S.Store conn.old).now.trees)
+        → ¬ (IsErrOf result Damaged) }
+    ensures read { OnlyReads (state S.Store conn.old) (state S.Store conn.new) result }
 {
     questions_from(alloc, conn, member, bound_of(from))
 }

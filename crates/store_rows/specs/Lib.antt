@@ -2,6 +2,7 @@ pub mod Schema
 pub mod Texts
 pub mod Rows
 pub mod House
+pub mod Frames
 pub mod Making
 pub mod Plain
 pub mod Answers

@@ -1,12 +1,13 @@
 //! The band table.
-ghost use Rattle.std.specs.Prelude.{◌≡◌, false, IfOk, OnOk, OnErr, IsErrOf};
+ghost use Rattle.std.specs.Prelude.{◌≡◌, IfOk, IsErrOf};
 ghost use Rattle.std.specs.List.{AllByRecursion};
-ghost use Rattle.sqlite.specs.State.{HasCleanDisk, IsUnchanged, Survives};
+ghost use Rattle.sqlite.specs.State.{HasCleanDisk};
 ghost use Rattle.sqlite.specs.Held.{state};
 ghost use Rattle.house_rows.specs.declared.fault.KeepFault.TheVariants.{Damaged};
 ghost use Rattle.store_rows.specs.Fitting.{BandRowFits};
-ghost use Rattle.store_rows.specs.House.{Serves, KeepsCommitted};
+ghost use Rattle.store_rows.specs.House.{Serves};
 ghost use Rattle.store_rows.specs.Rows.{band_of, bands_in};
+ghost use Rattle.store_rows.specs.Frames.{OnlyReads};
 
 use crate::columns::number_at;
 use crate::statement::rows_shown;
@@ -45,12 +46,12 @@ pub fn all_bands<S: Alter>(
     conn: &mut Connection<S>,
 ) -> Result<Vec<BandRow>, KeepFault>
     requires { Serves (state S.Store conn.old) }
-    ensures bands { HasCleanDisk (state S.Store conn.new) → IfOk result (λ bands. bands.items ≡ bands_in (state S.Store conn.old).now.trees) }
-    ensures damaged { HasCleanDisk (state S.Store conn.new) → AllByRecursion BandRowFits (bands_in (state S.Store conn.old).now.trees) → ¬ (IsErrOf result Damaged) }
-    ensures same { HasCleanDisk (state S.Store conn.new) → OnOk result (IsUnchanged (state S.Store conn.old) (state S.Store conn.new)) }
-    ensures err { HasCleanDisk (state S.Store conn.new) → OnErr result (KeepsCommitted (state S.Store conn.old) (state S.Store conn.new)) }
-    ensures mode { conn.old.in_transaction ≡ false → conn.new.in_transaction ≡ false }
-    ensures crash { Survives (state S.Store conn.old) (state S.Store conn.new) (λ _. ⊥) }
+    ensures bands { HasCleanDisk (state S.Store conn.new)
+        → IfOk result (λ bands. bands.items ≡ bands_in (state S.Store conn.old).now.trees) }
+    ensures damaged { HasCleanDisk (state S.Store conn.new)
+        → AllByRecursion BandRowFits (bands_in (state S.Store conn.old).now.trees)
+        → ¬ (IsErrOf result Damaged) }
+    ensures read { OnlyReads (state S.Store conn.old) (state S.Store conn.new) result }
 {
     let rows = rows_shown(conn, "SELECT at, step FROM band ORDER BY at", &[])?;
     all_of(alloc, &rows)

@@ -1,11 +1,12 @@
 //! The table of bids.
-ghost use Rattle.std.specs.Prelude.{◌≡◌, IfOk, OnOk, OnErr, IsTrue, IsErrOf};
-ghost use Rattle.sqlite.specs.State.{HasCleanDisk, Survives};
+ghost use Rattle.std.specs.Prelude.{◌≡◌, IfOk, OnOk, IsTrue, IsErrOf};
+ghost use Rattle.sqlite.specs.State.{HasCleanDisk};
 ghost use Rattle.sqlite.specs.Held.{state};
 ghost use Rattle.house_rows.specs.declared.fault.KeepFault.TheVariants.{Damaged};
 ghost use Rattle.store_rows.specs.Fitting.{BidFits};
-ghost use Rattle.store_rows.specs.House.{Serves, IsInside, KeepsCommitted, AddsBid};
+ghost use Rattle.store_rows.specs.House.{Serves, AddsBid};
 ghost use Rattle.store_rows.specs.Rows.{bid_of};
+ghost use Rattle.store_rows.specs.Frames.{WritesOnce};
 
 use crate::columns::{cents_at, number_at};
 use crate::fits::bid_fits;
@@ -48,13 +49,15 @@ impl Stored for Bid {
 /// Adds a bid on an item within a transaction.
 pub fn put_bid<S: Alter>(tx: &mut Transaction<'_, S>, item: u32, bid: Bid) -> Result<(), KeepFault>
     requires serves { Serves (state S.Store tx.old.conn.now) }
-    requires begun { HasCleanDisk (state S.Store tx.old.conn.now) → IsTrue tx.old.conn.now.in_transaction }
+    requires begun { HasCleanDisk (state S.Store tx.old.conn.now)
+        → IsTrue tx.old.conn.now.in_transaction }
     ensures same_reference { tx.new.conn.ghost_name ≡ tx.old.conn.ghost_name }
-    ensures ok { HasCleanDisk (state S.Store tx.new.conn.now) → OnOk result (AddsBid (record { item = item; bid = bid }) (state S.Store tx.old.conn.now).now (state S.Store tx.new.conn.now).now) }
+    ensures ok { HasCleanDisk (state S.Store tx.new.conn.now)
+        → OnOk result (AddsBid (record { item = item; bid = bid })
+        (state S.Store tx.old.conn.now).now (state S.Store tx.new.conn.now).now) }
     ensures sound { ¬ (IsErrOf result Damaged) }
-    ensures inside { HasCleanDisk (state S.Store tx.new.conn.now) → OnOk result (IsInside (state S.Store tx.old.conn.now) (state S.Store tx.new.conn.now)) }
-    ensures err { HasCleanDisk (state S.Store tx.new.conn.now) → OnErr result (KeepsCommitted (state S.Store tx.old.conn.now) (state S.Store tx.new.conn.now)) }
-    ensures crash { Survives (state S.Store tx.old.conn.now) (state S.Store tx.new.conn.now) (λ _. ⊥) }
+    ensures write { WritesOnce (state S.Store tx.old.conn.now)
+        (state S.Store tx.new.conn.now) result }
 {
     let maximum = bid.maximum.value() as u32;
     run(

@@ -14,7 +14,9 @@ use sqlite::{Error, ErrorCode, Row};
 /// The value of a column.
 pub fn value_at<T: FromSql>(row: &Row, at: usize) -> Result<T, KeepFault>
     ensures value { IfOk result (λ x. T.FromSql.reads_as (column row.now at) x) }
-    ensures damaged { at < length row.now → T.FromSql.is_readable (column row.now at) → ¬ (IsErrOf result Damaged) }
+    ensures damaged { at < length row.now
+        → T.FromSql.is_readable (column row.now at)
+        → ¬ (IsErrOf result Damaged) }
 {
     match row.get(at) {
         Ok(value) => Ok(value),
@@ -42,7 +44,9 @@ pub fn count_at(row: &Row, at: usize) -> Result<u64, KeepFault>
 /// A number that may be missing.
 pub fn maybe_number_at(row: &Row, at: usize) -> Result<Option<u32>, KeepFault>
     ensures value { IfOk result (λ n. n ≡ maybe_number_in (column row.now at)) }
-    ensures damaged { at < length row.now → IfSome (maybe_number_in (column row.now at)) (λ n. n < 2 ^ 32) → ¬ (IsErrOf result Damaged) }
+    ensures damaged { at < length row.now
+        → IfSome (maybe_number_in (column row.now at)) (λ n. n < 2 ^ 32)
+        → ¬ (IsErrOf result Damaged) }
 {
     value_at(row, at)
 }
@@ -62,7 +66,9 @@ pub fn cents_at(row: &Row, at: usize) -> Result<Cents, KeepFault>
 /// An amount that may be missing.
 pub fn maybe_cents_at(row: &Row, at: usize) -> Result<Option<Cents>, KeepFault>
     ensures value { IfOk result (λ n. n ≡ maybe_number_in (column row.now at)) }
-    ensures damaged { at < length row.now → IfSome (maybe_number_in (column row.now at)) (λ n. n ≤ most_cents) → ¬ (IsErrOf result Damaged) }
+    ensures damaged { at < length row.now
+        → IfSome (maybe_number_in (column row.now at)) (λ n. n ≤ most_cents)
+        → ¬ (IsErrOf result Damaged) }
 {
     match maybe_number_at(row, at) {
         Ok(None) => Ok(None),
@@ -88,7 +94,9 @@ pub fn text_at(row: &Row, at: usize) -> Result<Text, KeepFault>
 /// A text that may be missing.
 pub fn maybe_text_at(row: &Row, at: usize) -> Result<Option<Text>, KeepFault>
     ensures value { IfOk result (λ t. t ≡ maybe_text_in (column row.now at)) }
-    ensures damaged { at < length row.now → IfSome (maybe_text_in (column row.now at)) (λ t. t ≢ no_text) → ¬ (IsErrOf result Damaged) }
+    ensures damaged { at < length row.now
+        → IfSome (maybe_text_in (column row.now at)) (λ t. t ≢ no_text)
+        → ¬ (IsErrOf result Damaged) }
 {
     match value_at(row, at) {
         Ok(text) => Ok(text_of(text)),

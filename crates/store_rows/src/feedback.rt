@@ -1,13 +1,14 @@
 //! The table of feedback.
-ghost use Rattle.std.specs.Prelude.{◌≡◌, ◌==◌, true, false, filter, IfOk, OnOk, OnErr, IsTrue, IsErrOf};
+ghost use Rattle.std.specs.Prelude.{◌≡◌, ◌==◌, true, filter, IfOk, OnOk, IsTrue, IsErrOf};
 ghost use Rattle.std.specs.List.{AllByRecursion};
 ghost use Rattle.sqlite_value.specs.Order.{column};
-ghost use Rattle.sqlite.specs.State.{HasCleanDisk, IsUnchanged, Survives};
+ghost use Rattle.sqlite.specs.State.{HasCleanDisk};
 ghost use Rattle.sqlite.specs.Held.{state};
 ghost use Rattle.house_rows.specs.Fits.{FeedbackFits};
 ghost use Rattle.house_rows.specs.declared.fault.KeepFault.TheVariants.{Damaged};
-ghost use Rattle.store_rows.specs.House.{Serves, IsInside, KeepsCommitted, AddsFeedback};
+ghost use Rattle.store_rows.specs.House.{Serves, AddsFeedback};
 ghost use Rattle.store_rows.specs.Rows.{feedback_in, feedback_of, is_rating, rating_in, stored_rating};
+ghost use Rattle.store_rows.specs.Frames.{WritesOnce, OnlyReads};
 
 use crate::columns::{number_at, text_at, value_at};
 use crate::fits::feedback_fits;
@@ -38,13 +39,17 @@ pub fn put_feedback<S: Alter>(
     text: &str,
 ) -> Result<(), KeepFault>
     requires serves { Serves (state S.Store tx.old.conn.now) }
-    requires begun { HasCleanDisk (state S.Store tx.old.conn.now) → IsTrue tx.old.conn.now.in_transaction }
+    requires begun { HasCleanDisk (state S.Store tx.old.conn.now)
+        → IsTrue tx.old.conn.now.in_transaction }
     ensures same_reference { tx.new.conn.ghost_name ≡ tx.old.conn.ghost_name }
-    ensures ok { HasCleanDisk (state S.Store tx.new.conn.now) → OnOk result (AddsFeedback (record { item = item; from = from; to = to; rating = rating; text = text.now }) (state S.Store tx.old.conn.now).now (state S.Store tx.new.conn.now).now) }
+    ensures ok { HasCleanDisk (state S.Store tx.new.conn.now)
+        → OnOk result
+        (AddsFeedback
+        (record { item = item; from = from; to = to; rating = rating; text = text.now })
+        (state S.Store tx.old.conn.now).now (state S.Store tx.new.conn.now).now) }
     ensures sound { ¬ (IsErrOf result Damaged) }
-    ensures inside { HasCleanDisk (state S.Store tx.new.conn.now) → OnOk result (IsInside (state S.Store tx.old.conn.now) (state S.Store tx.new.conn.now)) }
-    ensures err { HasCleanDisk (state S.Store tx.new.conn.now) → OnErr result (KeepsCommitted (state S.Store tx.old.conn.now) (state S.Store tx.new.conn.now)) }
-    ensures crash { Survives (state S.Store tx.old.conn.now) (state S.Store tx.new.conn.now) (λ _. ⊥) }
+    ensures write { WritesOnce (state S.Store tx.old.conn.now)
+        (state S.Store tx.new.conn.now) result }
 {
     let number = stored(rating);
     run(
@@ -110,13 +115,14 @@ pub fn feedback_to<S: Alter>(
     member: u32,
 ) -> Result<Vec<Feedback>, KeepFault>
     requires { Serves (state S.Store conn.old) }
-    ensures given { HasCleanDisk (state S.Store conn.new) → IfOk result (λ given. given.items ≡ filter (λ f. f.to == member) (feedback_in (state S.Store conn.old).now.trees)) }
+    ensures given { HasCleanDisk (state S.Store conn.new)
+        → IfOk result (λ given. given.items ≡ filter (λ f. f.to == member)
+        (feedback_in (state S.Store conn.old).now.trees)) }
     ensures fits { IfOk result (λ given. AllByRecursion FeedbackFits given.items) }
-    ensures damaged { HasCleanDisk (state S.Store conn.new) → AllByRecursion FeedbackFits (feedback_in (state S.Store conn.old).now.trees) → ¬ (IsErrOf result Damaged) }
-    ensures same { HasCleanDisk (state S.Store conn.new) → OnOk result (IsUnchanged (state S.Store conn.old) (state S.Store conn.new)) }
-    ensures err { HasCleanDisk (state S.Store conn.new) → OnErr result (KeepsCommitted (state S.Store conn.old) (state S.Store conn.new)) }
-    ensures mode { conn.old.in_transaction ≡ false → conn.new.in_transaction ≡ false }
-    ensures crash { Survives (state S.Store conn.old) (state S.Store conn.new) (λ _. ⊥) }
+    ensures damaged { HasCleanDisk (state S.Store conn.new)
+        → AllByRecursion FeedbackFits (feedback_in (state S.Store conn.old).now.trees)
+        → ¬ (IsErrOf result Damaged) }
+    ensures read { OnlyReads (state S.Store conn.old) (state S.Store conn.new) result }
 {
     let rows = rows_shown(
         conn,

@@ -5,26 +5,15 @@ ghost use Rattle.store_rows.specs.Fitting.{bid_fits, category_fits, feedback_fit
 
 use crate::house::HouseRow;
 use cents::LIMIT;
-use house_rows::{Category, Feedback, Member, Question, Text};
+use house_rows::{
+    Category, Feedback, MOST_CATEGORIES, MOST_ITEMS, MOST_MEMBERS, MOST_QUESTIONS, MOST_RATE,
+    Member, Question, Text,
+};
 use proxy::{Bid, MOST_BIDS};
-
-// The limits of the house.
-const MOST_MEMBERS: u32 = 100_000;
-
-const MOST_ITEMS: u32 = 1_000_000;
-
-const MOST_CATEGORIES: u32 = 1000;
-
-const MOST_QUESTIONS: u32 = 20;
+use settle::LAST_MOMENT;
 
 // The version of the tables.
 const VERSION: u32 = 1;
-
-// In ten-thousandths.
-const MOST_RATE: u64 = 2000;
-
-// 2100-01-01T00:00:00Z, in seconds.
-const LAST_MOMENT: u64 = 4_102_444_800;
 
 // Whether a number is within a range.
 fn is_within(least: u32, most: u32, number: u32) -> bool

@@ -1,12 +1,13 @@
 //! The table of the house itself, which has one row.
-ghost use Rattle.std.specs.Prelude.{◌≡◌, ◌==◌, false, find, slice_get, option_map, IfOk, OnOk, OnErr, IsTrue, IsErrOf, IfSome};
+ghost use Rattle.std.specs.Prelude.{◌≡◌, ◌==◌, find, IfOk, OnOk, IsTrue, IsErrOf, IfSome};
 ghost use Rattle.std.specs.List.{AllByRecursion};
-ghost use Rattle.sqlite.specs.State.{HasCleanDisk, IsUnchanged, Survives};
+ghost use Rattle.sqlite.specs.State.{HasCleanDisk};
 ghost use Rattle.sqlite.specs.Held.{state};
 ghost use Rattle.house_rows.specs.declared.fault.KeepFault.TheVariants.{Damaged};
 ghost use Rattle.store_rows.specs.Fitting.{HouseRowFits};
-ghost use Rattle.store_rows.specs.House.{Serves, IsInside, KeepsCommitted, SetsClock};
+ghost use Rattle.store_rows.specs.House.{Serves, SetsClock};
 ghost use Rattle.store_rows.specs.Rows.{house_of, houses_in};
+ghost use Rattle.store_rows.specs.Frames.{WritesOnce, OnlyReads};
 
 use crate::columns::{number_at, text_at};
 use crate::fits::house_fits;
@@ -70,13 +71,14 @@ impl Stored for HouseRow {
 /// The row of the house.
 pub fn house_row<S: Alter>(conn: &mut Connection<S>) -> Result<Option<HouseRow>, KeepFault>
     requires { Serves (state S.Store conn.old) }
-    ensures found { HasCleanDisk (state S.Store conn.new) → IfOk result (λ found. found ≡ find (λ h. h.id == 1) (houses_in (state S.Store conn.old).now.trees)) }
+    ensures found { HasCleanDisk (state S.Store conn.new)
+        → IfOk result (λ found. found ≡ find (λ h. h.id == 1)
+        (houses_in (state S.Store conn.old).now.trees)) }
     ensures fits { IfOk result (λ found. IfSome found HouseRowFits) }
-    ensures damaged { HasCleanDisk (state S.Store conn.new) → AllByRecursion HouseRowFits (houses_in (state S.Store conn.old).now.trees) → ¬ (IsErrOf result Damaged) }
-    ensures same { HasCleanDisk (state S.Store conn.new) → OnOk result (IsUnchanged (state S.Store conn.old) (state S.Store conn.new)) }
-    ensures err { HasCleanDisk (state S.Store conn.new) → OnErr result (KeepsCommitted (state S.Store conn.old) (state S.Store conn.new)) }
-    ensures mode { conn.old.in_transaction ≡ false → conn.new.in_transaction ≡ false }
-    ensures crash { Survives (state S.Store conn.old) (state S.Store conn.new) (λ _. ⊥) }
+    ensures damaged { HasCleanDisk (state S.Store conn.new)
+        → AllByRecursion HouseRowFits (houses_in (state S.Store conn.old).now.trees)
+        → ¬ (IsErrOf result Damaged) }
+    ensures read { OnlyReads (state S.Store conn.old) (state S.Store conn.new) result }
 {
     let rows = rows_shown(
         conn,
@@ -89,13 +91,15 @@ pub fn house_row<S: Alter>(conn: &mut Connection<S>) -> Result<Option<HouseRow>,
 /// Sets the clock within a transaction, in seconds since 1970-01-01T00:00:00Z.
 pub fn set_clock<S: Alter>(tx: &mut Transaction<'_, S>, moment: u32) -> Result<(), KeepFault>
     requires serves { Serves (state S.Store tx.old.conn.now) }
-    requires begun { HasCleanDisk (state S.Store tx.old.conn.now) → IsTrue tx.old.conn.now.in_transaction }
+    requires begun { HasCleanDisk (state S.Store tx.old.conn.now)
+        → IsTrue tx.old.conn.now.in_transaction }
     ensures same_reference { tx.new.conn.ghost_name ≡ tx.old.conn.ghost_name }
-    ensures ok { HasCleanDisk (state S.Store tx.new.conn.now) → OnOk result (SetsClock moment (state S.Store tx.old.conn.now).now (state S.Store tx.new.conn.now).now) }
+    ensures ok { HasCleanDisk (state S.Store tx.new.conn.now)
+        → OnOk result (SetsClock moment (state S.Store tx.old.conn.now).now
+        (state S.Store tx.new.conn.now).now) }
     ensures sound { ¬ (IsErrOf result Damaged) }
-    ensures inside { HasCleanDisk (state S.Store tx.new.conn.now) → OnOk result (IsInside (state S.Store tx.old.conn.now) (state S.Store tx.new.conn.now)) }
-    ensures err { HasCleanDisk (state S.Store tx.new.conn.now) → OnErr result (KeepsCommitted (state S.Store tx.old.conn.now) (state S.Store tx.new.conn.now)) }
-    ensures crash { Survives (state S.Store tx.old.conn.now) (state S.Store tx.new.conn.now) (λ _. ⊥) }
+    ensures write { WritesOnce (state S.Store tx.old.conn.now)
+        (state S.Store tx.new.conn.now) result }
 {
     run(
         tx,

@@ -7,17 +7,9 @@ ghost use Rattle.store_rows.specs.ItemFitting.{amounts_fit, is_apart, is_none_or
 
 use crate::fits::{has_length, is_text};
 use cents::LIMIT;
-use house_rows::{Item, State, Terms, Text};
+use house_rows::{Item, MOST_CATEGORIES, MOST_ITEMS, MOST_MEMBERS, State, Terms, Text};
 use proxy::MOST_BIDS;
-
-// The limits of the house.
-const MOST_MEMBERS: u64 = 100_000;
-
-const MOST_CATEGORIES: u64 = 1000;
-
-const MOST_ITEMS: u64 = 1_000_000;
-// 2100-01-01T00:00:00Z, in seconds.
-const LAST_MOMENT: u64 = 4_102_444_800;
+use settle::LAST_MOMENT;
 
 // Whether a number is within a range.
 fn is_within(least: u64, most: u64, number: u64) -> bool
@@ -67,9 +59,9 @@ pub(crate) fn widened(number: Option<u32>) -> Option<u64>
 fn numbers_fit(terms: &Terms) -> bool
     ensures { result ≡ numbers_fit terms.now }
 {
-    is_within(1, MOST_ITEMS, u64::from(terms.item))
-        && is_within(1, MOST_MEMBERS, u64::from(terms.seller))
-        && is_within(1, MOST_CATEGORIES, u64::from(terms.category))
+    is_within(1, u64::from(MOST_ITEMS), u64::from(terms.item))
+        && is_within(1, u64::from(MOST_MEMBERS), u64::from(terms.seller))
+        && is_within(1, u64::from(MOST_CATEGORIES), u64::from(terms.category))
         && terms.count <= MOST_BIDS
 }
 
@@ -98,7 +90,7 @@ fn moments_fit(terms: &Terms) -> bool
 fn leader_fits(terms: &Terms) -> bool
     ensures { result ≡ leader_fits terms.now }
 {
-    is_none_or_within(1, MOST_MEMBERS, widened(terms.leader))
+    is_none_or_within(1, u64::from(MOST_MEMBERS), widened(terms.leader))
         && is_apart(terms.leader, terms.seller)
         && (!was_sold(terms.state) || (terms.leader.is_some() && terms.closed.is_some()))
 }

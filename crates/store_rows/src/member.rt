@@ -1,13 +1,14 @@
 //! The table of members.
-ghost use Rattle.std.specs.Prelude.{◌≡◌, ◌==◌, false, map, find, slice_get, option_map, IfOk, OnOk, OnErr, IsTrue, IfSome, IsErrOf};
+ghost use Rattle.std.specs.Prelude.{◌≡◌, ◌==◌, find, IfOk, OnOk, IsTrue, IfSome, IsErrOf};
 ghost use Rattle.std.specs.List.{AllByRecursion};
-ghost use Rattle.sqlite.specs.State.{HasCleanDisk, IsUnchanged, Survives};
+ghost use Rattle.sqlite.specs.State.{HasCleanDisk};
 ghost use Rattle.sqlite.specs.Held.{state};
 ghost use Rattle.house_rows.specs.Fits.{MemberFits};
 ghost use Rattle.house_rows.specs.Text.{same_text};
 ghost use Rattle.house_rows.specs.declared.fault.KeepFault.TheVariants.{Damaged};
-ghost use Rattle.store_rows.specs.House.{Serves, IsInside, KeepsCommitted, AddsMember};
+ghost use Rattle.store_rows.specs.House.{Serves, AddsMember};
 ghost use Rattle.store_rows.specs.Rows.{member_of, members_in};
+ghost use Rattle.store_rows.specs.Frames.{WritesOnce, OnlyReads};
 
 use crate::columns::{number_at, text_at};
 use crate::fits::member_fits;
@@ -49,13 +50,15 @@ pub fn put_member<S: Alter>(
     name: &str,
 ) -> Result<(), KeepFault>
     requires serves { Serves (state S.Store tx.old.conn.now) }
-    requires begun { HasCleanDisk (state S.Store tx.old.conn.now) → IsTrue tx.old.conn.now.in_transaction }
+    requires begun { HasCleanDisk (state S.Store tx.old.conn.now)
+        → IsTrue tx.old.conn.now.in_transaction }
     ensures same_reference { tx.new.conn.ghost_name ≡ tx.old.conn.ghost_name }
-    ensures ok { HasCleanDisk (state S.Store tx.new.conn.now) → OnOk result (AddsMember number name.now (state S.Store tx.old.conn.now).now (state S.Store tx.new.conn.now).now) }
+    ensures ok { HasCleanDisk (state S.Store tx.new.conn.now)
+        → OnOk result (AddsMember number name.now (state S.Store tx.old.conn.now).now
+        (state S.Store tx.new.conn.now).now) }
     ensures sound { ¬ (IsErrOf result Damaged) }
-    ensures inside { HasCleanDisk (state S.Store tx.new.conn.now) → OnOk result (IsInside (state S.Store tx.old.conn.now) (state S.Store tx.new.conn.now)) }
-    ensures err { HasCleanDisk (state S.Store tx.new.conn.now) → OnErr result (KeepsCommitted (state S.Store tx.old.conn.now) (state S.Store tx.new.conn.now)) }
-    ensures crash { Survives (state S.Store tx.old.conn.now) (state S.Store tx.new.conn.now) (λ _. ⊥) }
+    ensures write { WritesOnce (state S.Store tx.old.conn.now)
+        (state S.Store tx.new.conn.now) result }
 {
     run(
         tx,
@@ -70,13 +73,14 @@ pub fn member_at<S: Alter>(
     number: u32,
 ) -> Result<Option<Member>, KeepFault>
     requires { Serves (state S.Store conn.old) }
-    ensures found { HasCleanDisk (state S.Store conn.new) → IfOk result (λ found. found ≡ find (λ m. m.member == number) (members_in (state S.Store conn.old).now.trees)) }
+    ensures found { HasCleanDisk (state S.Store conn.new)
+        → IfOk result (λ found. found ≡ find (λ m. m.member == number)
+        (members_in (state S.Store conn.old).now.trees)) }
     ensures fits { IfOk result (λ found. IfSome found MemberFits) }
-    ensures damaged { HasCleanDisk (state S.Store conn.new) → AllByRecursion MemberFits (members_in (state S.Store conn.old).now.trees) → ¬ (IsErrOf result Damaged) }
-    ensures same { HasCleanDisk (state S.Store conn.new) → OnOk result (IsUnchanged (state S.Store conn.old) (state S.Store conn.new)) }
-    ensures err { HasCleanDisk (state S.Store conn.new) → OnErr result (KeepsCommitted (state S.Store conn.old) (state S.Store conn.new)) }
-    ensures mode { conn.old.in_transaction ≡ false → conn.new.in_transaction ≡ false }
-    ensures crash { Survives (state S.Store conn.old) (state S.Store conn.new) (λ _. ⊥) }
+    ensures damaged { HasCleanDisk (state S.Store conn.new)
+        → AllByRecursion MemberFits (members_in (state S.Store conn.old).now.trees)
+        → ¬ (IsErrOf result Damaged) }
+    ensures read { OnlyReads (state S.Store conn.old) (state S.Store conn.new) result }
 {
     let rows = rows_shown(
         conn,
@@ -92,13 +96,14 @@ pub fn member_named<S: Alter>(
     name: &str,
 ) -> Result<Option<Member>, KeepFault>
     requires { Serves (state S.Store conn.old) }
-    ensures found { HasCleanDisk (state S.Store conn.new) → IfOk result (λ found. found ≡ find (λ m. same_text m.name name.now) (members_in (state S.Store conn.old).now.trees)) }
+    ensures found { HasCleanDisk (state S.Store conn.new)
+        → IfOk result (λ found. found ≡ find (λ m. same_text m.name name.now)
+        (members_in (state S.Store conn.old).now.trees)) }
     ensures fits { IfOk result (λ found. IfSome found MemberFits) }
-    ensures damaged { HasCleanDisk (state S.Store conn.new) → AllByRecursion MemberFits (members_in (state S.Store conn.old).now.trees) → ¬ (IsErrOf result Damaged) }
-    ensures same { HasCleanDisk (state S.Store conn.new) → OnOk result (IsUnchanged (state S.Store conn.old) (state S.Store conn.new)) }
-    ensures err { HasCleanDisk (state S.Store conn.new) → OnErr result (KeepsCommitted (state S.Store conn.old) (state S.Store conn.new)) }
-    ensures mode { conn.old.in_transaction ≡ false → conn.new.in_transaction ≡ false }
-    ensures crash { Survives (state S.Store conn.old) (state S.Store conn.new) (λ _. ⊥) }
+    ensures damaged { HasCleanDisk (state S.Store conn.new)
+        → AllByRecursion MemberFits (members_in (state S.Store conn.old).now.trees)
+        → ¬ (IsErrOf result Damaged) }
+    ensures read { OnlyReads (state S.Store conn.old) (state S.Store conn.new) result }
 {
     let rows = rows_shown(
         conn,
@@ -114,13 +119,13 @@ pub fn all_members<S: Alter>(
     conn: &mut Connection<S>,
 ) -> Result<Vec<Member>, KeepFault>
     requires { Serves (state S.Store conn.old) }
-    ensures members { HasCleanDisk (state S.Store conn.new) → IfOk result (λ members. members.items ≡ members_in (state S.Store conn.old).now.trees) }
+    ensures members { HasCleanDisk (state S.Store conn.new)
+        → IfOk result (λ members. members.items ≡ members_in (state S.Store conn.old).now.trees) }
     ensures fits { IfOk result (λ all. AllByRecursion MemberFits all.items) }
-    ensures damaged { HasCleanDisk (state S.Store conn.new) → AllByRecursion MemberFits (members_in (state S.Store conn.old).now.trees) → ¬ (IsErrOf result Damaged) }
-    ensures same { HasCleanDisk (state S.Store conn.new) → OnOk result (IsUnchanged (state S.Store conn.old) (state S.Store conn.new)) }
-    ensures err { HasCleanDisk (state S.Store conn.new) → OnErr result (KeepsCommitted (state S.Store conn.old) (state S.Store conn.new)) }
-    ensures mode { conn.old.in_transaction ≡ false → conn.new.in_transaction ≡ false }
-    ensures crash { Survives (state S.Store conn.old) (state S.Store conn.new) (λ _. ⊥) }
+    ensures damaged { HasCleanDisk (state S.Store conn.new)
+        → AllByRecursion MemberFits (members_in (state S.Store conn.old).now.trees)
+        → ¬ (IsErrOf result Damaged) }
+    ensures read { OnlyReads (state S.Store conn.old) (state S.Store conn.new) result }
 {
     let rows = rows_shown(conn, "SELECT id, name FROM member ORDER BY id", &[])?;
     all_of(alloc, &rows)

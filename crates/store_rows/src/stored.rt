@@ -40,7 +40,8 @@ impl Stored for u32 {
 pub fn first_of<T: Stored>(rows: &[Row]) -> Result<Option<T>, KeepFault>
     ensures value { IfOk result (λ found. found ≡ option_map T.told (slice_get rows.now 0)) }
     ensures fits { IfOk result (λ found. IfSome found T.fits) }
-    ensures damaged { IfSome (option_map T.told (slice_get rows.now 0)) T.fits → ¬ (IsErrOf result Damaged) }
+    ensures damaged { IfSome (option_map T.told (slice_get rows.now 0)) T.fits
+        → ¬ (IsErrOf result Damaged) }
 {
     match rows.first() {
         None => Ok(None),

@@ -1,10 +1,10 @@
 //! The statements that make the tables and their indexes, in an empty database.
-ghost use Rattle.std.specs.Prelude.{◌≡◌, ◌<◌, ◌+◌, OnOk, OnErr, IsErrOf, IsTrue};
-ghost use Rattle.sqlite.specs.State.{HasCleanDisk, KeepsCommit, Survives};
+ghost use Rattle.std.specs.Prelude.{◌≡◌, ◌<◌, ◌+◌, OnOk, IsErrOf, IsTrue};
+ghost use Rattle.sqlite.specs.State.{HasCleanDisk};
 ghost use Rattle.sqlite.specs.Held.{state};
 ghost use Rattle.house_rows.specs.declared.fault.KeepFault.TheVariants.{Damaged};
-ghost use Rattle.store_rows.specs.House.{IsInside, KeepsCommitted};
 ghost use Rattle.store_rows.specs.Making.{IsBlank, IsEmptyHouse, IsMade, making_at};
+ghost use Rattle.store_rows.specs.Frames.{WritesOnce, WritesMany};
 
 use crate::statement::fault_of;
 use house_rows::KeepFault;
@@ -49,14 +49,17 @@ fn step_text(step: usize) -> &'static str
 // Runs one step.
 fn make_step<S: Alter>(tx: &mut Transaction<'_, S>, step: usize) -> Result<(), KeepFault>
     requires step { step < STEPS }
-    requires before { HasCleanDisk (state S.Store tx.old.conn.now) → IsTrue (state S.Store tx.old.conn.now).is_open × IsMade step (state S.Store tx.old.conn.now).now }
-    requires begun { HasCleanDisk (state S.Store tx.old.conn.now) → IsTrue tx.old.conn.now.in_transaction }
+    requires before { HasCleanDisk (state S.Store tx.old.conn.now)
+        → IsTrue (state S.Store tx.old.conn.now).is_open
+        × IsMade step (state S.Store tx.old.conn.now).now }
+    requires begun { HasCleanDisk (state S.Store tx.old.conn.now)
+        → IsTrue tx.old.conn.now.in_transaction }
     ensures same_reference { tx.new.conn.ghost_name ≡ tx.old.conn.ghost_name }
-    ensures ok { HasCleanDisk (state S.Store tx.new.conn.now) → OnOk result (IsMade (step + 1) (state S.Store tx.new.conn.now).now) }
+    ensures ok { HasCleanDisk (state S.Store tx.new.conn.now)
+        → OnOk result (IsMade (step + 1) (state S.Store tx.new.conn.now).now) }
     ensures sound { ¬ (IsErrOf result Damaged) }
-    ensures inside { HasCleanDisk (state S.Store tx.new.conn.now) → OnOk result (IsInside (state S.Store tx.old.conn.now) (state S.Store tx.new.conn.now)) }
-    ensures err { HasCleanDisk (state S.Store tx.new.conn.now) → OnErr result (KeepsCommitted (state S.Store tx.old.conn.now) (state S.Store tx.new.conn.now)) }
-    ensures crash { Survives (state S.Store tx.old.conn.now) (state S.Store tx.new.conn.now) (λ _. ⊥) }
+    ensures write { WritesOnce (state S.Store tx.old.conn.now)
+        (state S.Store tx.new.conn.now) result }
 {
     match tx.execute(step_text(step), &[]) {
         Ok(_) => Ok(()),
@@ -69,13 +72,14 @@ fn make_step<S: Alter>(tx: &mut Transaction<'_, S>, step: usize) -> Result<(), K
 #[tactic(auto, using(crate::proofs::MakeLemmas::blank_made, crate::proofs::MakeLemmas::made_house))]
 pub fn make_tables<S: Alter>(tx: &mut Transaction<'_, S>) -> Result<(), KeepFault>
     requires blank { IsBlank (state S.Store tx.old.conn.now) }
-    requires begun { HasCleanDisk (state S.Store tx.old.conn.now) → IsTrue tx.old.conn.now.in_transaction }
+    requires begun { HasCleanDisk (state S.Store tx.old.conn.now)
+        → IsTrue tx.old.conn.now.in_transaction }
     ensures same_reference { tx.new.conn.ghost_name ≡ tx.old.conn.ghost_name }
-    ensures ok { HasCleanDisk (state S.Store tx.new.conn.now) → OnOk result (IsEmptyHouse (state S.Store tx.new.conn.now).now) }
+    ensures ok { HasCleanDisk (state S.Store tx.new.conn.now)
+        → OnOk result (IsEmptyHouse (state S.Store tx.new.conn.now).now) }
     ensures sound { ¬ (IsErrOf result Damaged) }
-    ensures inside { HasCleanDisk (state S.Store tx.new.conn.now) → OnOk result (IsInside (state S.Store tx.old.conn.now) (state S.Store tx.new.conn.now)) }
-    ensures err { HasCleanDisk (state S.Store tx.new.conn.now) → OnErr result (KeepsCommit (state S.Store tx.old.conn.now) (state S.Store tx.new.conn.now)) }
-    ensures crash { Survives (state S.Store tx.old.conn.now) (state S.Store tx.new.conn.now) (λ _. ⊥) }
+    ensures write { WritesMany (state S.Store tx.old.conn.now)
+        (state S.Store tx.new.conn.now) result }
 {
     for step in 0..STEPS {
         match make_step(tx, step) {

@@ -1,9 +1,7 @@
 //! A bid.
-ghost use Rattle.std.specs.Prelude.{◌≡◌, ◌==◌, ◌&&◌, ℕ, true, false, is_some, OnOk, OnErr, IsErrOf, IsTrue};
+ghost use Rattle.std.specs.Prelude.{◌≡◌, ◌==◌, ◌&&◌, ℕ, true, false, is_some, OnOk, IsErrOf, IsTrue};
 ghost use Rattle.std.specs.List.{list_any};
-ghost use Rattle.sqlite_trees.specs.Tree.{Trees};
-ghost use Rattle.sqlite.specs.Effect.{Database};
-ghost use Rattle.sqlite.specs.State.{HasCleanDisk, IsUnchanged, KeepsCommit, Survives};
+ghost use Rattle.sqlite.specs.State.{HasCleanDisk};
 ghost use Rattle.sqlite.specs.Held.{state};
 ghost use Rattle.proxy.specs.Rows.{is_standing};
 ghost use Rattle.proxy.specs.declared.bid.Bid.{Bid as TheBid};
@@ -11,10 +9,12 @@ ghost use Rattle.house_rows.specs.Asks.{BidFits, ChangeFits, IsFree};
 ghost use Rattle.house_rows.specs.Keeping.{AreSound};
 ghost use Rattle.house_rows.specs.declared.change.Change.TheVariants as change;
 ghost use Rattle.house_rows.specs.declared.fault.KeepFault.TheVariants.{Damaged};
-ghost use Rattle.store_rows.specs.House.{Serves, IsInside, KeepsCommitted};
+ghost use Rattle.store_rows.specs.House.{Serves};
 ghost use Rattle.store_items.specs.Items.{OfItem};
 ghost use Rattle.store_lists.specs.Tables.{Changes, IsNumbered, Rests, settings_in, tables_in};
 ghost use Rattle.store_sales.specs.Sales.{StartsAt};
+ghost use Rattle.store_rows.specs.Frames.{OnlyReads, WritesMany};
+ghost use Rattle.store_lists.specs.Commits.{Commits};
 
 use crate::ending::{commit, stored_moment};
 use crate::looking::terms_there;
@@ -31,7 +31,9 @@ use store_rows::{put_bid, set_clock};
 fn begins_at(standing: &Standing, bands: &Bands, start: Cents) -> bool
     ensures begins { IsTrue result → standing.now.start ≡ start }
     ensures led { IsTrue result → is_some standing.now.top ≡ is_some standing.now.leader }
-    ensures all { standing.now.start ≡ start → is_standing bands.now standing.now ≡ true → IsTrue result }
+    ensures all { standing.now.start ≡ start
+        → is_standing bands.now standing.now ≡ true
+        → IsTrue result }
 {
     let told = Standing::of_row(
         start,
@@ -54,13 +56,16 @@ fn check_standing<S: Alter>(
     standing: &Standing,
 ) -> Result<(), KeepFault>
     requires { Serves (state S.Store conn.old) }
-    ensures start { HasCleanDisk (state S.Store conn.new) → OnOk result (OfItem item (StartsAt standing.now.start) (state S.Store conn.old).now) }
+    ensures start { HasCleanDisk (state S.Store conn.new)
+        → OnOk result (OfItem item (StartsAt standing.now.start) (state S.Store conn.old).now) }
     ensures led { OnOk result (is_some standing.now.top ≡ is_some standing.now.leader) }
-    ensures damaged { HasCleanDisk (state S.Store conn.new) → AreSound (tables_in (state S.Store conn.old).now.trees) → bands.now ≡ (settings_in (state S.Store conn.old).now.trees).bands → (moment : ℕ) (placed : TheBid) → BidFits (tables_in (state S.Store conn.old).now.trees) moment item placed standing.now → ¬ (IsErrOf result Damaged) }
-    ensures same { HasCleanDisk (state S.Store conn.new) → OnOk result (IsUnchanged (state S.Store conn.old) (state S.Store conn.new)) }
-    ensures err { HasCleanDisk (state S.Store conn.new) → OnErr result (KeepsCommitted (state S.Store conn.old) (state S.Store conn.new)) }
-    ensures mode { conn.old.in_transaction ≡ false → conn.new.in_transaction ≡ false }
-    ensures crash { Survives (state S.Store conn.old) (state S.Store conn.new) (λ _. ⊥) }
+    ensures damaged { HasCleanDisk (state S.Store conn.new)
+        → AreSound (tables_in (state S.Store conn.old).now.trees)
+        → bands.now ≡ (settings_in (state S.Store conn.old).now.trees).bands
+        → (moment : ℕ) (placed : TheBid)
+        → BidFits (tables_in (state S.Store conn.old).now.trees) moment item placed standing.now
+        → ¬ (IsErrOf result Damaged) }
+    ensures read { OnlyReads (state S.Store conn.old) (state S.Store conn.new) result }
 {
     let terms = terms_there(conn, bands, item)?;
     if begins_at(standing, bands, terms.start) {
@@ -73,12 +78,14 @@ fn check_standing<S: Alter>(
 // Whether an item's next number is free; Damaged where it is taken.
 fn check_free<S: Alter>(conn: &mut Connection<S>, item: u32, number: u32) -> Result<(), KeepFault>
     requires { Serves (state S.Store conn.old) }
-    ensures free { HasCleanDisk (state S.Store conn.new) → OnOk result (list_any (λ b. (b.item == item) && (b.bid.no == number)) (tables_in (state S.Store conn.old).now.trees).bids ≡ false) }
-    ensures damaged { HasCleanDisk (state S.Store conn.new) → list_any (λ b. (b.item == item) && (b.bid.no == number)) (tables_in (state S.Store conn.old).now.trees).bids ≡ false → ¬ (IsErrOf result Damaged) }
-    ensures same { HasCleanDisk (state S.Store conn.new) → OnOk result (IsUnchanged (state S.Store conn.old) (state S.Store conn.new)) }
-    ensures err { HasCleanDisk (state S.Store conn.new) → OnErr result (KeepsCommitted (state S.Store conn.old) (state S.Store conn.new)) }
-    ensures mode { conn.old.in_transaction ≡ false → conn.new.in_transaction ≡ false }
-    ensures crash { Survives (state S.Store conn.old) (state S.Store conn.new) (λ _. ⊥) }
+    ensures free { HasCleanDisk (state S.Store conn.new)
+        → OnOk result (list_any (λ b. (b.item == item) && (b.bid.no == number))
+        (tables_in (state S.Store conn.old).now.trees).bids ≡ false) }
+    ensures damaged { HasCleanDisk (state S.Store conn.new)
+        → list_any (λ b. (b.item == item) && (b.bid.no == number))
+        (tables_in (state S.Store conn.old).now.trees).bids ≡ false
+        → ¬ (IsErrOf result Damaged) }
+    ensures read { OnlyReads (state S.Store conn.old) (state S.Store conn.new) result }
 {
     if has_bid(conn, item, number)? {
         Err(KeepFault::Damaged)
@@ -96,14 +103,21 @@ fn check_bid<S: Alter>(
     standing: &Standing,
 ) -> Result<(), KeepFault>
     requires { Serves (state S.Store conn.old) }
-    ensures start { HasCleanDisk (state S.Store conn.new) → OnOk result (OfItem item (StartsAt standing.now.start) (state S.Store conn.old).now) }
+    ensures start { HasCleanDisk (state S.Store conn.new)
+        → OnOk result (OfItem item (StartsAt standing.now.start) (state S.Store conn.old).now) }
     ensures led { OnOk result (is_some standing.now.top ≡ is_some standing.now.leader) }
-    ensures free { HasCleanDisk (state S.Store conn.new) → OnOk result (list_any (λ b. (b.item == item) && (b.bid.no == number)) (tables_in (state S.Store conn.old).now.trees).bids ≡ false) }
-    ensures damaged { HasCleanDisk (state S.Store conn.new) → AreSound (tables_in (state S.Store conn.old).now.trees) → bands.now ≡ (settings_in (state S.Store conn.old).now.trees).bands → (moment : ℕ) (placed : TheBid) → BidFits (tables_in (state S.Store conn.old).now.trees) moment item placed standing.now → list_any (λ b. (b.item == item) && (b.bid.no == number)) (tables_in (state S.Store conn.old).now.trees).bids ≡ false → ¬ (IsErrOf result Damaged) }
-    ensures same { HasCleanDisk (state S.Store conn.new) → OnOk result (IsUnchanged (state S.Store conn.old) (state S.Store conn.new)) }
-    ensures err { HasCleanDisk (state S.Store conn.new) → OnErr result (KeepsCommitted (state S.Store conn.old) (state S.Store conn.new)) }
-    ensures mode { conn.old.in_transaction ≡ false → conn.new.in_transaction ≡ false }
-    ensures crash { Survives (state S.Store conn.old) (state S.Store conn.new) (λ _. ⊥) }
+    ensures free { HasCleanDisk (state S.Store conn.new)
+        → OnOk result (list_any (λ b. (b.item == item) && (b.bid.no == number))
+        (tables_in (state S.Store conn.old).now.trees).bids ≡ false) }
+    ensures damaged { HasCleanDisk (state S.Store conn.new)
+        → AreSound (tables_in (state S.Store conn.old).now.trees)
+        → bands.now ≡ (settings_in (state S.Store conn.old).now.trees).bands
+        → (moment : ℕ) (placed : TheBid)
+        → BidFits (tables_in (state S.Store conn.old).now.trees) moment item placed standing.now
+        → list_any (λ b. (b.item == item) && (b.bid.no == number))
+        (tables_in (state S.Store conn.old).now.trees).bids ≡ false
+        → ¬ (IsErrOf result Damaged) }
+    ensures read { OnlyReads (state S.Store conn.old) (state S.Store conn.new) result }
 {
     check_standing(conn, bands, item, standing)?;
     check_free(conn, item, number)
@@ -118,16 +132,20 @@ fn write_bid<S: Alter>(
     standing: &Standing,
 ) -> Result<(), KeepFault>
     requires serves { Serves (state S.Store tx.old.conn.now) }
-    requires begun { HasCleanDisk (state S.Store tx.old.conn.now) → IsTrue tx.old.conn.now.in_transaction }
-    requires numbered { HasCleanDisk (state S.Store tx.old.conn.now) → IsNumbered (state S.Store tx.old.conn.now).now.trees }
-    requires fits { HasCleanDisk (state S.Store tx.old.conn.now) → OfItem item (StartsAt standing.now.start) (state S.Store tx.old.conn.now).now }
+    requires begun { HasCleanDisk (state S.Store tx.old.conn.now)
+        → IsTrue tx.old.conn.now.in_transaction }
+    requires numbered { HasCleanDisk (state S.Store tx.old.conn.now)
+        → IsNumbered (state S.Store tx.old.conn.now).now.trees }
+    requires fits { HasCleanDisk (state S.Store tx.old.conn.now)
+        → OfItem item (StartsAt standing.now.start) (state S.Store tx.old.conn.now).now }
     requires led { is_some standing.now.top ≡ is_some standing.now.leader }
     ensures same_reference { tx.new.conn.ghost_name ≡ tx.old.conn.ghost_name }
-    ensures ok { HasCleanDisk (state S.Store tx.new.conn.now) → OnOk result (Changes (change.Bid moment item placed standing.now) (state S.Store tx.old.conn.now).now (state S.Store tx.new.conn.now).now) }
+    ensures ok { HasCleanDisk (state S.Store tx.new.conn.now)
+        → OnOk result (Changes (change.Bid moment item placed standing.now)
+        (state S.Store tx.old.conn.now).now (state S.Store tx.new.conn.now).now) }
     ensures sound { ¬ (IsErrOf result Damaged) }
-    ensures inside { HasCleanDisk (state S.Store tx.new.conn.now) → OnOk result (IsInside (state S.Store tx.old.conn.now) (state S.Store tx.new.conn.now)) }
-    ensures err { HasCleanDisk (state S.Store tx.new.conn.now) → OnErr result (KeepsCommit (state S.Store tx.old.conn.now) (state S.Store tx.new.conn.now)) }
-    ensures crash { Survives (state S.Store tx.old.conn.now) (state S.Store tx.new.conn.now) (λ _. ⊥) }
+    ensures write { WritesMany (state S.Store tx.old.conn.now)
+        (state S.Store tx.new.conn.now) result }
 {
     put_bid(tx, item, placed)?;
     set_standing(tx, item, standing)?;
@@ -147,14 +165,20 @@ pub fn bid<S: Alter>(
 ) -> Result<(), KeepFault>
     requires rests { Rests (state S.Store conn.old) }
     requires mode { conn.old.in_transaction ≡ false }
-    requires bands { HasCleanDisk (state S.Store conn.old) → bands.now ≡ (settings_in (state S.Store conn.old).now.trees).bands }
-    ensures ok { HasCleanDisk (state S.Store conn.new) → OnOk result (IsTrue (state S.Store conn.new).is_open × ((state S.Store conn.new).now ≡ (state S.Store conn.new).committed) × Changes (change.Bid moment item placed standing.now) (state S.Store conn.old).now (state S.Store conn.new).now) }
-    ensures taken { HasCleanDisk (state S.Store conn.new) → OnOk result (IsFree (tables_in (state S.Store conn.old).now.trees) (change.Bid moment item placed standing.now)) }
-    ensures damaged { HasCleanDisk (state S.Store conn.new) → AreSound (tables_in (state S.Store conn.old).now.trees) → ChangeFits (tables_in (state S.Store conn.old).now.trees) (change.Bid moment item placed standing.now) → IsFree (tables_in (state S.Store conn.old).now.trees) (change.Bid moment item placed standing.now) → ¬ (IsErrOf result Damaged) }
-    ensures err { HasCleanDisk (state S.Store conn.new) → IsTrue (state S.Store conn.new).is_open → OnErr result (((state S.Store conn.new).now ≡ (state S.Store conn.old).committed) × ((state S.Store conn.new).committed ≡ (state S.Store conn.old).committed)) }
-    ensures only { HasCleanDisk (state S.Store conn.new) → OnOk result ((db : Trees) → (state S.Store conn.new).may_leave db → db ≡ (state S.Store conn.new).now.trees) }
-    ensures mode { conn.new.in_transaction ≡ false }
-    ensures crash { Survives (state S.Store conn.old) (state S.Store conn.new) (λ trees. (db : Database) × Changes (change.Bid moment item placed standing.now) (state S.Store conn.old).now db × (trees ≡ db.trees)) }
+    requires bands { HasCleanDisk (state S.Store conn.old)
+        → bands.now ≡ (settings_in (state S.Store conn.old).now.trees).bands }
+    ensures commit { Commits (change.Bid moment item placed standing.now) (state S.Store conn.old)
+        (state S.Store conn.new) result }
+    ensures taken { HasCleanDisk (state S.Store conn.new)
+        → OnOk result (IsFree (tables_in (state S.Store conn.old).now.trees)
+        (change.Bid moment item placed standing.now)) }
+    ensures damaged { HasCleanDisk (state S.Store conn.new)
+        → AreSound (tables_in (state S.Store conn.old).now.trees)
+        → ChangeFits (tables_in (state S.Store conn.old).now.trees)
+        (change.Bid moment item placed standing.now)
+        → IsFree (tables_in (state S.Store conn.old).now.trees)
+        (change.Bid moment item placed standing.now)
+        → ¬ (IsErrOf result Damaged) }
 {
     let moment = stored_moment(moment)?;
     check_bid(conn, bands, item, placed.no, standing)?;

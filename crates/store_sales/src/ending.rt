@@ -1,10 +1,9 @@
 //! How every change begins and ends.
-ghost use Rattle.std.specs.Prelude.{◌≡◌, ◌⊎◌, false, [], IfOk, OnOk, OnErr, IsErrOf, IsTrue};
-ghost use Rattle.sqlite.specs.State.{HasCleanDisk, IsRolledBack, IsUnchanged, KeepsCounts, Shows, Survives};
+ghost use Rattle.std.specs.Prelude.{◌≡◌, false, IfOk, OnOk, OnErr, IsErrOf, IsTrue};
+ghost use Rattle.sqlite.specs.State.{HasCleanDisk, IsRolledBack, Shows, Survives};
 ghost use Rattle.sqlite.specs.Held.{state};
 ghost use Rattle.house_rows.specs.Fits.{IsMoment};
 ghost use Rattle.house_rows.specs.declared.fault.KeepFault.TheVariants.{Damaged};
-ghost use Rattle.store_rows.specs.House.{KeepsCommitted};
 
 use house_rows::KeepFault;
 use sqlite::{Alter, Transaction};
@@ -24,10 +23,17 @@ pub(crate) fn stored_moment(moment: u64) -> Result<u32, KeepFault>
 /// Commits: what the transaction sees is then what is kept.
 pub(crate) fn commit<S: Alter>(tx: Transaction<'_, S>) -> Result<(), KeepFault>
     ensures ended { tx.exit.0.now.in_transaction ≡ false }
-    ensures ok { HasCleanDisk (state S.Store tx.exit.0.now) → OnOk result (IsTrue (state S.Store tx.entry.conn.now).in_transaction × Shows (state S.Store tx.entry.conn.now) (state S.Store tx.exit.0.now) (state S.Store tx.entry.conn.now).now (state S.Store tx.entry.conn.now).now false) }
+    ensures ok { HasCleanDisk (state S.Store tx.exit.0.now)
+        → OnOk result (IsTrue (state S.Store tx.entry.conn.now).in_transaction
+        × Shows (state S.Store tx.entry.conn.now) (state S.Store tx.exit.0.now)
+        (state S.Store tx.entry.conn.now).now (state S.Store tx.entry.conn.now).now false) }
     ensures sound { ¬ (IsErrOf result Damaged) }
-    ensures err { HasCleanDisk (state S.Store tx.exit.0.now) → IsTrue (state S.Store tx.entry.conn.now).in_transaction → OnErr result (IsRolledBack (state S.Store tx.entry.conn.now) (state S.Store tx.exit.0.now)) }
-    ensures crash { Survives (state S.Store tx.entry.conn.now) (state S.Store tx.exit.0.now) (λ db. db ≡ (state S.Store tx.entry.conn.now).now.trees) }
+    ensures err { HasCleanDisk (state S.Store tx.exit.0.now)
+        → IsTrue (state S.Store tx.entry.conn.now).in_transaction
+        → OnErr result (IsRolledBack (state S.Store tx.entry.conn.now)
+        (state S.Store tx.exit.0.now)) }
+    ensures crash { Survives (state S.Store tx.entry.conn.now) (state S.Store tx.exit.0.now)
+        (λ db. db ≡ (state S.Store tx.entry.conn.now).now.trees) }
 {
     match tx.commit() {
         Ok(()) => Ok(()),

@@ -1,6 +1,6 @@
 //! What is looked up of an item before it is changed.
-ghost use Rattle.std.specs.Prelude.{◌≡◌, false, find, option_map, Some, IfOk, OnOk, OnErr, IsErrOf};
-ghost use Rattle.sqlite.specs.State.{HasCleanDisk, IsUnchanged, Survives};
+ghost use Rattle.std.specs.Prelude.{◌≡◌, find, option_map, Some, IfOk, IsErrOf};
+ghost use Rattle.sqlite.specs.State.{HasCleanDisk};
 ghost use Rattle.sqlite.specs.Held.{state};
 ghost use Rattle.house_rows.specs.Asks.{HasItem};
 ghost use Rattle.house_rows.specs.Changed.{is_item};
@@ -8,9 +8,10 @@ ghost use Rattle.house_rows.specs.Fits.{TermsFit};
 ghost use Rattle.house_rows.specs.Keeping.{AreSound};
 ghost use Rattle.house_rows.specs.Tables.{ItemRow};
 ghost use Rattle.house_rows.specs.declared.fault.KeepFault.TheVariants.{Damaged};
-ghost use Rattle.store_rows.specs.House.{Serves, KeepsCommitted};
+ghost use Rattle.store_rows.specs.House.{Serves};
 ghost use Rattle.store_rows.specs.ItemRows.{items_in};
 ghost use Rattle.store_lists.specs.Tables.{settings_in, tables_in};
+ghost use Rattle.store_rows.specs.Frames.{OnlyReads};
 
 use house_rows::{KeepFault, Terms};
 use proxy::Standing;
@@ -25,13 +26,16 @@ pub(crate) fn terms_there<S: Alter>(
     item: u32,
 ) -> Result<Terms, KeepFault>
     requires { Serves (state S.Store conn.old) }
-    ensures found { HasCleanDisk (state S.Store conn.new) → IfOk result (λ t. option_map (λ (row : ItemRow). row.item.terms) (find (is_item item) (items_in (state S.Store conn.old).now.trees)) ≡ Some t) }
+    ensures found { HasCleanDisk (state S.Store conn.new)
+        → IfOk result (λ t. option_map (λ (row : ItemRow). row.item.terms)
+        (find (is_item item) (items_in (state S.Store conn.old).now.trees)) ≡ Some t) }
     ensures fits { IfOk result TermsFit }
-    ensures damaged { HasCleanDisk (state S.Store conn.new) → AreSound (tables_in (state S.Store conn.old).now.trees) → bands.now ≡ (settings_in (state S.Store conn.old).now.trees).bands → HasItem (tables_in (state S.Store conn.old).now.trees) item → ¬ (IsErrOf result Damaged) }
-    ensures same { HasCleanDisk (state S.Store conn.new) → OnOk result (IsUnchanged (state S.Store conn.old) (state S.Store conn.new)) }
-    ensures err { HasCleanDisk (state S.Store conn.new) → OnErr result (KeepsCommitted (state S.Store conn.old) (state S.Store conn.new)) }
-    ensures mode { conn.old.in_transaction ≡ false → conn.new.in_transaction ≡ false }
-    ensures crash { Survives (state S.Store conn.old) (state S.Store conn.new) (λ _. ⊥) }
+    ensures damaged { HasCleanDisk (state S.Store conn.new)
+        → AreSound (tables_in (state S.Store conn.old).now.trees)
+        → bands.now ≡ (settings_in (state S.Store conn.old).now.trees).bands
+        → HasItem (tables_in (state S.Store conn.old).now.trees) item
+        → ¬ (IsErrOf result Damaged) }
+    ensures read { OnlyReads (state S.Store conn.old) (state S.Store conn.new) result }
 {
     match terms_at(conn, bands, item) {
         Ok(Some(terms)) => Ok(terms),
@@ -47,12 +51,15 @@ pub(crate) fn standing_there<S: Alter>(
     item: u32,
 ) -> Result<Standing, KeepFault>
     requires { Serves (state S.Store conn.old) }
-    ensures found { HasCleanDisk (state S.Store conn.new) → IfOk result (λ s. option_map (λ (row : ItemRow). row.standing) (find (is_item item) (items_in (state S.Store conn.old).now.trees)) ≡ Some s) }
-    ensures damaged { HasCleanDisk (state S.Store conn.new) → AreSound (tables_in (state S.Store conn.old).now.trees) → bands.now ≡ (settings_in (state S.Store conn.old).now.trees).bands → HasItem (tables_in (state S.Store conn.old).now.trees) item → ¬ (IsErrOf result Damaged) }
-    ensures same { HasCleanDisk (state S.Store conn.new) → OnOk result (IsUnchanged (state S.Store conn.old) (state S.Store conn.new)) }
-    ensures err { HasCleanDisk (state S.Store conn.new) → OnErr result (KeepsCommitted (state S.Store conn.old) (state S.Store conn.new)) }
-    ensures mode { conn.old.in_transaction ≡ false → conn.new.in_transaction ≡ false }
-    ensures crash { Survives (state S.Store conn.old) (state S.Store conn.new) (λ _. ⊥) }
+    ensures found { HasCleanDisk (state S.Store conn.new)
+        → IfOk result (λ s. option_map (λ (row : ItemRow). row.standing)
+        (find (is_item item) (items_in (state S.Store conn.old).now.trees)) ≡ Some s) }
+    ensures damaged { HasCleanDisk (state S.Store conn.new)
+        → AreSound (tables_in (state S.Store conn.old).now.trees)
+        → bands.now ≡ (settings_in (state S.Store conn.old).now.trees).bands
+        → HasItem (tables_in (state S.Store conn.old).now.trees) item
+        → ¬ (IsErrOf result Damaged) }
+    ensures read { OnlyReads (state S.Store conn.old) (state S.Store conn.new) result }
 {
     match standing_at(conn, bands, item) {
         Ok(Some(standing)) => Ok(standing),

@@ -1,17 +1,17 @@
 //! A settlement.
-ghost use Rattle.std.specs.Prelude.{◌≡◌, false, OnOk, OnErr, IsErrOf, IsTrue};
-ghost use Rattle.sqlite_trees.specs.Tree.{Trees};
-ghost use Rattle.sqlite.specs.Effect.{Database};
-ghost use Rattle.sqlite.specs.State.{HasCleanDisk, IsUnchanged, KeepsCommit, Survives};
+ghost use Rattle.std.specs.Prelude.{◌≡◌, false, OnOk, IsErrOf, IsTrue};
+ghost use Rattle.sqlite.specs.State.{HasCleanDisk};
 ghost use Rattle.sqlite.specs.Held.{state};
 ghost use Rattle.house_rows.specs.Asks.{ChangeFits, HasItem, IsFree};
 ghost use Rattle.house_rows.specs.Keeping.{AreSound};
 ghost use Rattle.house_rows.specs.declared.change.Change.TheVariants.{Settle};
 ghost use Rattle.house_rows.specs.declared.fault.KeepFault.TheVariants.{Damaged};
-ghost use Rattle.store_rows.specs.House.{Serves, IsInside, KeepsCommitted};
+ghost use Rattle.store_rows.specs.House.{Serves};
 ghost use Rattle.store_items.specs.Items.{OfItem};
 ghost use Rattle.store_lists.specs.Tables.{Changes, IsNumbered, Rests, settings_in, tables_in};
 ghost use Rattle.store_sales.specs.Sales.{StartFits};
+ghost use Rattle.store_rows.specs.Frames.{OnlyReads, WritesMany};
+ghost use Rattle.store_lists.specs.Commits.{Commits};
 
 use crate::ending::{commit, stored_moment};
 use crate::looking::terms_there;
@@ -28,12 +28,14 @@ fn check_terms<S: Alter>(
     item: u32,
 ) -> Result<(), KeepFault>
     requires { Serves (state S.Store conn.old) }
-    ensures fits { HasCleanDisk (state S.Store conn.new) → OnOk result (OfItem item StartFits (state S.Store conn.old).now) }
-    ensures damaged { HasCleanDisk (state S.Store conn.new) → AreSound (tables_in (state S.Store conn.old).now.trees) → bands.now ≡ (settings_in (state S.Store conn.old).now.trees).bands → HasItem (tables_in (state S.Store conn.old).now.trees) item → ¬ (IsErrOf result Damaged) }
-    ensures same { HasCleanDisk (state S.Store conn.new) → OnOk result (IsUnchanged (state S.Store conn.old) (state S.Store conn.new)) }
-    ensures err { HasCleanDisk (state S.Store conn.new) → OnErr result (KeepsCommitted (state S.Store conn.old) (state S.Store conn.new)) }
-    ensures mode { conn.old.in_transaction ≡ false → conn.new.in_transaction ≡ false }
-    ensures crash { Survives (state S.Store conn.old) (state S.Store conn.new) (λ _. ⊥) }
+    ensures fits { HasCleanDisk (state S.Store conn.new)
+        → OnOk result (OfItem item StartFits (state S.Store conn.old).now) }
+    ensures damaged { HasCleanDisk (state S.Store conn.new)
+        → AreSound (tables_in (state S.Store conn.old).now.trees)
+        → bands.now ≡ (settings_in (state S.Store conn.old).now.trees).bands
+        → HasItem (tables_in (state S.Store conn.old).now.trees) item
+        → ¬ (IsErrOf result Damaged) }
+    ensures read { OnlyReads (state S.Store conn.old) (state S.Store conn.new) result }
 {
     terms_there(conn, bands, item)?;
     Ok(())
@@ -46,15 +48,19 @@ fn write_settlement<S: Alter>(
     item: u32,
 ) -> Result<(), KeepFault>
     requires serves { Serves (state S.Store tx.old.conn.now) }
-    requires begun { HasCleanDisk (state S.Store tx.old.conn.now) → IsTrue tx.old.conn.now.in_transaction }
-    requires numbered { HasCleanDisk (state S.Store tx.old.conn.now) → IsNumbered (state S.Store tx.old.conn.now).now.trees }
-    requires fits { HasCleanDisk (state S.Store tx.old.conn.now) → OfItem item StartFits (state S.Store tx.old.conn.now).now }
+    requires begun { HasCleanDisk (state S.Store tx.old.conn.now)
+        → IsTrue tx.old.conn.now.in_transaction }
+    requires numbered { HasCleanDisk (state S.Store tx.old.conn.now)
+        → IsNumbered (state S.Store tx.old.conn.now).now.trees }
+    requires fits { HasCleanDisk (state S.Store tx.old.conn.now)
+        → OfItem item StartFits (state S.Store tx.old.conn.now).now }
     ensures same_reference { tx.new.conn.ghost_name ≡ tx.old.conn.ghost_name }
-    ensures ok { HasCleanDisk (state S.Store tx.new.conn.now) → OnOk result (Changes (Settle moment item) (state S.Store tx.old.conn.now).now (state S.Store tx.new.conn.now).now) }
+    ensures ok { HasCleanDisk (state S.Store tx.new.conn.now)
+        → OnOk result (Changes (Settle moment item) (state S.Store tx.old.conn.now).now
+        (state S.Store tx.new.conn.now).now) }
     ensures sound { ¬ (IsErrOf result Damaged) }
-    ensures inside { HasCleanDisk (state S.Store tx.new.conn.now) → OnOk result (IsInside (state S.Store tx.old.conn.now) (state S.Store tx.new.conn.now)) }
-    ensures err { HasCleanDisk (state S.Store tx.new.conn.now) → OnErr result (KeepsCommit (state S.Store tx.old.conn.now) (state S.Store tx.new.conn.now)) }
-    ensures crash { Survives (state S.Store tx.old.conn.now) (state S.Store tx.new.conn.now) (λ _. ⊥) }
+    ensures write { WritesMany (state S.Store tx.old.conn.now)
+        (state S.Store tx.new.conn.now) result }
 {
     set_settled(tx, item)?;
     set_clock(tx, moment)
@@ -70,13 +76,15 @@ pub fn settle<S: Alter>(
 ) -> Result<(), KeepFault>
     requires rests { Rests (state S.Store conn.old) }
     requires mode { conn.old.in_transaction ≡ false }
-    requires bands { HasCleanDisk (state S.Store conn.old) → bands.now ≡ (settings_in (state S.Store conn.old).now.trees).bands }
-    ensures ok { HasCleanDisk (state S.Store conn.new) → OnOk result (IsTrue (state S.Store conn.new).is_open × ((state S.Store conn.new).now ≡ (state S.Store conn.new).committed) × Changes (Settle moment item) (state S.Store conn.old).now (state S.Store conn.new).now) }
-    ensures damaged { HasCleanDisk (state S.Store conn.new) → AreSound (tables_in (state S.Store conn.old).now.trees) → ChangeFits (tables_in (state S.Store conn.old).now.trees) (Settle moment item) → IsFree (tables_in (state S.Store conn.old).now.trees) (Settle moment item) → ¬ (IsErrOf result Damaged) }
-    ensures err { HasCleanDisk (state S.Store conn.new) → IsTrue (state S.Store conn.new).is_open → OnErr result (((state S.Store conn.new).now ≡ (state S.Store conn.old).committed) × ((state S.Store conn.new).committed ≡ (state S.Store conn.old).committed)) }
-    ensures only { HasCleanDisk (state S.Store conn.new) → OnOk result ((db : Trees) → (state S.Store conn.new).may_leave db → db ≡ (state S.Store conn.new).now.trees) }
-    ensures mode { conn.new.in_transaction ≡ false }
-    ensures crash { Survives (state S.Store conn.old) (state S.Store conn.new) (λ trees. (db : Database) × Changes (Settle moment item) (state S.Store conn.old).now db × (trees ≡ db.trees)) }
+    requires bands { HasCleanDisk (state S.Store conn.old)
+        → bands.now ≡ (settings_in (state S.Store conn.old).now.trees).bands }
+    ensures commit { Commits (Settle moment item) (state S.Store conn.old)
+        (state S.Store conn.new) result }
+    ensures damaged { HasCleanDisk (state S.Store conn.new)
+        → AreSound (tables_in (state S.Store conn.old).now.trees)
+        → ChangeFits (tables_in (state S.Store conn.old).now.trees) (Settle moment item)
+        → IsFree (tables_in (state S.Store conn.old).now.trees) (Settle moment item)
+        → ¬ (IsErrOf result Damaged) }
 {
     let moment = stored_moment(moment)?;
     check_terms(conn, bands, item)?;

@@ -5,6 +5,7 @@ use Rattle.house_rows.specs.Found.{best_of}
 use Rattle.store_lists.specs.Tables.{tables_in}
 use Rattle.store_answers.proofs.OwnBidItems.{bid_found}
 use Rattle.store_answers.proofs.Sound.{rows_fit}
+use Rattle.store_answers.proofs.Standing.{bid_stands, terms_in}
 use Rattle.store_answers.proofs.Steps.{clean_before}
 use Rattle.store_answers.proofs.bids.own_bid_at.Goals as goal
 
@@ -15,7 +16,14 @@ pub returns-clause-value : goal.returns-clause-value
 returns-clause-value g c clean =
     let old = state g.S.Store c.args.conn.now in
     let mid = state g.S.Store c.terms_at.new.conn in
-    let before = clean_before mid (state g.S.Store c.own_best.new.conn) c.own_best.ensures.crash clean in
-    let same = (c.in_ok-terms.ensures.same before).0.now_is in
+    let before = clean_before mid (state g.S.Store c.own_best.new.conn) c.own_best.ensures.read.crash clean in
+    let same = (c.in_ok-terms.ensures.read.same before).0.now_is in
     let best = c.in_ok-best.ensures.value clean ∙ ap (λ (db : Database). best_of (tables_in db.trees) c.args.member c.args.item) same in
     c.own_bid.ensures.value ∙ bid_found old.now.trees c.args.member c.args.item c.in_ok-terms.terms c.in_ok-best.best (c.in_ok-terms.ensures.found before) best
+
+pub returns-clause-stands : goal.returns-clause-stands
+returns-clause-stands g c clean =
+    let db = (state g.S.Store c.args.conn.now).now.trees in
+    let before = clean_before (state g.S.Store c.terms_at.new.conn) (state g.S.Store c.own_best.new.conn) c.own_best.ensures.read.crash clean in
+    let here = terms_in c.args.bands.now db c.args.item c.in_ok-terms.terms (c.in_ok-terms.ensures.found before) c.in_ok-terms.ensures.stands in
+    bid_stands c.args.bands.now db c.args.member c.args.item c.own_bid.result (returns-clause-value g c clean) here

@@ -4,8 +4,10 @@ use Rattle.sqlite.specs.State.{HasCleanDisk, IsUnchanged, Survives}
 use Rattle.sqlite.specs.Held.{state}
 use Rattle.house_rows.specs.Fits.{OwnBidFits}
 use Rattle.house_rows.specs.Limits.{most_shown}
+use Rattle.house_rows.specs.declared.item.OwnBid.{OwnBid}
 use Rattle.store_lists.specs.Tables.{tables_in}
 use Rattle.store_answers.specs.OwnBids.{own_found}
+use Rattle.store_answers.specs.Standing.{StandsIn}
 use Rattle.store_answers.proofs.bids.own_bids_at.Given as goal
 
 abbrev pub invariant-loop-number : goal.invariant-loop-number
@@ -20,4 +22,5 @@ invariant-loop-number g l =
       found : HasCleanDisk now → l.found.items ++ flat_map F (drop l.number-index l.numbers) ≡ flat_map F l.numbers;
       few : length l.found.items ≤ most_shown;
       fits : AllByRecursion OwnBidFits l.found.items;
+      stands : HasCleanDisk now → AllByRecursion (λ (b : OwnBid). StandsIn l.bands old.now.trees b.item) l.found.items;
     }

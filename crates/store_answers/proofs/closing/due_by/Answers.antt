@@ -1,9 +1,10 @@
 use Rattle.std.proofs.Common.{◌≡◌, ◌∙◌, ap, not, rules}
 use Rattle.sqlite.specs.Held.{state}
 use Rattle.house_rows.specs.History.{counted}
-use Rattle.house_rows.specs.Items.{close_sells}
+use Rattle.house_rows.specs.Items.{close_sells, is_due}
 use Rattle.store_answers.proofs.Counted.{due_terms_are}
 use Rattle.store_answers.proofs.Sound.{rows_fit}
+use Rattle.store_answers.proofs.Standing.{terms_stand}
 use Rattle.store_answers.proofs.closing.due_by.Goals as goal
 
 pub returns-in_err-due-clause-damaged : goal.returns-in_err-due-clause-damaged
@@ -16,3 +17,7 @@ returns-clause-value g c clean =
     due_terms_are (state g.S.Store c.args.conn.now).now.trees c.args.moment due (c.in_ok-due.ensures.terms clean) c.counts_of.result
     (c.counts_of.ensures.sold ∙ ap (counted (λ t. close_sells t.leader)) same)
     (c.counts_of.ensures.unsold ∙ ap (counted (λ t. not (close_sells t.leader))) same)
+
+pub returns-clause-stands : goal.returns-clause-stands
+returns-clause-stands g c clean =
+    terms_stand c.args.bands.now (state g.S.Store c.args.conn.now).now.trees (λ row. is_due c.args.moment row.item.terms) c.in_ok-due.due.items (c.in_ok-due.ensures.terms clean) c.in_ok-due.ensures.stands

@@ -11,6 +11,7 @@ use Rattle.store_rows.proofs.StateLemmas.{ok_then}
 use Rattle.store_answers.specs.Rising.{rise_from}
 use Rattle.store_answers.proofs.PartySales.{both_fit, rising_from_0, sales_are, sales_found}
 use Rattle.store_answers.proofs.Sound.{rows_fit}
+use Rattle.store_answers.proofs.Standing.{ok_so, sales_stand}
 use Rattle.store_answers.proofs.Steps.{clean_before}
 use Rattle.store_answers.proofs.sales.sales_of_member.Goals as goal
 
@@ -19,17 +20,17 @@ returns-in_err-sold-clause-damaged g c clean sound is = c.in_err-sold.ensures.da
 
 pub returns-in_err-led-clause-damaged : goal.returns-in_err-led-clause-damaged
 returns-in_err-led-clause-damaged g c clean sound is =
-    let before = clean_before (state g.S.Store c.terms_of_seller.new.conn) (state g.S.Store c.terms_led_by.new.conn) c.terms_led_by.ensures.crash clean in
+    let before = clean_before (state g.S.Store c.terms_of_seller.new.conn) (state g.S.Store c.terms_led_by.new.conn) c.terms_led_by.ensures.read.crash clean in
     c.in_err-led.ensures.damaged clean
-    (subst (λ (db : Database). AllByRecursion (ItemRowFits c.args.bands.now) (items_in db.trees)) (sym (c.in_ok-sold.ensures.same before).0.now_is) (rows_fit (state g.S.Store c.args.conn.now).now.trees c.args.bands.now sound)) (search rules)
+    (subst (λ (db : Database). AllByRecursion (ItemRowFits c.args.bands.now) (items_in db.trees)) (sym (c.in_ok-sold.ensures.read.same before).0.now_is) (rows_fit (state g.S.Store c.args.conn.now).now.trees c.args.bands.now sound)) (search rules)
 
 pub returns-then-not-rise-clause-damaged : goal.returns-then-not-rise-clause-damaged
 returns-then-not-rise-clause-damaged g c clean sound is =
     let old = state g.S.Store c.args.conn.now in
     let mid = state g.S.Store c.terms_of_seller.new.conn in
-    let before = clean_before mid (state g.S.Store c.terms_led_by.new.conn) c.terms_led_by.ensures.crash clean in
-    let same = (c.in_ok-sold.ensures.same before).0.now_is in
-    let house = (c.requires.serves (clean_before old mid c.terms_of_seller.ensures.crash before)).1 in
+    let before = clean_before mid (state g.S.Store c.terms_led_by.new.conn) c.terms_led_by.ensures.read.crash clean in
+    let same = (c.in_ok-sold.ensures.read.same before).0.now_is in
+    let house = (c.requires.serves (clean_before old mid c.terms_of_seller.ensures.read.crash before)).1 in
     let all = c.in_ok-items.items.items in
     let led_is = c.in_ok-led.ensures.terms clean ∙ ap (λ (db : Database). map (λ (row : ItemRow). row.item.terms) (filter (λ row. is_leader row.item.terms.leader c.args.member) (items_in db.trees))) same in
     let found = sales_found old.now c.args.member c.in_ok-sold.sold.items c.in_ok-led.led.items all house c.requires.numbered (c.in_ok-sold.ensures.terms before) led_is c.in_ok-sold.ensures.fits c.in_ok-led.ensures.fits c.in_ok-items.ensures.both c.in_ok-items.ensures.ordered in
@@ -42,9 +43,9 @@ pub returns-clause-value : goal.returns-clause-value
 returns-clause-value g c clean =
     let old = state g.S.Store c.args.conn.now in
     let mid = state g.S.Store c.terms_of_seller.new.conn in
-    let before = clean_before mid (state g.S.Store c.terms_led_by.new.conn) c.terms_led_by.ensures.crash clean in
-    let same = (c.in_ok-sold.ensures.same before).0.now_is in
-    let house = (c.requires.serves (clean_before old mid c.terms_of_seller.ensures.crash before)).1 in
+    let before = clean_before mid (state g.S.Store c.terms_led_by.new.conn) c.terms_led_by.ensures.read.crash clean in
+    let same = (c.in_ok-sold.ensures.read.same before).0.now_is in
+    let house = (c.requires.serves (clean_before old mid c.terms_of_seller.ensures.read.crash before)).1 in
     let all = c.in_ok-items.items.items in
     let led_is = c.in_ok-led.ensures.terms clean ∙ ap (λ (db : Database). map (λ (row : ItemRow). row.item.terms) (filter (λ row. is_leader row.item.terms.leader c.args.member) (items_in db.trees))) same in
     let found = sales_found old.now c.args.member c.in_ok-sold.sold.items c.in_ok-led.led.items all house c.requires.numbered (c.in_ok-sold.ensures.terms before) led_is c.in_ok-sold.ensures.fits c.in_ok-led.ensures.fits c.in_ok-items.ensures.both c.in_ok-items.ensures.ordered in
@@ -80,3 +81,12 @@ returns-clause-few g c =
     let up : rise_from 0 all ≡ true = sym (c.rise.ensures ∙ ap (rise_from 0) tested) ∙ yes in
     let fit = both_fit c.in_ok-sold.sold.items c.in_ok-led.led.items all c.in_ok-sold.ensures.fits c.in_ok-led.ensures.fits c.in_ok-items.ensures.both in
     ok_then c.sales_of.result c.sales_of.ensures.value (λ sales e. (sales_are all sales.items up fit (e ∙ ap (flat_map sale_of) shown)).few)
+
+pub returns-clause-stands : goal.returns-clause-stands
+returns-clause-stands g c clean =
+    let old = state g.S.Store c.args.conn.now in
+    let before = clean_before (state g.S.Store c.terms_of_seller.new.conn) (state g.S.Store c.terms_led_by.new.conn) c.terms_led_by.ensures.read.crash clean in
+    let same = (c.in_ok-sold.ensures.read.same before).0.now_is in
+    let led_is = c.in_ok-led.ensures.terms clean ∙ ap (λ (db : Database). map (λ (row : ItemRow). row.item.terms) (filter (λ row. is_leader row.item.terms.leader c.args.member) (items_in db.trees))) same in
+    ok_so c.sales_of.result
+    (sales_stand c.args.bands.now old.now.trees c.args.member c.in_ok-sold.sold.items c.in_ok-led.led.items c.requires.numbered (c.in_ok-sold.ensures.terms before) led_is c.in_ok-sold.ensures.stands c.in_ok-led.ensures.stands)

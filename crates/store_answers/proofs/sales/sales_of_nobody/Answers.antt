@@ -1,7 +1,11 @@
 use Rattle.std.proofs.Common.{◌∙◌, rules}
+use Rattle.std.specs.List.{list_any}
 use Rattle.sqlite.specs.Held.{state}
+use Rattle.settle.specs.Statement.{is_party}
+use Rattle.house_rows.specs.Pages.{sale_of}
 use Rattle.store_answers.proofs.PartySales.{no_sales_found}
 use Rattle.store_answers.proofs.Sound.{rows_fit}
+use Rattle.store_answers.proofs.Standing.{items_stand}
 use Rattle.store_answers.proofs.sales.sales_of_nobody.Goals as goal
 
 pub returns-in_err-all_items-clause-damaged : goal.returns-in_err-all_items-clause-damaged
@@ -10,3 +14,8 @@ returns-in_err-all_items-clause-damaged g c clean sound is = c.in_err-all_items.
 pub returns-clause-value : goal.returns-clause-value
 returns-clause-value g c clean =
     c.new.ensures.items ∙ no_sales_found (state g.S.Store c.args.conn.now).now c.in_ok-all_items.field-0.items (c.in_ok-all_items.ensures.items clean) c.in_ok-all_items.ensures.fits
+
+pub returns-clause-stands : goal.returns-clause-stands
+returns-clause-stands g c clean =
+    items_stand c.args.bands.now (state g.S.Store c.args.conn.now).now.trees (λ row. list_any (is_party 0) (sale_of row.item.terms)) c.in_ok-all_items.field-0.items
+    (c.in_ok-all_items.ensures.items clean) c.in_ok-all_items.ensures.stands

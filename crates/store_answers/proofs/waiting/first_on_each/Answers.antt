@@ -13,12 +13,12 @@ loop-terms-preserved g c =
     let mid = state g.S.Store c.loop-terms.conn in
     let new = state g.S.Store c.add_first_waiting.new.conn in
     let held = c.loop-terms.invariant in
-    let crash = c.add_first_waiting.ensures.crash in
+    let crash = c.add_first_waiting.ensures.read.crash in
     let F = λ (t : Terms). waiting_in old.now.trees t.item in
     record {
       survives = both_survive old mid new held.survives crash;
-      same = λ clean. both_same old mid new (held.same (clean_before mid new crash clean)) (c.in-Ok.ensures.same clean);
-      mode = λ out. c.add_first_waiting.ensures.mode (held.mode out);
+      same = λ clean. both_same old mid new (held.same (clean_before mid new crash clean)) (c.in-Ok.ensures.read.same clean);
+      mode = λ out. c.add_first_waiting.ensures.read.mode (held.mode out);
       few = c.in-Ok.ensures.few;
       found = λ clean. (let before = clean_before mid new crash clean in
           first_found_more most_shown F c.args.own.now c.loop-terms.terms-index c.terms-item.result c.loop-terms.asked.items c.add_first_waiting.new.asked.items _ c.loop-terms-test.true (held.found before)

@@ -12,12 +12,12 @@ loop-terms-preserved g c =
     let mid = state g.S.Store c.loop-terms.conn in
     let new = state g.S.Store c.add_waiting.new.conn in
     let held = c.loop-terms.invariant in
-    let crash = c.add_waiting.ensures.crash in
+    let crash = c.add_waiting.ensures.read.crash in
     let F = λ (t : Terms). waiting_in old.now.trees t.item in
     record {
       survives = both_survive old mid new held.survives crash;
-      same = λ clean. both_same old mid new (held.same (clean_before mid new crash clean)) (c.in-Ok.ensures.same clean);
-      mode = λ out. c.add_waiting.ensures.mode (held.mode out);
+      same = λ clean. both_same old mid new (held.same (clean_before mid new crash clean)) (c.in-Ok.ensures.read.same clean);
+      mode = λ out. c.add_waiting.ensures.read.mode (held.mode out);
       found = λ clean. (let before = clean_before mid new crash clean in
           found_more F c.args.own.now c.loop-terms.terms-index c.terms-item.result c.loop-terms.asked.items c.add_waiting.new.asked.items _ c.loop-terms-test.true (held.found before)
           (subst (λ (db : Database). c.add_waiting.new.asked.items ≡ c.loop-terms.asked.items ++ waiting_in db.trees c.terms-item.result.item) (held.same before).0.now_is (c.in-Ok.ensures.asked clean)

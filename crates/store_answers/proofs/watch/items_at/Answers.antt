@@ -12,11 +12,11 @@ loop-number-preserved g c =
     let mid = state g.S.Store c.loop-number.conn in
     let new = state g.S.Store c.add_item.new.conn in
     let held = c.loop-number.invariant in
-    let crash = c.add_item.ensures.crash in
+    let crash = c.add_item.ensures.read.crash in
     record {
       survives = both_survive old mid new held.survives crash;
-      same = λ clean. both_same old mid new (held.same (clean_before mid new crash clean)) (c.in-Ok.ensures.same clean);
-      mode = λ out. c.add_item.ensures.mode (held.mode out);
+      same = λ clean. both_same old mid new (held.same (clean_before mid new crash clean)) (c.in-Ok.ensures.read.same clean);
+      mode = λ out. c.add_item.ensures.read.mode (held.mode out);
       found = λ clean. (let before = clean_before mid new crash clean in
           found_more (item_found old.now.trees) c.args.numbers.now c.loop-number.number-index 0 c.loop-number.items.items c.add_item.new.items.items _ c.loop-number-test.true (held.found before)
           (subst (λ (db : Database). c.add_item.new.items.items ≡ c.loop-number.items.items ++ item_found db.trees (get_or c.args.numbers.now c.loop-number.number-index 0)) (held.same before).0.now_is (c.in-Ok.ensures.items clean)));

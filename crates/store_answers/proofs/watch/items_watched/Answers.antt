@@ -20,9 +20,9 @@ returns-clause-value g c clean =
     let old = state g.S.Store c.args.conn.now in
     let mid = state g.S.Store c.watched_by.new.conn in
     let new = state g.S.Store c.items_at.new.conn in
-    let before = clean_before mid new c.items_at.ensures.crash clean in
-    let first = c.in_ok-numbers.ensures.same before in
-    let house = (c.requires (clean_before old mid c.watched_by.ensures.crash before)).1 in
+    let before = clean_before mid new c.items_at.ensures.read.crash clean in
+    let first = c.in_ok-numbers.ensures.read.same before in
+    let house = (c.requires (clean_before old mid c.watched_by.ensures.read.crash before)).1 in
     let numbers = c.in_ok-numbers.numbers.items in
     let same : c.deref.result.now ≡ numbers = search rules in
     let low : AllByRecursion (λ n. n < 2 ^ 64) numbers = subst (AllByRecursion (λ n. n < 2 ^ 64)) same c.items_at.ensures.small in
@@ -34,5 +34,5 @@ pub returns-clause-damaged : goal.returns-clause-damaged
 returns-clause-damaged g c clean sound =
     let old = state g.S.Store c.args.conn.now in
     let mid = state g.S.Store c.watched_by.new.conn in
-    let before = clean_before mid (state g.S.Store c.items_at.new.conn) c.items_at.ensures.crash clean in
-    c.items_at.ensures.damaged clean (subst (λ (db : Database). AllByRecursion (ItemRowFits c.args.bands.now) (items_in db.trees)) (sym (c.in_ok-numbers.ensures.same before).0.now_is) (rows_fit old.now.trees c.args.bands.now sound))
+    let before = clean_before mid (state g.S.Store c.items_at.new.conn) c.items_at.ensures.read.crash clean in
+    c.items_at.ensures.damaged clean (subst (λ (db : Database). AllByRecursion (ItemRowFits c.args.bands.now) (items_in db.trees)) (sym (c.in_ok-numbers.ensures.read.same before).0.now_is) (rows_fit old.now.trees c.args.bands.now sound))

@@ -7,7 +7,7 @@ use Rattle.house_rows.specs.Keeping.{ItemRowFits}
 use Rattle.house_rows.specs.Tables.{ItemRow}
 use Rattle.house_rows.specs.declared.change.Change.TheVariants.{List}
 use Rattle.store_lists.specs.Tables.{tables_in}
-use Rattle.store_entries.specs.Entries.{MadeBy}
+use Rattle.store_lists.specs.Commits.{MadeBy}
 use Rattle.store_entries.proofs.Keys.{none_there, on_ok, some_there}
 use Rattle.store_entries.proofs.Steps.{survives_change}
 use Rattle.store_entries.proofs.listing.list.Goals as goal
@@ -27,14 +27,19 @@ pub returns-clause-taken : goal.returns-clause-taken
 unfolding tables_in
 returns-clause-taken g c clean =
     let there : is_some c.in_ok-item_with_lot.field-0 ≡ false = search rules in
-    on_ok c.commit_list.result (none_there c.in_ok-item_with_lot.field-0 _ there (c.in_ok-item_with_lot.ensures.found (omega (arith, c.commit_list.ensures.crash.clean))))
+    on_ok c.commit_list.result (none_there c.in_ok-item_with_lot.field-0 _ there (c.in_ok-item_with_lot.ensures.found (omega (arith, c.commit_list.ensures.commit.crash.clean))))
 
-pub returns-clause-crash : goal.returns-clause-crash
-returns-clause-crash g c =
-    let l = c.args.listing.now in
-    survives_change (state g.S.Store c.args.conn.now) (state g.S.Store c.item_with_lot.new.conn) (state g.S.Store c.commit_list.new.conn) (List c.args.moment l.seller l.category l.lot l.title l.text l.start l.buy_now l.end)
-    c.in_ok-item_with_lot.ensures.same c.in_ok-item_with_lot.ensures.crash
-    (subst (λ (m : ℕ). Survives (state g.S.Store c.item_with_lot.new.conn) (state g.S.Store c.commit_list.new.conn) (MadeBy (List m l.seller l.category l.lot l.title l.text l.start l.buy_now l.end) (state g.S.Store c.item_with_lot.new.conn)))
-    c.in_ok-moment.ensures.value
-    (subst (λ (e : ℕ). Survives (state g.S.Store c.item_with_lot.new.conn) (state g.S.Store c.commit_list.new.conn) (MadeBy (List c.in_ok-moment.moment l.seller l.category l.lot l.title l.text l.start l.buy_now e) (state g.S.Store c.item_with_lot.new.conn)))
-    c.in_ok-end.ensures.value c.commit_list.ensures.crash))
+pub returns-clause-commit : goal.returns-clause-commit
+returns-clause-commit g c =
+    let l = c.args.listing.now in record {
+      ok = search rules;
+      err = search rules;
+      only = search rules;
+      mode = search rules;
+      crash = survives_change (state g.S.Store c.args.conn.now) (state g.S.Store c.item_with_lot.new.conn) (state g.S.Store c.commit_list.new.conn) (List c.args.moment l.seller l.category l.lot l.title l.text l.start l.buy_now l.end)
+          c.in_ok-item_with_lot.ensures.read.same c.in_ok-item_with_lot.ensures.read.crash
+          (subst (λ (m : ℕ). Survives (state g.S.Store c.item_with_lot.new.conn) (state g.S.Store c.commit_list.new.conn) (MadeBy (List m l.seller l.category l.lot l.title l.text l.start l.buy_now l.end) (state g.S.Store c.item_with_lot.new.conn)))
+          c.in_ok-moment.ensures.value
+          (subst (λ (e : ℕ). Survives (state g.S.Store c.item_with_lot.new.conn) (state g.S.Store c.commit_list.new.conn) (MadeBy (List c.in_ok-moment.moment l.seller l.category l.lot l.title l.text l.start l.buy_now e) (state g.S.Store c.item_with_lot.new.conn)))
+          c.in_ok-end.ensures.value c.commit_list.ensures.commit.crash));
+    }

@@ -11,9 +11,9 @@ returns-clause-ok g c clean =
     ok_then c.set_clock.result (c.set_clock.ensures.ok clean) (λ _ w.
     lists c.args.number c.args.moment offer.seller offer.category offer.lot offer.title offer.text offer.start offer.buy_now offer.end
     (state g.S.Store c.args.tx.now.conn.now).now (state g.S.Store c.put_item.new.tx.conn.now).now (state g.S.Store c.set_clock.new.tx.conn.now).now
-    (c.requires.numbered (omega (arith, c.set_clock.ensures.crash.clean, c.put_item.ensures.crash.clean))) (c.requires.next (omega (arith, c.set_clock.ensures.crash.clean, c.put_item.ensures.crash.clean)))
-    (c.in_ok-put_item.ensures.ok (omega (arith, c.set_clock.ensures.crash.clean)) (tables_in (state g.S.Store c.args.tx.now.conn.now).now.trees).settings.bands) w)
+    (c.requires.numbered (omega (arith, c.set_clock.ensures.write.crash.clean, c.put_item.ensures.write.crash.clean))) (c.requires.next (omega (arith, c.set_clock.ensures.write.crash.clean, c.put_item.ensures.write.crash.clean)))
+    (c.in_ok-put_item.ensures.ok (omega (arith, c.set_clock.ensures.write.crash.clean)) (tables_in (state g.S.Store c.args.tx.now.conn.now).now.trees).settings.bands) w)
 
 -- the new item is said for any steps of bids
 pub set_clock-requires-clause-serves : goal.set_clock-requires-clause-serves
-set_clock-requires-clause-serves g c clean = ((c.in_ok-put_item.ensures.inside clean).is_open, (c.in_ok-put_item.ensures.ok clean []).house)
+set_clock-requires-clause-serves g c clean = ((c.in_ok-put_item.ensures.write.inside clean).is_open, (c.in_ok-put_item.ensures.ok clean []).house)

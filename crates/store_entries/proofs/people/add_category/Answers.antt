@@ -3,7 +3,7 @@ use Rattle.sqlite.specs.Held.{state}
 use Rattle.sqlite.specs.State.{Survives}
 use Rattle.house_rows.specs.declared.change.Change.TheVariants.{AddCategory}
 use Rattle.store_lists.specs.Tables.{tables_in}
-use Rattle.store_entries.specs.Entries.{MadeBy}
+use Rattle.store_lists.specs.Commits.{MadeBy}
 use Rattle.store_entries.proofs.Keys.{none_there, on_ok, some_there}
 use Rattle.store_entries.proofs.Steps.{survives_change}
 use Rattle.store_entries.proofs.people.add_category.Goals as goal
@@ -22,9 +22,15 @@ pub returns-clause-taken : goal.returns-clause-taken
 unfolding tables_in
 returns-clause-taken g c clean =
     let there : is_some c.in_ok-category_named.field-0 ≡ false = search rules in
-    on_ok c.commit_add_category.result (none_there c.in_ok-category_named.field-0 _ there (c.in_ok-category_named.ensures.found (omega (arith, c.commit_add_category.ensures.crash.clean))))
+    on_ok c.commit_add_category.result (none_there c.in_ok-category_named.field-0 _ there (c.in_ok-category_named.ensures.found (omega (arith, c.commit_add_category.ensures.commit.crash.clean))))
 
-pub returns-clause-crash : goal.returns-clause-crash
-returns-clause-crash g c =
-    survives_change (state g.S.Store c.args.conn.now) (state g.S.Store c.category_named.new.conn) (state g.S.Store c.commit_add_category.new.conn) (AddCategory c.args.moment c.args.name) c.in_ok-category_named.ensures.same c.in_ok-category_named.ensures.crash
-    (subst (λ (m : ℕ). Survives (state g.S.Store c.category_named.new.conn) (state g.S.Store c.commit_add_category.new.conn) (MadeBy (AddCategory m c.args.name) (state g.S.Store c.category_named.new.conn))) c.in_ok-moment.ensures.value c.commit_add_category.ensures.crash)
+pub returns-clause-commit : goal.returns-clause-commit
+returns-clause-commit g c =
+    record {
+      ok = search rules;
+      err = search rules;
+      only = search rules;
+      mode = search rules;
+      crash = survives_change (state g.S.Store c.args.conn.now) (state g.S.Store c.category_named.new.conn) (state g.S.Store c.commit_add_category.new.conn) (AddCategory c.args.moment c.args.name) c.in_ok-category_named.ensures.read.same c.in_ok-category_named.ensures.read.crash
+          (subst (λ (m : ℕ). Survives (state g.S.Store c.category_named.new.conn) (state g.S.Store c.commit_add_category.new.conn) (MadeBy (AddCategory m c.args.name) (state g.S.Store c.category_named.new.conn))) c.in_ok-moment.ensures.value c.commit_add_category.ensures.commit.crash);
+    }

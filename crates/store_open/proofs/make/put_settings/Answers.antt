@@ -10,7 +10,7 @@ use Rattle.store_open.proofs.make.put_settings.Goals as goal
 pub returns-clause-ok : goal.returns-clause-ok
 returns-clause-ok g c clean =
     let now = (state g.S.Store c.put_bands.new.tx.conn.now).now in
-    let early : HasCleanDisk (state g.S.Store c.put_bands.new.tx.conn.now) = omega (arith, c.put_house.ensures.crash.clean) in
+    let early : HasCleanDisk (state g.S.Store c.put_bands.new.tx.conn.now) = omega (arith, c.put_house.ensures.write.crash.clean) in
     let was = subst (λ bands. IsBanded bands now) c.rows.ensures.rows (c.in_ok-put_bands.ensures.ok early) in
     let valid = subst IsBandTable c.rows.ensures.rows c.rows.ensures.valid in
     let rate : c.args.settings.now.rate ≤ 2000 = subst (λ rate. rate ≤ 2000) c.value.ensures.value c.value.ensures.within in

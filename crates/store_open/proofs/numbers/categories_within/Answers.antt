@@ -23,11 +23,11 @@ returns-clause-within g c clean =
     let old = state g.S.Store c.args.conn.now in
     let middle = state g.S.Store c.shows_none.new.conn in
     let new = state g.S.Store c.shows_none-2.new.conn in
-    let early : HasCleanDisk middle = omega (arith, c.shows_none-2.ensures.crash.clean) in
+    let early : HasCleanDisk middle = omega (arith, c.shows_none-2.ensures.read.crash.clean) in
     let house = c.shows_none.ensures.house early in
     let low : c.args.most < 2 ^ 32 = omega (arith, c.ranges.most) in
     let below = categories_below old middle house (c.in_ok-shows_none.ensures.none early) in
-    let same : middle.now ≡ old.now = (c.in_ok-shows_none.ensures.same early).0.now_is in
+    let same : middle.now ≡ old.now = (c.in_ok-shows_none.ensures.read.same early).0.now_is in
     let seen = rw c.params-to_sql.ensures at (c.shows_none-2.ensures.none clean) in
     on_ok_weaker c.shows_none-2.result (λ shown. categories_within old.now c.args.most low house below
     (subst (λ (db : Database). AllByRecursion (λ r. passes is_above (Int (pos c.args.most) ∷ []) r ≡ false) (db.trees 4)) same (categories_above middle new c.args.most (c.shows_none-2.ensures.house clean) shown))) seen
@@ -44,8 +44,8 @@ returns-clause-damaged g c clean all =
     let old = state g.S.Store c.args.conn.now in
     let middle = state g.S.Store c.shows_none.new.conn in
     let new = state g.S.Store c.shows_none-2.new.conn in
-    let early : HasCleanDisk middle = omega (arith, c.shows_none-2.ensures.crash.clean) in
+    let early : HasCleanDisk middle = omega (arith, c.shows_none-2.ensures.read.crash.clean) in
     let low : c.args.most < 2 ^ 32 = omega (arith, c.ranges.most) in
-    let same : middle.now ≡ old.now = (c.in_ok-shows_none.ensures.same early).0.now_is in
+    let same : middle.now ≡ old.now = (c.in_ok-shows_none.ensures.read.same early).0.now_is in
     let still = subst (λ (db : Database). AllByRecursion (λ k. IsWithin 1 c.args.most k.category) (categories_in db.trees)) (sym same) all in
     c.shows_none-2.ensures.damaged clean (λ rows shown. categories_none_above middle new c.args.most rows low (c.shows_none-2.ensures.house clean) still (rw c.params-to_sql.ensures at shown))

@@ -15,11 +15,11 @@ returns g c =
     let settings = c.in_ok-settings.settings in
     let clock = c.in_ok-settings.clock in
     let counts = c.in_ok-counts.counts in
-    let second : HasCleanDisk is → HasCleanDisk middle = λ clean. omega (arith, c.read_counts.ensures.crash.clean, clean) in
-    let first : HasCleanDisk is → HasCleanDisk was = λ clean. omega (arith, c.read_settings.ensures.crash.clean, second clean) in
+    let second : HasCleanDisk is → HasCleanDisk middle = λ clean. omega (arith, c.read_counts.ensures.read.crash.clean, clean) in
+    let first : HasCleanDisk is → HasCleanDisk was = λ clean. omega (arith, c.read_settings.ensures.read.crash.clean, second clean) in
     let read : HasCleanDisk is → WasRead was is settings clock counts = λ clean.
     was_read was middle is settings clock counts (c.in_ok-conn.ensures.house (first clean)) (c.in_ok-conn.ensures.rests (first clean))
-    (c.in_ok-settings.ensures.same (second clean)) (c.in_ok-counts.ensures.same clean) (c.in_ok-settings.ensures.settings (second clean)) (c.in_ok-counts.ensures.counts clean) in
+    (c.in_ok-settings.ensures.read.same (second clean)) (c.in_ok-counts.ensures.read.same clean) (c.in_ok-settings.ensures.settings (second clean)) (c.in_ok-counts.ensures.counts clean) in
     record {
       rests = λ clean. (read clean).rests;
       settings = λ clean. (read clean).settings_are;
@@ -37,9 +37,9 @@ returns g c =
 pub returns-in_err-settings-clause-damaged : goal.returns-in_err-settings-clause-damaged
 returns-in_err-settings-clause-damaged g c is = record {
   store = c.read_settings.new.conn.store;
-  follows = follows_on g.S.Store c.args.conn c.in_ok-conn.conn c.read_settings.new.conn c.in_ok-conn.ensures.follows c.read_settings.ensures.crash;
+  follows = follows_on g.S.Store c.args.conn c.in_ok-conn.conn c.read_settings.new.conn c.in_ok-conn.ensures.follows c.read_settings.ensures.read.crash;
   honest = λ clean sound.
-      let first : HasCleanDisk (state g.S.Store c.in_ok-conn.conn) = omega (arith, c.read_settings.ensures.crash.clean, clean) in
+      let first : HasCleanDisk (state g.S.Store c.in_ok-conn.conn) = omega (arith, c.read_settings.ensures.read.crash.clean, clean) in
       let calm = c.in_err-settings.ensures.damaged clean (subst IsSetUp (sym (c.in_ok-conn.ensures.same first)) sound.set_up) in
       search rules;
 }
@@ -50,11 +50,11 @@ returns-in_err-counts-clause-damaged g c is =
     record {
       store = c.read_counts.new.conn.store;
       follows = follows_on g.S.Store c.args.conn c.read_settings.new.conn c.read_counts.new.conn
-          (follows_on g.S.Store c.args.conn c.in_ok-conn.conn c.read_settings.new.conn c.in_ok-conn.ensures.follows c.read_settings.ensures.crash) c.read_counts.ensures.crash;
+          (follows_on g.S.Store c.args.conn c.in_ok-conn.conn c.read_settings.new.conn c.in_ok-conn.ensures.follows c.read_settings.ensures.read.crash) c.read_counts.ensures.read.crash;
       honest = λ clean sound.
-          let second : HasCleanDisk middle = omega (arith, c.read_counts.ensures.crash.clean, clean) in
-          let first : HasCleanDisk (state g.S.Store c.in_ok-conn.conn) = omega (arith, c.read_settings.ensures.crash.clean, second) in
-          let same = ap (λ (d : Database). d.trees) (c.in_ok-settings.ensures.same second).0.now_is ∙ c.in_ok-conn.ensures.same first in
+          let second : HasCleanDisk middle = omega (arith, c.read_counts.ensures.read.crash.clean, clean) in
+          let first : HasCleanDisk (state g.S.Store c.in_ok-conn.conn) = omega (arith, c.read_settings.ensures.read.crash.clean, second) in
+          let same = ap (λ (d : Database). d.trees) (c.in_ok-settings.ensures.read.same second).0.now_is ∙ c.in_ok-conn.ensures.same first in
           let calm = c.in_err-counts.ensures.damaged clean (subst AreNumbered (sym same) sound.numbered) in
           search rules;
     }

@@ -13,13 +13,19 @@ use Rattle.store_pages.proofs.first.rows_given.Goals as goal
 ends : (sql : List ℕ) (params : Row) (first old new : State) (rows : List Row) → IsPlain (understood first.now.schema sql) → IsUnchanged first old → Shown sql params old new rows → Begins sql params new rows
 ends sql params first old new rows plain same = shown_begins sql params old new rows (subst (λ (d : Database). IsPlain (understood d.schema sql)) (sym same.0.now_is) plain)
 
-pub returns-in_err-rows-clause-crash : goal.returns-in_err-rows-clause-crash
-returns-in_err-rows-clause-crash g c =
+pub returns-in_err-rows-clause-read : goal.returns-in_err-rows-clause-read
+returns-in_err-rows-clause-read g c =
     let old = state g.S.Store c.args.conn.now in
     let new = state g.S.Store c.query.follows.lender-at-none in
     let held = c.query.follows.holds-at-none in
-    let kept : Survives old new (CommitsShowing c.args.sql.now (bound c.args.params.now) old) = search rules in
-    only_reads c.args.sql.now (bound c.args.params.now) old new c.requires kept
+    let kept : Survives old new (CommitsShowing c.args.sql.now (bound c.args.params.now) old) = search rules in record {
+      same = search rules;
+      err = λ clean.
+          let failed : FailsToQuery c.args.sql.now (bound c.args.params.now) old new c.in_err-rows.field-0.0 = search rules in
+          on_error c.from_residual.result (query_ended c.args.sql.now (bound c.args.params.now) old new (c.requires (omega (arith, kept.clean))) c.in_err-rows.field-0.0 failed);
+      mode = search rules;
+      crash = only_reads c.args.sql.now (bound c.args.params.now) old new c.requires kept;
+    }
 
 pub rows-init : goal.rows-init
 rows-init g c =
@@ -62,12 +68,3 @@ returns-clause-begin g c = search (rules, given_begin)
 
 pub returns-clause-whole : goal.returns-clause-whole
 returns-clause-whole g c clean few = absurd (omega (arith, c.rows.invariant.1, c.rows-test.false, few))
-
-pub returns-in_err-rows-clause-err : goal.returns-in_err-rows-clause-err
-returns-in_err-rows-clause-err g c clean =
-    let old = state g.S.Store c.args.conn.now in
-    let new = state g.S.Store c.query.follows.lender-at-none in
-    let kept : Survives old new (CommitsShowing c.args.sql.now (bound c.args.params.now) old) = search rules in
-    let plain = c.requires (omega (arith, kept.clean)) in
-    let failed : FailsToQuery c.args.sql.now (bound c.args.params.now) old new c.in_err-rows.field-0.0 = search rules in
-    on_error c.from_residual.result (query_ended c.args.sql.now (bound c.args.params.now) old new plain c.in_err-rows.field-0.0 failed)

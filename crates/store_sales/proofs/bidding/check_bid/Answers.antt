@@ -14,6 +14,6 @@ returns-in_err-check_standing-clause-damaged g c clean sound bands moment placed
 
 pub returns-clause-damaged : goal.returns-clause-damaged
 returns-clause-damaged g c clean sound bands moment placed fits free =
-    let mid : HasCleanDisk (state g.S.Store c.check_standing.new.conn) = omega (arith, c.check_free.ensures.crash.clean) in
-    let same = (c.in_ok-check_standing.ensures.same mid).0.now_is in
+    let mid : HasCleanDisk (state g.S.Store c.check_standing.new.conn) = omega (arith, c.check_free.ensures.read.crash.clean) in
+    let same = (c.in_ok-check_standing.ensures.read.same mid).0.now_is in
     c.check_free.ensures.damaged clean (subst (λ (db : Database). list_any (λ b. (b.item == c.args.item) && (b.bid.no == c.args.number)) (tables_in db.trees).bids ≡ false) (sym same) free)

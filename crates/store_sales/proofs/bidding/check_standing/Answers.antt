@@ -5,7 +5,7 @@ use Rattle.store_sales.proofs.bidding.check_standing.Goals as goal
 
 pub returns-then-begins_at-clause-start : goal.returns-then-begins_at-clause-start
 returns-then-begins_at-clause-start g c clean =
-    let before = c.requires (omega (arith, c.terms_there.ensures.crash.clean)) in
+    let before = c.requires (omega (arith, c.terms_there.ensures.read.crash.clean)) in
     let low : c.args.item < 2 ^ 32 = omega (arith, c.ranges.item) in
     standing_checked (state g.S.Store c.args.conn.now).now before.1 c.args.item low c.in_ok-terms.terms c.args.standing.now.start (c.in_ok-terms.ensures.found clean) c.in_ok-terms.ensures.fits (c.begins_at.ensures.begins c.if-begins_at.true)
 

@@ -12,10 +12,10 @@ loop-terms-preserved g c =
     let now = state g.S.Store c.loop-terms.tx.conn.now in
     let next = state g.S.Store c.set_closed.new.tx.conn.now in (
       c.set_closed.ensures.same_reference ∙ held.0,
-      survives_then old now next (λ _. ⊥) (λ _. ⊥) (λ _. ⊥) (λ _ _ none. none) (λ _ _ none. none) held.1 c.set_closed.ensures.crash,
-      λ clean. let now_clean : HasCleanDisk now = omega (arith, c.set_closed.ensures.crash.clean) in
+      survives_then old now next (λ _. ⊥) (λ _. ⊥) (λ _. ⊥) (λ _ _ none. none) (λ _ _ none. none) held.1 c.set_closed.ensures.write.crash,
+      λ clean. let now_clean : HasCleanDisk now = omega (arith, c.set_closed.ensures.write.crash.clean) in
           let so = held.2 now_clean in
-          let inside = c.in-Ok.ensures.inside clean in (
+          let inside = c.in-Ok.ensures.write.inside clean in (
             inside.is_open,
             inside.mode,
             inside.committed ∙ so.2,

@@ -18,19 +18,19 @@ returns-in_default-clause-faults g c = record {
 
 pub invariant_of-self : goal.invariant_of-self
 invariant_of-self g c = record {
-  idle = c.in-Ok.ensures.mode;
+  idle = c.in-Ok.ensures.commit.mode;
   moment = c.in-Some.ensures.fits;
-  rests = λ going honest. let ok = c.in-Ok.ensures.ok honest in record { is_open = ok.0; house = ok.2.house; settled = ok.1; numbered = ok.2.numbered };
+  rests = λ going honest. let ok = c.in-Ok.ensures.commit.ok honest in record { is_open = ok.0; house = ok.2.house; settled = ok.1; numbered = ok.2.numbered };
   known = λ going honest.
-      let before : HasCleanDisk (state g.S.Store c.self.inside.conn) = omega (arith, c.in-Ok.ensures.crash.clean, honest) in
+      let before : HasCleanDisk (state g.S.Store c.self.inside.conn) = omega (arith, c.in-Ok.ensures.commit.crash.clean, honest) in
       rw (c.in-Some-counts_after.ensures.value, c.in-Some.ensures.value)
-      (known_after _ c.self.inside.counts c.self.inside.clock c.args.change.now (state g.S.Store c.self.inside.conn).now.trees _ (c.self.invariant.known c.if-self.false before) (c.in-Ok.ensures.ok honest).2.tables);
+      (known_after _ c.self.inside.counts c.self.inside.clock c.args.change.now (state g.S.Store c.self.inside.conn).now.trees _ (c.self.invariant.known c.if-self.false before) (c.in-Ok.ensures.commit.ok honest).2.tables);
 }
 
 pub returns-in-Err-clause-crash : goal.returns-in-Err-clause-crash
 returns-in-Err-clause-crash g c = λ honest t left.
     let clean : HasCleanDisk (state g.S.Store c.make_change.new.conn) = omega (arith, c.told_fault.ensures.crash.clean, honest) in
-    let before : HasCleanDisk (state g.S.Store c.self.inside.conn) = omega (arith, c.in-Err.ensures.crash.clean, clean) in
+    let before : HasCleanDisk (state g.S.Store c.self.inside.conn) = omega (arith, c.in-Err.ensures.commit.crash.clean, clean) in
     let old = state g.S.Store c.self.inside.conn in
     let mid = state g.S.Store c.make_change.new.conn in
     let rests = c.self.invariant.rests c.if-self.false before in
@@ -39,9 +39,9 @@ returns-in-Err-clause-crash g c = λ honest t left.
     let may_mid : mid.may_leave db = elim (c.told_fault.ensures.crash.crash honest db left.1) [ inl may ↦ may | inr none ↦ absurd none ] in
     let told : c.told_fault.new.failed ≡ false → IsTrue mid.is_open × (mid.committed ≡ old.committed) = λ going.
     let is_open = (c.told_fault.ensures.same honest going).0.was_open in
-    (is_open, (c.in-Err.ensures.err clean is_open).1) in
+    (is_open, (c.in-Err.ensures.commit.err clean is_open).1) in
     let either = left_after old mid c.args.change.now c.told_fault.new.failed db stays (λ is_open. g.met.S.Store.settled c.make_change.new.conn.store db is_open may_mid) told
-    (c.in-Err.ensures.crash.crash clean db may_mid) in
+    (c.in-Err.ensures.commit.crash.crash clean db may_mid) in
     rw (← c.self.view_is) (elim either [
       | inl may ↦ inl (db, may, left.2)
       | inr new ↦ inr (c.if-self.false, new.0, left.2 ∙ new.1)

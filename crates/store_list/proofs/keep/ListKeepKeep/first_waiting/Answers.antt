@@ -1,12 +1,14 @@
-use Rattle.std.proofs.Common.{ℕ, Bool, ap, rules, tests}
+use Rattle.std.proofs.Common.{ℕ, Bool, ap, rules, tests, subst}
 use Rattle.std.specs.Prelude.{find}
 use Rattle.std.specs.List.{AllByRecursion}
 use Rattle.house_rows.specs.Changed.{is_item}
 use Rattle.house_rows.specs.Fits.{QuestionFits}
 use Rattle.house_rows.specs.Found.{first_waiting, sells}
 use Rattle.house_rows.specs.Limits.{most_shown}
-use Rattle.store_list.proofs.Fitting.{filter_fits, ok_items, ok_same, take_fits}
+use Rattle.store_list.proofs.Fitting.{filter_fits, ok_items, ok_same, take_fits, ok_each, stands_at}
 use Rattle.store_list.proofs.Waiting.{own_complete, risen}
+use Rattle.house_rows.specs.declared.talk.Question.{Question}
+use Rattle.house_rows.specs.Keeping.{AreSound, StandsAt}
 use Rattle.store_list.proofs.keep.ListKeepKeep.first_waiting.Goals as goal
 
 pub first_waiting_on-requires-clause-rising : goal.first_waiting_on-requires-clause-rising
@@ -23,3 +25,6 @@ returns-clause-fits c =
     ok_items (λ xs. AllByRecursion QuestionFits xs) c.first_waiting_on.result _ (c.first_waiting_on.ensures.value is_own (λ item answer given. search (rules, tests))
     (own_complete c.args.member c.sold_by-own.result.now c.self.inside.items c.self.inside.questions c.sold_by-own.ensures.complete))
     (take_fits QuestionFits most_shown _ (filter_fits QuestionFits _ _ c.self.invariant.sound.questions))
+
+pub returns-clause-stands : goal.returns-clause-stands
+returns-clause-stands c = λ _. ok_each (λ (q : Question). StandsAt c.args.self.now q.item) c.first_waiting_on.result (λ q. stands_at c.args.self.now (subst AreSound c.self.view_is c.self.invariant.sound) q.item)

@@ -1,11 +1,13 @@
-use Rattle.std.proofs.Common.{ℕ, Bool, rules, tests}
+use Rattle.std.proofs.Common.{ℕ, Bool, rules, tests, subst}
 use Rattle.std.specs.Prelude.{find}
 use Rattle.std.specs.List.{AllByRecursion}
 use Rattle.house_rows.specs.Changed.{is_item}
 use Rattle.house_rows.specs.Fits.{QuestionFits}
 use Rattle.house_rows.specs.Found.{sells}
-use Rattle.store_list.proofs.Fitting.{filter_fits, ok_items}
+use Rattle.store_list.proofs.Fitting.{filter_fits, ok_items, ok_each, stands_at}
 use Rattle.store_list.proofs.Waiting.{own_complete, risen}
+use Rattle.house_rows.specs.declared.talk.Question.{Question}
+use Rattle.house_rows.specs.Keeping.{AreSound, StandsAt}
 use Rattle.store_list.proofs.keep.ListKeepKeep.waiting_for.Goals as goal
 
 pub waiting_on-requires-clause-rising : goal.waiting_on-requires-clause-rising
@@ -21,3 +23,6 @@ returns-clause-fits c =
     ok_items (λ xs. AllByRecursion QuestionFits xs) c.waiting_on.result _ (c.waiting_on.ensures.value is_own (λ item answer given. search (rules, tests))
     (own_complete c.args.member c.sold_by-own.result.now c.self.inside.items c.self.inside.questions c.sold_by-own.ensures.complete))
     (filter_fits QuestionFits _ _ c.self.invariant.sound.questions)
+
+pub returns-clause-stands : goal.returns-clause-stands
+returns-clause-stands c = λ _. ok_each (λ (q : Question). StandsAt c.args.self.now q.item) c.waiting_on.result (λ q. stands_at c.args.self.now (subst AreSound c.self.view_is c.self.invariant.sound) q.item)
