@@ -1,3 +1,4 @@
 mod Cuts
 mod Runs
+mod Ends
 mod FaultTexts

@@ -4,6 +4,7 @@ ghost use Rattle.std.specs.Io.KnownBytes.{Appends, Consumes, IsAtEnd, Keeps};
 ghost use Rattle.device.specs.Given.{AppendsBeginning};
 ghost use Rattle.site.specs.Answers.{IsStep, zone_of};
 ghost use Rattle.site_asks.specs.Asked.{asked_of};
+ghost use Rattle.site_serve.specs.Ends.{HasEnded};
 ghost use Rattle.site_serve.specs.Serving.{HasRead, HasServed, HasWritten, IsFlushed, keep_of};
 
 use device::{Failure, Sink, Source, give_all};
@@ -140,6 +141,11 @@ pub fn serve<R: Source, W: Sink, K: Keep + Drop>(
         stream most (W.taken sink.old) (W.taken sink.new) (keep_of site.old) (keep_of site.new)) }
     ensures memory { result ≡ Err ServeFault.Memory
         → (source.new ≡ source.old) × (sink.new ≡ sink.old) × (site.new ≡ site.old) }
+
+    // However it ends, at each moment a crash leaves the tables of what was accepted so far.
+    ensures crash { HasEnded K.content K.is_failed K.is_honest K.may_leave (zone_of site.old)
+        (R.left source.old) (R.left source.new) most (W.taken sink.old) (W.taken sink.new)
+        (keep_of site.old) (keep_of site.new) }
 
     // All that the sink took is handed on at the end, and before each wait: any of them may fail.
     ensures handed_on { OnOk result (IsFlushed W.handed_on W.taken sink.old sink.new) }
