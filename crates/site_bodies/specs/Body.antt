@@ -1,15 +1,22 @@
 -- What a body that was read is.
-use Rattle.std.specs.Prelude.{◌≡◌, ℕ, List, Option, Some, None, unwrap_or, Result, Ok, Err, ⊤}
-use Rattle.json.specs.Value.{value_view}
-use Rattle.serde_json.specs.Data.{Members, no_members}
+use Rattle.std.specs.Prelude.{◌≡◌, ℕ, List, Some, None, Result, Ok, Err, ⊤}
+use Rattle.serde_json.specs.Data.{Members}
 use Rattle.site_bodies.specs.declared.body.Body.{Body}
+use Rattle.site_bodies.specs.declared.body.Form.{Form}
+use Rattle.site_bodies.specs.declared.body.Form.TheVariants as form
 use Rattle.site_bodies.specs.declared.fault.BodyFault.{BodyFault}
 use Rattle.site_bodies.specs.declared.fault.BodyFault.TheVariants as fault
-use Rattle.site_bodies.specs.Members.{body_of, members_in}
+use Rattle.site_bodies.specs.Flat.{flat_fields}
+use Rattle.site_bodies.specs.Members.{body_of}
+use Rattle.site_bodies.specs.Tree.{tree_fields}
+
+abbrev pub form_fields : Form → Members
+form_fields (form.Flat flat) = flat_fields flat
+form_fields (form.Tree tree) = tree_fields tree
 
 -- the members of a body that was read
 unfoldable pub fields_of : Body → Members
-fields_of body = unwrap_or (members_in (value_view body.tree)) no_members
+fields_of body = form_fields body.form
 
 -- what reading a body gives
 abbrev pub IsBody : List ℕ → Result Body BodyFault → Type 0

@@ -1,78 +1,27 @@
 //! The object that a body is.
-ghost use Rattle.std.specs.Prelude.{◌≡◌, is_some, option_map, true};
-ghost use Rattle.json.specs.Value.{value_view};
-ghost use Rattle.serde_json.specs.Read.{of_json};
-ghost use Rattle.site_bodies.specs.Values.{integer_in, maybe_whole_in, whole_in};
-ghost use Rattle.site_bodies.specs.Members.{Reads, members_in};
 
 use crate::fault::BodyFault;
-use crate::judged::{Judged, seen, tree_of};
-use crate::numeral::{integer, whole};
-use json::{Scratch, Value};
+use crate::flat::flat_object;
+use crate::slots::Flat;
+use crate::tree::Tree;
+use json::Scratch;
 use std::alloc::Global;
+
+// How a body was read: in one walk, or as a tree where it has more than that takes.
+#[derive(Drop)]
+enum Form<'a> {
+    Flat(Flat<'a>),
+    Tree(Tree<'a>),
+}
 
 /// The object that a body is. Its texts are borrowed.
 #[derive(Drop)]
 pub struct Body<'a> {
-    tree: Value<'a>,
-    ghost read: { is_some (members_in (value_view tree)) ≡ true },
-}
-
-// Whether serde_json reads the bytes; asked only of an object with an array or an object inside.
-fn reads(alloc: Global, bytes: &[u8]) -> Result<(), BodyFault>
-    ensures { Reads bytes.now result }
-{
-    match serde_json::Value::from_slice(alloc, bytes) {
-        Ok(value) => {
-            drop(value);
-            return Ok(());
-        }
-        Err(e) => {
-            if e.is_memory() {
-                return Err(BodyFault::Memory);
-            }
-            return Err(BodyFault::NoObject);
-        }
-    }
-}
-
-// The whole number that a value is.
-#[tactic(auto, using(crate::proofs::Told::array_no_number, crate::proofs::Told::object_no_number, crate::proofs::Told::number_back))]
-fn whole_of(value: &Value<'_>) -> Option<u64>
-    ensures { result ≡ whole_in (of_json (value_view value.now)) }
-{
-    match value {
-        Value::Number(text) => whole(text),
-        _ => None,
-    }
-}
-
-// The whole number with a sign that a value is.
-#[tactic(auto, using(crate::proofs::Told::array_no_number, crate::proofs::Told::object_no_number, crate::proofs::Told::number_back))]
-fn integer_of(value: &Value<'_>) -> Option<i64>
-    ensures { result ≡ integer_in (of_json (value_view value.now)) }
-{
-    match value {
-        Value::Number(text) => integer(text),
-        _ => None,
-    }
-}
-
-// The whole number that a value is, or none where it is null. A number that is too large isn't in
-// an object that was read.
-#[tactic(auto, using(crate::proofs::Told::maybe_array, crate::proofs::Told::maybe_object, crate::proofs::Told::maybe_number))]
-fn maybe_whole_of(value: &Value<'_>) -> Option<Option<u64>>
-    requires { is_some (of_json (value_view value.now)) ≡ true }
-    ensures { result ≡ maybe_whole_in (of_json (value_view value.now)) }
-{
-    match value {
-        Value::Null => Some(None),
-        Value::Number(text) => whole(text).map(Some),
-        _ => None,
-    }
+    form: Form<'a>,
 }
 
 impl<'a> Body<'a> {
+    ghost use Rattle.std.specs.Prelude.{◌≡◌, option_map};
     ghost use Rattle.site_bodies.specs.Body.{IsBody, fields_of};
     ghost use Rattle.site_bodies.specs.Fields.{integer_at, maybe_whole_at, text_at, whole_at};
 
@@ -84,20 +33,16 @@ impl<'a> Body<'a> {
     ) -> Result<Body<'a>, BodyFault>
         ensures { IsBody bytes.now result }
     {
-        let Ok(text) = simdutf8::compat::from_utf8(bytes) else {
-            return Err(BodyFault::NoObject);
-        };
-        let tree = match tree_of(alloc, text, scratch) {
-            Ok(tree) => tree,
-            Err(fault) => return Err(fault),
-        };
-        match seen(&tree) {
-            Judged::Readable => return Ok(Body { tree }),
-            Judged::Refused => return Err(BodyFault::NoObject),
-            Judged::Deep => match reads(alloc, bytes) {
-                Ok(()) => return Ok(Body { tree }),
-                Err(fault) => return Err(fault),
-            },
+        if let Some(flat) = flat_object(bytes) {
+            return Ok(Body {
+                form: Form::Flat(flat),
+            });
+        }
+        match Tree::read(alloc, bytes, scratch) {
+            Ok(tree) => Ok(Body {
+                form: Form::Tree(tree),
+            }),
+            Err(fault) => Err(fault),
         }
     }
 
@@ -105,9 +50,9 @@ impl<'a> Body<'a> {
     pub fn whole(&self, name: &str) -> Option<u64>
         ensures { result ≡ whole_at name.now (fields_of self.now) }
     {
-        match self.tree.get(name) {
-            Some(value) => whole_of(value),
-            None => None,
+        match &self.form {
+            Form::Flat(flat) => flat.whole(name),
+            Form::Tree(tree) => tree.whole(name),
         }
     }
 
@@ -115,9 +60,9 @@ impl<'a> Body<'a> {
     pub fn integer(&self, name: &str) -> Option<i64>
         ensures { result ≡ integer_at name.now (fields_of self.now) }
     {
-        match self.tree.get(name) {
-            Some(value) => integer_of(value),
-            None => None,
+        match &self.form {
+            Form::Flat(flat) => flat.integer(name),
+            Form::Tree(tree) => tree.integer(name),
         }
     }
 
@@ -125,9 +70,9 @@ impl<'a> Body<'a> {
     pub fn text(&self, name: &str) -> Option<&'a str>
         ensures { option_map (λ t. t.now) result ≡ text_at name.now (fields_of self.now) }
     {
-        match self.tree.get(name) {
-            Some(value) => value.as_str(),
-            None => None,
+        match &self.form {
+            Form::Flat(flat) => flat.text(name),
+            Form::Tree(tree) => tree.text(name),
         }
     }
 
@@ -135,9 +80,9 @@ impl<'a> Body<'a> {
     pub fn maybe_whole(&self, name: &str) -> Option<Option<u64>>
         ensures { result ≡ maybe_whole_at name.now (fields_of self.now) }
     {
-        match self.tree.get(name) {
-            Some(value) => maybe_whole_of(value),
-            None => Some(None),
+        match &self.form {
+            Form::Flat(flat) => flat.maybe_whole(name),
+            Form::Tree(tree) => tree.maybe_whole(name),
         }
     }
 }

@@ -1,15 +1,19 @@
 //! Bodies that are objects of JSON, and their fields.
 //!
 //! Promised: a body is read exactly as `serde_json` reads it, with no tree of owned texts, and a
-//! field is told exactly, or that it is absent or of another kind. Read `specs/Members.antt` and
-//! `specs/Fields.antt` first, and then `body`.
+//! field is told exactly, or that it is absent or of another kind. Objects of a few texts and whole
+//! numbers, as most bodies are, are read in one walk over their bytes; every other as a tree. Read
+//! `specs/Members.antt` and `specs/Fields.antt` first, and then `body`.
 #![tactic(auto)]
 
 mod body;
 mod fault;
+mod flat;
 mod judged;
 mod lone;
 mod numeral;
+mod slots;
+mod tree;
 
 pub use body::Body;
 pub use fault::BodyFault;

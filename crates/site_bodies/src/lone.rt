@@ -8,7 +8,7 @@ ghost use Rattle.site_bodies.specs.LoneString.{IsLoneText, IsPlain};
 
 // What stands behind the front.
 #[inline(always)]
-fn behind<'b>(bytes: &'b [u8], front: &[u8]) -> Option<&'b [u8]>
+pub(crate) fn behind<'b>(bytes: &'b [u8], front: &[u8]) -> Option<&'b [u8]>
     ensures { IfSome result (λ rest. bytes.now ≡ front.now ++ rest.now) }
 {
     if bytes.starts_with(front) {
@@ -53,7 +53,7 @@ fn before_quote(bytes: &[u8]) -> Option<&[u8]>
 
 // Whether a byte stands for itself in a string of JSON.
 #[inline(always)]
-fn is_plain(byte: u8) -> bool
+pub(crate) fn is_plain(byte: u8) -> bool
     ensures { IsTrue result → (32 ≤ byte) × (byte ≢ 34) × (byte ≢ 92) }
 {
     byte >= 0x20 && byte != b'"' && byte != b'\\'

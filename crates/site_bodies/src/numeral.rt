@@ -83,8 +83,8 @@ pub(crate) fn whole(text: &str) -> Option<u64>
     }
 }
 
-// A number from 0 on with a sign, if it fits.
-fn signed(n: u64) -> Option<i64>
+/// A number from 0 on with a sign, if it fits.
+pub(crate) fn signed(n: u64) -> Option<i64>
     ensures { result ≡ signed n }
 {
     if n <= i64::MAX as u64 {

@@ -1,18 +1,14 @@
-use Rattle.std.proofs.Common.{Some, None, ◌∙◌}
-use Rattle.json.specs.Value.{value_view}
-use Rattle.site_bodies.specs.Body.{fields_of}
+use Rattle.std.proofs.Common.{ap, sym, ◌∙◌}
+use Rattle.site_bodies.specs.Body.{fields_of, form_fields}
 use Rattle.site_bodies.specs.Fields.{integer_at}
-use Rattle.site_bodies.specs.Values.{integer_in}
-use Rattle.site_bodies.proofs.Told.{told}
 use Rattle.site_bodies.proofs.body.Body.integer.Goals as goal
 
-pub returns-in-Some : goal.returns-in-Some
-unfolding fields_of integer_at
-returns-in-Some c =
-    c.integer_of.ensures ∙ told integer_in c.args.name.now (value_view c.args.self.now.tree) (Some
-    (value_view c.in-Some.value.now)) c.args.self.now.read c.in-Some.ensures
+pub returns-in-Flat : goal.returns-in-Flat
+unfolding fields_of
+returns-in-Flat c =
+    c.integer.ensures ∙ ap (λ form. integer_at c.args.name.now (form_fields form)) (sym c.in-Flat.is)
 
-pub returns-in-None : goal.returns-in-None
-unfolding fields_of integer_at
-returns-in-None c = told integer_in c.args.name.now
-    (value_view c.args.self.now.tree) None c.args.self.now.read c.in-None.ensures
+pub returns-in-Tree : goal.returns-in-Tree
+unfolding fields_of
+returns-in-Tree c =
+    c.integer-in-Tree.ensures ∙ ap (λ form. integer_at c.args.name.now (form_fields form)) (sym c.in-Tree.is)

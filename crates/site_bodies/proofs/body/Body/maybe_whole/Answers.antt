@@ -1,23 +1,14 @@
-use Rattle.std.proofs.Common.{Some, None, ◌∙◌}
-use Rattle.json.specs.Value.{value_view}
-use Rattle.site_bodies.specs.Body.{fields_of}
+use Rattle.std.proofs.Common.{ap, sym, ◌∙◌}
+use Rattle.site_bodies.specs.Body.{fields_of, form_fields}
 use Rattle.site_bodies.specs.Fields.{maybe_whole_at}
-use Rattle.site_bodies.specs.Values.{maybe_whole_in}
-use Rattle.site_bodies.proofs.Readable.{value_readable}
-use Rattle.site_bodies.proofs.Told.{told}
 use Rattle.site_bodies.proofs.body.Body.maybe_whole.Goals as goal
 
-pub maybe_whole_of-requires : goal.maybe_whole_of-requires
-maybe_whole_of-requires c = value_readable c.args.name.now (value_view c.args.self.now.tree)
-    (value_view c.in-Some.value.now) c.args.self.now.read c.in-Some.ensures
+pub returns-in-Flat : goal.returns-in-Flat
+unfolding fields_of
+returns-in-Flat c =
+    c.maybe_whole.ensures ∙ ap (λ form. maybe_whole_at c.args.name.now (form_fields form)) (sym c.in-Flat.is)
 
-pub returns-in-Some : goal.returns-in-Some
-unfolding fields_of maybe_whole_at
-returns-in-Some c =
-    c.maybe_whole_of.ensures ∙ told maybe_whole_in c.args.name.now (value_view c.args.self.now.tree) (Some
-    (value_view c.in-Some.value.now)) c.args.self.now.read c.in-Some.ensures
-
-pub returns-in-None : goal.returns-in-None
-unfolding fields_of maybe_whole_at
-returns-in-None c = told maybe_whole_in c.args.name.now
-    (value_view c.args.self.now.tree) None c.args.self.now.read c.in-None.ensures
+pub returns-in-Tree : goal.returns-in-Tree
+unfolding fields_of
+returns-in-Tree c =
+    c.maybe_whole-in-Tree.ensures ∙ ap (λ form. maybe_whole_at c.args.name.now (form_fields form)) (sym c.in-Tree.is)

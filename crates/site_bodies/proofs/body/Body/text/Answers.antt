@@ -1,19 +1,14 @@
-use Rattle.std.proofs.Common.{Some, None, ◌∙◌, sym}
-use Rattle.json.specs.Value.{value_view}
-use Rattle.site_bodies.specs.Body.{fields_of}
+use Rattle.std.proofs.Common.{ap, sym, ◌∙◌}
+use Rattle.site_bodies.specs.Body.{fields_of, form_fields}
 use Rattle.site_bodies.specs.Fields.{text_at}
-use Rattle.site_bodies.specs.Values.{text_in}
-use Rattle.site_bodies.proofs.Told.{text_same, told}
 use Rattle.site_bodies.proofs.body.Body.text.Goals as goal
 
-pub returns-in-Some : goal.returns-in-Some
-unfolding fields_of text_at
-returns-in-Some c =
-    let i = value_view c.in-Some.value.now in
-    c.as_str.ensures ∙ sym (text_same i)
-    ∙ told text_in c.args.name.now (value_view c.args.self.now.tree) (Some i) c.args.self.now.read c.in-Some.ensures
+pub returns-in-Flat : goal.returns-in-Flat
+unfolding fields_of
+returns-in-Flat c =
+    c.text.ensures ∙ ap (λ form. text_at c.args.name.now (form_fields form)) (sym c.in-Flat.is)
 
-pub returns-in-None : goal.returns-in-None
-unfolding fields_of text_at
-returns-in-None c = told text_in c.args.name.now
-    (value_view c.args.self.now.tree) None c.args.self.now.read c.in-None.ensures
+pub returns-in-Tree : goal.returns-in-Tree
+unfolding fields_of
+returns-in-Tree c =
+    c.text-in-Tree.ensures ∙ ap (λ form. text_at c.args.name.now (form_fields form)) (sym c.in-Tree.is)

@@ -1,7 +1,6 @@
-use Rattle.std.proofs.Common.{rules}
 use Rattle.serde_json.specs.View.{view}
 use Rattle.site_bodies.proofs.Readable.{body_refused}
-use Rattle.site_bodies.proofs.body.reads.Goals as goal
+use Rattle.site_bodies.proofs.tree.reads.Goals as goal
 
 pub returns-in-Ok : goal.returns-in-Ok
 returns-in-Ok c = let read = c.in-Ok.ensures.ok in (view c.in-Ok.value, read.0, read.1)

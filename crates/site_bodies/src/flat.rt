@@ -1,0 +1,290 @@
+//! Objects of a few texts and whole numbers, read in one walk over their bytes.
+ghost use Rattle.std.specs.Prelude.{◌≡◌, ◌≤◌, [], ◌∷◌, IfSome, IsTrue, Some, cond, length, option_map, take, true};
+ghost use Rattle.std.specs.Str.{bytes_eq};
+ghost use Rattle.json.specs.Lex.{comma, token};
+ghost use Rattle.json.specs.Print.{escape};
+ghost use Rattle.json.specs.Token.{begin_object, end_object, string};
+ghost use Rattle.json.specs.Word.{ends_word};
+ghost use Rattle.serde_json.specs.Data.{no_members};
+ghost use Rattle.serde_json.specs.Find.{get_member};
+ghost use Rattle.site_bodies.specs.Flat.{IsFlat, flat_fields};
+ghost use Rattle.site_bodies.specs.Passes.{IsMember, IsSize, IsValue, Passes};
+ghost use Rattle.site_bodies.specs.Slots.{data_of, put_all};
+ghost use Rattle.site_bodies.specs.Values.{integer_in, maybe_whole_in, text_in, whole_in};
+
+use crate::lone::{behind, is_plain};
+use crate::numeral::signed;
+use crate::slots::{EMPTY, Flat, MOST, Plain, Slot};
+
+fn is_space(byte: u8) -> bool
+    ensures { IsTrue result → byte ≡ 32 }
+{
+    byte == b' '
+}
+
+// What stands behind the spaces in front.
+fn behind_spaces(bytes: &[u8]) -> &[u8]
+    ensures { Passes bytes.now [] result.now }
+{
+    let mut end = 0;
+    while end < bytes.len() && is_space(bytes[end]) {
+        end += 1;
+    }
+    &bytes[end..]
+}
+
+// How many bytes in front stand for themselves in a string.
+fn plain_length(bytes: &[u8]) -> usize
+    ensures plain { escape (take result bytes.now) ≡ take result bytes.now }
+    ensures within { result ≤ length bytes.now }
+{
+    let mut end = 0;
+    while end < bytes.len() && is_plain(bytes[end]) {
+        end += 1;
+    }
+    end
+}
+
+// The text between quotes in front, if it is written without escapes, and what stands behind.
+fn text(bytes: &[u8]) -> Option<(&str, &[u8])>
+    ensures { IfSome result (λ p. Passes bytes.now (token (string p.0.now) ∷ []) p.1.now) }
+{
+    let inside = behind(bytes, b"\"")?;
+    let end = plain_length(inside);
+    let after = behind(&inside[end..], b"\"")?;
+    match simdutf8::compat::from_utf8(&inside[..end]) {
+        Ok(text) => Some((text, after)),
+        Err(_) => None,
+    }
+}
+
+// How many digits stand in front.
+fn digits_length(bytes: &[u8]) -> usize
+    ensures { result ≤ length bytes.now }
+{
+    let mut end = 0;
+    while end < bytes.len() && bytes[end].is_ascii_digit() {
+        end += 1;
+    }
+    end
+}
+
+// Whether a number that stands before these bytes ends there.
+fn ends_word(bytes: &[u8]) -> bool
+    ensures { IsTrue result → ends_word bytes.now ≡ true }
+{
+    matches!(bytes, [b',' | b'}' | b' ', ..])
+}
+
+// The number that digits in front write, and what stands behind.
+fn whole(bytes: &[u8]) -> Option<(u64, &[u8])>
+    ensures { IfSome result (λ p. IsSize bytes.now p.0 p.1.now) }
+{
+    let end = digits_length(bytes);
+    let after = &bytes[end..];
+    if !ends_word(after) {
+        return None;
+    }
+    let number = site_digits::count(&bytes[..end])?;
+    Some((number, after))
+}
+
+// The whole number in front, and what stands behind.
+fn number(bytes: &[u8]) -> Option<(Plain<'_>, &[u8])>
+    ensures { IfSome result (λ p. IsValue bytes.now p.0 p.1.now) }
+{
+    let (number, after) = whole(bytes)?;
+    Some((Plain::Whole(number), after))
+}
+
+// The text in front, as a value, and what stands behind.
+fn string(bytes: &[u8]) -> Option<(Plain<'_>, &[u8])>
+    ensures { IfSome result (λ p. IsValue bytes.now p.0 p.1.now) }
+{
+    let (text, after) = text(bytes)?;
+    Some((Plain::Text(text), after))
+}
+
+// The value in front, and what stands behind.
+fn value(bytes: &[u8]) -> Option<(Plain<'_>, &[u8])>
+    ensures { IfSome result (λ p. IsValue bytes.now p.0 p.1.now) }
+{
+    match bytes {
+        [b'"', ..] => string(bytes),
+        _ => number(bytes),
+    }
+}
+
+// The member in front, and what stands behind.
+fn member(bytes: &[u8]) -> Option<(Slot<'_>, &[u8])>
+    ensures { IfSome result (λ p. IsMember bytes.now p.0 p.1.now) }
+{
+    let (name, behind_name) = text(bytes)?;
+    let colon = behind(behind_spaces(behind_name), b":")?;
+    let (value, after) = value(behind_spaces(colon))?;
+    Some((Slot { name, value }, after))
+}
+
+// What stands behind the brace in front.
+fn begun(bytes: &[u8]) -> Option<&[u8]>
+    ensures { IfSome result (λ rest. Passes bytes.now (token begin_object ∷ []) rest.now) }
+{
+    let inside = behind(behind_spaces(bytes), b"{")?;
+    Some(behind_spaces(inside))
+}
+
+// What stands behind the comma in front.
+fn next(bytes: &[u8]) -> Option<&[u8]>
+    ensures { IfSome result (λ rest. Passes bytes.now (comma ∷ []) rest.now) }
+{
+    let more = behind(behind_spaces(bytes), b",")?;
+    Some(behind_spaces(more))
+}
+
+// Whether nothing stands here but the brace at the end.
+fn ends(bytes: &[u8]) -> bool
+    ensures { IsTrue result → Passes bytes.now (token end_object ∷ []) [] }
+{
+    match behind(behind_spaces(bytes), b"}") {
+        Some(end) => behind_spaces(end).is_empty(),
+        None => false,
+    }
+}
+
+/// The members of an object that the bytes are. Where there are none, the bytes may yet be any.
+pub(crate) fn flat_object(bytes: &[u8]) -> Option<Flat<'_>>
+    ensures { IfSome result (IsFlat bytes.now) }
+{
+    let mut rest = begun(bytes)?;
+    let mut slots = [EMPTY; MOST];
+    for place in 0..MOST {
+        let (slot, after) = member(rest)?;
+        slots[place] = slot;
+        if ends(after) {
+            return Some(Flat {
+                slots,
+                count: place + 1,
+            });
+        }
+        let more = next(after)?;
+        rest = more;
+    }
+    None
+}
+
+impl<'a> Plain<'a> {
+    // The whole number that a value is.
+    fn whole(self) -> Option<u64>
+        ensures { result ≡ whole_in (Some (data_of self.entry)) }
+    {
+        match self {
+            Plain::Whole(number) => Some(number),
+            Plain::Text(_) => None,
+        }
+    }
+
+    // The whole number with a sign that a value is.
+    fn integer(self) -> Option<i64>
+        ensures { result ≡ integer_in (Some (data_of self.entry)) }
+    {
+        match self {
+            Plain::Whole(number) => signed(number),
+            Plain::Text(_) => None,
+        }
+    }
+
+    // The text that a value is.
+    fn text(self) -> Option<&'a str>
+        ensures { option_map (λ t. t.now) result ≡ text_in (Some (data_of self.entry)) }
+    {
+        match self {
+            Plain::Whole(_) => None,
+            Plain::Text(text) => Some(text),
+        }
+    }
+
+    // The whole number that a value is, or none where it is null.
+    fn maybe_whole(self) -> Option<Option<u64>>
+        ensures { result ≡ maybe_whole_in (Some (data_of self.entry)) }
+    {
+        match self {
+            Plain::Whole(number) => Some(Some(number)),
+            Plain::Text(_) => None,
+        }
+    }
+}
+
+// The value of a member, if it has that name, and else what was found before.
+fn later<'a>(slot: &Slot<'a>, name: &str, found: Option<Plain<'a>>) -> Option<Plain<'a>>
+    ensures { option_map data_of result
+        ≡ cond (bytes_eq slot.now.name.now name.now) (Some (data_of slot.now.value))
+        (option_map data_of found.entry) }
+{
+    if slot.name == name {
+        Some(slot.value)
+    } else {
+        found
+    }
+}
+
+// The last value of that name.
+fn last<'a>(slots: &[Slot<'a>], name: &str) -> Option<Plain<'a>>
+    ensures { option_map data_of result ≡ get_member name.now (put_all slots.now no_members) }
+{
+    let mut found = None;
+    for slot in slots {
+        found = later(slot, name, found);
+    }
+    found
+}
+
+impl<'a> Flat<'a> {
+    ghost use Rattle.site_bodies.specs.Fields.{integer_at, maybe_whole_at, text_at, whole_at};
+
+    // The last value of that name.
+    fn get(&self, name: &str) -> Option<Plain<'a>>
+        ensures { option_map data_of result ≡ get_member name.now (flat_fields self.now) }
+    {
+        last(&self.slots[..self.count], name)
+    }
+
+    /// The field of that name, if it is a whole number from 0 to 2^64 - 1.
+    pub(crate) fn whole(&self, name: &str) -> Option<u64>
+        ensures { result ≡ whole_at name.now (flat_fields self.now) }
+    {
+        match self.get(name) {
+            Some(value) => value.whole(),
+            None => None,
+        }
+    }
+
+    /// The field of that name, if it is a whole number from -2^63 to 2^63 - 1.
+    pub(crate) fn integer(&self, name: &str) -> Option<i64>
+        ensures { result ≡ integer_at name.now (flat_fields self.now) }
+    {
+        match self.get(name) {
+            Some(value) => value.integer(),
+            None => None,
+        }
+    }
+
+    /// The field of that name, if it is a text.
+    pub(crate) fn text(&self, name: &str) -> Option<&'a str>
+        ensures { option_map (λ t. t.now) result ≡ text_at name.now (flat_fields self.now) }
+    {
+        match self.get(name) {
+            Some(value) => value.text(),
+            None => None,
+        }
+    }
+
+    /// The field of that name, if it is a whole number from 0 to 2^64 - 1, or null, or absent.
+    pub(crate) fn maybe_whole(&self, name: &str) -> Option<Option<u64>>
+        ensures { result ≡ maybe_whole_at name.now (flat_fields self.now) }
+    {
+        match self.get(name) {
+            Some(value) => value.maybe_whole(),
+            None => Some(None),
+        }
+    }
+}
