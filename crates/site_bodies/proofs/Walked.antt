@@ -1,4 +1,4 @@
--- An object of a few texts and whole numbers, as it is read in one walk.
+-- An object of a few texts, whole numbers and nulls, as it is read in one walk.
 use Rattle.std.proofs.Common.{◌≡◌, ℕ, ◌<◌, ◌≤◌, ◌+◌, ◌-◌, ◌^◌, List, [], ◌∷◌, ◌++◌, length, length-drop, get_or, set, take_all, take-append-drop, Bool, true, false, refl, sym, ap, ap₂, ◌∙◌, ◌==◌, subst, arith, take, drop, append_assoc, decimal, Option, Some, inl, inr, bytes_eq, cond}
 use Rattle.std.specs.Borrow.{Bor}
 use Rattle.std.specs.Prelude.{if◌then◌else◌, IsUtf8, option_and_then, option_map, ⊤}
@@ -8,15 +8,16 @@ use Rattle.std.proofs.lemmas.List.{drop_more, take_more, take_more_set}
 use Rattle.std.proofs.lemmas.Slice.Eq.{bytes_eq-Decides}
 use Rattle.std.proofs.lemmas.Str.{IsUtf8-append, IsUtf8-from_ascii}
 use Rattle.std.proofs.lemmas.Str.Ascii.{IsAscii-cons, IsAscii-nil}
+use Rattle.json.specs.Ascii.{null_text}
 use Rattle.json.specs.Json as json
 use Rattle.json.specs.Lex.{Lexeme, after_comma, between, colon, comma, fresh, lex, punctuate, string_token, token}
 use Rattle.json.specs.Print.{escape}
 use Rattle.json.specs.Token as t
 use Rattle.json.specs.Token.{Token, begin_object, end_object, key}
-use Rattle.json.specs.Word.{ends_word}
+use Rattle.json.specs.Word.{ends_word, word}
 use Rattle.json.proofs.Grammar.{members_end, members_more, value-begin_object, value_is}
 use Rattle.json.proofs.Printed.Decimals.{IsNumber-decimal}
-use Rattle.json.proofs.Printed.Numbers.{lex-number}
+use Rattle.json.proofs.Printed.Numbers.{in_word-ended, lex-number}
 use Rattle.json.proofs.Printed.Strings.{content-escape, lex-escape}
 use Rattle.serde_json.specs.Data.{Data, Members, no_members, number, object, put}
 use Rattle.serde_json.specs.Find.{get_member}
@@ -105,6 +106,14 @@ number_passed n rest small ended = record {
   utf8 = λ u. IsUtf8-append (decimal n) rest (IsUtf8-from_ascii _ (IsAscii-decimal n small)) u;
 }
 
+pub null_passed : (rest : List ℕ) → ends_word rest ≡ true → Passes (null_text ++ rest) (token t.null ∷ []) rest
+unfolding lex word
+null_passed rest ended = record {
+  lexed = ap₂ (λ b l. token (cond b t.null t.bad) ∷ l) ended (in_word-ended rest ended);
+  utf8 = λ u. one_utf8 110 _ (omega arith) (one_utf8 117 _ (omega arith) (one_utf8 108 _ (omega arith)
+      (one_utf8 108 rest (omega arith) u)));
+}
+
 -- ---- values
 
 -- the digits of a number that was read
@@ -148,6 +157,13 @@ pub size_at : {bytes : List ℕ} (end n : ℕ) → Some n ≡ count_in (take end
 size_at {bytes} end n told ended =
     let all = take_all (length bytes - end) (drop end bytes) (omega (arith, length-drop end bytes)) in
     subst (IsSize bytes n) (sym all) (size_is end n told (subst (λ l. ends_word l ≡ true) all ended))
+
+pub null_value : {bytes rest : List ℕ} → bytes ≡ null_text ++ rest → ends_word rest ≡ true
+    → IsValue bytes plain.Null rest
+null_value {bytes} {rest} is ended = record {
+  passes = subst (λ l. Passes l (token t.null ∷ []) rest) (sym is) (null_passed rest ended);
+  meant = refl;
+}
 
 -- a lexeme of one byte, with spaces before and behind it
 pub around : {a b c d : List ℕ} (x : ℕ) (l : Lexeme) → ((r : List ℕ) → Passes (x ∷ r) (l ∷ []) r)
@@ -199,6 +215,7 @@ first_member : (name : List ℕ) (v : Plain) (ls : List Lexeme)
 unfolding punctuate
 first_member name (plain.Whole n) ls = refl
 first_member name (plain.Text s) ls = refl
+first_member name plain.Null ls = refl
 
 next_member : (name : List ℕ) (v : Plain) (ls : List Lexeme)
     → punctuate after_comma (token (t.string name) ∷ colon ∷ token (token_of v) ∷ comma ∷ ls)
@@ -206,6 +223,7 @@ next_member : (name : List ℕ) (v : Plain) (ls : List Lexeme)
 unfolding punctuate
 next_member name (plain.Whole n) ls = refl
 next_member name (plain.Text s) ls = refl
+next_member name plain.Null ls = refl
 
 only_member : (name : List ℕ) (v : Plain)
     → punctuate fresh (token (t.string name) ∷ colon ∷ token (token_of v) ∷ token end_object ∷ [])
@@ -213,6 +231,7 @@ only_member : (name : List ℕ) (v : Plain)
 unfolding punctuate
 only_member name (plain.Whole n) = refl
 only_member name (plain.Text s) = refl
+only_member name plain.Null = refl
 
 last_member : (name : List ℕ) (v : Plain)
     → punctuate after_comma (token (t.string name) ∷ colon ∷ token (token_of v) ∷ token end_object ∷ [])
@@ -220,6 +239,7 @@ last_member : (name : List ℕ) (v : Plain)
 unfolding punctuate
 last_member name (plain.Whole n) = refl
 last_member name (plain.Text s) = refl
+last_member name plain.Null = refl
 
 next_members : (ss : List Slot) (s : Slot)
     → punctuate after_comma (lexemes_of ss (slot_lexemes s ++ token end_object ∷ [])) ≡ tokens_of (ss ++ s ∷ [])
@@ -236,6 +256,7 @@ all_members (r ∷ ss) s =
 value_parsed : (v : Plain) (rest : List Token) → json.value 126 (token_of v ∷ rest) ≡ Some (json_of v, rest)
 value_parsed (plain.Whole n) rest = value_is 126 (token_of (plain.Whole n) ∷ rest)
 value_parsed (plain.Text s) rest = value_is 126 (token_of (plain.Text s) ∷ rest)
+value_parsed plain.Null rest = value_is 126 (token_of plain.Null ∷ rest)
 
 members_parsed : (n : ℕ) (ss : List Slot) → length (tokens_of ss) ≤ n
     → json.members (json.value 126) n (tokens_of ss) ≡ Some (members_of ss, [])

@@ -1,8 +1,8 @@
--- The members of an object that has nothing inside but texts and whole numbers.
+-- The members of an object that has nothing inside but texts, whole numbers and nulls.
 use Rattle.std.specs.Prelude.{◌≡◌, List, [], ◌∷◌, Some, decimal}
 use Rattle.json.specs.Json as json
 use Rattle.json.specs.Lex.{Lexeme, token, colon}
-use Rattle.json.specs.Token.{Token, string, number}
+use Rattle.json.specs.Token.{Token, null, number, string}
 use Rattle.serde_json.specs.Data as serde
 use Rattle.serde_json.specs.Read.{of_json}
 use Rattle.site_bodies.specs.declared.slots.Plain.{Plain}
@@ -13,16 +13,19 @@ use Rattle.site_bodies.specs.declared.slots.Slot.{Slot}
 abbrev pub token_of : Plain → Token
 token_of (plain.Whole n) = number (decimal n)
 token_of (plain.Text s) = string s.now
+token_of plain.Null = null
 
 -- the value that a reader of JSON makes of it
 abbrev pub json_of : Plain → json.Json
 json_of (plain.Whole n) = json.number (decimal n)
 json_of (plain.Text s) = json.string s.now
+json_of plain.Null = json.null
 
 -- and serde_json
 abbrev pub data_of : Plain → serde.Data
 data_of (plain.Whole n) = serde.number (serde.unsigned n)
 data_of (plain.Text s) = serde.string s.now
+data_of plain.Null = serde.null
 
 abbrev pub members_of : List Slot → json.Members
 members_of [] = json.no_members

@@ -1,4 +1,4 @@
-//! Objects of a few texts and whole numbers, read in one walk over their bytes.
+//! Objects of a few texts, whole numbers and nulls, read in one walk over their bytes.
 ghost use Rattle.std.specs.Prelude.{◌≡◌, ◌≤◌, [], ◌∷◌, IfSome, IsTrue, Some, cond, length, option_map, take, true};
 ghost use Rattle.std.specs.Str.{bytes_eq};
 ghost use Rattle.json.specs.Lex.{comma, token};
@@ -105,13 +105,28 @@ fn string(bytes: &[u8]) -> Option<(Plain<'_>, &[u8])>
     Some((Plain::Text(text), after))
 }
 
-// The value in front, and what stands behind.
+// The null in front, and what stands behind.
+fn null(bytes: &[u8]) -> Option<(Plain<'_>, &[u8])>
+    ensures { IfSome result (λ p. IsValue bytes.now p.0 p.1.now) }
+{
+    let after = behind(bytes, b"null")?;
+    if ends_word(after) {
+        Some((Plain::Null, after))
+    } else {
+        None
+    }
+}
+
+// The value in front, and what stands behind. A null is looked for last, since few values are one.
 fn value(bytes: &[u8]) -> Option<(Plain<'_>, &[u8])>
     ensures { IfSome result (λ p. IsValue bytes.now p.0 p.1.now) }
 {
-    match bytes {
-        [b'"', ..] => string(bytes),
-        _ => number(bytes),
+    if let [b'"', ..] = bytes {
+        return string(bytes);
+    }
+    match number(bytes) {
+        Some(found) => Some(found),
+        None => null(bytes),
     }
 }
 
@@ -179,7 +194,7 @@ impl<'a> Plain<'a> {
     {
         match self {
             Plain::Whole(number) => Some(number),
-            Plain::Text(_) => None,
+            Plain::Text(_) | Plain::Null => None,
         }
     }
 
@@ -189,7 +204,7 @@ impl<'a> Plain<'a> {
     {
         match self {
             Plain::Whole(number) => signed(number),
-            Plain::Text(_) => None,
+            Plain::Text(_) | Plain::Null => None,
         }
     }
 
@@ -198,8 +213,8 @@ impl<'a> Plain<'a> {
         ensures { option_map (λ t. t.now) result ≡ text_in (Some (data_of self.entry)) }
     {
         match self {
-            Plain::Whole(_) => None,
             Plain::Text(text) => Some(text),
+            Plain::Whole(_) | Plain::Null => None,
         }
     }
 
@@ -209,6 +224,7 @@ impl<'a> Plain<'a> {
     {
         match self {
             Plain::Whole(number) => Some(Some(number)),
+            Plain::Null => Some(None),
             Plain::Text(_) => None,
         }
     }

@@ -11,6 +11,8 @@ pub(crate) enum Plain<'a> {
     Whole(u64),
     /// A text.
     Text(&'a str),
+    /// Null.
+    Null,
 }
 
 /// A member of an object.
