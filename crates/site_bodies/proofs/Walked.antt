@@ -1,6 +1,7 @@
 -- An object of a few texts, whole numbers and nulls, as it is read in one walk.
-use Rattle.std.proofs.Common.{◌≡◌, ℕ, ◌<◌, ◌≤◌, ◌+◌, ◌-◌, ◌^◌, List, [], ◌∷◌, ◌++◌, length, length-drop, get_or, set, take_all, take-append-drop, Bool, true, false, refl, sym, ap, ap₂, ◌∙◌, ◌==◌, subst, arith, take, drop, append_assoc, decimal, Option, Some, inl, inr, bytes_eq, cond}
+use Rattle.std.proofs.Common.{◌≡◌, ℕ, ℤ, negsuc, suc, zero, ◌<◌, ◌≤◌, ◌+◌, ◌-◌, ◌^◌, List, [], ◌∷◌, ◌++◌, length, length-drop, get_or, set, take_all, take-append-drop, Bool, true, false, refl, sym, ap, ap₂, ◌∙◌, ◌==◌, subst, arith, take, drop, append_assoc, decimal, Option, Some, inl, inr, bytes_eq, cond}
 use Rattle.std.specs.Borrow.{Bor}
+use Rattle.std.specs.Fmt.{signed_decimal}
 use Rattle.std.specs.Prelude.{if◌then◌else◌, IsUtf8, option_and_then, option_map, ⊤}
 use Rattle.std.proofs.lemmas.Bool.{cases_Bool, eqb-true}
 use Rattle.std.proofs.lemmas.Fmt.{IsAscii-decimal, decimal_digit}
@@ -16,17 +17,18 @@ use Rattle.json.specs.Token as t
 use Rattle.json.specs.Token.{Token, begin_object, end_object, key}
 use Rattle.json.specs.Word.{ends_word, word}
 use Rattle.json.proofs.Grammar.{members_end, members_more, value-begin_object, value_is}
-use Rattle.json.proofs.Printed.Decimals.{IsNumber-decimal}
+use Rattle.json.proofs.Printed.Decimals.{IsNumber-decimal, IsNumber-signed_decimal}
 use Rattle.json.proofs.Printed.Numbers.{in_word-ended, lex-number}
 use Rattle.json.proofs.Printed.Strings.{content-escape, lex-escape}
 use Rattle.serde_json.specs.Data.{Data, Members, no_members, number, object, put}
 use Rattle.serde_json.specs.Find.{get_member}
 use Rattle.serde_json.specs.Read.{of_json, of_members, read}
-use Rattle.serde_json.proofs.Numbers.{number_of-decimal}
+use Rattle.serde_json.proofs.Numbers.{number_of-decimal, number_of-negative}
 use Rattle.serde_json.proofs.Views.{get_member-put, get_member-put_other}
 use Rattle.site_digits.specs.Digits.{count_in, number_in}
 use Rattle.site_digits.proofs.Written.{number_is}
 use Rattle.site_bodies.specs.Members.{body_of}
+use Rattle.site_bodies.specs.Numerals.{IsMinus}
 use Rattle.site_bodies.specs.Passes.{IsMember, IsSize, IsValue, Passes}
 use Rattle.site_bodies.specs.Slots.{IsMeant, data_of, json_of, members_of, put_all, slot_lexemes, token_of}
 use Rattle.site_bodies.specs.declared.slots.Plain.{Plain}
@@ -147,6 +149,15 @@ whole_value {bytes} {rest} n is = record {
   meant = ap (option_map number) (number_of-decimal n is.small);
 }
 
+-- a number behind a minus
+minus_passed : (n : ℕ) (rest : List ℕ) → suc n < 2 ^ 63 → ends_word rest ≡ true
+    → Passes (45 ∷ (decimal (suc n) ++ rest)) (token (t.number (signed_decimal (negsuc n))) ∷ []) rest
+minus_passed n rest small ended = record {
+  lexed = lex-number (45 ∷ decimal (suc n)) rest (IsNumber-signed_decimal (negsuc n) (omega (arith, small))) ended;
+  utf8 = λ u. one_utf8 45 _ (omega arith) (IsUtf8-append (decimal (suc n)) rest
+      (IsUtf8-from_ascii _ (IsAscii-decimal (suc n) (omega arith))) u);
+}
+
 pub text_value : {bytes rest : List ℕ} (s : Bor (List ℕ)) → Passes bytes (token (t.string s.now) ∷ []) rest
     → IsValue bytes (plain.Text s) rest
 text_value s p = record { passes = p; meant = refl }
@@ -164,6 +175,18 @@ null_value {bytes} {rest} is ended = record {
   passes = subst (λ l. Passes l (token t.null ∷ []) rest) (sym is) (null_passed rest ended);
   meant = refl;
 }
+
+pub below_value : {bytes digits rest : List ℕ} (n : ℕ) (z : ℤ) → bytes ≡ 45 ∷ digits → IsSize digits n rest
+    → IsMinus n z → IsValue bytes (plain.Below z) rest
+below_value zero z is size minus = absurd (omega (arith, minus.0))
+below_value {bytes} {digits} {rest} (suc n) z is size minus =
+    let before : suc n - 1 ≡ n = omega arith in
+    let same : z ≡ negsuc n = minus.2 ∙ ap negsuc before in
+    subst (λ w. IsValue bytes (plain.Below w) rest) (sym same) (record {
+      passes = subst (λ l. Passes l (token (t.number (signed_decimal (negsuc n))) ∷ []) rest)
+          (sym (is ∙ ap (λ l. 45 ∷ l) size.same)) (minus_passed n rest minus.1 size.ended);
+      meant = ap (option_map number) (number_of-negative n (omega (arith, minus.1)));
+    })
 
 -- a lexeme of one byte, with spaces before and behind it
 pub around : {a b c d : List ℕ} (x : ℕ) (l : Lexeme) → ((r : List ℕ) → Passes (x ∷ r) (l ∷ []) r)
@@ -214,6 +237,7 @@ first_member : (name : List ℕ) (v : Plain) (ls : List Lexeme)
     ≡ key name ∷ token_of v ∷ punctuate after_comma ls
 unfolding punctuate
 first_member name (plain.Whole n) ls = refl
+first_member name (plain.Below z) ls = refl
 first_member name (plain.Text s) ls = refl
 first_member name plain.Null ls = refl
 
@@ -222,6 +246,7 @@ next_member : (name : List ℕ) (v : Plain) (ls : List Lexeme)
     ≡ key name ∷ token_of v ∷ punctuate after_comma ls
 unfolding punctuate
 next_member name (plain.Whole n) ls = refl
+next_member name (plain.Below z) ls = refl
 next_member name (plain.Text s) ls = refl
 next_member name plain.Null ls = refl
 
@@ -230,6 +255,7 @@ only_member : (name : List ℕ) (v : Plain)
     ≡ key name ∷ token_of v ∷ end_object ∷ []
 unfolding punctuate
 only_member name (plain.Whole n) = refl
+only_member name (plain.Below z) = refl
 only_member name (plain.Text s) = refl
 only_member name plain.Null = refl
 
@@ -238,6 +264,7 @@ last_member : (name : List ℕ) (v : Plain)
     ≡ key name ∷ token_of v ∷ end_object ∷ []
 unfolding punctuate
 last_member name (plain.Whole n) = refl
+last_member name (plain.Below z) = refl
 last_member name (plain.Text s) = refl
 last_member name plain.Null = refl
 
@@ -255,6 +282,7 @@ all_members (r ∷ ss) s =
 
 value_parsed : (v : Plain) (rest : List Token) → json.value 126 (token_of v ∷ rest) ≡ Some (json_of v, rest)
 value_parsed (plain.Whole n) rest = value_is 126 (token_of (plain.Whole n) ∷ rest)
+value_parsed (plain.Below z) rest = value_is 126 (token_of (plain.Below z) ∷ rest)
 value_parsed (plain.Text s) rest = value_is 126 (token_of (plain.Text s) ∷ rest)
 value_parsed plain.Null rest = value_is 126 (token_of plain.Null ∷ rest)
 

@@ -1,5 +1,6 @@
 -- The members of an object that has nothing inside but texts, whole numbers and nulls.
 use Rattle.std.specs.Prelude.{◌≡◌, List, [], ◌∷◌, Some, decimal}
+use Rattle.std.specs.Fmt.{signed_decimal}
 use Rattle.json.specs.Json as json
 use Rattle.json.specs.Lex.{Lexeme, token, colon}
 use Rattle.json.specs.Token.{Token, null, number, string}
@@ -12,18 +13,21 @@ use Rattle.site_bodies.specs.declared.slots.Slot.{Slot}
 -- the token of a value
 abbrev pub token_of : Plain → Token
 token_of (plain.Whole n) = number (decimal n)
+token_of (plain.Below z) = number (signed_decimal z)
 token_of (plain.Text s) = string s.now
 token_of plain.Null = null
 
 -- the value that a reader of JSON makes of it
 abbrev pub json_of : Plain → json.Json
 json_of (plain.Whole n) = json.number (decimal n)
+json_of (plain.Below z) = json.number (signed_decimal z)
 json_of (plain.Text s) = json.string s.now
 json_of plain.Null = json.null
 
 -- and serde_json
 abbrev pub data_of : Plain → serde.Data
 data_of (plain.Whole n) = serde.number (serde.unsigned n)
+data_of (plain.Below z) = serde.number (serde.negative z)
 data_of (plain.Text s) = serde.string s.now
 data_of plain.Null = serde.null
 

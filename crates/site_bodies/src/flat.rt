@@ -8,6 +8,7 @@ ghost use Rattle.json.specs.Word.{ends_word};
 ghost use Rattle.serde_json.specs.Data.{no_members};
 ghost use Rattle.serde_json.specs.Find.{get_member};
 ghost use Rattle.site_bodies.specs.Flat.{IsFlat, flat_fields};
+ghost use Rattle.site_bodies.specs.Numerals.{IsMinus};
 ghost use Rattle.site_bodies.specs.Passes.{IsMember, IsSize, IsValue, Passes};
 ghost use Rattle.site_bodies.specs.Slots.{data_of, put_all};
 ghost use Rattle.site_bodies.specs.Values.{integer_in, maybe_whole_in, text_in, whole_in};
@@ -105,6 +106,24 @@ fn string(bytes: &[u8]) -> Option<(Plain<'_>, &[u8])>
     Some((Plain::Text(text), after))
 }
 
+// The number below zero of that size. There is none of zero, which behind a minus is a float.
+fn minus(size: u64) -> Option<i64>
+    ensures { IfSome result (IsMinus size) }
+{
+    match signed(size) {
+        Some(size) if size > 0 => Some(-size),
+        _ => None,
+    }
+}
+
+// The whole number below zero in front, and what stands behind.
+fn negative(bytes: &[u8]) -> Option<(Plain<'_>, &[u8])>
+    ensures { IfSome result (λ p. IsValue bytes.now p.0 p.1.now) }
+{
+    let (size, after) = whole(behind(bytes, b"-")?)?;
+    Some((Plain::Below(minus(size)?), after))
+}
+
 // The null in front, and what stands behind.
 fn null(bytes: &[u8]) -> Option<(Plain<'_>, &[u8])>
     ensures { IfSome result (λ p. IsValue bytes.now p.0 p.1.now) }
@@ -117,7 +136,17 @@ fn null(bytes: &[u8]) -> Option<(Plain<'_>, &[u8])>
     }
 }
 
-// The value in front, and what stands behind. A null is looked for last, since few values are one.
+// The value in front, if it is no text and no number without a sign, and what stands behind.
+fn other(bytes: &[u8]) -> Option<(Plain<'_>, &[u8])>
+    ensures { IfSome result (λ p. IsValue bytes.now p.0 p.1.now) }
+{
+    match bytes {
+        [b'-', ..] => negative(bytes),
+        _ => null(bytes),
+    }
+}
+
+// The value in front, and what stands behind. Texts and numbers without a sign, as most are, come first.
 fn value(bytes: &[u8]) -> Option<(Plain<'_>, &[u8])>
     ensures { IfSome result (λ p. IsValue bytes.now p.0 p.1.now) }
 {
@@ -126,7 +155,7 @@ fn value(bytes: &[u8]) -> Option<(Plain<'_>, &[u8])>
     }
     match number(bytes) {
         Some(found) => Some(found),
-        None => null(bytes),
+        None => other(bytes),
     }
 }
 
@@ -194,7 +223,7 @@ impl<'a> Plain<'a> {
     {
         match self {
             Plain::Whole(number) => Some(number),
-            Plain::Text(_) | Plain::Null => None,
+            Plain::Below(_) | Plain::Text(_) | Plain::Null => None,
         }
     }
 
@@ -204,6 +233,7 @@ impl<'a> Plain<'a> {
     {
         match self {
             Plain::Whole(number) => signed(number),
+            Plain::Below(number) => Some(number),
             Plain::Text(_) | Plain::Null => None,
         }
     }
@@ -214,7 +244,7 @@ impl<'a> Plain<'a> {
     {
         match self {
             Plain::Text(text) => Some(text),
-            Plain::Whole(_) | Plain::Null => None,
+            Plain::Whole(_) | Plain::Below(_) | Plain::Null => None,
         }
     }
 
@@ -225,7 +255,7 @@ impl<'a> Plain<'a> {
         match self {
             Plain::Whole(number) => Some(Some(number)),
             Plain::Null => Some(None),
-            Plain::Text(_) => None,
+            Plain::Below(_) | Plain::Text(_) => None,
         }
     }
 }

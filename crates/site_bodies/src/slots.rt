@@ -7,8 +7,10 @@ pub(crate) const MOST: usize = 8;
 /// A value with nothing inside.
 #[derive(Clone, Copy)]
 pub(crate) enum Plain<'a> {
-    /// A whole number.
+    /// A whole number from 0 on.
     Whole(u64),
+    /// A whole number below zero.
+    Below(i64),
     /// A text.
     Text(&'a str),
     /// Null.
