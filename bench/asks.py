@@ -1,10 +1,10 @@
 """What it costs to read what a message asks, from the end of its frame to its command, beside plain Rust.
 
 `asks.py PROGRAM` measures the program `site_bench`, and beside it `bench/plain`: the frame by `httparse`, the route by a match
-on the path's segments, the body by `serde_json` and `derive`, on the same messages: a bid, a bid whose body
-has spaces, a listing, and a registration. Instructions of a message are those of a thousand more; what is asked are those of a message
-read whole less those of its frame alone. Times are medians of runs of both in turn, by processor time. It needs
-`valgrind`, and `cargo` with Debian's packages, as `wire.sh` says.
+on the path's segments, the body by `serde_json` and `derive`, on the same messages: a bid, a bid whose body has spaces, a
+listing, one with a null and one with an escape, and a registration. Instructions of a message are those of a thousand more;
+what is asked are those of a message read whole less those of its frame alone. Times are medians of runs of both in turn, by
+processor time. It needs `valgrind`, and `cargo` with Debian's packages, as `wire.sh` says.
 """
 import pathlib
 import subprocess
@@ -14,7 +14,7 @@ from measured import counted, in_turn, medians, seconds, shown
 
 ROOT = pathlib.Path(__file__).resolve().parent.parent
 ASKS = ROOT / "bench" / "plain" / "target" / "release" / "asks"
-MESSAGES = ["bid", "spaced", "list", "name"]
+MESSAGES = ["bid", "spaced", "list", "null", "escape", "name"]
 MORE, ROUNDS = 1_000, 400_000
 
 

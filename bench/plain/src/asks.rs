@@ -21,6 +21,16 @@ const LISTS: [&[u8]; 2] = [
     b"POST /items HTTP/1.1\r\nhost: h\r\nx-member: 2\r\nx-moment: 1001\r\ncontent-length: 79\r\n\r\n{\"category\":2,\"end\":6000,\"lot\":\"B2\",\"start\":750,\"text\":\"Good.\",\"title\":\"Globe\"}",
 ];
 
+const NULLS: [&[u8]; 2] = [
+    b"POST /items HTTP/1.1\r\nhost: h\r\nx-member: 1\r\nx-moment: 1000\r\ncontent-length: 94\r\n\r\n{\"buy_now\":null,\"category\":1,\"end\":5000,\"lot\":\"A1\",\"start\":500,\"text\":\"Good.\",\"title\":\"Atlas\"}",
+    b"POST /items HTTP/1.1\r\nhost: h\r\nx-member: 2\r\nx-moment: 1001\r\ncontent-length: 94\r\n\r\n{\"buy_now\":null,\"category\":2,\"end\":6000,\"lot\":\"B2\",\"start\":750,\"text\":\"Good.\",\"title\":\"Globe\"}",
+];
+
+const ESCAPES: [&[u8]; 2] = [
+    b"POST /items HTTP/1.1\r\nhost: h\r\nx-member: 1\r\nx-moment: 1000\r\ncontent-length: 85\r\n\r\n{\"category\":1,\"end\":5000,\"lot\":\"A1\",\"start\":500,\"text\":\"Good.\\nOld.\",\"title\":\"Atlas\"}",
+    b"POST /items HTTP/1.1\r\nhost: h\r\nx-member: 2\r\nx-moment: 1001\r\ncontent-length: 85\r\n\r\n{\"category\":2,\"end\":6000,\"lot\":\"B2\",\"start\":750,\"text\":\"Good.\\nOld.\",\"title\":\"Globe\"}",
+];
+
 const NAMES: [&[u8]; 2] = [
     b"POST /members HTTP/1.1\r\nhost: h\r\nx-member: 0\r\nx-moment: 1000\r\ncontent-length: 14\r\n\r\n{\"name\":\"Ana\"}",
     b"POST /members HTTP/1.1\r\nhost: h\r\nx-member: 0\r\nx-moment: 1001\r\ncontent-length: 14\r\n\r\n{\"name\":\"Bea\"}",
@@ -272,6 +282,8 @@ fn main() {
     let texts = match words[2].as_str() {
         "bid" => BIDS,
         "spaced" => SPACED,
+        "null" => NULLS,
+        "escape" => ESCAPES,
         "name" => NAMES,
         _ => LISTS,
     };

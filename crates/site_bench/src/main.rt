@@ -1,7 +1,8 @@
 //! What it costs to read what a message asks: `site_bench WHAT MESSAGE N` reads N messages, a bid (`bid`),
-//! a bid whose body has spaces (`spaced`), a listing (`list`) or a registration (`name`). WHAT is `frames`,
-//! which reads their frames alone, or `asks`, which also reads what they ask. It prints a sum over what it
-//! saw. Where memory is wanting it prints `site_bench: memory` on standard error.
+//! a bid whose body has spaces (`spaced`), a listing (`list`), one with a null (`null`) or an escape
+//! (`escape`), or a registration (`name`). WHAT is `frames`, which reads their frames alone, or `asks`, which
+//! also reads what they ask. It prints a sum over what it saw. Where memory is wanting it prints
+//! `site_bench: memory` on standard error.
 #![tactic(auto)]
 
 use house_rows::{Command, Message};
@@ -26,6 +27,16 @@ const SPACED: [&[u8]; 2] = [
 const LISTS: [&[u8]; 2] = [
     b"POST /items HTTP/1.1\r\nhost: h\r\nx-member: 1\r\nx-moment: 1000\r\ncontent-length: 79\r\n\r\n{\"category\":1,\"end\":5000,\"lot\":\"A1\",\"start\":500,\"text\":\"Good.\",\"title\":\"Atlas\"}",
     b"POST /items HTTP/1.1\r\nhost: h\r\nx-member: 2\r\nx-moment: 1001\r\ncontent-length: 79\r\n\r\n{\"category\":2,\"end\":6000,\"lot\":\"B2\",\"start\":750,\"text\":\"Good.\",\"title\":\"Globe\"}",
+];
+
+const NULLS: [&[u8]; 2] = [
+    b"POST /items HTTP/1.1\r\nhost: h\r\nx-member: 1\r\nx-moment: 1000\r\ncontent-length: 94\r\n\r\n{\"buy_now\":null,\"category\":1,\"end\":5000,\"lot\":\"A1\",\"start\":500,\"text\":\"Good.\",\"title\":\"Atlas\"}",
+    b"POST /items HTTP/1.1\r\nhost: h\r\nx-member: 2\r\nx-moment: 1001\r\ncontent-length: 94\r\n\r\n{\"buy_now\":null,\"category\":2,\"end\":6000,\"lot\":\"B2\",\"start\":750,\"text\":\"Good.\",\"title\":\"Globe\"}",
+];
+
+const ESCAPES: [&[u8]; 2] = [
+    b"POST /items HTTP/1.1\r\nhost: h\r\nx-member: 1\r\nx-moment: 1000\r\ncontent-length: 85\r\n\r\n{\"category\":1,\"end\":5000,\"lot\":\"A1\",\"start\":500,\"text\":\"Good.\\nOld.\",\"title\":\"Atlas\"}",
+    b"POST /items HTTP/1.1\r\nhost: h\r\nx-member: 2\r\nx-moment: 1001\r\ncontent-length: 85\r\n\r\n{\"category\":2,\"end\":6000,\"lot\":\"B2\",\"start\":750,\"text\":\"Good.\\nOld.\",\"title\":\"Globe\"}",
 ];
 
 const NAMES: [&[u8]; 2] = [
@@ -82,6 +93,8 @@ fn sum_of(rt: &(impl Env + AllocGlobal), alloc: Global) -> Result<u64, AllocErro
     let texts = match message.as_str() {
         "bid" => BIDS,
         "spaced" => SPACED,
+        "null" => NULLS,
+        "escape" => ESCAPES,
         "name" => NAMES,
         _ => LISTS,
     };
