@@ -1,5 +1,5 @@
 -- Members that can be read, and what is found in them.
-use Rattle.std.proofs.Common.{◌≡◌, ◌<◌, ◌≤◌, ◌+◌, ◌∷◌, length, drop, get_or, ℕ, List, Bool, true, false, refl, ap, ◌∙◌, sym, Option, Some, None, inl, inr, ◌⊎◌, bytes_eq, cond}
+use Rattle.std.proofs.Common.{◌≡◌, ◌<◌, ◌≤◌, ◌+◌, ◌∷◌, length, drop, get_or, ℕ, List, Bool, true, false, refl, ap, ◌∙◌, sym, Option, Some, None, inl, inr, bytes_eq, cond}
 use Rattle.std.specs.Prelude.{IsUtf8, option_map, is_some, option_and_then, ◌&&◌, unwrap_or}
 use Rattle.std.proofs.lemmas.Bool.{cases_Bool}
 use Rattle.std.proofs.lemmas.Slice.Eq.{bytes_eq-Decides}
@@ -10,7 +10,7 @@ use Rattle.json.specs.declared.value.Value.{Value}
 use Rattle.json.specs.Json as json
 use Rattle.json.specs.Find as jfind
 use Rattle.json.specs.Find.{later_or}
-use Rattle.serde_json.specs.Data.{Data, Items, Members, no_members, member, put, array, object, number, Num}
+use Rattle.serde_json.specs.Data.{Data, Items, Members, no_members, put, array, object, number, Num}
 use Rattle.serde_json.specs.Find.{get_member}
 use Rattle.std.specs.Str.{is_utf8}
 use Rattle.std.proofs.lemmas.Str.{IsUtf8-from_is_utf8, is_utf8-from_IsUtf8}
@@ -38,7 +38,7 @@ picked (Some j) other = of_json j
 nothing : {A : Type 0} (x : A) → None ≡ Some x → ⊥
 nothing x e = cc
 
-other_key : (k l : List ℕ) → bytes_eq l k ≡ false → l ≡ k → ⊥
+pub other_key : (k l : List ℕ) → bytes_eq l k ≡ false → l ≡ k → ⊥
 other_key k l not same =
     let is : bytes_eq l k ≡ true = (bytes_eq-Decides l k).1 same in
     let f : true ≡ false = sym is ∙ not in cc

@@ -1,6 +1,5 @@
 -- What was seen of a number.
-use Rattle.std.proofs.Common.{◌≡◌, Option, Some, None, refl, ap, ◌∙◌, sym}
-use Rattle.std.proofs.Common.{List, ℕ, Bool}
+use Rattle.std.proofs.Common.{◌≡◌, Option, Some, None, refl, ap, ◌∙◌}
 use Rattle.std.specs.Prelude.{option_map, option_and_then, is_some}
 use Rattle.serde_json.specs.Data.{Num, unsigned, negative, float, number}
 use Rattle.serde_json.specs.Find.{as_i64, as_u64}

@@ -3,7 +3,7 @@ use Rattle.std.proofs.Common.{◌≡◌, ℕ, List, true, refl, ap, ◌∙◌, s
 use Rattle.std.specs.Prelude.{is_some, option_and_then, option_map, unwrap_or}
 use Rattle.json.specs.Find as jfind
 use Rattle.json.specs.Json as json
-use Rattle.serde_json.specs.Data.{Data, Items, Members, Num, array, no_members, null, number, object}
+use Rattle.serde_json.specs.Data.{Data, Items, Members, Num, array, no_members, number, object}
 use Rattle.serde_json.specs.Find.{as_number, as_str, as_u64, get_member}
 use Rattle.serde_json.specs.Read.{number_of, of_items, of_json, of_members}
 use Rattle.site_bodies.specs.Values.{maybe_whole_in, text_in}

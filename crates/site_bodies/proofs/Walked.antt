@@ -11,7 +11,7 @@ use Rattle.std.proofs.lemmas.Str.{IsUtf8-append, IsUtf8-from_ascii}
 use Rattle.std.proofs.lemmas.Str.Ascii.{IsAscii-cons, IsAscii-nil}
 use Rattle.json.specs.Ascii.{null_text}
 use Rattle.json.specs.Json as json
-use Rattle.json.specs.Lex.{Lexeme, after_comma, between, colon, comma, fresh, lex, punctuate, string_token, token}
+use Rattle.json.specs.Lex.{Lexeme, after_comma, after_value, begins_colon, between, colon, comma, fresh, lex, punctuate, string_token, token}
 use Rattle.json.specs.Print.{escape}
 use Rattle.json.specs.Token as t
 use Rattle.json.specs.Token.{Token, begin_object, end_object, key}
@@ -34,8 +34,7 @@ use Rattle.site_bodies.specs.Slots.{IsMeant, data_of, json_of, members_of, put_a
 use Rattle.site_bodies.specs.declared.slots.Plain.{Plain}
 use Rattle.site_bodies.specs.declared.slots.Plain.TheVariants as plain
 use Rattle.site_bodies.specs.declared.slots.Slot.{Slot}
-use Rattle.site_bodies.proofs.LoneText.{of_value}
-use Rattle.site_bodies.proofs.Readable.{body_read}
+use Rattle.site_bodies.proofs.Readable.{body_read, other_key}
 
 -- ---- what was read off the front
 
@@ -232,53 +231,24 @@ abbrev tokens_of : List Slot → List Token
 tokens_of [] = end_object ∷ []
 tokens_of (s ∷ ss) = key s.name.now ∷ token_of s.value ∷ tokens_of ss
 
-first_member : (name : List ℕ) (v : Plain) (ls : List Lexeme)
-    → punctuate fresh (token (t.string name) ∷ colon ∷ token (token_of v) ∷ comma ∷ ls)
-    ≡ key name ∷ token_of v ∷ punctuate after_comma ls
+-- a value, where no colon follows
+value_punctuated : (v : Plain) (ls : List Lexeme) → begins_colon ls ≡ false
+    → punctuate fresh (token (token_of v) ∷ ls) ≡ token_of v ∷ punctuate after_value ls
 unfolding punctuate
-first_member name (plain.Whole n) ls = refl
-first_member name (plain.Below z) ls = refl
-first_member name (plain.Text s) ls = refl
-first_member name plain.Null ls = refl
+value_punctuated (plain.Whole n) ls ends = refl
+value_punctuated (plain.Below z) ls ends = refl
+value_punctuated (plain.Text s) ls ends = rw ends refl
+value_punctuated plain.Null ls ends = refl
 
-next_member : (name : List ℕ) (v : Plain) (ls : List Lexeme)
-    → punctuate after_comma (token (t.string name) ∷ colon ∷ token (token_of v) ∷ comma ∷ ls)
-    ≡ key name ∷ token_of v ∷ punctuate after_comma ls
-unfolding punctuate
-next_member name (plain.Whole n) ls = refl
-next_member name (plain.Below z) ls = refl
-next_member name (plain.Text s) ls = refl
-next_member name plain.Null ls = refl
-
-only_member : (name : List ℕ) (v : Plain)
-    → punctuate fresh (token (t.string name) ∷ colon ∷ token (token_of v) ∷ token end_object ∷ [])
-    ≡ key name ∷ token_of v ∷ end_object ∷ []
-unfolding punctuate
-only_member name (plain.Whole n) = refl
-only_member name (plain.Below z) = refl
-only_member name (plain.Text s) = refl
-only_member name plain.Null = refl
-
-last_member : (name : List ℕ) (v : Plain)
-    → punctuate after_comma (token (t.string name) ∷ colon ∷ token (token_of v) ∷ token end_object ∷ [])
-    ≡ key name ∷ token_of v ∷ end_object ∷ []
-unfolding punctuate
-last_member name (plain.Whole n) = refl
-last_member name (plain.Below z) = refl
-last_member name (plain.Text s) = refl
-last_member name plain.Null = refl
-
-next_members : (ss : List Slot) (s : Slot)
+members_punctuated : (ss : List Slot) (s : Slot)
     → punctuate after_comma (lexemes_of ss (slot_lexemes s ++ token end_object ∷ [])) ≡ tokens_of (ss ++ s ∷ [])
-next_members [] s = last_member s.name.now s.value
-next_members (r ∷ ss) s =
-    next_member r.name.now r.value _ ∙ ap (λ l. key r.name.now ∷ token_of r.value ∷ l) (next_members ss s)
-
-all_members : (ss : List Slot) (s : Slot)
-    → punctuate fresh (lexemes_of ss (slot_lexemes s ++ token end_object ∷ [])) ≡ tokens_of (ss ++ s ∷ [])
-all_members [] s = only_member s.name.now s.value
-all_members (r ∷ ss) s =
-    first_member r.name.now r.value _ ∙ ap (λ l. key r.name.now ∷ token_of r.value ∷ l) (next_members ss s)
+unfolding punctuate
+members_punctuated [] s =
+    ap (λ l. key s.name.now ∷ l) (value_punctuated s.value (token end_object ∷ []) refl)
+members_punctuated (r ∷ ss) s =
+    ap (λ l. key r.name.now ∷ l)
+    (value_punctuated r.value (comma ∷ lexemes_of ss (slot_lexemes s ++ token end_object ∷ [])) refl
+    ∙ ap (λ l. token_of r.value ∷ l) (members_punctuated ss s))
 
 value_parsed : (v : Plain) (rest : List Token) → json.value 126 (token_of v ∷ rest) ≡ Some (json_of v, rest)
 value_parsed (plain.Whole n) rest = value_is 126 (token_of (plain.Whole n) ∷ rest)
@@ -304,7 +274,8 @@ object_punctuated : (ss : List Slot) (s : Slot)
     → punctuate fresh (token begin_object ∷ lexemes_of ss (slot_lexemes s ++ token end_object ∷ []))
     ≡ begin_object ∷ tokens_of (ss ++ s ∷ [])
 unfolding punctuate
-object_punctuated ss s = ap (λ l. begin_object ∷ l) (all_members ss s)
+object_punctuated [] s = ap (λ l. begin_object ∷ l) (members_punctuated [] s)
+object_punctuated (r ∷ ss) s = ap (λ l. begin_object ∷ l) (members_punctuated (r ∷ ss) s)
 
 -- what the walk has seen: members, each with its comma, and each of which serde_json reads
 abbrev pub AreMeant : List Slot → Type 0
@@ -345,7 +316,10 @@ walk_goes_on {bytes} {rest} {after} {next} ss s w is behind =
 nil_utf8 : IsUtf8 []
 nil_utf8 = IsUtf8-from_ascii [] IsAscii-nil
 
-walk_ends : {bytes rest after : List ℕ} (ss : List Slot) (s : Slot) → Walked bytes ss rest
+abbrev of_value : Option (json.Json × List Token) → Option Data
+of_value r = option_and_then of_json (option_and_then (λ p. json.if_last p.0 p.1) r)
+
+pub walk_ends : {bytes rest after : List ℕ} (ss : List Slot) (s : Slot) → Walked bytes ss rest
     → IsMember rest s after → Passes after (token end_object ∷ []) []
     → body_of bytes ≡ Some (put_all (ss ++ s ∷ []) no_members)
 unfolding lex
@@ -394,17 +368,12 @@ found_before name ss s other =
     ap (get_member name) (put_push ss s no_members)
     ∙ get_member-put_other name s.name.now (data_of s.value) (put_all ss no_members) other
 
-other_name : (k l : List ℕ) → bytes_eq l k ≡ false → l ≡ k → ⊥
-other_name k l not same =
-    let is : bytes_eq l k ≡ true = (bytes_eq-Decides l k).1 same in
-    let f : true ≡ false = sym is ∙ not in cc
-
 found_push : (name : List ℕ) (ss : List Slot) (s : Slot)
     → get_member name (put_all (ss ++ s ∷ []) no_members)
     ≡ cond (bytes_eq s.name.now name) (Some (data_of s.value)) (get_member name (put_all ss no_members))
 found_push name ss s = elim (cases_Bool (bytes_eq s.name.now name)) [
   | inl here ↦ rw here (found_here name ss s ((bytes_eq-Decides s.name.now name).0 here))
-  | inr not ↦ rw not (found_before name ss s (λ e. other_name name s.name.now not (sym e)))
+  | inr not ↦ rw not (found_before name ss s (λ e. other_key name s.name.now not (sym e)))
 ]
 
 pub last_step : (name : List ℕ) (xs : List Slot) (i : ℕ) (d : Slot) (o r : Option Data) → i < length xs

@@ -1,10 +1,10 @@
 //! Bodies that are one number or one text under a name.
-ghost use Rattle.std.specs.Prelude.{◌≡◌, ◌≢◌, ◌≤◌, ◌++◌, ◌∷◌, [], IfSome, IsTrue, List, ℕ};
+ghost use Rattle.std.specs.Prelude.{◌≡◌, ◌≢◌, ◌≤◌, ◌++◌, ◌∷◌, [], IfSome, IsTrue};
 ghost use Rattle.std.specs.Str.{IsAscii};
 ghost use Rattle.json.specs.Print.{escape};
-ghost use Rattle.json.specs.Spaced.{IsGap};
 ghost use Rattle.site_bodies.specs.LoneNumber.{IsLone};
 ghost use Rattle.site_bodies.specs.LoneString.{IsLoneText, IsPlain};
+ghost use Rattle.site_bodies.specs.Passes.{Passes};
 
 // What stands behind the front.
 #[inline(always)]
@@ -32,7 +32,7 @@ fn before_brace(bytes: &[u8]) -> Option<&[u8]>
 // What stands behind a space, if one is there.
 #[inline(always)]
 fn behind_space(bytes: &[u8]) -> &[u8]
-    ensures { (gap : List ℕ) × IsGap gap × (bytes.now ≡ gap ++ result.now) }
+    ensures { Passes bytes.now [] result.now }
 {
     match behind(bytes, b" ") {
         Some(rest) => rest,

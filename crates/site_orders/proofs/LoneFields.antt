@@ -4,7 +4,7 @@ use Rattle.std.specs.Prelude.{IfSome, option_map}
 use Rattle.std.specs.Borrow.{Bor}
 use Rattle.serde_json.specs.Data.{no_members, put, string}
 use Rattle.site_bodies.specs.LoneString.{IsLoneText}
-use Rattle.site_bodies.proofs.LoneString.{text_lone}
+use Rattle.site_bodies.proofs.Alone.{text_lone}
 use Rattle.house_rows.specs.declared.command.Command.TheVariants as command
 use Rattle.site_orders.specs.declared.field.Field.TheVariants as field
 use Rattle.site_orders.specs.declared.order.Order.{Order}

@@ -1,5 +1,5 @@
 use Rattle.std.proofs.Common.{arith, refl}
-use Rattle.site_bodies.proofs.LoneString.{plain_step}
+use Rattle.site_bodies.proofs.Alone.{plain_step}
 use Rattle.site_bodies.proofs.flat.plain_length.Goals as goal
 
 pub loop-end-preserved : goal.loop-end-preserved

@@ -2,7 +2,7 @@ use Rattle.std.proofs.Common.{◌∙◌, ap, sym, subst}
 use Rattle.json.specs.Value.{members_view, value_view}
 use Rattle.json.specs.Json as json
 use Rattle.json.proofs.Trees.{view-Object}
-use Rattle.site_bodies.specs.Members.{AreJudged, IsJudged}
+use Rattle.site_bodies.specs.Members.{IsJudged}
 use Rattle.site_bodies.proofs.Readable.{seen_object}
 use Rattle.site_bodies.proofs.judged.seen.Goals as goal
 

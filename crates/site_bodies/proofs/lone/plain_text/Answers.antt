@@ -1,7 +1,7 @@
-use Rattle.std.proofs.Common.{◌≡◌, refl, arith, subst}
+use Rattle.std.proofs.Common.{◌≡◌, refl, subst}
 use Rattle.std.proofs.lemmas.List.{take_all}
 use Rattle.json.specs.Print.{escape}
-use Rattle.site_bodies.proofs.LoneString.{plain_step}
+use Rattle.site_bodies.proofs.Alone.{plain_step}
 use Rattle.site_bodies.proofs.lone.plain_text.Goals as goal
 
 pub loop-byte-init : goal.loop-byte-init

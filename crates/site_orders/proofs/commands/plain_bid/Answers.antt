@@ -1,6 +1,6 @@
 use Rattle.std.proofs.Common.{refl, ap, ◌∙◌, Ok, codes}
 use Rattle.json.specs.Print.{escape_byte}
-use Rattle.site_bodies.proofs.LoneText.{whole_lone}
+use Rattle.site_bodies.proofs.Alone.{whole_lone}
 use Rattle.house_rows.specs.declared.command.Command.TheVariants as command
 use Rattle.site_orders.specs.declared.field.Field.TheVariants as field
 use Rattle.site_orders.specs.declared.order.Order.TheVariants as order
