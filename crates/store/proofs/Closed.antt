@@ -7,7 +7,6 @@ use Rattle.sqlite.specs.Closing.{IsCopied}
 use Rattle.sqlite.specs.Effect.{Database}
 use Rattle.sqlite.specs.Files.{file_state}
 use Rattle.sqlite.specs.Held.{Held}
-use Rattle.house_rows.specs.Tables.{Tables}
 use Rattle.store_lists.specs.Tables.{IsAtRest, tables_in}
 use Rattle.store.specs.Closing.{HoldHouse}
 

@@ -12,7 +12,7 @@ use Rattle.house_rows.specs.declared.settings.Settings.{Settings}
 use Rattle.store_rows.specs.ItemRows.{items_in}
 use Rattle.store_lists.specs.Tables.{tables_in}
 use Rattle.store_answers.proofs.Sound.{rows_fit}
-use Rattle.store.specs.Kept.{IsKnown}
+use Rattle.store.specs.Kept.{House, IsKnown, is_failed}
 
 module _ (db : Trees) (settings : Settings) (counts : Counts) (clock : ℕ) (known : IsKnown settings counts clock db) where
   pub known_bands : (tables_in db).settings.bands ≡ settings.bands
@@ -40,3 +40,7 @@ told_sound fault told failed honest t same store none = record {
   store = (λ is. store.0 (the_fault is), λ down. ap Err (store.1 down));
   damaged = λ h sound is. no_damage fault told failed same store (none h sound) (the_fault is);
 }
+
+-- a keep that is seen not to have failed has not failed inside
+pub works : {S : Type 0} (inside seen : House S) → inside ≡ seen → is_failed seen ≡ false → inside.failed ≡ false
+works inside seen same going = ap is_failed same ∙ going

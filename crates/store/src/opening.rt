@@ -6,7 +6,7 @@ ghost use Rattle.house_rows.specs.Text.{is_plain};
 ghost use Rattle.house_rows.specs.declared.fault.KeepFault.TheVariants.{Damaged};
 ghost use Rattle.store_rows.specs.Schema.{no_schema};
 ghost use Rattle.store_lists.specs.Tables.{tables_in};
-ghost use Rattle.store_open.specs.Opening.{IsSoundHouse, Leaves, LeavesMade};
+ghost use Rattle.store_open.specs.Opening.{IsSoundHouse, Leaves, LeavesMade, LeavesStore};
 ghost use Rattle.store.specs.Kept.{IsHonest, MayLeave, content};
 
 use crate::keep::SqlKeep;
@@ -59,12 +59,14 @@ impl<S: Alter + Drop> SqlKeep<S> {
     /// The keep of the house that a connection holds. What the connection has not committed is undone.
     ///
     /// `Damaged` where it holds no house of this version, or one whose settings or numbers don't fit.
+    /// After an error a crash finds what it could find before, or what was committed then.
     pub fn open(alloc: Global, conn: Connection<S>) -> Result<SqlKeep<S>, KeepFault>
         ensures same { IfOk result (λ k. IsHonest S.Store k
             → content S.Store k ≡ tables_in (state S.Store conn).committed.trees) }
         ensures only { IfOk result (λ k. IsHonest S.Store k → (tables : Tables)
             → MayLeave S.Store k tables → tables ≡ content S.Store k) }
         ensures works { IfOk result (λ k. k.failed ≡ false) }
+        ensures left { OnErr result (LeavesStore S.Store conn) }
         ensures damaged { IsErrOf result Damaged
             → Leaves S.Store conn (¬ (IsSoundHouse (state S.Store conn).committed)) }
     {

@@ -86,10 +86,6 @@ module _ {A : Type 0} (number : A → ℕ) where
       every_number : (ys : List A) → AllByRecursion (λ y. number x < number y) ys → AllByRecursion (λ n. number x < n) (map number ys)
       every_number = elim [ [] ↦ λ all. tt | y ∷ (ys → more) ↦ λ all. (all.0, more all.1) ]
 
-  none_here : (n : ℕ) (ys : List A) → AllByRecursion (λ y. n < number y) ys → list_any (λ m. n == m) (map number ys) ≡ false
-  none_here n [] above = refl
-  none_here n (y ∷ ys) above = let other : (n == number y) ≡ false = grind (arith, nat_tests, above.0) in rw other (none_here n ys above.1)
-
   -- the first row with a number passes a test where the number is that of a row that passes
   pub first_passes : (p : A → Bool) (i : ℕ) (xs : List A) → IsRisingBy xs → AllByRecursion (λ x. number x < 2 ^ 64) (filter p xs)
       → list_any (λ n. i == n) (map number (filter p xs)) ≡ list_any p (found_of (find (λ x. number x == i) xs))

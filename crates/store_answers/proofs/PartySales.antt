@@ -1,5 +1,5 @@
 -- The sales of the items that a member sells, and of those that it leads, by number.
-use Rattle.std.proofs.Common.{◌≡◌, ◌≢◌, ◌≤◌, ◌<◌, ◌+◌, ◌^◌, ℕ, zero, suc, Bool, true, false, not, ◌&&◌, ◌||◌, cond, List, [], ◌∷◌, ◌++◌, get_or, map, filter, flat_map, length, Option, Some, None, refl, ap, sym, subst, ◌∙◌, arith, inl, inr, is_lt, Less, IsPermutation, IsSorted}
+use Rattle.std.proofs.Common.{◌≡◌, ◌≢◌, ◌≤◌, ◌<◌, ◌+◌, ◌^◌, ℕ, zero, suc, Bool, true, false, not, ◌&&◌, ◌||◌, List, [], ◌∷◌, ◌++◌, get_or, map, filter, flat_map, length, Option, Some, None, refl, ap, sym, subst, ◌∙◌, arith, inl, inr, is_lt, Less, IsPermutation}
 use Rattle.std.specs.Prelude.{◌==◌, All, AllPairs, IfSome, is_some, nat_le, nat_lt, unwrap_or}
 use Rattle.std.specs.List.{AllByRecursion}
 use Rattle.std.specs.List.Sorted.{IsNonDecreasingBy}
@@ -10,7 +10,7 @@ use Rattle.std.proofs.lemmas.List.{map-append}
 use Rattle.std.proofs.lemmas.List.Elements.{All-from_recursion, recursion_from_All}
 use Rattle.std.proofs.lemmas.List.Sorted.{All-permutation, IsPermutation-filter_both, IsPermutation-map, IsPermutation-trans}
 use Rattle.sqlite_trees.specs.Tree.{IsAscending}
-use Rattle.sqlite_keyed.proofs.ListLemmas.{all_both, all_unmap, all_weaker, ascending-filter, ascending-map, filter-filter, flat_map-map}
+use Rattle.sqlite_keyed.proofs.ListLemmas.{all_both, all_unmap, all_weaker, ascending-filter, ascending-map, filter-filter}
 use Rattle.sqlite_keyed.proofs.SortLemmas.{sorted_unique}
 use Rattle.sqlite.specs.Effect.{Database}
 use Rattle.proxy.specs.Bids.{is_leader}

@@ -1,13 +1,10 @@
 -- Of sound tables every stored row fits.
-use Rattle.std.proofs.Common.{◌≡◌, ℕ, List}
+use Rattle.std.proofs.Common.{ℕ, List}
 use Rattle.std.specs.List.{AllByRecursion}
-use Rattle.std.proofs.lemmas.List.Elements.{All-from_recursion, recursion_from_All}
-use Rattle.std.proofs.lemmas.List.Sorted.{All-permutation}
 use Rattle.sqlite_trees.specs.Tree.{Trees}
 use Rattle.house_rows.specs.Bids.{bid_key}
 use Rattle.house_rows.specs.Changed.{question_key}
 use Rattle.house_rows.specs.Fits.{BidRowFits, FeedbackFits, ItemFits, QuestionFits, WatchRowFits}
-use Rattle.house_rows.specs.History.{Key}
 use Rattle.house_rows.specs.Keeping.{AreSound, AreSoundBy, ItemRowFits}
 use Rattle.house_rows.specs.Ratings.{feedback_key}
 use Rattle.house_rows.specs.Tables.{ItemRow}
@@ -15,14 +12,8 @@ use Rattle.house_rows.specs.Watches.{watch_key}
 use Rattle.house_rows.proofs.Every.{every_as}
 use Rattle.store_rows.specs.ItemRows.{items_in}
 use Rattle.store_rows.specs.Rows.{bids_in, feedback_in, questions_in, watches_in}
-use Rattle.store_lists.specs.Sorted.{sorted_by}
 use Rattle.store_lists.specs.Tables.{settings_in, tables_in}
-use Rattle.store_lists.proofs.Sorting.{sorted_moves}
-
--- what every sorted row is, every row is
-every_stored : {A : Type 0} (key : A → Key) (P : A → Type 0) (rows : List A) → AllByRecursion P (sorted_by key rows) → AllByRecursion P rows
-every_stored key P rows all =
-    recursion_from_All P rows (All-permutation P (sorted_by key rows) rows (sorted_moves key rows) (All-from_recursion P (sorted_by key rows) all))
+use Rattle.store_lists.proofs.Shown.{every_stored}
 
 module _ (db : Trees) (sound : AreSound (tables_in db)) where
   pub bids_fit : AllByRecursion BidRowFits (bids_in db)

@@ -26,6 +26,7 @@ use Rattle.store_answers.specs.Joined.{found_of}
 use Rattle.store_answers.specs.OwnBids.{own_found}
 use Rattle.store_answers.specs.Standing.{RowsStand, StandsIn}
 use Rattle.store_answers.proofs.PartySales.{all_kept, buyer_is}
+use Rattle.sqlite_keyed.proofs.RuleLemmas.{second_of_both}
 
 pub ok_so : {A E : Type 0} {P : Type 0} (r : Result A E) → P → OnOk r P
 ok_so (Ok a) so = so
@@ -100,10 +101,6 @@ module _ (bands : List (ℕ × ℕ)) (db : Trees) where
       let rest = each_passed P p xs told in
       elim (by_test (p x)) [ inl is ↦ rw is (told x is, rest) | inr not ↦ rw not rest ]
 
-  second : (a b : Bool) → (a && b) ≡ true → b ≡ true
-  second true b is = is
-  second false b is = absurd (let e : false ≡ true = is in cc)
-
   pub waiting_stand : (member : ℕ) (own : List Terms) → own ≡ map (λ (row : ItemRow). row.item.terms) (filter (λ row. row.item.terms.seller == member) (items_in db)) → AllByRecursion (Stands bands) own
       → AllByRecursion (λ (q : Question). StandsIn bands db q.item) (waiting_for (tables_in db) member)
   unfolding tables_in
@@ -112,7 +109,7 @@ module _ (bands : List (ℕ × ℕ)) (db : Trees) where
       let mine : ItemRow → Bool = λ row. row.item.terms.seller == member in
       each_passed (λ (q : Question). StandsIn bands db q.item) (λ q. not (is_some q.answer) && sells (find (is_item q.item) rows) member) (sorted_questions db)
       (λ q is. sold_stands member (find (is_item q.item) rows) (find_so (λ row. mine row ≡ true → StandsRow row) (is_item q.item) rows (found_stand mine own are stand))
-      (second (not (is_some q.answer)) (sells (find (is_item q.item) rows) member) is))
+      (second_of_both (not (is_some q.answer)) (sells (find (is_item q.item) rows) member) is))
 
   -- ---- what a member has bid
 

@@ -1,10 +1,9 @@
 -- What reads, one after the other, leave.
-use Rattle.std.proofs.Common.{◌≡◌, ◌<◌, ◌≤◌, ◌+◌, ◌∙◌, ℕ, List, ◌++◌, append_assoc, drop, flat_map, get_or, length, take, ap, sym, subst, arith, inl, inr}
+use Rattle.std.proofs.Common.{◌≡◌, ◌<◌, ◌≤◌, ◌+◌, ◌∙◌, ℕ, List, ◌++◌, append_assoc, drop, flat_map, get_or, length, take, ap, sym, arith}
 use Rattle.std.proofs.lemmas.List.{append-nil, at_drop_more, drop_all, take-append-le, take_all}
 use Rattle.sqlite.specs.State.{State, HasCleanDisk, IsUnchanged, Survives}
 use Rattle.sqlite.proofs.StateLemmas.{survives_then}
 use Rattle.list_rows.proofs.Growing.{front_twice}
-use Rattle.store_rows.specs.House.{IsHouse, KeepsCommitted, Serves}
 
 pub clean_before : (old new : State) → Survives old new (λ _. ⊥) → HasCleanDisk new → HasCleanDisk old
 clean_before old new survives clean = omega (arith, survives.clean)
@@ -24,22 +23,6 @@ both_same old mid new one two = (
   record { changes = two.1.changes ∙ one.1.changes; last_rowid = two.1.last_rowid ∙ one.1.last_rowid },
   two.2 ∙ one.2,
 )
-
-pub serves_on : (old mid : State) → Serves old → (HasCleanDisk mid → IsUnchanged old mid) → Survives old mid (λ _. ⊥) → Serves mid
-serves_on old mid serves same survives clean =
-    let kept = same clean in
-    (kept.0.is_open, subst IsHouse (sym kept.0.now_is) (serves (clean_before old mid survives clean)).1)
-
--- an error after reads that left all leaves what was committed
-pub then_kept : (old mid new : State) → IsUnchanged old mid → KeepsCommitted mid new → KeepsCommitted old new
-then_kept old mid new one (inl same) = inl (both_same old mid new one same)
-then_kept old mid new one (inr undone) = inr (record {
-  was_open = λ is_open. one.0.was_open;
-  undone = λ is_open. let it = undone.undone is_open in (it.0 ∙ one.0.committed_is, it.1 ∙ one.0.committed_is);
-  autocommit = undone.autocommit;
-  unmarked = undone.unmarked;
-  counts = record { changes = undone.counts.changes ∙ one.1.changes; last_rowid = undone.counts.last_rowid ∙ one.1.last_rowid };
-})
 
 -- a step of a loop that goes on at the end of what was found
 pub found_more : {A B : Type 0} (F : A → List B) (xs : List A) (i : ℕ) (d : A) (acc more whole : List B) → i < length xs → acc ++ flat_map F (drop i xs) ≡ whole → more ≡ acc ++ F (get_or xs i d) → more ++ flat_map F (drop (i + 1) xs) ≡ whole

@@ -146,10 +146,7 @@ fn own_bids_at<S: Alter>(
         if found.len() >= MOST_SHOWN {
             return Ok(found);
         }
-        match add_own_bid(alloc, conn, bands, *number, member, &mut found) {
-            Ok(()) => {}
-            Err(fault) => return Err(fault),
-        }
+        add_own_bid(alloc, conn, bands, *number, member, &mut found)?;
     }
     Ok(found)
 }

@@ -61,10 +61,7 @@ fn sales_of(alloc: Global, items: &[Terms]) -> Result<Vec<Sold>, KeepFault>
 {
     let mut sales = Vec::new(alloc);
     for terms in items {
-        match add_sale(&mut sales, terms) {
-            Ok(()) => {}
-            Err(fault) => return Err(fault),
-        }
+        add_sale(&mut sales, terms)?;
     }
     Ok(sales)
 }

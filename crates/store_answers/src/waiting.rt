@@ -67,10 +67,7 @@ fn waiting_on_each<S: Alter>(
 {
     let mut asked = Vec::new(alloc);
     for terms in own {
-        match add_waiting(alloc, conn, terms.item, &mut asked) {
-            Ok(()) => {}
-            Err(fault) => return Err(fault),
-        }
+        add_waiting(alloc, conn, terms.item, &mut asked)?;
     }
     Ok(asked)
 }
@@ -150,10 +147,7 @@ fn first_on_each<S: Alter>(
         if asked.len() >= MOST_SHOWN {
             return Ok(asked);
         }
-        match add_first_waiting(alloc, conn, terms.item, &mut asked) {
-            Ok(()) => {}
-            Err(fault) => return Err(fault),
-        }
+        add_first_waiting(alloc, conn, terms.item, &mut asked)?;
     }
     Ok(asked)
 }

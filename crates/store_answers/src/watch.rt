@@ -89,10 +89,7 @@ fn items_at<S: Alter>(
 {
     let mut items = Vec::new(alloc);
     for number in numbers {
-        match add_item(conn, bands, *number, &mut items) {
-            Ok(()) => {}
-            Err(fault) => return Err(fault),
-        }
+        add_item(conn, bands, *number, &mut items)?;
     }
     Ok(items)
 }

@@ -1,12 +1,12 @@
 //! What members watch.
-ghost use Rattle.std.specs.Prelude.{◌≡◌, false, OnOk, IsTrue, IsErrOf};
+ghost use Rattle.std.specs.Prelude.{◌≡◌, false, OnOk, IsErrOf};
 ghost use Rattle.sqlite.specs.State.{HasCleanDisk};
 ghost use Rattle.sqlite.specs.Held.{state};
 ghost use Rattle.house_rows.specs.Asks.{ChangeFits, IsFree};
 ghost use Rattle.house_rows.specs.Keeping.{AreSound};
 ghost use Rattle.house_rows.specs.declared.change.Change.TheVariants.{Unwatch, Watch};
 ghost use Rattle.house_rows.specs.declared.fault.KeepFault.TheVariants.{Damaged};
-ghost use Rattle.store_rows.specs.House.{Serves};
+ghost use Rattle.store_rows.specs.House.{IsBegun};
 ghost use Rattle.store_lists.specs.Tables.{Changes, IsNumbered, Rests, tables_in};
 ghost use Rattle.store_rows.specs.Frames.{WritesMany};
 ghost use Rattle.store_lists.specs.Commits.{Commits};
@@ -21,11 +21,9 @@ fn unwatch_within<S: Alter>(
     member: u32,
     item: u32,
 ) -> Result<(), KeepFault>
-    requires serves { Serves (state S.Store tx.old.conn.now) }
+    requires begun { IsBegun (state S.Store tx.old.conn.now) }
     requires numbered { HasCleanDisk (state S.Store tx.old.conn.now)
         → IsNumbered (state S.Store tx.old.conn.now).now.trees }
-    requires begun { HasCleanDisk (state S.Store tx.old.conn.now)
-        → IsTrue tx.old.conn.now.in_transaction }
     ensures same_reference { tx.new.conn.ghost_name ≡ tx.old.conn.ghost_name }
     ensures ok { HasCleanDisk (state S.Store tx.new.conn.now)
         → OnOk result (Changes (Unwatch member item) (state S.Store tx.old.conn.now).now
@@ -63,11 +61,9 @@ fn watch_within<S: Alter>(
     member: u32,
     item: u32,
 ) -> Result<(), KeepFault>
-    requires serves { Serves (state S.Store tx.old.conn.now) }
+    requires begun { IsBegun (state S.Store tx.old.conn.now) }
     requires numbered { HasCleanDisk (state S.Store tx.old.conn.now)
         → IsNumbered (state S.Store tx.old.conn.now).now.trees }
-    requires begun { HasCleanDisk (state S.Store tx.old.conn.now)
-        → IsTrue tx.old.conn.now.in_transaction }
     ensures same_reference { tx.new.conn.ghost_name ≡ tx.old.conn.ghost_name }
     ensures ok { HasCleanDisk (state S.Store tx.new.conn.now)
         → OnOk result (Changes (Watch member item) (state S.Store tx.old.conn.now).now

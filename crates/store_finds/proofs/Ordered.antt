@@ -1,5 +1,5 @@
 -- SQL's comparisons of numbers by their order.
-use Rattle.std.proofs.Common.{◌≡◌, ℕ, ◌^◌, ◌<◌, pos, negsuc, Bool, true, false, ◌&&◌, cond, nat_le, nat_lt, Some, refl, sym, arith, true≢false}
+use Rattle.std.proofs.Common.{◌≡◌, ℕ, ◌^◌, ◌<◌, pos, negsuc, Bool, true, false, ◌&&◌, cond, nat_le, nat_lt, refl, sym, arith, true≢false}
 use Rattle.std.specs.Ordering.{is_ge, is_le}
 use Rattle.std.proofs.lemmas.Int.{ints}
 use Rattle.std.proofs.lemmas.Grind.{common_steps}
@@ -10,17 +10,13 @@ use Rattle.sqlite_value.specs.Order.{value_cmp}
 use Rattle.sqlite_value.proofs.OrderLemmas.{value_cmp-Int}
 use Rattle.sqlite_sql.specs.declared.ops.BinaryOp.TheVariants.{Compare}
 use Rattle.sqlite_sql.specs.declared.ops.CompareOp.TheVariants.{Eq, Ge, Le}
-use Rattle.sqlite_sql.specs.Ops.{binary, is_true, from_truth}
+use Rattle.sqlite_sql.specs.Ops.{binary, is_true}
 use Rattle.sqlite_trees.specs.View.{is_int}
 use Rattle.sqlite_schema.specs.Rules.{is_of}
 use Rattle.sqlite_schema.specs.declared.schema.Kind.TheVariants as kind
 use Rattle.proxy.specs.Bids.{is_leader}
 use Rattle.store_rows.specs.Rows.{number_in, is_rating, maybe_number_in}
-use Rattle.store_rows.proofs.RowLemmas.{equals_number}
-
-truth_back : (b : Bool) → is_true (from_truth (Some b)) ≡ b
-truth_back true = refl
-truth_back false = refl
+use Rattle.store_rows.proofs.RowLemmas.{equals_number, truth_back}
 
 -- from -1 to 1 are the ratings
 pub rated : (v : Value) → is_int v ≡ true → (is_true (binary (Compare Ge Binary) v (Int (negsuc 0))) && is_true (binary (Compare Le Binary) v (Int (pos 1)))) ≡ is_rating v

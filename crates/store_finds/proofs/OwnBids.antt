@@ -1,18 +1,13 @@
 -- What the list of a member's bids on all items means and finds.
-use Rattle.std.proofs.Common.{◌≡◌, ◌==◌, ◌<◌, ◌^◌, ℕ, pos, true, false, not, List, [], ◌∷◌, map, filter, codes, refl, subst, arith}
+use Rattle.std.proofs.Common.{◌≡◌, ◌==◌, ◌<◌, ◌^◌, ℕ, pos, false, List, [], ◌∷◌, map, filter, codes, refl, arith}
 use Rattle.std.specs.List.{AllByRecursion}
 use Rattle.sqlite_value.specs.declared.value.Value.TheVariants.{Null, Int}
 use Rattle.sqlite_value.specs.Keys as keys
 use Rattle.sqlite_value.specs.Order.{Row, column}
-use Rattle.sqlite_schema.specs.Rules.{clashes}
-use Rattle.sqlite_schema.specs.declared.schema.Constraint.TheVariants.{Unique}
-use Rattle.sqlite_catalog.specs.Listing.{IsSound}
 use Rattle.sqlite_sql.specs.Program.{overlay}
 use Rattle.sqlite_sql.specs.Term.{Term}
 use Rattle.sqlite_keyed.proofs.ListLemmas.{all-filter, all_unmap, all_weaker}
-use Rattle.sqlite_keyed.proofs.RuleLemmas.{first_of_both}
 use Rattle.sqlite.specs.Command.TheVariants.{Select}
-use Rattle.sqlite.specs.Effect.{Database}
 use Rattle.sqlite.specs.Listing.{understood, reads_listing}
 use Rattle.sqlite.specs.State.{State, Shown}
 use Rattle.sqlite.proofs.Callers.{IsPlain, command_of, reads_as}
@@ -31,6 +26,7 @@ use Rattle.store_lists.specs.Sorted.{sorted_bids}
 use Rattle.store_lists.proofs.Apart.{keys_apart}
 use Rattle.store_lists.proofs.PairKeys.{HasPair, pair_agrees, pair_rises, two_columns}
 use Rattle.store_lists.proofs.Shown.{kept_fits, shown_fits, rows_by_key}
+use Rattle.store_lists.proofs.BidLists.{unique}
 
 abbrev pub own_bids_text : List ℕ
 own_bids_text = codes "SELECT item, no, member, maximum FROM bid WHERE member = ?1 ORDER BY item, no"
@@ -52,12 +48,6 @@ Pair r = HasPair (bid_key (bid_in r)) r
 
 has_pair : (r : Row) → Fits r → Pair r
 has_pair r fits = record { is = refl; first = omega (arith, fits.item.1); second = omega (arith, fits.number.1) }
-
-unique : (db : Database) → IsHouse db → AllByRecursion (λ s. not (clashes keys.plain (1 ∷ 2 ∷ []) (db.trees 8) s) ≡ true) (db.trees 8)
-unique db house =
-    let rows = db.trees 8 in
-    let sound = subst (λ h. IsSound h db.trees) house.schema house.sound in
-    all_weaker _ (λ s. not (clashes keys.plain (1 ∷ 2 ∷ []) rows s) ≡ true) (λ s h. first_of_both (not (clashes keys.plain (1 ∷ 2 ∷ []) rows s)) true h) rows (sound.obeys.rules Unique).1.1.1.1.1.0
 
 module _ (member : ℕ) (low : member < 2 ^ 32) (old new : State) (answer : List Row) (house : IsHouse old.now) (h : Shown own_bids_text (Int (pos member) ∷ []) old new answer) where
   abbrev table : List Row

@@ -1,5 +1,5 @@
 -- What the lists of items without their texts find.
-use Rattle.std.proofs.Common.{◌≡◌, ◌==◌, ◌<◌, ◌^◌, ◌&&◌, ℕ, pos, Bool, true, List, [], ◌∷◌, map, filter, drop, Some, eqb, refl, ap, sym, subst, ◌∙◌, inl, inr, arith, nat_le}
+use Rattle.std.proofs.Common.{◌≡◌, ◌==◌, ◌<◌, ◌^◌, ◌&&◌, ℕ, pos, Bool, true, List, [], ◌∷◌, map, filter, drop, Some, eqb, refl, ap, subst, ◌∙◌, inl, inr, arith, nat_le}
 use Rattle.std.specs.List.{AllByRecursion}
 use Rattle.sqlite_value.specs.declared.value.Value.{Value}
 use Rattle.sqlite_value.specs.declared.value.Value.TheVariants.{Null, Int}

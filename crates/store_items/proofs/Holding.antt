@@ -13,14 +13,13 @@ use Rattle.sqlite.proofs.Callers.{reads_as}
 use Rattle.proxy.specs.Rows.{is_standing}
 use Rattle.house_rows.specs.declared.item.Terms.{Terms}
 use Rattle.house_rows.specs.Keeping.{IsPurchase, ItemRowFits}
-use Rattle.house_rows.specs.Verdict.{was_sold}
 use Rattle.store_rows.specs.House.{IsHouse}
 use Rattle.store_rows.specs.ItemRows.{item_row_in, items_in, kept_from}
 use Rattle.store_rows.specs.Plain.{passes, shown_by}
 use Rattle.store_rows.specs.Rows.{maybe_number_in, number_in}
 use Rattle.store_rows.specs.Schema.{house_schema}
 use Rattle.store_rows.proofs.Select.{by_rowid, equals, in_order, listed}
-use Rattle.store_items.specs.Standing.{AreSealed, ItemHolds, TermsHold, is_bought, is_price, stands}
+use Rattle.store_items.specs.Standing.{ItemHolds, TermsHold, is_bought, is_price, stands}
 use Rattle.store_items.proofs.ItemLemmas.{kept_start}
 use Rattle.store_items.proofs.ItemMeaning.{all_items_is, all_items_text, item_at_is, item_at_text, item_shown, terms_at_is, terms_at_text, terms_shown}
 use Rattle.store_items.proofs.StandingLemmas.{are_standing, counts, first}

@@ -30,7 +30,7 @@ use Rattle.store_rows.specs.Rows.{number_in, maybe_number_in}
 use Rattle.store_rows.specs.ItemRows.{is_state, item_of, terms_of, kept_of, kept_from, item_row_in, items_in}
 use Rattle.store_rows.specs.House.{IsHouse}
 use Rattle.store_items.specs.Items.{AddsItem, OfItem, SetsStanding, SetsBought, SetsClosed, SetsSettled, with_end}
-use Rattle.store_rows.proofs.RowLemmas.{is_text, int_if, text_if, equals_number, equals_text, first_part, alone, row_key, small}
+use Rattle.store_rows.proofs.RowLemmas.{is_text, int_if, text_if, equals_number, equals_text, first_part, alone, row_key, small, two}
 use Rattle.store_rows.proofs.TextLemmas.{text_back}
 use Rattle.store_rows.proofs.ColumnLemmas.{Holds, holds_all}
 use Rattle.store_items.proofs.MaybeLemmas.{IsSmall, stored_maybe, cast_maybe, maybe_back, present_number}
@@ -100,9 +100,6 @@ are_rows db house =
         record { number = int; seller = int_if (column r 2) seller.0 seller.1; category = int_if (column r 3) category.0 category.1; lot = text_if (column r 4) lot.0 lot.1; ending = int_if (column r 9) ending.0 ending.1 }
 
 -- ---- what is found
-
-two : (a b : Bool) → (a && (b && true)) ≡ (a && b)
-two a b = ap (λ c. a && c) (alone b)
 
 module _ (old new : State) (answer : List Row) (house : IsHouse old.now) where
   abbrev rows : List Row
@@ -250,7 +247,7 @@ told start at (Some l) None next count h = absurd (true≢false (sym h))
 told start at (Some l) (Some t) next count h = refl
 
 -- the state of a row that fits is one
-fits_state : (b : Bool) (start : ℕ) → cond b start (2 ^ 64) ≤ most_cents → b ≡ true
+pub fits_state : (b : Bool) (start : ℕ) → cond b start (2 ^ 64) ≤ most_cents → b ≡ true
 fits_state true start h = refl
 fits_state false start h = absurd (omega (arith, h))
 

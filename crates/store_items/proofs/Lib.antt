@@ -1,7 +1,6 @@
 pub mod MaybeLemmas
 pub mod ItemMeaning
 pub mod ItemLemmas
-pub mod FitLemmas
 pub mod StandingLemmas
 pub mod Small
 pub mod Stands

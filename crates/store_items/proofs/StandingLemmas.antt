@@ -19,7 +19,6 @@ use Rattle.store_rows.specs.ItemRows.{item_row_in, items_in, kept_columns, kept_
 use Rattle.store_rows.specs.House.{IsHouse}
 use Rattle.store_rows.specs.Plain.{passes, shown_by}
 use Rattle.store_rows.proofs.ItemColumns.{weaker}
-use Rattle.store_rows.proofs.ItemFitLemmas.{at_most}
 use Rattle.store_rows.proofs.Select.{by_rowid, equals, in_order, listed}
 use Rattle.store_items.specs.Columns.{AreStanding}
 use Rattle.store_items.proofs.ItemMeaning.{standing_at_is, standing_at_text, standing_shown}
@@ -37,7 +36,7 @@ amounts bands start at (Some l) None (Some s) count h low = absurd (true≢false
 amounts bands start at (Some l) (Some t) None count h low = (low, tt)
 amounts bands start at (Some l) (Some t) (Some s) count h low =
     let shape = second_of_both (nat_le start s) _ (second_of_both (nat_le count 10000) _ (second_of_both (nat_le 2 count) _ h)) in
-    let below = at_most s t (first_of_both (nat_le s t) _ shape) in
+    let below : s ≤ t = grind (arith, first_of_both (nat_le s t) _ shape) in
     (low, omega (arith, low, below))
 
 -- who leads by the bids is who leads

@@ -1,4 +1,3 @@
-pub mod Fitting
 pub mod Columns
 pub mod Items
 pub mod Standing

@@ -1,17 +1,23 @@
 //! The test of standings that are handed out.
-ghost use Rattle.std.specs.Prelude.{◌≡◌};
-ghost use Rattle.store_items.specs.Fitting.{standing_fits};
+ghost use Rattle.std.specs.Prelude.{◌↔◌, IfSome, IsTrue};
+ghost use Rattle.house_rows.specs.Fits.{IsMember, StandingFits};
 
 use house_rows::MOST_MEMBERS;
 use proxy::{MOST_BIDS, Standing};
 
-/// Whether a standing's leader and count fit.
-pub(crate) fn standing_fits(standing: &Standing) -> bool
-    ensures { result ≡ standing_fits standing.now }
+// Whether a member leads, or nobody.
+fn leader_fits(leader: Option<u32>) -> bool
+    ensures { IsTrue result ↔ IfSome leader IsMember }
 {
-    let is_member = match standing.leader() {
+    match leader {
         None => true,
         Some(leader) => 1 <= leader && leader <= MOST_MEMBERS,
-    };
-    is_member && standing.count() <= MOST_BIDS
+    }
+}
+
+/// Whether a standing's leader and count fit.
+pub(crate) fn standing_fits(standing: &Standing) -> bool
+    ensures { IsTrue result ↔ StandingFits standing.now }
+{
+    leader_fits(standing.leader()) && standing.count() <= MOST_BIDS
 }

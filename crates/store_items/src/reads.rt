@@ -154,10 +154,7 @@ pub fn terms_list(alloc: Global, bands: &Bands, rows: &[Row]) -> Result<Vec<Term
 {
     let mut all = Vec::new(alloc);
     for row in rows {
-        match add_terms(bands, row, &mut all) {
-            Ok(()) => {}
-            Err(fault) => return Err(fault),
-        }
+        add_terms(bands, row, &mut all)?;
     }
     Ok(all)
 }
@@ -185,10 +182,7 @@ pub fn item_list(alloc: Global, bands: &Bands, rows: &[Row]) -> Result<Vec<Item>
 {
     let mut all = Vec::new(alloc);
     for row in rows {
-        match add_item(bands, row, &mut all) {
-            Ok(()) => {}
-            Err(fault) => return Err(fault),
-        }
+        add_item(bands, row, &mut all)?;
     }
     Ok(all)
 }

@@ -74,7 +74,6 @@ fn told_standing(bands: &Bands, row: &Row) -> Result<Standing, KeepFault>
 }
 
 // A standing, which fits.
-#[tactic(auto, using(crate::proofs::FitLemmas::fit_standing, crate::proofs::FitLemmas::standing_passes))]
 fn read_standing(bands: &Bands, row: &Row) -> Result<Standing, KeepFault>
     ensures value { IfOk result (λ s. s ≡ kept_of row.now) }
     ensures fits { IfOk result StandingFits }

@@ -33,7 +33,7 @@ use Rattle.store_lists.specs.Sorted.{sorted_bids}
 use Rattle.store_lists.proofs.Apart.{keys_apart}
 use Rattle.store_lists.proofs.PairKeys.{HasPair, pair_agrees, pair_rises, two_columns}
 use Rattle.store_lists.proofs.Shown.{kept_fits, shown_fits, parts_by_key}
-use Rattle.store_lists.proofs.Tested.{same_number}
+use Rattle.store_rows.proofs.TextLemmas.{same_number}
 
 abbrev pub bids_text : List ℕ
 bids_text = codes "SELECT item, no, member, maximum FROM bid WHERE member = ?1 AND item = ?2 ORDER BY item, no"
@@ -47,7 +47,7 @@ bids_is = (refl, refl, (refl, refl))
 abbrev Pair : Row → Type 0
 Pair r = HasPair (bid_key (bid_in r)) r
 
-unique : (db : Database) → IsHouse db → AllByRecursion (λ s. not (clashes keys.plain (1 ∷ 2 ∷ []) (db.trees 8) s) ≡ true) (db.trees 8)
+pub unique : (db : Database) → IsHouse db → AllByRecursion (λ s. not (clashes keys.plain (1 ∷ 2 ∷ []) (db.trees 8) s) ≡ true) (db.trees 8)
 unique db house =
     let rows = db.trees 8 in
     let sound = subst (λ h. IsSound h db.trees) house.schema house.sound in

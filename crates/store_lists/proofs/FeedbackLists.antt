@@ -67,7 +67,7 @@ has_pair r fits =
     let item : (one_feedback_in r).item ≡ number_in (column r 1) = rated (is_rating (column r 4)) (number_in (column r 1)) fits.item.1 in
     record { is = cc; first = omega (arith, item, fits.item.1); second = omega (arith, fits.from.1) }
 
-unique : (db : Database) → IsHouse db → AllByRecursion (λ s. not (clashes keys.plain (1 ∷ 2 ∷ []) (db.trees 14) s) ≡ true) (db.trees 14)
+pub unique : (db : Database) → IsHouse db → AllByRecursion (λ s. not (clashes keys.plain (1 ∷ 2 ∷ []) (db.trees 14) s) ≡ true) (db.trees 14)
 unique db house =
     let rows = db.trees 14 in
     let sound = subst (λ h. IsSound h db.trees) house.schema house.sound in

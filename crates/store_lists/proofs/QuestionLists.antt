@@ -40,13 +40,13 @@ abbrev Fits : Row → Type 0
 Fits r = QuestionFits (question_in r)
 
 -- the numbers of a key that fits are below the bound of 32 bits
-item_low : (r : Row) → Fits r → number_in (column r 1) < 2 ^ 32
+pub item_low : (r : Row) → Fits r → number_in (column r 1) < 2 ^ 32
 item_low r fits = omega (arith, fits.item.1)
 
-asker_low : (r : Row) → Fits r → number_in (column r 2) < 2 ^ 32
+pub asker_low : (r : Row) → Fits r → number_in (column r 2) < 2 ^ 32
 asker_low r fits = omega (arith, fits.asker.1)
 
-place_low : (r : Row) → Fits r → number_in (column r 3) < 2 ^ 32
+pub place_low : (r : Row) → Fits r → number_in (column r 3) < 2 ^ 32
 place_low r fits = omega (arith, fits.number.1)
 
 agrees : (r s : Row) → Fits r → Fits s → same_key (question_key (question_in r)) (question_key (question_in s)) ≡ true → agree keys.plain (1 ∷ 2 ∷ 3 ∷ []) r (1 ∷ 2 ∷ 3 ∷ []) s ≡ true
@@ -62,7 +62,7 @@ agrees r s r_fits s_fits same =
     (number_is (column r 3) (place_low r r_fits) ∙ ap (λ n. Int (pos n)) third)
     (number_is (column s 1) (item_low s s_fits)) (number_is (column s 2) (asker_low s s_fits)) (number_is (column s 3) (place_low s s_fits))
 
-unique : (db : Database) → IsHouse db → AllByRecursion (λ s. not (clashes keys.plain (1 ∷ 2 ∷ 3 ∷ []) (db.trees 12) s) ≡ true) (db.trees 12)
+pub unique : (db : Database) → IsHouse db → AllByRecursion (λ s. not (clashes keys.plain (1 ∷ 2 ∷ 3 ∷ []) (db.trees 12) s) ≡ true) (db.trees 12)
 unique db house =
     let rows = db.trees 12 in
     let sound = subst (λ h. IsSound h db.trees) house.schema house.sound in

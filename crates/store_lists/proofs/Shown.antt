@@ -21,8 +21,12 @@ use Rattle.store_rows.proofs.Select.{IsListOf}
 use Rattle.store_lists.specs.Sorted.{sorted_by}
 use Rattle.store_lists.proofs.Sorting.{AreApart, filter-sorted, map-sorted, sorted_moves, sorted_rising}
 
-moved : {X : Type 0} (P : X → Type 0) (xs ys : List X) → IsPermutation xs ys → AllByRecursion P xs → AllByRecursion P ys
+pub moved : {X : Type 0} (P : X → Type 0) (xs ys : List X) → IsPermutation xs ys → AllByRecursion P xs → AllByRecursion P ys
 moved P xs ys same all = recursion_from_All P ys (All-permutation P xs ys same (All-from_recursion P xs all))
+
+-- what every sorted row is, every row is
+pub every_stored : {X : Type 0} (key : X → Key) (P : X → Type 0) (xs : List X) → AllByRecursion P (sorted_by key xs) → AllByRecursion P xs
+every_stored key P xs all = moved P (sorted_by key xs) xs (sorted_moves key xs) all
 
 -- rows that rise rise by another order too
 rising_up : {X : Type 0} (key : X → Key) (P : X → Type 0) (S : X → X → Type 0) → ((a b : X) → P a → P b → is_less (key a) (key b) ≡ true → S a b) → (xs : List X) → AllByRecursion P xs → IsRising key xs → IsAscending S xs

@@ -1,10 +1,10 @@
 -- Rows in the order of their keys, as the writes leave them and the reads find them.
 use Rattle.std.proofs.Common.{◌≡◌, ◌≤◌, List, [], ◌∷◌, ◌++◌, map, filter, find, length, slice_get, Bool, true, false, refl, sym, ap, ◌∙◌, arith, inl, inr, IsPermutation}
 use Rattle.std.specs.Prelude.{fold}
-use Rattle.std.specs.List.{AllByRecursion, list_any}
+use Rattle.std.specs.List.{AllByRecursion}
 use Rattle.std.proofs.lemmas.List.{append-nil}
 use Rattle.std.proofs.lemmas.List.Sums.{fold_push}
-use Rattle.std.proofs.lemmas.List.Sorted.{length_permutation, list_any-IsPermutation, IsPermutation-refl, IsPermutation-sym, IsPermutation-cons, IsPermutation-trans, IsPermutation-middle, IsPermutation-append_left}
+use Rattle.std.proofs.lemmas.List.Sorted.{length_permutation, IsPermutation-refl, IsPermutation-sym, IsPermutation-cons, IsPermutation-trans, IsPermutation-middle, IsPermutation-append_left}
 use Rattle.sqlite_trees.specs.Tree.{IsAscending}
 use Rattle.sqlite_keyed.proofs.ListLemmas.{all_both, any_from_none, slice_get-filter}
 use Rattle.house_rows.specs.History.{Key, is_less, put_by}
@@ -100,9 +100,6 @@ module _ {A : Type 0} (key : A → Key) where
 
   pub length-sorted : (rows : List A) → length (sorted_by key rows) ≡ length rows
   length-sorted rows = sym (length_permutation _ _ (sorted_moves rows))
-
-  pub any-sorted : (p : A → Bool) (rows : List A) → list_any p (sorted_by key rows) ≡ list_any p rows
-  any-sorted p rows = list_any-IsPermutation p _ _ (sorted_moves rows)
 
   pub count-sorted : (p : A → Bool) (rows : List A) → length (filter p (sorted_by key rows)) ≡ length (filter p rows)
   count-sorted p rows = ap length (filter-sorted p rows) ∙ length-sorted (filter p rows)

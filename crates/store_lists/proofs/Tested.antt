@@ -1,5 +1,5 @@
 -- Tests, as SQL makes them and as lists do.
-use Rattle.std.proofs.Common.{◌≡◌, ℕ, zero, suc, eqb, arith, Bool, true, false, not, ◌&&◌, List, [], ◌∷◌, filter, take, cond, refl, ap, sym, ◌∙◌}
+use Rattle.std.proofs.Common.{◌≡◌, ℕ, zero, suc, Bool, true, false, not, ◌&&◌, List, [], ◌∷◌, filter, take, cond, refl, ap, sym, ◌∙◌}
 use Rattle.std.specs.List.{AllByRecursion}
 use Rattle.std.specs.Prelude.{is_some}
 use Rattle.sqlite_value.specs.declared.value.Value.{Value}
@@ -55,7 +55,3 @@ pub all-take : {A : Type 0} (P : A → Type 0) (n : ℕ) (xs : List A) → AllBy
 all-take P zero xs all = tt
 all-take P (suc n) [] all = tt
 all-take P (suc n) (x ∷ xs) all = (all.0, all-take P n xs all.1)
-
--- equal by test
-pub same_number : (m n : ℕ) → eqb m n ≡ true → m ≡ n
-same_number m n same = grind arith

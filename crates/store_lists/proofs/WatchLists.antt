@@ -35,7 +35,7 @@ use Rattle.store_lists.proofs.Apart.{keys_apart}
 use Rattle.store_lists.proofs.PairKeys.{HasPair, pair_agrees, pair_rises, two_columns}
 use Rattle.store_lists.proofs.Shown.{kept_fits, shown_fits, numbers_rise, parts_by_key, parts_in_order}
 use Rattle.store_lists.proofs.Sorting.{AreApart}
-use Rattle.store_lists.proofs.Tested.{same_number}
+use Rattle.store_rows.proofs.TextLemmas.{same_number}
 
 abbrev pub watched_text : List ℕ
 watched_text = codes "SELECT item FROM watch WHERE member = ?1 ORDER BY member, item"

@@ -18,7 +18,6 @@ use Rattle.store_rows.specs.declared.house.HouseRow.{HouseRow}
 use Rattle.store_rows.specs.Fitting.{HouseRowFits}
 use Rattle.store_rows.specs.House.{IsHouse}
 use Rattle.store_rows.specs.ItemRows.{item_row_in}
-use Rattle.store_rows.specs.Making.{IsEmptyHouse}
 use Rattle.store_rows.specs.Rows.{band_in, bands_in, bid_in, category_in, house_in, houses_in, member_in, one_feedback_in, question_in, watch_in}
 use Rattle.store_rows.specs.Schema.{house_schema}
 use Rattle.house_rows.specs.Bids.{bid_key}
@@ -54,13 +53,6 @@ still_empty : (tree : ℕ) (old new : Trees) (tables : List Table) → AllByRecu
     → AllByRecursion (λ t. t.tree ≢ tree → old t.tree ≡ []) tables → AllByRecursion (λ t. t.tree ≢ tree → new t.tree ≡ []) tables
 still_empty tree old new [] others was = tt
 still_empty tree old new (t ∷ tables) others was = ((λ apart. others.0 apart ∙ was.0 apart), still_empty tree old new tables others.1 was.1)
-
-all_empty : (tree : ℕ) (db : Trees) (tables : List Table) → AllByRecursion (λ t. db t.tree ≡ []) tables → AllByRecursion (λ t. t.tree ≢ tree → db t.tree ≡ []) tables
-all_empty tree db [] empty = tt
-all_empty tree db (t ∷ tables) empty = ((λ apart. empty.0), all_empty tree db tables empty.1)
-
-pub no_bands : (db : Database) → IsEmptyHouse db → IsBanded [] db
-no_bands db is = record { house = is.house; bands_are = ap (map band_in) is.empty.1.0; empty = all_empty 1 db.trees house_schema.tables is.empty }
 
 pub band_more : (bands : List (ℕ × ℕ)) (i from step : ℕ) (old new : Database) → IsBandTable bands → i < length bands → (from, step) ≡ get_or bands i (0, 0)
     → IsBanded (take i bands) old → AddsBand from step old new → IsBanded (take (i + 1) bands) new

@@ -1,5 +1,5 @@
 -- A number that no query for others shows is within its range.
-use Rattle.std.proofs.Common.{◌≡◌, ℕ, ◌<◌, ◌≤◌, ◌^◌, pos, negsuc, Bool, true, false, Some, nat_lt, if◌then◌else◌, ltb, is_gt, is_lt, refl, sym, ap, subst, ◌∙◌, true≢false, arith}
+use Rattle.std.proofs.Common.{◌≡◌, ℕ, ◌<◌, ◌≤◌, ◌^◌, pos, negsuc, Bool, true, false, nat_lt, if◌then◌else◌, ltb, is_gt, is_lt, refl, sym, ap, subst, ◌∙◌, true≢false, arith}
 use Rattle.std.proofs.lemmas.Bool.Decides.{nat_tests}
 use Rattle.std.proofs.lemmas.Grind.{common_steps}
 use Rattle.std.proofs.lemmas.Int.{ints}
@@ -9,15 +9,11 @@ use Rattle.sqlite_value.specs.declared.keys.Collation.TheVariants.{Binary}
 use Rattle.sqlite_value.proofs.OrderLemmas.{value_cmp-Int}
 use Rattle.sqlite_sql.specs.declared.ops.BinaryOp.TheVariants.{Compare}
 use Rattle.sqlite_sql.specs.declared.ops.CompareOp.TheVariants.{Gt, Lt}
-use Rattle.sqlite_sql.specs.Ops.{binary, from_truth, is_true}
+use Rattle.sqlite_sql.specs.Ops.{binary, is_true}
 use Rattle.sqlite_trees.specs.View.{is_int}
 use Rattle.house_rows.specs.Fits.{IsWithin}
 use Rattle.store_rows.specs.Rows.{number_in}
-use Rattle.store_rows.proofs.RowLemmas.{small}
-
-truth_back : (b : Bool) → is_true (from_truth (Some b)) ≡ b
-truth_back true = refl
-truth_back false = refl
+use Rattle.store_rows.proofs.RowLemmas.{small, truth_back}
 
 above_is : (k n : ℕ) → is_true (binary (Compare Gt Binary) (Int (pos k)) (Int (pos n))) ≡ ltb n k
 unfolding binary

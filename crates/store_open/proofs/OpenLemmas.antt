@@ -3,7 +3,7 @@ use Rattle.std.proofs.Common.{◌≡◌, ◌∙◌, ℕ, sym, subst, refl, List,
 use Rattle.std.specs.List.{AllByRecursion}
 use Rattle.sqlite_value.specs.Order.{Row}
 use Rattle.sqlite_trees.specs.Tree.{Trees}
-use Rattle.sqlite_trees.specs.View.{View, IsShaped, IsOrdered}
+use Rattle.sqlite_trees.specs.View.{View, IsQuiet, IsShaped, IsOrdered}
 use Rattle.sqlite_trees.specs.declared.error.StoreError.{StoreError}
 use Rattle.sqlite_trees.specs.declared.error.StoreError.TheVariants.{OutOfMemory, Io, Corrupt, Full, Broken, Unstorable}
 use Rattle.sqlite_schema.specs.declared.schema.Schema.{Schema}
@@ -70,4 +70,20 @@ kept_where_not_run sql old new e h = elim (h []) [ inl refused ↦ inl refused.1
 
 -- what survives a call follows as well
 pub follows_on : {S : Type 0} (g : Ghosts S) (conn old new : Held S) → Follows g conn old.store → Survives (state g old) (state g new) (λ _. ⊥) → Follows g conn new.store
-follows_on g conn old new follows survives = record { clean = omega (arith, follows.clean, survives.clean); shield = λ h. survives.shield (follows.shield h) }
+follows_on g conn old new follows survives = record {
+  clean = omega (arith, follows.clean, survives.clean);
+  shield = λ h. survives.shield (follows.shield h);
+  crash = λ clean db left. elim (survives.crash clean db left) [ inl may ↦ follows.crash (omega (arith, survives.clean, clean)) db may | inr none ↦ absurd none ];
+}
+
+-- and so does a quiet call on its store
+pub quiet_on : {S : Type 0} (g : Ghosts S) (conn : Held S) (old new : S) → Follows g conn old → IsQuiet g.view g.faults g.recovers g.is_shielded old new → Follows g conn new
+quiet_on g conn old new follows quiet = record {
+  clean = omega (arith, follows.clean, quiet.clean);
+  shield = λ h. quiet.shield (follows.shield h);
+  crash = λ clean db left. follows.crash (omega (arith, quiet.clean, clean)) db (quiet.outcomes db left);
+}
+
+-- a connection follows itself
+pub follows_self : {S : Type 0} (g : Ghosts S) (conn : Held S) → Follows g conn conn.store
+follows_self g conn = record { clean = omega arith; shield = λ h. h; crash = λ clean db left. inl left }

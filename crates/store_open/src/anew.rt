@@ -1,5 +1,5 @@
 //! A connection made anew, which has read its whole file.
-ghost use Rattle.std.specs.Prelude.{◌≡◌, ◌↔◌, false, IfOk, OnOk, IsErrOf, IsTrue};
+ghost use Rattle.std.specs.Prelude.{◌≡◌, ◌↔◌, false, IfOk, OnErr, OnOk, IsErrOf, IsTrue};
 ghost use Rattle.sqlite.specs.Held.{state};
 ghost use Rattle.sqlite.specs.State.{HasCleanDisk};
 ghost use Rattle.sqlite.specs.Steps.{over_memory};
@@ -7,7 +7,7 @@ ghost use Rattle.house_rows.specs.declared.fault.KeepFault.TheVariants.{Damaged}
 ghost use Rattle.store_rows.specs.House.{IsHouse};
 ghost use Rattle.store_rows.specs.Making.{IsBlank};
 ghost use Rattle.store_rows.specs.Schema.{house_schema};
-ghost use Rattle.store_open.specs.Opening.{Follows, Leaves};
+ghost use Rattle.store_open.specs.Opening.{Follows, Leaves, LeavesStore};
 
 use crate::same::is_same_schema;
 use house_rows::KeepFault;
@@ -33,6 +33,7 @@ fn made_anew<S: Alter + Drop>(
         → (state S.Store c).now.trees ≡ (state S.Store conn).committed.trees) }
     ensures mode { IfOk result (λ c. c.in_transaction ≡ false) }
     ensures follows { IfOk result (λ c. Follows S.Store conn c.store) }
+    ensures left { OnErr result (LeavesStore S.Store conn) }
     ensures damaged { IsErrOf result Damaged
         → Leaves S.Store conn (¬ (IsHouse (state S.Store conn).committed)) }
 {
@@ -97,6 +98,7 @@ pub fn house_anew<S: Alter + Drop>(
         → (state S.Store c).now.trees ≡ (state S.Store conn).committed.trees) }
     ensures mode { IfOk result (λ c. c.in_transaction ≡ false) }
     ensures follows { IfOk result (λ c. Follows S.Store conn c.store) }
+    ensures left { OnErr result (LeavesStore S.Store conn) }
     ensures damaged { IsErrOf result Damaged
         → Leaves S.Store conn (¬ (IsHouse (state S.Store conn).committed)) }
 {

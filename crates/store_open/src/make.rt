@@ -38,10 +38,7 @@ fn put_bands<S: Alter>(tx: &mut Transaction<'_, S>, bands: &[(u64, u64)]) -> Res
         (state S.Store tx.new.conn.now) result }
 {
     for (from, step) in bands {
-        match put_band(tx, *from as u32, *step as u32) {
-            Ok(()) => {}
-            Err(fault) => return Err(fault),
-        }
+        put_band(tx, *from as u32, *step as u32)?;
     }
     Ok(())
 }

@@ -1,5 +1,5 @@
 //! A house is opened: whatever a connection holds is tested until it is a house.
-ghost use Rattle.std.specs.Prelude.{◌≡◌, ◌≤◌, false, map, IfOk, IsErrOf};
+ghost use Rattle.std.specs.Prelude.{◌≡◌, ◌≤◌, false, map, IfOk, OnErr, IsErrOf};
 ghost use Rattle.sqlite.specs.Held.{state};
 ghost use Rattle.sqlite.specs.State.{HasCleanDisk};
 ghost use Rattle.sqlite_trees.specs.Tree.{Trees};
@@ -9,7 +9,7 @@ ghost use Rattle.house_rows.specs.declared.fault.KeepFault.TheVariants.{Damaged}
 ghost use Rattle.steps.specs.Table.{IsBandTable};
 ghost use Rattle.store_rows.specs.House.{Serves};
 ghost use Rattle.store_lists.specs.Tables.{IsAtRest, house_row_in, settings_in, tables_in};
-ghost use Rattle.store_open.specs.Opening.{AreNumbered, HasSettings, IsSetUp, IsSoundHouse, Leaves};
+ghost use Rattle.store_open.specs.Opening.{AreNumbered, HasSettings, IsSetUp, IsSoundHouse, Leaves, LeavesStore};
 ghost use Rattle.store_rows.specs.Frames.{OnlyReads};
 
 use crate::anew::house_anew;
@@ -115,6 +115,7 @@ pub fn opened<S: Alter + Drop>(alloc: Global, conn: Connection<S>) -> Result<Ope
     ensures mode { IfOk result (λ o. o.conn.in_transaction ≡ false) }
     ensures same { IfOk result (λ o. HasCleanDisk (state S.Store o.conn)
         → (state S.Store o.conn).now.trees ≡ (state S.Store conn).committed.trees) }
+    ensures left { OnErr result (LeavesStore S.Store conn) }
     ensures damaged { IsErrOf result Damaged
         → Leaves S.Store conn (¬ (IsSoundHouse (state S.Store conn).committed)) }
 {

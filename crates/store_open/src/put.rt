@@ -1,9 +1,9 @@
 //! The rows that a new house has.
-ghost use Rattle.std.specs.Prelude.{◌≡◌, OnOk, IsErrOf, IsTrue};
+ghost use Rattle.std.specs.Prelude.{◌≡◌, OnOk, IsErrOf};
 ghost use Rattle.sqlite.specs.State.{HasCleanDisk};
 ghost use Rattle.sqlite.specs.Held.{state};
 ghost use Rattle.house_rows.specs.declared.fault.KeepFault.TheVariants.{Damaged};
-ghost use Rattle.store_rows.specs.House.{Serves};
+ghost use Rattle.store_rows.specs.House.{IsBegun};
 ghost use Rattle.store_open.specs.Putting.{AddsBand, AddsHouse};
 ghost use Rattle.store_rows.specs.Frames.{WritesOnce};
 
@@ -18,9 +18,7 @@ pub fn put_house<S: Alter>(
     rate: u32,
     zone: &Text,
 ) -> Result<(), KeepFault>
-    requires serves { Serves (state S.Store tx.old.conn.now) }
-    requires begun { HasCleanDisk (state S.Store tx.old.conn.now)
-        → IsTrue tx.old.conn.now.in_transaction }
+    requires { IsBegun (state S.Store tx.old.conn.now) }
     ensures same_reference { tx.new.conn.ghost_name ≡ tx.old.conn.ghost_name }
     ensures ok { HasCleanDisk (state S.Store tx.new.conn.now)
         → OnOk result (AddsHouse rate zone.now (state S.Store tx.old.conn.now).now
@@ -42,9 +40,7 @@ pub fn put_band<S: Alter>(
     from: u32,
     step: u32,
 ) -> Result<(), KeepFault>
-    requires serves { Serves (state S.Store tx.old.conn.now) }
-    requires begun { HasCleanDisk (state S.Store tx.old.conn.now)
-        → IsTrue tx.old.conn.now.in_transaction }
+    requires { IsBegun (state S.Store tx.old.conn.now) }
     ensures same_reference { tx.new.conn.ghost_name ≡ tx.old.conn.ghost_name }
     ensures ok { HasCleanDisk (state S.Store tx.new.conn.now)
         → OnOk result (AddsBand from step (state S.Store tx.old.conn.now).now

@@ -23,8 +23,8 @@ use Rattle.store_rows.specs.Rows.{number_in}
 use Rattle.store_rows.specs.Schema.{house_schema}
 use Rattle.store_rows.proofs.RowLemmas.{equals_number, alone}
 use Rattle.store_rows.proofs.Select.{IsListOf, listed, equals}
-use Rattle.store_lists.proofs.Tested.{same_number}
 use Rattle.store_pages.proofs.Compared.{at_least, below_zero, is_negative, without_strays}
+use Rattle.store_rows.proofs.TextLemmas.{same_number}
 
 -- a column is the second parameter or more, and is negative
 abbrev pub from_second : ℕ → Term

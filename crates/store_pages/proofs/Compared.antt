@@ -1,5 +1,5 @@
 -- Columns of numbers, as SQL compares them.
-use Rattle.std.proofs.Common.{◌≡◌, ℕ, ◌^◌, ◌<◌, pos, negsuc, Bool, true, false, not, cond, ◌&&◌, refl, sym, ap, ◌∙◌, arith, true≢false, Some}
+use Rattle.std.proofs.Common.{◌≡◌, ℕ, ◌^◌, ◌<◌, pos, negsuc, Bool, true, false, not, cond, ◌&&◌, refl, sym, ap, ◌∙◌, arith, true≢false}
 use Rattle.std.specs.Prelude.{nat_le, nat_lt}
 use Rattle.std.specs.Ordering.{int_cmp, is_ge, is_lt}
 use Rattle.std.proofs.lemmas.Bool.Decides.{nat_tests}
@@ -11,18 +11,15 @@ use Rattle.sqlite_value.specs.declared.keys.Collation.TheVariants.{Binary}
 use Rattle.sqlite_value.proofs.OrderLemmas.{value_cmp-Int}
 use Rattle.sqlite_sql.specs.declared.ops.BinaryOp.TheVariants.{Compare}
 use Rattle.sqlite_sql.specs.declared.ops.CompareOp.TheVariants.{Ge, Lt}
-use Rattle.sqlite_sql.specs.Ops.{binary, is_true, from_truth}
+use Rattle.sqlite_sql.specs.Ops.{binary, is_true}
 use Rattle.sqlite_trees.specs.View.{is_int}
 use Rattle.store_rows.specs.Rows.{number_in}
 use Rattle.store_lists.proofs.ByKey.{number_is}
+use Rattle.store_rows.proofs.RowLemmas.{truth_back}
 
 abbrev pub is_negative : Value → Bool
 is_negative (Int (negsuc n)) = true
 is_negative _ = false
-
-truth_back : (b : Bool) → is_true (from_truth (Some b)) ≡ b
-truth_back true = refl
-truth_back false = refl
 
 pub told_at_least : (m n : ℕ) → n < 2 ^ 32 → nat_le n (number_in (Int (pos m))) ≡ nat_le n m
 told_at_least m n low = go (nat_lt m (2 ^ 32)) refl

@@ -13,8 +13,8 @@ use Rattle.sqlite_value.specs.Keys as keys
 use Rattle.sqlite_value.specs.Keys.{first_key}
 use Rattle.sqlite_value.specs.Order.{Row, column, value_cmp}
 use Rattle.sqlite_value.proofs.OrderLemmas.{value_cmp-Int}
-use Rattle.sqlite_schema.specs.Rules.{agree, are_present, are_typed, clashes, has_computed}
-use Rattle.sqlite_schema.specs.declared.schema.Constraint.TheVariants.{Datatype, NotNull, Unique}
+use Rattle.sqlite_schema.specs.Rules.{agree, are_present, are_typed, has_computed}
+use Rattle.sqlite_schema.specs.declared.schema.Constraint.TheVariants.{Datatype, NotNull}
 use Rattle.sqlite_catalog.specs.Listing.{IsSound}
 use Rattle.sqlite_sql.specs.declared.ops.BinaryOp.TheVariants.{Compare, Or}
 use Rattle.sqlite_sql.specs.declared.ops.CompareOp.TheVariants.{Gt, Lt}
@@ -22,7 +22,7 @@ use Rattle.sqlite_sql.specs.Ops.{binary, from_truth, is_true}
 use Rattle.sqlite_sql.specs.Query.{output_cmp}
 use Rattle.sqlite_trees.specs.Tree.{Trees}
 use Rattle.sqlite_trees.specs.View.{is_int}
-use Rattle.sqlite_keyed.proofs.ListLemmas.{all-filter, all_both, all_unmap, all_weaker}
+use Rattle.sqlite_keyed.proofs.ListLemmas.{all-filter, all_both, all_unmap}
 use Rattle.sqlite_keyed.proofs.RuleLemmas.{first_of_both}
 use Rattle.sqlite_tied.specs.Compute.{everything}
 use Rattle.sqlite.specs.Effect.{Database}
@@ -39,7 +39,7 @@ use Rattle.store_rows.specs.Plain.{plain_query, passes}
 use Rattle.store_rows.specs.Rows.{feedback_in, feedback_of, is_rating, number_in, one_feedback_in}
 use Rattle.store_rows.specs.Schema.{feedback_table, house_schema}
 use Rattle.store_rows.proofs.ColumnLemmas.{holds_all}
-use Rattle.store_rows.proofs.RowLemmas.{equals_number, int_if}
+use Rattle.store_rows.proofs.RowLemmas.{equals_number, int_if, truth_back}
 use Rattle.store_rows.proofs.Select.{equals}
 use Rattle.store_rows.proofs.TalkMeaning.{talk_shown}
 use Rattle.store_lists.specs.Sorted.{sorted_feedback}
@@ -52,6 +52,7 @@ use Rattle.store_pages.proofs.Bounds.{bound_of, from_bound}
 use Rattle.store_pages.proofs.Compared.{at_least, fits_not_negative, is_negative, told_at_least}
 use Rattle.store_pages.proofs.Firsts.{first_by_key, first_fit, none_passes, some_passes}
 use Rattle.store_pages.proofs.Ties.{none_tie, three_rise, tied_equal}
+use Rattle.store_lists.proofs.FeedbackLists.{unique}
 
 -- ---- the queries
 
@@ -113,10 +114,6 @@ are_given db house =
         record { item = int_if (column r 1) a.0 a.1; giver = int_if (column r 2) b.0 b.1; receiver = int_if (column r 3) d.0 d.1; rating = int_if (column r 4) e.0 e.1 }
 
 -- ---- the tests
-
-truth_back : (b : Bool) → is_true (from_truth (Some b)) ≡ b
-truth_back true = refl
-truth_back false = refl
 
 compares : (m n : ℕ) → is_lt (int_cmp (pos m) (pos n)) ≡ not (nat_le n m)
 compares m n = grind (arith, ints, common_steps, nat_tests)
@@ -228,12 +225,6 @@ item_low r fits = omega (arith, (rating_is r fits).0, fits.item.1)
 
 giver_low : (r : Row) → Fits r → number_in (column r 2) < 2 ^ 32
 giver_low r fits = omega (arith, fits.from.1)
-
-unique : (db : Database) → IsHouse db → AllByRecursion (λ s. not (clashes keys.plain (1 ∷ 2 ∷ []) (db.trees 14) s) ≡ true) (db.trees 14)
-unique db house =
-    let rows = db.trees 14 in
-    let sound = subst (λ h. IsSound h db.trees) house.schema house.sound in
-    all_weaker _ (λ s. not (clashes keys.plain (1 ∷ 2 ∷ []) rows s) ≡ true) (λ s h. first_of_both (not (clashes keys.plain (1 ∷ 2 ∷ []) rows s)) true h) rows (sound.obeys.rules Unique).1.1.1.1.1.1.1.1.0
 
 ties_of_two : (x y : Ordering) → is_eq (ordering_then x (ordering_then y Equal)) ≡ true → (is_eq x ≡ true) × (is_eq y ≡ true)
 ties_of_two Equal Equal tie = (refl, refl)

@@ -2,8 +2,7 @@
 use Rattle.std.proofs.Common.{◌≡◌, ℕ, zero, suc, List, [], ◌∷◌, map, filter, take, length, Bool, true, false, refl, sym, ap, subst, subst₂, ◌∙◌, arith, IsPermutation, Less, is_eq, inl, inr}
 use Rattle.std.specs.List.{AllByRecursion}
 use Rattle.std.proofs.lemmas.List.{length-map, take-map}
-use Rattle.std.proofs.lemmas.List.Elements.{recursion_from_All, All-from_recursion}
-use Rattle.std.proofs.lemmas.List.Sorted.{length_permutation, All-permutation, IsPermutation-map, IsPermutation-sym, IsPermutation-trans}
+use Rattle.std.proofs.lemmas.List.Sorted.{length_permutation, IsPermutation-map, IsPermutation-sym, IsPermutation-trans}
 use Rattle.sqlite_value.specs.declared.keys.Key.{Key as Sorting}
 use Rattle.sqlite_value.specs.Order.{Row}
 use Rattle.sqlite_sql.specs.Term.{Term}
@@ -17,14 +16,11 @@ use Rattle.store_rows.specs.Plain.{plain_query, passes, shown_by}
 use Rattle.store_rows.proofs.RowLemmas.{filter_same_on}
 use Rattle.store_rows.proofs.Select.{IsListOf}
 use Rattle.store_lists.specs.Sorted.{sorted_by}
-use Rattle.store_lists.proofs.Shown.{output_row, shown_fits}
+use Rattle.store_lists.proofs.Shown.{output_row, shown_fits, moved}
 use Rattle.store_lists.proofs.Sorting.{filter-sorted, sorted_in_order, sorted_moves}
 use Rattle.store_lists.proofs.Tested.{all-take}
 use Rattle.store_pages.proofs.FirstSorted.{Leads, first_in_order}
 use Rattle.store_pages.proofs.NoTies.{rises_strictly}
-
-moved : {X : Type 0} (P : X → Type 0) (xs ys : List X) → IsPermutation xs ys → AllByRecursion P xs → AllByRecursion P ys
-moved P xs ys same all = recursion_from_All P ys (All-permutation P xs ys same (All-from_recursion P xs all))
 
 none_kept : {X : Type 0} (p : X → Bool) (xs : List X) → length (filter p xs) ≡ 0 → AllByRecursion (λ x. p x ≡ false) xs
 none_kept p [] none = tt

@@ -7,15 +7,11 @@ use Rattle.sqlite_value.specs.declared.keys.Key.{Key as Sorting}
 use Rattle.sqlite_value.specs.Keys as keys
 use Rattle.sqlite_value.specs.Keys.{first_key}
 use Rattle.sqlite_value.specs.Order.{Row, column, value_cmp}
-use Rattle.sqlite_schema.specs.Rules.{agree, clashes}
-use Rattle.sqlite_schema.specs.declared.schema.Constraint.TheVariants.{Unique}
-use Rattle.sqlite_catalog.specs.Listing.{IsSound}
+use Rattle.sqlite_schema.specs.Rules.{agree}
 use Rattle.sqlite_sql.specs.Query.{output_cmp}
 use Rattle.sqlite_trees.specs.Tree.{Trees}
-use Rattle.sqlite_keyed.proofs.ListLemmas.{all-filter, all_both, all_unmap, all_weaker}
-use Rattle.sqlite_keyed.proofs.RuleLemmas.{first_of_both}
+use Rattle.sqlite_keyed.proofs.ListLemmas.{all-filter, all_both, all_unmap}
 use Rattle.sqlite_tied.specs.Compute.{everything}
-use Rattle.sqlite.specs.Effect.{Database}
 use Rattle.sqlite.specs.Listing.{understood}
 use Rattle.sqlite.specs.State.{State, Shown}
 use Rattle.sqlite.specs.Term.{Term, col}
@@ -36,7 +32,7 @@ use Rattle.store_rows.proofs.Update.{numbered_passes}
 use Rattle.store_lists.specs.Sorted.{sorted_questions}
 use Rattle.store_lists.specs.Tables.{tables_in}
 use Rattle.store_lists.proofs.ByKey.{by_columns}
-use Rattle.store_lists.proofs.QuestionLists.{waiting_test}
+use Rattle.store_lists.proofs.QuestionLists.{waiting_test, asker_low, item_low, place_low, unique}
 use Rattle.store_lists.proofs.QuestionMeaning.{question_order, waiting_on_is, waiting_on_text, waits, was_answered}
 use Rattle.store_lists.proofs.Shown.{output_row}
 use Rattle.store_lists.proofs.Tested.{filter_both, filter_regrouped, is_there}
@@ -116,21 +112,6 @@ stray_asked_finite = refl
 
 abbrev Fits : Row → Type 0
 Fits r = QuestionFits (question_in r)
-
-item_low : (r : Row) → Fits r → number_in (column r 1) < 2 ^ 32
-item_low r fits = omega (arith, fits.item.1)
-
-asker_low : (r : Row) → Fits r → number_in (column r 2) < 2 ^ 32
-asker_low r fits = omega (arith, fits.asker.1)
-
-place_low : (r : Row) → Fits r → number_in (column r 3) < 2 ^ 32
-place_low r fits = omega (arith, fits.number.1)
-
-unique : (db : Database) → IsHouse db → AllByRecursion (λ s. not (clashes keys.plain (1 ∷ 2 ∷ 3 ∷ []) (db.trees 12) s) ≡ true) (db.trees 12)
-unique db house =
-    let rows = db.trees 12 in
-    let sound = subst (λ h. IsSound h db.trees) house.schema house.sound in
-    all_weaker _ (λ s. not (clashes keys.plain (1 ∷ 2 ∷ 3 ∷ []) rows s) ≡ true) (λ s h. first_of_both (not (clashes keys.plain (1 ∷ 2 ∷ 3 ∷ []) rows s)) true h) rows (sound.obeys.rules Unique).1.1.1.1.1.1.1.0
 
 agree_three : (r s : Row) → IsTalk r → IsTalk s → is_eq (value_cmp (column r 1) (column s 1)) ≡ true → is_eq (value_cmp (column r 2) (column s 2)) ≡ true → is_eq (value_cmp (column r 3) (column s 3)) ≡ true
     → agree keys.plain (1 ∷ 2 ∷ 3 ∷ []) r (1 ∷ 2 ∷ 3 ∷ []) s ≡ true

@@ -1,5 +1,5 @@
 -- What the first rows of an answer say of all of it.
-use Rattle.std.proofs.Common.{◌≡◌, ℕ, zero, suc, List, [], ◌∷◌, ◌++◌, length, map, take, refl, sym, ap, subst, ◌∙◌, arith, inl, inr, ◌⊎◌, ◌<◌, ◌≤◌, Ok, Err, Result, OnOk, OnErr}
+use Rattle.std.proofs.Common.{◌≡◌, ℕ, zero, suc, List, [], ◌∷◌, ◌++◌, length, map, take, refl, sym, ap, subst, ◌∙◌, arith, inl, inr, ◌⊎◌, ◌<◌, ◌≤◌, Ok, Err, Result, OnOk}
 use Rattle.sqlite_value.specs.Order.{Row}
 use Rattle.sqlite_schema.specs.declared.command.Command.{Command}
 use Rattle.sqlite_schema.specs.declared.command.Command.TheVariants.{Select}
@@ -9,7 +9,7 @@ use Rattle.sqlite_resolve.specs.declared.compiled.Compiled.{Compiled}
 use Rattle.sqlite.specs.Clock.{timed}
 use Rattle.sqlite.specs.Effect.{Database}
 use Rattle.sqlite.specs.Listing.{understood, reads_listing, IsSourceOf}
-use Rattle.sqlite.specs.State.{State, IsUnchanged, IsRolledBack, IsStatement, Shown, ShowsRows, Begins}
+use Rattle.sqlite.specs.State.{State, IsUnchanged, IsStatement, Shown, ShowsRows, Begins}
 use Rattle.sqlite.proofs.Callers.{IsPlain, EndsIn, begins_shown, unchanged_then}
 use Rattle.store_rows.specs.House.{IsHouse}
 use Rattle.store_rows.specs.Schema.{house_schema}
@@ -38,17 +38,6 @@ module _ (sql : List ℕ) (params : Row) (old mid : State) (same : IsUnchanged o
   begins_before rows h =
       (h.0, as_before h.0 h.1, h.2, h.3, subst (λ (d : Database). IsSourceOf (reads_listing d.schema sql) d h.3) same.0.now_is h.4, h.5)
 
-  -- and what a failure leaves it leaves of before
-  pub rolled_before : (new : State) → IsUnchanged mid new ⊎ IsRolledBack mid new → IsUnchanged old new ⊎ IsRolledBack old new
-  rolled_before new (inl kept) = inl (unchanged_then old mid new same kept)
-  rolled_before new (inr undone) = inr (record {
-    was_open = λ _. same.0.was_open;
-    undone = λ is_open. ((undone.undone is_open).0 ∙ same.0.committed_is, (undone.undone is_open).1 ∙ same.0.committed_is);
-    autocommit = undone.autocommit;
-    unmarked = undone.unmarked;
-    counts = record { changes = undone.counts.changes ∙ same.1.changes; last_rowid = undone.counts.last_rowid ∙ same.1.last_rowid };
-  })
-
 -- what was shown before nothing changed
 pub shown_after : (sql : List ℕ) (params : Row) (old mid new : State) (rows : List Row) → IsPlain (understood old.now.schema sql) → IsUnchanged old new → Shown sql params old mid rows → Shown sql params old new rows
 unfolding Shown
@@ -64,13 +53,6 @@ first_before most sql params old mid new rows plain same first = record { all = 
 pub on_ok_then : {T E P Q : Type 0} (r : Result T E) → OnOk r P → (P → Q) → OnOk r Q
 on_ok_then (Ok x) h f = f h
 on_ok_then (Err e) h f = h
-
-pub on_error : {T E : Type 0} {P : Type 0} (r : Result T E) → P → OnErr r P
-on_error (Ok x) h = tt
-on_error (Err e) h = h
-
-pub plain_at : (sql : List ℕ) (s : State) → IsPlain (understood house_schema sql) → IsHouse s.now → IsPlain (understood s.now.schema sql)
-plain_at sql s plain house = subst (λ x. IsPlain (understood x sql)) (sym house.schema) plain
 
 ends_in : (command : Command) (db : Database) (params : Row) → HasNoWith command → EndsIn command db params
 ends_in (Select program names) db params none = subst (λ lets. Ends db.trees params [] (map let_in lets)) (sym none) tt

@@ -1,5 +1,5 @@
 -- Columns of a key, in the order of SQL: rows do not tie, and they rise with their keys.
-use Rattle.std.proofs.Common.{◌≡◌, ◌<◌, ◌<ℤ◌, ◌^◌, ℕ, pos, negsuc, Bool, true, false, not, cond, nat_lt, ◌&&◌, List, [], ◌∷◌, filter, refl, sym, ap, ◌∙◌, arith, inl, inr, IsTrue, true≢false, Ordering, Less, Equal, Greater, is_eq, Some}
+use Rattle.std.proofs.Common.{◌≡◌, ◌<◌, ◌<ℤ◌, ◌^◌, ℕ, pos, negsuc, Bool, true, false, not, cond, nat_lt, ◌&&◌, List, filter, refl, sym, ap, ◌∙◌, arith, inl, inr, IsTrue, true≢false, Ordering, Less, Equal, Greater, is_eq}
 use Rattle.std.specs.List.{AllByRecursion}
 use Rattle.std.specs.Ordering.{ordering_then}
 use Rattle.std.proofs.lemmas.Bool.Decides.{nat_tests}
@@ -11,7 +11,7 @@ use Rattle.sqlite_value.specs.declared.keys.Collation.TheVariants.{Binary}
 use Rattle.sqlite_value.specs.Keys as keys
 use Rattle.sqlite_value.specs.Order.{Row, value_cmp}
 use Rattle.sqlite_value.proofs.OrderLemmas.{value_cmp-Int}
-use Rattle.sqlite_sql.specs.Ops.{binary, is_true, from_truth}
+use Rattle.sqlite_sql.specs.Ops.{binary}
 use Rattle.sqlite_trees.specs.Tree.{rowid, IsAscending}
 use Rattle.sqlite_trees.specs.View.{is_int, IsShaped}
 use Rattle.sqlite_trees.specs.declared.store.Shape.TheVariants.{Table}
@@ -23,16 +23,12 @@ use Rattle.sqlite_keyed.proofs.ListLemmas.{ascending-filter}
 use Rattle.house_rows.specs.History.{Key, is_less}
 use Rattle.house_rows.proofs.Put.{by_test}
 use Rattle.store_rows.specs.Rows.{number_in}
-use Rattle.store_rows.proofs.RowLemmas.{row_key, keyed}
+use Rattle.store_rows.proofs.RowLemmas.{row_key, keyed, truth_back}
 use Rattle.store_rows.proofs.AnswerLemmas.{both_true, differs}
 use Rattle.store_lists.proofs.Apart.{ascending_on}
 use Rattle.store_lists.proofs.ByKey.{number_is}
 
 -- ---- rows do not tie
-
-truth_back : (b : Bool) → is_true (from_truth (Some b)) ≡ b
-truth_back true = refl
-truth_back false = refl
 
 -- integers that tie are equal to SQL
 pub tied_equal : (v w : Value) → is_int v ≡ true → is_int w ≡ true → is_eq (value_cmp v w) ≡ true → equal Binary v w ≡ true

@@ -1,5 +1,5 @@
 -- What the answer of a question writes: one question at most has a key.
-use Rattle.std.proofs.Common.{◌≡◌, ◌≤◌, ◌<◌, ◌^◌, ℕ, pos, negsuc, ◌<ℤ◌, Bool, true, false, not, ◌&&◌, codes, List, [], ◌∷◌, map, filter, length, drop, Ok, Some, None, eqb, refl, sym, ap, subst, ◌∙◌, arith, IsTrue, true≢false, IsUtf8}
+use Rattle.std.proofs.Common.{◌≡◌, ◌≤◌, ◌<◌, ◌^◌, ℕ, pos, negsuc, ◌<ℤ◌, Bool, true, false, not, ◌&&◌, codes, List, [], ◌∷◌, map, filter, length, drop, Ok, None, eqb, refl, sym, ap, subst, ◌∙◌, arith, IsTrue, true≢false, IsUtf8}
 use Rattle.std.specs.List.{AllByRecursion}
 use Rattle.sqlite_value.specs.declared.value.Value.{Value}
 use Rattle.sqlite_value.specs.declared.value.Value.TheVariants.{Null, Int, Real, Text, Blob}
@@ -10,7 +10,7 @@ use Rattle.sqlite_value.specs.Order.{Row, column}
 use Rattle.sqlite_value.proofs.OrderLemmas.{value_cmp-Int}
 use Rattle.sqlite_sql.specs.declared.ops.BinaryOp.TheVariants.{Compare}
 use Rattle.sqlite_sql.specs.declared.ops.CompareOp.TheVariants.{Eq, Ne}
-use Rattle.sqlite_sql.specs.Ops.{binary, is_true, from_truth, test}
+use Rattle.sqlite_sql.specs.Ops.{binary, is_true, test}
 use Rattle.sqlite_sql.specs.Term.{Term}
 use Rattle.sqlite.specs.Term.{col}
 use Rattle.sqlite.specs.Command.TheVariants.{Update}
@@ -40,8 +40,8 @@ use Rattle.store_rows.specs.Rows.{number_in, question_in}
 use Rattle.store_rows.specs.Schema.{house_schema, question_table, question_layout}
 use Rattle.store_rows.specs.House.{IsHouse}
 use Rattle.store_rows.specs.Answers.{SetsAnswer}
-use Rattle.store_rows.proofs.RowLemmas.{row_key, keyed, equals_number, told_equal}
-use Rattle.store_rows.proofs.TextLemmas.{text_back}
+use Rattle.store_rows.proofs.RowLemmas.{row_key, keyed, equals_number, told_equal, truth_back}
+use Rattle.store_rows.proofs.TextLemmas.{text_back, same_number}
 use Rattle.store_rows.proofs.Insert.{cast_int}
 use Rattle.store_rows.proofs.Update.{stays_all}
 use Rattle.store_rows.proofs.UpdateOne.{all_has, at_most_one_of, typed_where_set, updates_one}
@@ -62,10 +62,6 @@ answer_is = (refl, (refl, refl))
 
 -- ---- comparisons
 
-truth_back : (b : Bool) → is_true (from_truth (Some b)) ≡ b
-truth_back true = refl
-truth_back false = refl
-
 pub both_true : (a b : Bool) → a ≡ true → b ≡ true → (a && b) ≡ true
 both_true true b e f = f
 both_true false b e f = absurd (true≢false (sym e))
@@ -82,9 +78,6 @@ differs Null w p q less = absurd (true≢false (sym p))
 differs (Real x) w p q less = absurd (true≢false (sym p))
 differs (Text x) w p q less = absurd (true≢false (sym p))
 differs (Blob x) w p q less = absurd (true≢false (sym p))
-
-same_number : (m n : ℕ) → eqb m n ≡ true → m ≡ n
-same_number m n h = grind arith
 
 -- a column with this number is the number
 is_number : (v : Value) (n : ℕ) → is_int v ≡ true → n < 2 ^ 32 → eqb (number_in v) n ≡ true → v ≡ Int (pos n)

@@ -1,5 +1,5 @@
 -- What the statements on bids and watches find and write.
-use Rattle.std.proofs.Common.{◌≡◌, ℕ, ◌^◌, ◌<◌, pos, Bool, true, not, ◌&&◌, [], ◌∷◌, ◌++◌, map, filter, drop, Ok, None, refl, sym, ap, subst, ◌∙◌, true≢false}
+use Rattle.std.proofs.Common.{◌≡◌, ℕ, ◌^◌, ◌<◌, pos, true, not, ◌&&◌, [], ◌∷◌, ◌++◌, map, filter, drop, Ok, None, refl, sym, ap, subst, ◌∙◌, true≢false}
 use Rattle.std.specs.List.{AllByRecursion}
 use Rattle.sqlite_value.specs.declared.value.Value.TheVariants.{Null, Int}
 use Rattle.sqlite_value.specs.Order.{Row, column}
@@ -18,7 +18,7 @@ use Rattle.house_rows.specs.Watches.{WatchRow}
 use Rattle.store_rows.specs.Schema.{bid_table, bid_layout, watch_table, watch_layout}
 use Rattle.store_rows.specs.Rows.{bid_in, watch_in}
 use Rattle.store_rows.specs.House.{IsHouse, AddsBid, AddsWatch, RemovesWatch}
-use Rattle.store_rows.proofs.RowLemmas.{int_if, equals_number, alone, small}
+use Rattle.store_rows.proofs.RowLemmas.{int_if, equals_number, small, two}
 use Rattle.store_rows.specs.Plain.{passes}
 use Rattle.sqlite_keyed.proofs.ListLemmas.{filter-map}
 use Rattle.house_rows.specs.Watches.{is_watch}
@@ -63,9 +63,6 @@ are_watches db house =
     one (id ∷ a ∷ []) t p = absurd (true≢false (sym (second_of_both _ _ p)))
     one (id ∷ a ∷ b ∷ more) t p =
         let typed = first_of_both _ _ t in (int_if a (first_of_both _ _ typed) (first_of_both _ _ p), int_if b (first_of_both _ _ (second_of_both _ _ typed)) (first_of_both _ _ (second_of_both _ _ p)))
-
-two : (a b : Bool) → (a && (b && true)) ≡ (a && b)
-two a b = ap (λ c. a && c) (alone b)
 
 -- ---- what is written
 

@@ -1,5 +1,5 @@
 -- What the statements on categories find and write.
-use Rattle.std.proofs.Common.{◌≡◌, ◌==◌, ℕ, ◌^◌, ◌<◌, pos, Bool, true, false, ◌&&◌, List, [], ◌∷◌, ◌++◌, map, filter, find, slice_get, option_map, drop, Ok, Option, Some, None, refl, sym, ap, ◌∙◌, IsTrue, true≢false, IsUtf8}
+use Rattle.std.proofs.Common.{◌≡◌, ◌==◌, ℕ, ◌^◌, ◌<◌, pos, true, false, ◌&&◌, List, [], ◌∷◌, ◌++◌, map, filter, find, slice_get, option_map, drop, Ok, Some, refl, sym, ap, ◌∙◌, IsTrue, true≢false, IsUtf8}
 use Rattle.std.specs.List.{AllByRecursion}
 use Rattle.sqlite_value.specs.declared.value.Value.TheVariants.{Null, Int, Text}
 use Rattle.sqlite_value.specs.Order.{Row, column}

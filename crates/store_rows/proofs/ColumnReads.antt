@@ -5,7 +5,7 @@ use Rattle.std.specs.Str.{is_utf8}
 use Rattle.sqlite_value.specs.declared.value.Value.{Value}
 use Rattle.sqlite_value.specs.declared.value.Value.TheVariants.{Null, Int, Real, Text, Blob}
 use Rattle.sqlite_value.specs.Order.{Row, column}
-use Rattle.store_rows.specs.Rows.{maybe_number_in, maybe_text_in, no_text, number_in, text_in}
+use Rattle.store_rows.specs.Rows.{maybe_text_in, no_text, number_in, text_in}
 use Rattle.store_rows.proofs.RowLemmas.{small}
 use Rattle.store_rows.proofs.TextLemmas.{text_back}
 
@@ -79,18 +79,3 @@ is_number Null low = absurd (omega (arith, low))
 is_number (Real x) low = absurd (omega (arith, low))
 is_number (Text x) low = absurd (omega (arith, low))
 is_number (Blob x) low = absurd (omega (arith, low))
-
-pub number_there : (r : Row) (at : ℕ) → number_in (column r at) < 2 ^ 32 → (at < length r) × IsNumber (column r at)
-number_there r at low = (within r at (λ none. let e = ap number_in none in absurd (omega (arith, e, low))), is_number (column r at) low)
-
-pub maybe_number_there : (v : Value) → IfSome (maybe_number_in v) (λ n. n < 2 ^ 32) → (v ≡ Null) ⊎ IsNumber v
-maybe_number_there Null low = inl refl
-maybe_number_there (Int n) low = inr (is_number (Int n) low)
-maybe_number_there (Real x) low = inr (is_number (Real x) low)
-maybe_number_there (Text t) low = inr (is_number (Text t) low)
-maybe_number_there (Blob b) low = inr (is_number (Blob b) low)
-
--- what is read from a column that may be NULL
-pub maybe_number_told : (v : Value) (o : Option ℕ) → IfSome o (λ n. n < 2 ^ 32) → MatchOption o (v ≡ Null) (λ n. (v ≢ Null) × (v ≡ Int (pos n))) → o ≡ maybe_number_in v
-maybe_number_told v None low h = sym (ap maybe_number_in h)
-maybe_number_told v (Some n) low h = sym (ap maybe_number_in h.1 ∙ ap Some (small n low))

@@ -1,20 +1,16 @@
 -- Columns of an item that fits hold values of their types.
 use Rattle.std.proofs.Common.{◌≡◌, ◌≤◌, ◌<◌, ◌^◌, ℕ, Bool, true, false, cond, Option, Some, None, refl, ap, arith, IfSome}
 use Rattle.sqlite_value.specs.Order.{Row, column}
-use Rattle.house_rows.specs.Fits.{IsWithin, ItemFits, TermsFit}
+use Rattle.house_rows.specs.Fits.{IsWithin, TermsFit}
 use Rattle.house_rows.specs.Limits.{last_moment, most_cents, most_members}
-use Rattle.store_rows.specs.Rows.{maybe_number_in, number_in, text_in}
+use Rattle.store_rows.specs.Rows.{maybe_number_in, number_in}
 use Rattle.store_rows.proofs.ColumnReads.{within}
-use Rattle.store_rows.proofs.TextLemmas.{is_some_lot, is_some_text}
-use Rattle.store_rows.specs.Columns.{AreTerms, HasTexts}
-use Rattle.store_rows.specs.ItemRows.{is_state, item_of, terms_of}
+use Rattle.store_rows.specs.Columns.{AreTerms}
+use Rattle.store_rows.specs.ItemRows.{is_state, terms_of}
 
 pub weaker : (P Q : ℕ → Type 0) (o : Option ℕ) → ((n : ℕ) → P n → Q n) → IfSome o P → IfSome o Q
 weaker P Q None f h = h
 weaker P Q (Some n) f h = f n h
-
-pub in_cents : (o : Option ℕ) → IfSome o (λ n. n ≤ most_cents) → IfSome o (λ n. n < 2 ^ 32)
-in_cents o h = weaker (λ n. n ≤ most_cents) (λ n. n < 2 ^ 32) o (λ n low. omega (arith, low)) h
 
 -- the start is told only with a state
 started : (b : Bool) (n : ℕ) → cond b n (2 ^ 64) ≤ most_cents → (b ≡ true) × (n ≤ most_cents)
@@ -38,10 +34,3 @@ are_terms r h =
       leader = weaker (IsWithin 1 most_members) (λ n. n < 2 ^ 32) (maybe_number_in (column r 9)) (λ n low. omega (arith, low.1)) h.leader;
       count = omega (arith, h.count);
     }
-
-pub has_texts : (r : Row) → ItemFits (item_of r) → HasTexts r
-has_texts r h = record {
-  lot = is_some_lot (text_in (column r 11)) h.lot;
-  title = is_some_text 1 80 (text_in (column r 12)) h.title;
-  text = is_some_text 0 2000 (text_in (column r 13)) h.text;
-}

@@ -21,12 +21,10 @@ pub mod ColumnLemmas
 pub mod TalkReads
 pub mod UpdateOne
 pub mod AnswerLemmas
-pub mod FitLemmas
 pub mod CountMeaning
 pub mod CountLemmas
 pub mod TextLemmas
 pub mod ColumnReads
 pub mod ShownRows
-pub mod ItemFitLemmas
 pub mod ItemColumns
 pub mod Small

@@ -1,5 +1,5 @@
 -- From SQL's comparisons and keys to numbers.
-use Rattle.std.proofs.Common.{◌≡◌, ℕ, ◌^◌, ◌<◌, ◌≤◌, ℤ, pos, negsuc, Bool, true, false, not, ◌&&◌, cond, nat_eq, nat_lt, eqb, List, [], ◌∷◌, ◌++◌, length, map, filter, refl, sym, ap, subst, ◌∙◌, IsPermutation, arith, Less, is_eq, int_cmp, IsTrue, true≢false, IsUtf8}
+use Rattle.std.proofs.Common.{◌≡◌, ℕ, ◌^◌, ◌<◌, ◌≤◌, ℤ, pos, negsuc, Bool, true, false, not, ◌&&◌, cond, nat_lt, eqb, List, [], ◌∷◌, length, map, filter, refl, sym, ap, ◌∙◌, arith, Less, is_eq, int_cmp, IsTrue, true≢false, IsUtf8}
 use Rattle.std.specs.List.{AllByRecursion}
 use Rattle.std.proofs.lemmas.Int.{ints}
 use Rattle.std.proofs.lemmas.Grind.{common_steps}
@@ -30,7 +30,7 @@ abbrev pub is_text : Value → Bool
 is_text (Text t) = true
 is_text _ = false
 
-truth_back : (b : Bool) → is_true (from_truth (Rattle.std.proofs.Common.Some b)) ≡ b
+pub truth_back : (b : Bool) → is_true (from_truth (Rattle.std.proofs.Common.Some b)) ≡ b
 truth_back true = refl
 truth_back false = refl
 
@@ -164,6 +164,9 @@ text_if (Blob x) h k = absurd (true≢false (sym h))
 pub alone : (b : Bool) → (b && true) ≡ b
 alone true = refl
 alone false = refl
+
+pub two : (a b : Bool) → (a && (b && true)) ≡ (a && b)
+two a b = ap (λ c. a && c) (alone b)
 
 -- the first of what a test keeps is what it finds first
 pub first_is : {X Y : Type 0} (f : X → Y) (p : Y → Bool) (xs : List X) (ys : List Y) → map f xs ≡ filter p ys → Rattle.std.proofs.Common.option_map f (Rattle.std.proofs.Common.slice_get xs 0) ≡ Rattle.std.proofs.Common.find p ys

@@ -27,11 +27,6 @@ row_fits told Fits [] i r low all = absurd (omega (arith, low))
 row_fits told Fits (x ∷ rows) zero r low all = all.0
 row_fits told Fits (x ∷ rows) (suc i) r low all = row_fits told Fits rows i r (omega (arith, low)) all.1
 
--- and so does a part of each
-pub parts_fit : {T U : Type 0} (P : T → Type 0) (Q : U → Type 0) (part : T → U) → ((x : T) → P x → Q (part x)) → (xs : List T) → AllByRecursion P xs → AllByRecursion Q (map part xs)
-parts_fit P Q part each [] all = tt
-parts_fit P Q part each (x ∷ xs) all = (each x all.0, parts_fit P Q part each xs all.1)
-
 -- a part of what is found in a table whose rows fit
 pub part_fits : {T U : Type 0} (part : T → U) (P : T → Type 0) (Fits : U → Type 0) → ((x : T) → P x → Fits (part x)) → (p : T → Bool) (table : List T) → AllByRecursion P table → IfSome (option_map part (find p table)) Fits
 part_fits part P Fits each p [] all = search

@@ -1,5 +1,5 @@
 -- What a plain statement leaves.
-use Rattle.std.proofs.Common.{◌≡◌, ◌∙◌, ◌⊎◌, inl, inr, List, ℕ, Ok, subst, Result, arith, Err, IfOk, IfErr, IsTrue}
+use Rattle.std.proofs.Common.{◌≡◌, ◌∙◌, ◌⊎◌, inl, inr, List, ℕ, Ok, subst, Result, arith, Err, IfOk, IfErr, IsTrue, OnErr, sym}
 use Rattle.sqlite_value.specs.Order.{Row}
 use Rattle.sqlite.specs.declared.error.Error.{Error}
 use Rattle.sqlite.specs.Clock.{timed}
@@ -7,6 +7,13 @@ use Rattle.sqlite.specs.State.{State, HasCleanDisk, IsUnchanged, IsRolledBack, K
 use Rattle.sqlite.specs.Listing.{understood}
 use Rattle.sqlite.proofs.StateLemmas.{survives_weaker}
 use Rattle.sqlite.proofs.Callers.{IsPlain, never_commits}
+use Rattle.store_rows.specs.Schema.{house_schema}
+use Rattle.store_rows.specs.House.{IsHouse}
+
+-- what holds anyway holds of an error
+pub on_error : {T E : Type 0} {P : Type 0} (r : Result T E) → P → OnErr r P
+on_error (Ok x) h = tt
+on_error (Err e) h = h
 
 module _ (sql : List ℕ) (params : Row) (old new : State) (plain : IsPlain (understood old.now.schema sql)) where
   pub shown_same : (rows : List Row) → Shown sql params old new rows → IsUnchanged old new
@@ -48,3 +55,7 @@ query_ended sql params old new plain e h = elim (query_failed sql params old new
 pub still_committed : (old now new : State) → IsTrue old.is_open → now.committed ≡ old.committed → IsUnchanged now new ⊎ IsRolledBack now new → KeepsCommit old new
 still_committed old now new was_open same (inl kept) = record { was_open = λ _. was_open; committed = λ _. kept.0.committed_is ∙ same }
 still_committed old now new was_open same (inr undone) = record { was_open = λ _. was_open; committed = λ is_open. (undone.undone is_open).1 ∙ same }
+
+-- what is plain over the schema of a house is so on a connection that holds one
+pub plain_at : (sql : List ℕ) (s : State) → IsPlain (understood house_schema sql) → IsHouse s.now → IsPlain (understood s.now.schema sql)
+plain_at sql s plain house = subst (λ x. IsPlain (understood x sql)) (sym house.schema) plain

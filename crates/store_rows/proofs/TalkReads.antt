@@ -17,7 +17,7 @@ use Rattle.house_rows.specs.Questions.{is_question}
 use Rattle.store_rows.specs.Schema.{house_schema, question_table, feedback_table}
 use Rattle.store_rows.specs.Rows.{number_in, question_of, question_in, questions_in, feedback_of, one_feedback_in, feedback_in}
 use Rattle.store_rows.specs.House.{IsHouse}
-use Rattle.store_rows.proofs.RowLemmas.{int_if, equals_number, first_is, alone}
+use Rattle.store_rows.proofs.RowLemmas.{int_if, equals_number, first_is, alone, two}
 use Rattle.store_rows.proofs.ColumnLemmas.{holds_all}
 use Rattle.store_rows.proofs.Select.{listed, in_order, typed_where, by_rowid, equals}
 use Rattle.store_rows.proofs.TalkMeaning.{feedback_to_text, question_at_text, talk_shown, question_shown, by_question, feedback_to_is, question_at_is}
@@ -53,9 +53,6 @@ are_feedback db house =
         let b = h.1.0 refl refl in
         let d = h.1.1.0 refl refl in
         record { first = int_if (column r 1) a.0 a.1; second = int_if (column r 2) b.0 b.1; third = int_if (column r 3) d.0 d.1 }
-
-two : (a b : Bool) → (a && (b && true)) ≡ (a && b)
-two a b = ap (λ c. a && c) (alone b)
 
 pub three : (a b d : Bool) → (a && (b && (d && true))) ≡ (a && (b && d))
 three a b d = ap (λ c. a && c) (two b d)

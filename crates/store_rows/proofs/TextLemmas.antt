@@ -1,18 +1,17 @@
 -- Texts that are UTF-8, as columns hold them.
-use Rattle.std.proofs.Common.{◌≡◌, ◌≢◌, ℕ, Bool, true, false, List, [], ◌∷◌, cond, refl, sym, ap, ap₂, subst, ◌∙◌, arith, true≢false, eqb, IsUtf8}
+use Rattle.std.proofs.Common.{◌≡◌, ◌≢◌, ℕ, Bool, true, false, List, [], ◌∷◌, cond, refl, sym, ap, ap₂, ◌∙◌, arith, true≢false, eqb, IsUtf8}
 use Rattle.std.proofs.lemmas.Str.{IsUtf8-from_is_utf8, is_utf8-from_IsUtf8, lead_after_ascii}
 use Rattle.std.specs.Str.{is_utf8}
 use Rattle.sqlite_value.specs.declared.value.Value.TheVariants.{Text}
 use Rattle.sqlite_keyed.proofs.RuleLemmas.{first_of_both, second_of_both}
-use Rattle.std.specs.List.{list_all}
-use Rattle.house_rows.specs.Text.{has_length, is_lot, is_lot_byte, is_plain, is_text, same_text}
+use Rattle.house_rows.specs.Text.{same_text}
 use Rattle.store_rows.specs.Rows.{no_text, text_in}
 
 -- what was written is read back
 pub text_back : (t : List ℕ) → IsUtf8 t → text_in (Text t) ≡ t
 text_back t u = rw (is_utf8-from_IsUtf8 t u) refl
 
-same_number : (a b : ℕ) → eqb a b ≡ true → a ≡ b
+pub same_number : (a b : ℕ) → eqb a b ≡ true → a ≡ b
 same_number a b h = grind arith
 
 pub same_texts : (a b : List ℕ) → same_text a b ≡ true → a ≡ b
@@ -40,13 +39,3 @@ other_text s t u = go (is_utf8 s) refl
     go : (b : Bool) → is_utf8 s ≡ b → same_text s t ≡ same_text (cond b s no_text) t
     go true e = refl
     go false e = none s e _ refl ∙ sym (none no_text no_text_is _ refl)
-
--- a text that fits is a text
-pub is_some_text : (least most : ℕ) (t : List ℕ) → is_text least most t ≡ true → t ≢ no_text
-is_some_text least most t h e = true≢false (sym (second_of_both (has_length least most no_text) (is_plain no_text) (subst (λ x. is_text least most x ≡ true) e h)))
-
-pub is_some_lot : (t : List ℕ) → is_lot t ≡ true → t ≢ no_text
-is_some_lot t h e = true≢false (sym (second_of_both (has_length 1 20 no_text) (list_all is_lot_byte no_text) (subst (λ x. is_lot x ≡ true) e h)))
-
-pub is_some_plain : (t : List ℕ) → is_plain t ≡ true → t ≢ no_text
-is_some_plain t h e = true≢false (sym (subst (λ x. is_plain x ≡ true) e h))

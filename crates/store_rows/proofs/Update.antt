@@ -1,7 +1,7 @@
 -- What an UPDATE by number makes of its table.
-use Rattle.std.proofs.Common.{◌≡◌, ◌≢◌, ◌⊎◌, inl, inr, ℕ, ◌^◌, ◌<◌, ◌≤◌, ◌+◌, ℤ, pos, ◌+ℤ◌, ◌<ℤ◌, Bool, true, false, not, ◌&&◌, ◌||◌, cond, zero, suc, List, [], ◌∷◌, ◌++◌, map, fold, filter, length, slice_get, slice_index_or, Ok, Err, Result, Option, Some, None, refl, sym, ap, subst, ◌∙◌, arith, IsTrue, Less, Equal, Greater, true≢false, eqb, int_eq}
+use Rattle.std.proofs.Common.{◌≡◌, ◌≢◌, inl, ℕ, ◌^◌, ◌<◌, ◌≤◌, ◌+◌, ℤ, pos, ◌<ℤ◌, Bool, true, false, ◌&&◌, ◌||◌, cond, zero, suc, List, [], ◌∷◌, map, filter, length, slice_get, Ok, Option, Some, None, refl, sym, ap, subst, ◌∙◌, arith, IsTrue, Less, Greater, true≢false, eqb, int_eq}
 use Rattle.std.specs.List.{AllByRecursion}
-use Rattle.std.specs.Ordering.{match_ordering, int_cmp}
+use Rattle.std.specs.Ordering.{int_cmp}
 use Rattle.std.proofs.lemmas.Int.{ints}
 use Rattle.sqlite_value.specs.declared.value.Value.{Value}
 use Rattle.sqlite_value.specs.declared.value.Value.TheVariants.{Null, Int, Real, Text, Blob}
@@ -22,9 +22,8 @@ use Rattle.sqlite_schema.specs.Names.{is_key}
 use Rattle.sqlite_keyed.specs.Keyed.{IsKeyedBy}
 use Rattle.sqlite_keyed.proofs.KeyedLemmas.{Less-from_lt}
 use Rattle.sqlite_keyed.proofs.RuleLemmas.{first_of_both, second_of_both}
-use Rattle.sqlite.specs.Cast.{cast, cast_all}
-use Rattle.sqlite.specs.Edit.{id_in}
-use Rattle.sqlite_keyed.proofs.ListLemmas.{all_kept, all-filter, all_both, all_weaker, map-map}
+use Rattle.sqlite.specs.Cast.{cast}
+use Rattle.sqlite_keyed.proofs.ListLemmas.{all_kept, all-filter, all_both, map-map}
 use Rattle.sqlite.specs.Edit.{Edit, edit_of, edited}
 use Rattle.sqlite_rules.specs.Calls.{ids_of}
 use Rattle.sqlite.specs.Rowids.TheVariants.{Given}

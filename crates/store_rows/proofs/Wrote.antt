@@ -13,6 +13,7 @@ use Rattle.sqlite_rules.specs.Action.{works}
 use Rattle.sqlite.specs.Effect.{Database, IsDatabase}
 use Rattle.store_rows.specs.Schema.{house_schema}
 use Rattle.store_rows.specs.House.{IsHouse, KeepsOthers}
+use Rattle.store_rows.proofs.TextLemmas.{same_number}
 
 -- a table has these rows, and every other is as it was
 pub record Wrote (tree : ℕ) (rows : List Row) (old new : Database) : Type 0 where
@@ -20,9 +21,6 @@ pub record Wrote (tree : ℕ) (rows : List Row) (old new : Database) : Type 0 wh
   pub rows_are : new.trees tree ≡ rows
   pub others : KeepsOthers tree old new
   pub sound : IsDatabase new
-
-same_number : (a b : ℕ) → eqb a b ≡ true → a ≡ b
-same_number a b h = grind arith
 
 other_number : (a b : ℕ) → eqb a b ≡ false → a ≢ b
 other_number a b h e = absurd (grind arith)

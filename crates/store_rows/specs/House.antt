@@ -23,6 +23,11 @@ pub record IsHouse (db : Database) : Type 0 where
 abbrev pub Serves : State → Type 0
 Serves s = HasCleanDisk s → IsTrue s.is_open × IsHouse s.now
 
+-- it serves, and a transaction is open
+pub record IsBegun (s : State) : Type 0 where
+  pub serves : Serves s
+  pub begun : HasCleanDisk s → IsTrue s.in_transaction
+
 -- the transaction goes on, and nothing was committed
 pub record IsInside (old new : State) : Type 0 where
   pub mode : new.in_transaction ≡ true

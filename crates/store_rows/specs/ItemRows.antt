@@ -11,13 +11,6 @@ use Rattle.house_rows.specs.declared.state.State.TheVariants.{Open, Sold, Unsold
 use Rattle.house_rows.specs.Tables.{ItemRow}
 use Rattle.store_rows.specs.Rows.{number_in, text_in, maybe_number_in}
 
--- a state is stored as its number
-abbrev pub stored_state : State → ℕ
-stored_state Open = 0
-stored_state Sold = 1
-stored_state Unsold = 2
-stored_state Settled = 3
-
 abbrev pub is_state : Value → Bool
 is_state v = nat_le (number_in v) 3
 

@@ -1,10 +1,10 @@
 //! The table of bids.
-ghost use Rattle.std.specs.Prelude.{◌≡◌, IfOk, OnOk, IsTrue, IsErrOf};
+ghost use Rattle.std.specs.Prelude.{◌≡◌, IfOk, OnOk, IsErrOf};
 ghost use Rattle.sqlite.specs.State.{HasCleanDisk};
 ghost use Rattle.sqlite.specs.Held.{state};
 ghost use Rattle.house_rows.specs.declared.fault.KeepFault.TheVariants.{Damaged};
 ghost use Rattle.store_rows.specs.Fitting.{BidFits};
-ghost use Rattle.store_rows.specs.House.{Serves, AddsBid};
+ghost use Rattle.store_rows.specs.House.{IsBegun, AddsBid};
 ghost use Rattle.store_rows.specs.Rows.{bid_of};
 ghost use Rattle.store_rows.specs.Frames.{WritesOnce};
 
@@ -48,9 +48,7 @@ impl Stored for Bid {
 
 /// Adds a bid on an item within a transaction.
 pub fn put_bid<S: Alter>(tx: &mut Transaction<'_, S>, item: u32, bid: Bid) -> Result<(), KeepFault>
-    requires serves { Serves (state S.Store tx.old.conn.now) }
-    requires begun { HasCleanDisk (state S.Store tx.old.conn.now)
-        → IsTrue tx.old.conn.now.in_transaction }
+    requires { IsBegun (state S.Store tx.old.conn.now) }
     ensures same_reference { tx.new.conn.ghost_name ≡ tx.old.conn.ghost_name }
     ensures ok { HasCleanDisk (state S.Store tx.new.conn.now)
         → OnOk result (AddsBid (record { item = item; bid = bid })

@@ -70,13 +70,12 @@ pub fn maybe_cents_at(row: &Row, at: usize) -> Result<Option<Cents>, KeepFault>
         → IfSome (maybe_number_in (column row.now at)) (λ n. n ≤ most_cents)
         → ¬ (IsErrOf result Damaged) }
 {
-    match maybe_number_at(row, at) {
-        Ok(None) => Ok(None),
-        Ok(Some(amount)) => match Cents::new(u64::from(amount)) {
-            Some(cents) => Ok(Some(cents)),
-            None => Err(KeepFault::Damaged),
-        },
-        Err(fault) => Err(fault),
+    let Some(amount) = maybe_number_at(row, at)? else {
+        return Ok(None);
+    };
+    match Cents::new(u64::from(amount)) {
+        Some(cents) => Ok(Some(cents)),
+        None => Err(KeepFault::Damaged),
     }
 }
 
@@ -85,10 +84,8 @@ pub fn text_at(row: &Row, at: usize) -> Result<Text, KeepFault>
     ensures value { IfOk result (λ t. t ≡ text_in (column row.now at)) }
     ensures damaged { text_in (column row.now at) ≢ no_text → ¬ (IsErrOf result Damaged) }
 {
-    match value_at(row, at) {
-        Ok(text) => Ok(Text::new(text)),
-        Err(fault) => Err(fault),
-    }
+    let text = value_at(row, at)?;
+    Ok(Text::new(text))
 }
 
 /// A text that may be missing.
@@ -98,10 +95,8 @@ pub fn maybe_text_at(row: &Row, at: usize) -> Result<Option<Text>, KeepFault>
         → IfSome (maybe_text_in (column row.now at)) (λ t. t ≢ no_text)
         → ¬ (IsErrOf result Damaged) }
 {
-    match value_at(row, at) {
-        Ok(text) => Ok(text_of(text)),
-        Err(fault) => Err(fault),
-    }
+    let text = value_at(row, at)?;
+    Ok(text_of(text))
 }
 
 // A text of the house, if there is one.

@@ -1,12 +1,12 @@
 //! The table of feedback.
-ghost use Rattle.std.specs.Prelude.{◌≡◌, ◌==◌, true, filter, IfOk, OnOk, IsTrue, IsErrOf};
+ghost use Rattle.std.specs.Prelude.{◌≡◌, ◌==◌, true, filter, IfOk, OnOk, IsErrOf};
 ghost use Rattle.std.specs.List.{AllByRecursion};
 ghost use Rattle.sqlite_value.specs.Order.{column};
 ghost use Rattle.sqlite.specs.State.{HasCleanDisk};
 ghost use Rattle.sqlite.specs.Held.{state};
 ghost use Rattle.house_rows.specs.Fits.{FeedbackFits};
 ghost use Rattle.house_rows.specs.declared.fault.KeepFault.TheVariants.{Damaged};
-ghost use Rattle.store_rows.specs.House.{Serves, AddsFeedback};
+ghost use Rattle.store_rows.specs.House.{IsBegun, Serves, AddsFeedback};
 ghost use Rattle.store_rows.specs.Rows.{feedback_in, feedback_of, is_rating, rating_in, stored_rating};
 ghost use Rattle.store_rows.specs.Frames.{WritesOnce, OnlyReads};
 
@@ -38,9 +38,7 @@ pub fn put_feedback<S: Alter>(
     rating: Rating,
     text: &str,
 ) -> Result<(), KeepFault>
-    requires serves { Serves (state S.Store tx.old.conn.now) }
-    requires begun { HasCleanDisk (state S.Store tx.old.conn.now)
-        → IsTrue tx.old.conn.now.in_transaction }
+    requires { IsBegun (state S.Store tx.old.conn.now) }
     ensures same_reference { tx.new.conn.ghost_name ≡ tx.old.conn.ghost_name }
     ensures ok { HasCleanDisk (state S.Store tx.new.conn.now)
         → OnOk result

@@ -1,7 +1,8 @@
 //! The tests of what is handed out.
-ghost use Rattle.std.specs.Prelude.{◌≡◌};
+ghost use Rattle.std.specs.Prelude.{◌≡◌, ◌↔◌, true, IfSome, IsTrue};
+ghost use Rattle.house_rows.specs.Fits.{CategoryFits, FeedbackFits, IsWithin, MemberFits, QuestionFits};
 ghost use Rattle.house_rows.specs.Text.{has_length, is_text};
-ghost use Rattle.store_rows.specs.Fitting.{bid_fits, category_fits, feedback_fits, house_fits, is_none_or_text, is_within, member_fits, question_fits};
+ghost use Rattle.store_rows.specs.Fitting.{BidFits, HouseRowFits};
 
 use crate::house::HouseRow;
 use cents::LIMIT;
@@ -16,8 +17,8 @@ use settle::LAST_MOMENT;
 const VERSION: u32 = 1;
 
 // Whether a number is within a range.
-fn is_within(least: u32, most: u32, number: u32) -> bool
-    ensures { result ≡ is_within least most number }
+pub(crate) fn is_within(least: u32, most: u32, number: u32) -> bool
+    ensures { IsTrue result ↔ IsWithin least most number }
 {
     least <= number && number <= most
 }
@@ -38,7 +39,7 @@ pub(crate) fn has_length(least: usize, most: usize, text: &Text) -> bool
 
 // Whether the numbers of a question and its texts fit.
 pub(crate) fn question_fits(question: &Question) -> bool
-    ensures { result ≡ question_fits question.now }
+    ensures { IsTrue result ↔ QuestionFits question.now }
 {
     is_within(1, MOST_ITEMS, question.item)
         && is_within(1, MOST_MEMBERS, question.asker)
@@ -49,7 +50,7 @@ pub(crate) fn question_fits(question: &Question) -> bool
 
 // Whether its answer fits, where it has one.
 fn answer_fits(question: &Question) -> bool
-    ensures { result ≡ is_none_or_text 1 500 question.now.answer }
+    ensures { IsTrue result ↔ IfSome question.now.answer (λ text. is_text 1 500 text ≡ true) }
 {
     match &question.answer {
         None => true,
@@ -59,7 +60,7 @@ fn answer_fits(question: &Question) -> bool
 
 // Whether the numbers of a feedback and its text fit.
 pub(crate) fn feedback_fits(feedback: &Feedback) -> bool
-    ensures { result ≡ feedback_fits feedback.now }
+    ensures { IsTrue result ↔ FeedbackFits feedback.now }
 {
     is_within(1, MOST_ITEMS, feedback.item)
         && is_within(1, MOST_MEMBERS, feedback.from)
@@ -69,21 +70,21 @@ pub(crate) fn feedback_fits(feedback: &Feedback) -> bool
 
 // Whether a member's number and name fit.
 pub(crate) fn member_fits(member: &Member) -> bool
-    ensures { result ≡ member_fits member.now }
+    ensures { IsTrue result ↔ MemberFits member.now }
 {
     is_within(1, MOST_MEMBERS, member.member) && is_text(1, 40, &member.name)
 }
 
 // Whether a category's number and name fit.
 pub(crate) fn category_fits(category: &Category) -> bool
-    ensures { result ≡ category_fits category.now }
+    ensures { IsTrue result ↔ CategoryFits category.now }
 {
     is_within(1, MOST_CATEGORIES, category.category) && is_text(1, 40, &category.name)
 }
 
 // Whether the numbers of a bid fit.
 pub(crate) fn bid_fits(bid: &Bid) -> bool
-    ensures { result ≡ bid_fits bid.now }
+    ensures { IsTrue result ↔ BidFits bid.now }
 {
     is_within(1, MOST_MEMBERS, bid.member)
         && is_within(1, MOST_BIDS, bid.no)
@@ -92,7 +93,7 @@ pub(crate) fn bid_fits(bid: &Bid) -> bool
 
 // Whether the row of the house is the only one, of this version, and its clock, rate and zone fit.
 pub(crate) fn house_fits(house: &HouseRow) -> bool
-    ensures { result ≡ house_fits house.now }
+    ensures { IsTrue result ↔ HouseRowFits house.now }
 {
     house.id == 1
         && house.version == VERSION

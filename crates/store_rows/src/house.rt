@@ -1,11 +1,11 @@
 //! The table of the house itself, which has one row.
-ghost use Rattle.std.specs.Prelude.{◌≡◌, ◌==◌, find, IfOk, OnOk, IsTrue, IsErrOf, IfSome};
+ghost use Rattle.std.specs.Prelude.{◌≡◌, ◌==◌, find, IfOk, OnOk, IsErrOf, IfSome};
 ghost use Rattle.std.specs.List.{AllByRecursion};
 ghost use Rattle.sqlite.specs.State.{HasCleanDisk};
 ghost use Rattle.sqlite.specs.Held.{state};
 ghost use Rattle.house_rows.specs.declared.fault.KeepFault.TheVariants.{Damaged};
 ghost use Rattle.store_rows.specs.Fitting.{HouseRowFits};
-ghost use Rattle.store_rows.specs.House.{Serves, SetsClock};
+ghost use Rattle.store_rows.specs.House.{IsBegun, Serves, SetsClock};
 ghost use Rattle.store_rows.specs.Rows.{house_of, houses_in};
 ghost use Rattle.store_rows.specs.Frames.{WritesOnce, OnlyReads};
 
@@ -90,9 +90,7 @@ pub fn house_row<S: Alter>(conn: &mut Connection<S>) -> Result<Option<HouseRow>,
 
 /// Sets the clock within a transaction, in seconds since 1970-01-01T00:00:00Z.
 pub fn set_clock<S: Alter>(tx: &mut Transaction<'_, S>, moment: u32) -> Result<(), KeepFault>
-    requires serves { Serves (state S.Store tx.old.conn.now) }
-    requires begun { HasCleanDisk (state S.Store tx.old.conn.now)
-        → IsTrue tx.old.conn.now.in_transaction }
+    requires { IsBegun (state S.Store tx.old.conn.now) }
     ensures same_reference { tx.new.conn.ghost_name ≡ tx.old.conn.ghost_name }
     ensures ok { HasCleanDisk (state S.Store tx.new.conn.now)
         → OnOk result (SetsClock moment (state S.Store tx.old.conn.now).now

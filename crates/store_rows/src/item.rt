@@ -7,7 +7,7 @@ ghost use Rattle.store_rows.specs.Columns.{AreTerms, HasTexts};
 ghost use Rattle.store_rows.specs.ItemRows.{is_state, item_of, state_in, terms_of};
 
 use crate::columns::{cents_at, maybe_cents_at, maybe_number_at, number_at, text_at};
-use crate::item_fits::{item_fits, terms_fit, widened};
+use crate::item_fits::{item_fits, terms_fit};
 use crate::stored::Stored;
 use house_rows::{Item, KeepFault, State, Terms};
 use sqlite::Row;
@@ -25,6 +25,16 @@ fn state_at(row: &Row, at: usize) -> Result<State, KeepFault>
         2 => Ok(State::Unsold),
         3 => Ok(State::Settled),
         _ => Err(KeepFault::Damaged),
+    }
+}
+
+// A number that may be missing, wider.
+fn widened(number: Option<u32>) -> Option<u64>
+    ensures { result ≡ number }
+{
+    match number {
+        None => None,
+        Some(number) => Some(u64::from(number)),
     }
 }
 
@@ -55,10 +65,7 @@ impl Stored for Terms {
     ghost fits = { TermsFit };
 
     fn read(row: &Row) -> Result<Terms, KeepFault> {
-        let told = match told_terms(row) {
-            Ok(told) => told,
-            Err(fault) => return Err(fault),
-        };
+        let told = told_terms(row)?;
         if terms_fit(&told) {
             Ok(told)
         } else {
@@ -90,10 +97,7 @@ impl Stored for Item {
     ghost fits = { ItemFits };
 
     fn read(row: &Row) -> Result<Item, KeepFault> {
-        let told = match told_item(row) {
-            Ok(told) => told,
-            Err(fault) => return Err(fault),
-        };
+        let told = told_item(row)?;
         if item_fits(&told) {
             Ok(told)
         } else {

@@ -1,31 +1,23 @@
 //! The tests of items that are handed out.
-ghost use Rattle.std.specs.Prelude.{◌≡◌, true};
+ghost use Rattle.std.specs.Prelude.{◌≡◌, ◌↔◌, IfSome, IsTrue};
 ghost use Rattle.std.specs.List.{list_all};
+ghost use Rattle.house_rows.specs.Fits.{IsMoment, IsWithin, ItemFits, TermsFit};
+ghost use Rattle.house_rows.specs.Limits.{most_cents};
 ghost use Rattle.house_rows.specs.Text.{is_lot, is_lot_byte};
 ghost use Rattle.house_rows.specs.Verdict.{was_sold};
-ghost use Rattle.store_rows.specs.ItemFitting.{amounts_fit, is_apart, is_none_or_within, is_within, item_fits, leader_fits, moments_fit, numbers_fit, terms_fit};
+ghost use Rattle.store_rows.specs.ItemFitting.{AmountsFit, LeaderFits, NumbersFit, SaleFits};
 
-use crate::fits::{has_length, is_text};
-use cents::LIMIT;
+use crate::fits::{has_length, is_text, is_within};
+use cents::{Cents, LIMIT};
 use house_rows::{Item, MOST_CATEGORIES, MOST_ITEMS, MOST_MEMBERS, State, Terms, Text};
 use proxy::MOST_BIDS;
 use settle::LAST_MOMENT;
 
-// Whether a number is within a range.
-fn is_within(least: u64, most: u64, number: u64) -> bool
-    ensures { result ≡ is_within least most number }
+// Whether an amount is within a range of cents.
+fn is_amount(least: u64, amount: Cents) -> bool
+    ensures { IsTrue result ↔ IsWithin least most_cents amount }
 {
-    least <= number && number <= most
-}
-
-// Whether it is missing or within a range.
-fn is_none_or_within(least: u64, most: u64, number: Option<u64>) -> bool
-    ensures { result ≡ is_none_or_within least most number }
-{
-    match number {
-        None => true,
-        Some(number) => is_within(least, most, number),
-    }
+    least <= amount.value() && amount.value() <= LIMIT
 }
 
 // Whether the state is one that follows a sale.
@@ -35,76 +27,75 @@ fn was_sold(state: State) -> bool
     state == State::Sold || state == State::Settled
 }
 
-// Whether somebody leads who does not sell, or nobody.
-fn is_apart(leader: Option<u32>, seller: u32) -> bool
-    ensures { result ≡ is_apart leader seller }
-{
-    match leader {
-        None => true,
-        Some(leader) => leader != seller,
-    }
-}
-
-// A number that may be missing, wider.
-pub(crate) fn widened(number: Option<u32>) -> Option<u64>
-    ensures { result ≡ number }
-{
-    match number {
-        None => None,
-        Some(number) => Some(u64::from(number)),
-    }
-}
-
-// Whether the numbers that an item names rows by are in their ranges.
+// Whether the numbers that an item names rows by are in their ranges, and that of its bids.
 fn numbers_fit(terms: &Terms) -> bool
-    ensures { result ≡ numbers_fit terms.now }
+    ensures { IsTrue result ↔ NumbersFit terms.now }
 {
-    is_within(1, u64::from(MOST_ITEMS), u64::from(terms.item))
-        && is_within(1, u64::from(MOST_MEMBERS), u64::from(terms.seller))
-        && is_within(1, u64::from(MOST_CATEGORIES), u64::from(terms.category))
+    is_within(1, MOST_ITEMS, terms.item)
+        && is_within(1, MOST_MEMBERS, terms.seller)
+        && is_within(1, MOST_CATEGORIES, terms.category)
         && terms.count <= MOST_BIDS
+}
+
+// Whether its buy-now price, if it has one, is at least its start.
+fn buy_now_fits(terms: &Terms) -> bool
+    ensures { IsTrue result ↔ IfSome terms.now.buy_now (IsWithin terms.now.start most_cents) }
+{
+    match terms.buy_now {
+        None => true,
+        Some(amount) => is_amount(terms.start.value(), amount),
+    }
 }
 
 // Whether its amounts are in their ranges.
 fn amounts_fit(terms: &Terms) -> bool
-    ensures { result ≡ amounts_fit terms.now }
+    ensures { IsTrue result ↔ AmountsFit terms.now }
 {
-    let start = terms.start.value();
-    let buy_now = match terms.buy_now {
-        None => None,
-        Some(amount) => Some(amount.value()),
-    };
-    is_within(1, LIMIT, start)
-        && is_none_or_within(start, LIMIT, buy_now)
-        && terms.price.value() <= LIMIT
+    is_amount(1, terms.start) && buy_now_fits(terms) && is_amount(0, terms.price)
 }
 
-// Whether its moments are in their range.
-fn moments_fit(terms: &Terms) -> bool
-    ensures { result ≡ moments_fit terms.now }
+// Whether it closed at a moment, if it did.
+fn closing_fits(closed: Option<u64>) -> bool
+    ensures { IsTrue result ↔ IfSome closed IsMoment }
 {
-    terms.end <= LAST_MOMENT && is_none_or_within(0, LAST_MOMENT, terms.closed)
+    match closed {
+        None => true,
+        Some(moment) => moment <= LAST_MOMENT,
+    }
 }
 
-// Whether its leader fits, and is there where it was sold.
+// Whether a member leads who does not sell, or nobody.
 fn leader_fits(terms: &Terms) -> bool
-    ensures { result ≡ leader_fits terms.now }
+    ensures { IsTrue result ↔ LeaderFits terms.now }
 {
-    is_none_or_within(1, u64::from(MOST_MEMBERS), widened(terms.leader))
-        && is_apart(terms.leader, terms.seller)
-        && (!was_sold(terms.state) || (terms.leader.is_some() && terms.closed.is_some()))
+    match terms.leader {
+        None => true,
+        Some(leader) => is_within(1, MOST_MEMBERS, leader) && leader != terms.seller,
+    }
+}
+
+// Whether it has a buyer and a closing moment where it was sold.
+fn sale_fits(terms: &Terms) -> bool
+    ensures { IsTrue result ↔ SaleFits terms.now }
+{
+    !was_sold(terms.state) || (terms.leader.is_some() && terms.closed.is_some())
 }
 
 /// Whether an item's numbers, amounts and moments fit.
 pub(crate) fn terms_fit(terms: &Terms) -> bool
-    ensures { result ≡ terms_fit terms.now }
+    ensures { IsTrue result ↔ TermsFit terms.now }
 {
-    numbers_fit(terms) && amounts_fit(terms) && moments_fit(terms) && leader_fits(terms)
+    numbers_fit(terms)
+        && amounts_fit(terms)
+        && terms.end <= LAST_MOMENT
+        && closing_fits(terms.closed)
+        && leader_fits(terms)
+        && sale_fits(terms)
 }
 
 /// Whether its texts fit too.
 pub(crate) fn item_fits(item: &Item) -> bool
-    ensures { result ≡ item_fits item.now }
+    ensures { IsTrue result ↔ ItemFits item.now }
 {
     terms_fit(&item.terms)
         && is_lot(&item.lot)

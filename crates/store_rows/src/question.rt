@@ -1,12 +1,12 @@
 //! The table of questions.
-ghost use Rattle.std.specs.Prelude.{◌≡◌, None, find, IfOk, IfSome, OnOk, IsTrue, IsErrOf};
+ghost use Rattle.std.specs.Prelude.{◌≡◌, None, find, IfOk, IfSome, OnOk, IsErrOf};
 ghost use Rattle.std.specs.List.{AllByRecursion};
 ghost use Rattle.sqlite.specs.State.{HasCleanDisk};
 ghost use Rattle.sqlite.specs.Held.{state};
 ghost use Rattle.house_rows.specs.Fits.{QuestionFits};
 ghost use Rattle.house_rows.specs.declared.fault.KeepFault.TheVariants.{Damaged};
 ghost use Rattle.house_rows.specs.Questions.{is_question};
-ghost use Rattle.store_rows.specs.House.{Serves, AddsQuestion};
+ghost use Rattle.store_rows.specs.House.{IsBegun, Serves, AddsQuestion};
 ghost use Rattle.store_rows.specs.Answers.{SetsAnswer};
 ghost use Rattle.store_rows.specs.Rows.{question_of, questions_in};
 ghost use Rattle.store_rows.specs.Frames.{WritesOnce, OnlyReads};
@@ -26,9 +26,7 @@ pub fn put_question<S: Alter>(
     number: u32,
     text: &str,
 ) -> Result<(), KeepFault>
-    requires serves { Serves (state S.Store tx.old.conn.now) }
-    requires begun { HasCleanDisk (state S.Store tx.old.conn.now)
-        → IsTrue tx.old.conn.now.in_transaction }
+    requires { IsBegun (state S.Store tx.old.conn.now) }
     ensures same_reference { tx.new.conn.ghost_name ≡ tx.old.conn.ghost_name }
     ensures ok { HasCleanDisk (state S.Store tx.new.conn.now)
         → OnOk result
@@ -54,9 +52,7 @@ pub fn set_answer<S: Alter>(
     number: u32,
     text: &str,
 ) -> Result<(), KeepFault>
-    requires serves { Serves (state S.Store tx.old.conn.now) }
-    requires begun { HasCleanDisk (state S.Store tx.old.conn.now)
-        → IsTrue tx.old.conn.now.in_transaction }
+    requires { IsBegun (state S.Store tx.old.conn.now) }
     ensures same_reference { tx.new.conn.ghost_name ≡ tx.old.conn.ghost_name }
     ensures ok { HasCleanDisk (state S.Store tx.new.conn.now)
         → OnOk result (SetsAnswer item asker number text.now (state S.Store tx.old.conn.now).now

@@ -57,10 +57,7 @@ pub fn all_of<T: Stored>(alloc: Global, rows: &[Row]) -> Result<Vec<T>, KeepFaul
 {
     let mut all = Vec::new(alloc);
     for row in rows {
-        let it = match T::read(row) {
-            Ok(it) => it,
-            Err(fault) => return Err(fault),
-        };
+        let it = T::read(row)?;
         let Ok(()) = all.push(it) else {
             return Err(KeepFault::Memory);
         };

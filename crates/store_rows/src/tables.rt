@@ -82,10 +82,7 @@ pub fn make_tables<S: Alter>(tx: &mut Transaction<'_, S>) -> Result<(), KeepFaul
         (state S.Store tx.new.conn.now) result }
 {
     for step in 0..STEPS {
-        match make_step(tx, step) {
-            Ok(()) => {}
-            Err(fault) => return Err(fault),
-        }
+        make_step(tx, step)?;
     }
     Ok(())
 }

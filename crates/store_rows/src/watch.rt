@@ -1,9 +1,9 @@
 //! The table of watches.
-ghost use Rattle.std.specs.Prelude.{◌≡◌, OnOk, IsTrue, IsErrOf};
+ghost use Rattle.std.specs.Prelude.{◌≡◌, OnOk, IsErrOf};
 ghost use Rattle.sqlite.specs.State.{HasCleanDisk};
 ghost use Rattle.sqlite.specs.Held.{state};
 ghost use Rattle.house_rows.specs.declared.fault.KeepFault.TheVariants.{Damaged};
-ghost use Rattle.store_rows.specs.House.{Serves, AddsWatch, RemovesWatch};
+ghost use Rattle.store_rows.specs.House.{IsBegun, AddsWatch, RemovesWatch};
 ghost use Rattle.store_rows.specs.Frames.{WritesOnce};
 
 use crate::statement::run;
@@ -16,9 +16,7 @@ pub fn put_watch<S: Alter>(
     member: u32,
     item: u32,
 ) -> Result<(), KeepFault>
-    requires serves { Serves (state S.Store tx.old.conn.now) }
-    requires begun { HasCleanDisk (state S.Store tx.old.conn.now)
-        → IsTrue tx.old.conn.now.in_transaction }
+    requires { IsBegun (state S.Store tx.old.conn.now) }
     ensures same_reference { tx.new.conn.ghost_name ≡ tx.old.conn.ghost_name }
     ensures ok { HasCleanDisk (state S.Store tx.new.conn.now)
         → OnOk result (AddsWatch (record { member = member; item = item })
@@ -40,9 +38,7 @@ pub fn cut_watch<S: Alter>(
     member: u32,
     item: u32,
 ) -> Result<(), KeepFault>
-    requires serves { Serves (state S.Store tx.old.conn.now) }
-    requires begun { HasCleanDisk (state S.Store tx.old.conn.now)
-        → IsTrue tx.old.conn.now.in_transaction }
+    requires { IsBegun (state S.Store tx.old.conn.now) }
     ensures same_reference { tx.new.conn.ghost_name ≡ tx.old.conn.ghost_name }
     ensures ok { HasCleanDisk (state S.Store tx.new.conn.now)
         → OnOk result (RemovesWatch member item (state S.Store tx.old.conn.now).now

@@ -53,10 +53,6 @@ end_number item is_sold row = elim (by_test (is_item item row)) [ inl is ↦ rw 
 end_start : (item : ℕ) (is_sold : Bool) (row : ItemRow) → (with_end item is_sold row).item.terms.start ≡ row.item.terms.start
 end_start item is_sold row = elim (by_test (is_item item row)) [ inl is ↦ rw is refl | inr other ↦ rw other refl ]
 
-pub ends_number : (ts : List Terms) (row : ItemRow) → (with_ends ts row).item.terms.item ≡ row.item.terms.item
-ends_number [] row = refl
-ends_number (t ∷ ts) row = ends_number ts (with_end t.item (close_sells t.leader) row) ∙ end_number t.item (close_sells t.leader) row
-
 -- an item closed at its end
 abbrev ended : ItemRow → ItemRow
 ended row = with_terms (record row.item.terms { state = closed_state (close_sells row.item.terms.leader); closed = Some row.item.terms.end }) row
@@ -164,13 +160,6 @@ pub record IsClosing (due rest : List Terms) (old now : Database) : Type 0 where
   pub others : KeepsOthers 6 old now
   pub starts : StartsFit due now
   pub items : map (with_ends rest) (items_in now.trees) ≡ map (with_ends due) (items_in old.trees)
-
-keeps_self : (db : Database) (tables : List Table) → AllByRecursion (λ (t : Table). t.tree ≢ 6 → db.trees t.tree ≡ db.trees t.tree) tables
-keeps_self db [] = tt
-keeps_self db (t ∷ ts) = ((λ _. refl), keeps_self db ts)
-
-pub closing_begins : (due : List Terms) (db : Database) → IsHouse db → StartsFit due db → IsClosing due due db db
-closing_begins due db house starts = record { house = house; others = keeps_self db house_schema.tables; starts = starts; items = refl }
 
 pub closing_goes_on : (due rest : List Terms) (t : Terms) (old now next : Database) → IsClosing due (t ∷ rest) old now → OfItem t.item StartFits now → SetsClosed t.item (close_sells t.leader) now next → IsClosing due rest old next
 closing_goes_on due rest t old now next so fits sets = record {

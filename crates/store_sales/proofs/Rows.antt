@@ -20,21 +20,22 @@ use Rattle.proxy.proofs.Shapes.{accepted_shape}
 use Rattle.house_rows.specs.Asks.{BidFits, PurchaseFits}
 use Rattle.house_rows.specs.Changed.{is_item}
 use Rattle.house_rows.specs.declared.item.Terms.{Terms}
-use Rattle.house_rows.specs.Fits.{ItemFits, TermsFit}
+use Rattle.house_rows.specs.Fits.{TermsFit}
 use Rattle.house_rows.specs.Found.{row_at}
 use Rattle.house_rows.specs.Keeping.{AreSound, ItemRowFits}
 use Rattle.house_rows.specs.Limits.{most_cents}
 use Rattle.house_rows.specs.Tables.{ItemRow}
 use Rattle.house_rows.proofs.ChangedRows.{room_for, there_fits}
-use Rattle.house_rows.proofs.Every.{every_as, found_has}
+use Rattle.house_rows.proofs.Every.{found_has}
 use Rattle.store_rows.specs.House.{IsHouse}
-use Rattle.store_rows.specs.ItemRows.{is_state, item_row_in, items_in, kept_from}
+use Rattle.store_rows.specs.ItemRows.{is_state, item_row_in, items_in}
 use Rattle.store_rows.specs.Rows.{maybe_number_in, number_in}
 use Rattle.store_rows.proofs.RowLemmas.{filter_same_on, one_row}
 use Rattle.store_items.specs.Items.{OfItem}
 use Rattle.store_lists.specs.Sorted.{sorted_bids}
 use Rattle.store_lists.specs.Tables.{settings_in, tables_in}
 use Rattle.store_sales.specs.Sales.{IsUnbid, StartFits, StartsAt}
+use Rattle.store_items.proofs.ItemLemmas.{fits_state, kept_start}
 
 -- one row at most has a number
 pub one_item : (db : Database) → IsHouse db → (n : ℕ) → n < 2 ^ 32 → length (filter (is_item n) (items_in db.trees)) ≤ 1
@@ -73,15 +74,6 @@ start_checked db house n low t found fits =
     of_found StartFits db house n low row.0 row.1 (subst (λ (terms : Terms). terms.start ≤ most_cents) (sym row.2) fits.start.1)
 
 -- ---- the start of a standing
-
-kept_start : (start at : ℕ) (led top next : Option ℕ) (count : ℕ) → (kept_from start at led top next count).start ≡ start
-kept_start start at None top next count = refl
-kept_start start at (Some l) None next count = refl
-kept_start start at (Some l) (Some t) next count = refl
-
-fits_state : (b : Bool) (start : ℕ) → cond b start (2 ^ 64) ≤ most_cents → b ≡ true
-fits_state true start h = refl
-fits_state false start h = absurd (omega (arith, h))
 
 -- the bids begin at the start
 abbrev Begins : ItemRow → Type 0

@@ -1,12 +1,12 @@
 //! A purchase at once.
-ghost use Rattle.std.specs.Prelude.{◌≡◌, ◌==◌, ◌&&◌, ℕ, false, is_some, not, OnOk, IsErrOf, IsTrue};
+ghost use Rattle.std.specs.Prelude.{◌≡◌, ◌==◌, ◌&&◌, ℕ, false, is_some, not, OnOk, IsErrOf};
 ghost use Rattle.sqlite.specs.State.{HasCleanDisk};
 ghost use Rattle.sqlite.specs.Held.{state};
 ghost use Rattle.house_rows.specs.Asks.{ChangeFits, IsFree, PurchaseFits};
 ghost use Rattle.house_rows.specs.Keeping.{AreSound};
 ghost use Rattle.house_rows.specs.declared.change.Change.TheVariants.{Buy};
 ghost use Rattle.house_rows.specs.declared.fault.KeepFault.TheVariants.{Damaged};
-ghost use Rattle.store_rows.specs.House.{Serves};
+ghost use Rattle.store_rows.specs.House.{IsBegun, Serves};
 ghost use Rattle.store_items.specs.Items.{OfItem};
 ghost use Rattle.store_lists.specs.Tables.{Changes, IsNumbered, Rests, settings_in, tables_in};
 ghost use Rattle.store_sales.specs.Sales.{IsUnbid};
@@ -65,9 +65,7 @@ fn write_purchase<S: Alter>(
     buyer: u32,
     price: Cents,
 ) -> Result<(), KeepFault>
-    requires serves { Serves (state S.Store tx.old.conn.now) }
-    requires begun { HasCleanDisk (state S.Store tx.old.conn.now)
-        → IsTrue tx.old.conn.now.in_transaction }
+    requires begun { IsBegun (state S.Store tx.old.conn.now) }
     requires numbered { HasCleanDisk (state S.Store tx.old.conn.now)
         → IsNumbered (state S.Store tx.old.conn.now).now.trees }
     requires fits { HasCleanDisk (state S.Store tx.old.conn.now)

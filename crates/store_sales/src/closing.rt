@@ -1,12 +1,12 @@
 //! The close of every item that is due.
-ghost use Rattle.std.specs.Prelude.{◌≡◌, false, IfOk, OnOk, IsErrOf, IsTrue};
+ghost use Rattle.std.specs.Prelude.{◌≡◌, false, IfOk, OnOk, IsErrOf};
 ghost use Rattle.sqlite.specs.State.{HasCleanDisk};
 ghost use Rattle.sqlite.specs.Held.{state};
 ghost use Rattle.house_rows.specs.Asks.{ChangeFits, IsFree};
 ghost use Rattle.house_rows.specs.Keeping.{AreSound};
 ghost use Rattle.house_rows.specs.declared.change.Change.TheVariants.{Close};
 ghost use Rattle.house_rows.specs.declared.fault.KeepFault.TheVariants.{Damaged};
-ghost use Rattle.store_rows.specs.House.{Serves};
+ghost use Rattle.store_rows.specs.House.{IsBegun, Serves};
 ghost use Rattle.store_lists.specs.Tables.{Changes, IsNumbered, Rests, settings_in, tables_in};
 ghost use Rattle.store_sales.specs.Sales.{IsDue, SetsItems, StartsFit, with_ends};
 ghost use Rattle.store_rows.specs.Frames.{OnlyReads, WritesMany};
@@ -42,9 +42,7 @@ fn find_due<S: Alter>(
 
 // Closes the items within a transaction, each as sold where somebody leads.
 fn close_items<S: Alter>(tx: &mut Transaction<'_, S>, due: &[Terms]) -> Result<(), KeepFault>
-    requires serves { Serves (state S.Store tx.old.conn.now) }
-    requires begun { HasCleanDisk (state S.Store tx.old.conn.now)
-        → IsTrue tx.old.conn.now.in_transaction }
+    requires begun { IsBegun (state S.Store tx.old.conn.now) }
     requires fits { HasCleanDisk (state S.Store tx.old.conn.now)
         → StartsFit due.now (state S.Store tx.old.conn.now).now }
     ensures same_reference { tx.new.conn.ghost_name ≡ tx.old.conn.ghost_name }
@@ -56,10 +54,7 @@ fn close_items<S: Alter>(tx: &mut Transaction<'_, S>, due: &[Terms]) -> Result<(
         (state S.Store tx.new.conn.now) result }
 {
     for terms in due {
-        match set_closed(tx, terms.item, terms.leader.is_some()) {
-            Ok(()) => {}
-            Err(fault) => return Err(fault),
-        }
+        set_closed(tx, terms.item, terms.leader.is_some())?;
     }
     Ok(())
 }
@@ -70,9 +65,7 @@ fn write_close<S: Alter>(
     moment: u32,
     due: &[Terms],
 ) -> Result<(), KeepFault>
-    requires serves { Serves (state S.Store tx.old.conn.now) }
-    requires begun { HasCleanDisk (state S.Store tx.old.conn.now)
-        → IsTrue tx.old.conn.now.in_transaction }
+    requires begun { IsBegun (state S.Store tx.old.conn.now) }
     requires numbered { HasCleanDisk (state S.Store tx.old.conn.now)
         → IsNumbered (state S.Store tx.old.conn.now).now.trees }
     requires due { HasCleanDisk (state S.Store tx.old.conn.now)

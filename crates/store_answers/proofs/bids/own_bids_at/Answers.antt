@@ -21,16 +21,16 @@ loop-number-preserved g c =
     let crash = c.add_own_bid.ensures.read.crash in
     record {
       survives = both_survive old mid new held.survives crash;
-      same = λ clean. both_same old mid new (held.same (clean_before mid new crash clean)) (c.in-Ok.ensures.read.same clean);
+      same = λ clean. both_same old mid new (held.same (clean_before mid new crash clean)) (c.in_ok-add_own_bid.ensures.read.same clean);
       mode = λ out. c.add_own_bid.ensures.read.mode (held.mode out);
       found = λ clean. (let before = clean_before mid new crash clean in
           found_more (own_found (tables_in old.now.trees) c.args.member) c.args.numbers.now c.loop-number.number-index 0 c.loop-number.found.items c.add_own_bid.new.found.items _ c.loop-number-test.true (held.found before)
-          (subst (λ (db : Database). c.add_own_bid.new.found.items ≡ c.loop-number.found.items ++ own_found (tables_in db.trees) c.args.member (get_or c.args.numbers.now c.loop-number.number-index 0)) (held.same before).0.now_is (c.in-Ok.ensures.value clean)));
-      few = (let one = c.in-Ok.ensures.few in omega (arith, one));
-      fits = c.in-Ok.ensures.fits held.fits;
+          (subst (λ (db : Database). c.add_own_bid.new.found.items ≡ c.loop-number.found.items ++ own_found (tables_in db.trees) c.args.member (get_or c.args.numbers.now c.loop-number.number-index 0)) (held.same before).0.now_is (c.in_ok-add_own_bid.ensures.value clean)));
+      few = (let one = c.in_ok-add_own_bid.ensures.few in omega (arith, one));
+      fits = c.in_ok-add_own_bid.ensures.fits held.fits;
       stands = λ clean. (let before = clean_before mid new crash clean in
           let P = λ (db : Database) (b : OwnBid). StandsIn c.args.bands.now db.trees b.item in
-          subst (λ (db : Database). AllByRecursion (P db) c.loop-number.found.items → AllByRecursion (P db) c.add_own_bid.new.found.items) (held.same before).0.now_is (c.in-Ok.ensures.stands clean) (held.stands before));
+          subst (λ (db : Database). AllByRecursion (P db) c.loop-number.found.items → AllByRecursion (P db) c.add_own_bid.new.found.items) (held.same before).0.now_is (c.in_ok-add_own_bid.ensures.stands clean) (held.stands before));
     }
 
 pub returns-then-len-ge-MOST_SHOWN-clause-value : goal.returns-then-len-ge-MOST_SHOWN-clause-value

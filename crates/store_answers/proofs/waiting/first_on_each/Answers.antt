@@ -17,14 +17,14 @@ loop-terms-preserved g c =
     let F = λ (t : Terms). waiting_in old.now.trees t.item in
     record {
       survives = both_survive old mid new held.survives crash;
-      same = λ clean. both_same old mid new (held.same (clean_before mid new crash clean)) (c.in-Ok.ensures.read.same clean);
+      same = λ clean. both_same old mid new (held.same (clean_before mid new crash clean)) (c.in_ok-add_first_waiting.ensures.read.same clean);
       mode = λ out. c.add_first_waiting.ensures.read.mode (held.mode out);
-      few = c.in-Ok.ensures.few;
+      few = c.in_ok-add_first_waiting.ensures.few;
       found = λ clean. (let before = clean_before mid new crash clean in
           first_found_more most_shown F c.args.own.now c.loop-terms.terms-index c.terms-item.result c.loop-terms.asked.items c.add_first_waiting.new.asked.items _ c.loop-terms-test.true (held.found before)
-          (subst (λ (db : Database). c.add_first_waiting.new.asked.items ≡ take most_shown (c.loop-terms.asked.items ++ waiting_in db.trees c.terms-item.result.item)) (held.same before).0.now_is (c.in-Ok.ensures.asked clean)
+          (subst (λ (db : Database). c.add_first_waiting.new.asked.items ≡ take most_shown (c.loop-terms.asked.items ++ waiting_in db.trees c.terms-item.result.item)) (held.same before).0.now_is (c.in_ok-add_first_waiting.ensures.asked clean)
           ∙ ap (λ (t : Terms). take most_shown (c.loop-terms.asked.items ++ F t)) c.terms-item.is));
-      fits = c.in-Ok.ensures.fits held.fits;
+      fits = c.in_ok-add_first_waiting.ensures.fits held.fits;
     }
 
 pub returns-then-len-ge-MOST_SHOWN-clause-asked : goal.returns-then-len-ge-MOST_SHOWN-clause-asked

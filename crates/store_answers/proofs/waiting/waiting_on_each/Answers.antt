@@ -16,11 +16,11 @@ loop-terms-preserved g c =
     let F = λ (t : Terms). waiting_in old.now.trees t.item in
     record {
       survives = both_survive old mid new held.survives crash;
-      same = λ clean. both_same old mid new (held.same (clean_before mid new crash clean)) (c.in-Ok.ensures.read.same clean);
+      same = λ clean. both_same old mid new (held.same (clean_before mid new crash clean)) (c.in_ok-add_waiting.ensures.read.same clean);
       mode = λ out. c.add_waiting.ensures.read.mode (held.mode out);
       found = λ clean. (let before = clean_before mid new crash clean in
           found_more F c.args.own.now c.loop-terms.terms-index c.terms-item.result c.loop-terms.asked.items c.add_waiting.new.asked.items _ c.loop-terms-test.true (held.found before)
-          (subst (λ (db : Database). c.add_waiting.new.asked.items ≡ c.loop-terms.asked.items ++ waiting_in db.trees c.terms-item.result.item) (held.same before).0.now_is (c.in-Ok.ensures.asked clean)
+          (subst (λ (db : Database). c.add_waiting.new.asked.items ≡ c.loop-terms.asked.items ++ waiting_in db.trees c.terms-item.result.item) (held.same before).0.now_is (c.in_ok-add_waiting.ensures.asked clean)
           ∙ ap (λ (t : Terms). c.loop-terms.asked.items ++ F t) c.terms-item.is));
-      fits = c.in-Ok.ensures.fits held.fits;
+      fits = c.in_ok-add_waiting.ensures.fits held.fits;
     }

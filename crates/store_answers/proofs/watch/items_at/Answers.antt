@@ -15,17 +15,17 @@ loop-number-preserved g c =
     let crash = c.add_item.ensures.read.crash in
     record {
       survives = both_survive old mid new held.survives crash;
-      same = λ clean. both_same old mid new (held.same (clean_before mid new crash clean)) (c.in-Ok.ensures.read.same clean);
+      same = λ clean. both_same old mid new (held.same (clean_before mid new crash clean)) (c.in_ok-add_item.ensures.read.same clean);
       mode = λ out. c.add_item.ensures.read.mode (held.mode out);
       found = λ clean. (let before = clean_before mid new crash clean in
           found_more (item_found old.now.trees) c.args.numbers.now c.loop-number.number-index 0 c.loop-number.items.items c.add_item.new.items.items _ c.loop-number-test.true (held.found before)
-          (subst (λ (db : Database). c.add_item.new.items.items ≡ c.loop-number.items.items ++ item_found db.trees (get_or c.args.numbers.now c.loop-number.number-index 0)) (held.same before).0.now_is (c.in-Ok.ensures.items clean)));
-      fits = c.in-Ok.ensures.fits held.fits;
-      stands = c.in-Ok.ensures.stands held.stands;
+          (subst (λ (db : Database). c.add_item.new.items.items ≡ c.loop-number.items.items ++ item_found db.trees (get_or c.args.numbers.now c.loop-number.number-index 0)) (held.same before).0.now_is (c.in_ok-add_item.ensures.items clean)));
+      fits = c.in_ok-add_item.ensures.fits held.fits;
+      stands = c.in_ok-add_item.ensures.stands held.stands;
     }
 
 pub returns-clause-small : goal.returns-clause-small
 returns-clause-small g c = all_small c.args.numbers.now (λ i. omega (arith, c.type_inv.numbers i))
 
-pub returns-in-Err-clause-small : goal.returns-in-Err-clause-small
-returns-in-Err-clause-small g c = all_small c.args.numbers.now (λ i. omega (arith, c.type_inv.numbers i))
+pub returns-in_err-add_item-clause-small : goal.returns-in_err-add_item-clause-small
+returns-in_err-add_item-clause-small g c = all_small c.args.numbers.now (λ i. omega (arith, c.type_inv.numbers i))

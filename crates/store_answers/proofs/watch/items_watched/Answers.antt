@@ -3,7 +3,6 @@ use Rattle.std.specs.List.{AllByRecursion}
 use Rattle.sqlite.specs.Effect.{Database}
 use Rattle.sqlite.specs.Held.{state}
 use Rattle.house_rows.specs.Keeping.{ItemRowFits}
-use Rattle.house_rows.specs.Tables.{ItemRow}
 use Rattle.store_rows.specs.ItemRows.{items_in}
 use Rattle.store_rows.proofs.StateLemmas.{ok_then}
 use Rattle.store_answers.specs.Joined.{item_found}

@@ -1,4 +1,4 @@
-use Rattle.std.proofs.Common.{arith, []}
+use Rattle.std.proofs.Common.{arith, rules, []}
 use Rattle.sqlite.specs.Held.{state}
 use Rattle.store_lists.specs.Tables.{tables_in}
 use Rattle.store_rows.proofs.StateLemmas.{ok_then}
@@ -15,5 +15,8 @@ returns-clause-ok g c clean =
     (c.in_ok-put_item.ensures.ok (omega (arith, c.set_clock.ensures.write.crash.clean)) (tables_in (state g.S.Store c.args.tx.now.conn.now).now.trees).settings.bands) w)
 
 -- the new item is said for any steps of bids
-pub set_clock-requires-clause-serves : goal.set_clock-requires-clause-serves
-set_clock-requires-clause-serves g c clean = ((c.in_ok-put_item.ensures.write.inside clean).is_open, (c.in_ok-put_item.ensures.ok clean []).house)
+pub set_clock-requires : goal.set_clock-requires
+set_clock-requires g c = record {
+  serves = λ clean. ((c.in_ok-put_item.ensures.write.inside clean).is_open, (c.in_ok-put_item.ensures.ok clean []).house);
+  begun = search rules;
+}

@@ -5,14 +5,15 @@ use Rattle.house_rows.specs.Fits.{QuestionFits}
 use Rattle.house_rows.specs.declared.change.Change.TheVariants.{Ask}
 use Rattle.store_lists.specs.Tables.{tables_in}
 use Rattle.store_lists.proofs.SortedTables.{found_sorted}
-use Rattle.store_entries.proofs.Keys.{all_unsorted, none_there, on_ok, some_there}
+use Rattle.store_entries.proofs.Keys.{none_there, on_ok, some_there}
 use Rattle.store_entries.proofs.Steps.{survives_change}
+use Rattle.store_lists.proofs.Shown.{every_stored}
 use Rattle.store_entries.proofs.questions.ask.Goals as goal
 
 pub returns-in_err-question_at-clause-damaged : goal.returns-in_err-question_at-clause-damaged
 unfolding tables_in
 returns-in_err-question_at-clause-damaged g c clean sound fits free is =
-    c.in_err-question_at.ensures.damaged clean (all_unsorted question_key QuestionFits _ sound.questions) (search rules)
+    c.in_err-question_at.ensures.damaged clean (every_stored question_key QuestionFits _ sound.questions) (search rules)
 
 pub returns-then-is_some-clause-damaged : goal.returns-then-is_some-clause-damaged
 unfolding tables_in

@@ -1,10 +1,7 @@
 use Rattle.std.proofs.Common.{◌≡◌, ◌∙◌, ap, rules, map, subst, sym}
 use Rattle.sqlite.specs.Held.{state}
 use Rattle.store_rows.specs.ItemRows.{item_of}
-use Rattle.house_rows.specs.Fits.{ItemFits}
-use Rattle.house_rows.specs.Tables.{ItemRow}
 use Rattle.std.specs.List.{AllByRecursion}
-use Rattle.store_rows.proofs.ShownRows.{parts_fit}
 use Rattle.store_rows.proofs.StateLemmas.{ok_then}
 use Rattle.store_items.proofs.ItemMeaning.{all_items_is}
 use Rattle.store_items.proofs.ItemLemmas.{items_answer}

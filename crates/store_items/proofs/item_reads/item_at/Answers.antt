@@ -1,9 +1,6 @@
 use Rattle.std.proofs.Common.{◌≡◌, ◌<◌, ◌^◌, ◌∙◌, ap, arith, rules, slice_get, option_map, subst, sym, IfSome}
 use Rattle.sqlite.specs.Held.{state}
 use Rattle.store_rows.specs.ItemRows.{item_of}
-use Rattle.house_rows.specs.Fits.{ItemFits}
-use Rattle.house_rows.specs.Tables.{ItemRow}
-use Rattle.store_rows.proofs.ShownRows.{part_fits}
 use Rattle.store_rows.proofs.StateLemmas.{ok_then}
 use Rattle.store_items.proofs.ItemMeaning.{item_at_is}
 use Rattle.store_items.proofs.ItemLemmas.{first_item}

@@ -11,6 +11,6 @@ loop-from-preserved g c = (
   λ clean.
       let held = c.loop-from.invariant in
       let early : HasCleanDisk (state g.S.Store c.loop-from.tx.conn.now) = omega (arith, c.put_band.ensures.write.crash.clean) in
-      let inside = c.in-Ok.ensures.write.inside clean in
-      (inside.is_open, inside.mode, inside.committed ∙ (held.2 early).2, band_more c.args.bands.now c.loop-from.from-index _ _ _ _ c.requires.valid c.loop-from-test.true refl (held.2 early).3 (c.in-Ok.ensures.ok clean)),
+      let inside = c.in_ok-put_band.ensures.write.inside clean in
+      (inside.is_open, inside.mode, inside.committed ∙ (held.2 early).2, band_more c.args.bands.now c.loop-from.from-index _ _ _ _ c.requires.valid c.loop-from-test.true refl (held.2 early).3 (c.in_ok-put_band.ensures.ok clean)),
 )

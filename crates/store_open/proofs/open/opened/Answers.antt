@@ -31,8 +31,14 @@ returns g c =
       only = λ clean db left. g.met.S.Store.settled c.read_counts.new.conn.store db (read clean).rests.is_open left ∙ ap (λ (d : Database). d.trees) (read clean).committed;
       mode = search rules;
       same = λ clean. ap (λ (d : Database). d.trees) (read clean).same ∙ c.in_ok-conn.ensures.same (first clean);
+      left = search rules;
       damaged = search rules;
     }
+
+pub returns-in_err-conn-clause-damaged : goal.returns-in_err-conn-clause-damaged
+returns-in_err-conn-clause-damaged g c is =
+    let left = c.house_anew.ensures.damaged (search rules) in
+    record { store = left.store; follows = left.follows; honest = λ clean sound. left.honest clean sound.house }
 
 pub returns-in_err-settings-clause-damaged : goal.returns-in_err-settings-clause-damaged
 returns-in_err-settings-clause-damaged g c is = record {

@@ -3,8 +3,8 @@ use Rattle.sqlite.specs.State.{HasCleanDisk}
 use Rattle.sqlite.specs.Held.{state}
 use Rattle.sqlite.specs.Values.{bound}
 use Rattle.sqlite.proofs.Callers.{unchanged_then}
-use Rattle.store_rows.proofs.StateLemmas.{ok_then}
-use Rattle.store_pages.proofs.StartLemmas.{first_before, on_ok_then, plain_at, shown_after}
+use Rattle.store_rows.proofs.StateLemmas.{ok_then, plain_at}
+use Rattle.store_pages.proofs.StartLemmas.{first_before, on_ok_then, shown_after}
 use Rattle.store_pages.proofs.first.page_rows.Goals as goal
 
 pub returns-clause-rows : goal.returns-clause-rows

@@ -6,8 +6,8 @@ use Rattle.sqlite.specs.State.{State, HasCleanDisk, IsUnchanged, Survives, Shown
 use Rattle.sqlite.specs.Held.{state}
 use Rattle.sqlite.specs.Values.{bound}
 use Rattle.sqlite.proofs.Callers.{IsPlain, shown_begins, given_begin, begun_plain}
-use Rattle.store_rows.proofs.StateLemmas.{only_reads, query_ended}
-use Rattle.store_pages.proofs.StartLemmas.{shown_before, on_error}
+use Rattle.store_rows.proofs.StateLemmas.{only_reads, query_ended, on_error}
+use Rattle.store_pages.proofs.StartLemmas.{shown_before}
 use Rattle.store_pages.proofs.first.rows_given.Goals as goal
 
 ends : (sql : List ℕ) (params : Row) (first old new : State) (rows : List Row) → IsPlain (understood first.now.schema sql) → IsUnchanged first old → Shown sql params old new rows → Begins sql params new rows

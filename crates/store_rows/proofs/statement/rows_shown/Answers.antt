@@ -1,15 +1,7 @@
-use Rattle.std.proofs.Common.{sym, subst, arith, rules, ℕ, List}
-use Rattle.sqlite.specs.State.{State}
+use Rattle.std.proofs.Common.{arith, rules}
 use Rattle.sqlite.specs.Held.{state}
-use Rattle.sqlite.specs.Listing.{understood}
-use Rattle.sqlite.proofs.Callers.{IsPlain}
-use Rattle.store_rows.specs.House.{IsHouse}
-use Rattle.store_rows.specs.Schema.{house_schema}
-use Rattle.store_rows.proofs.StateLemmas.{shown_same, query_ended, only_reads}
+use Rattle.store_rows.proofs.StateLemmas.{shown_same, query_ended, only_reads, plain_at}
 use Rattle.store_rows.proofs.statement.rows_shown.Goals as goal
-
-plain_at : (sql : List ℕ) (s : State) → IsPlain (understood house_schema sql) → IsHouse s.now → IsPlain (understood s.now.schema sql)
-plain_at sql s plain house = subst (λ x. IsPlain (understood x sql)) (sym house.schema) plain
 
 pub returns-in-Ok-clause-read : goal.returns-in-Ok-clause-read
 returns-in-Ok-clause-read g c =

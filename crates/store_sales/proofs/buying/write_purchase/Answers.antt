@@ -18,6 +18,6 @@ returns-clause-write g c = record {
       let mid_clean : HasCleanDisk (state g.S.Store c.set_bought.new.tx.conn.now) = omega (arith, c.set_clock.ensures.write.crash.clean) in
       let old_clean : HasCleanDisk (state g.S.Store c.args.tx.now.conn.now) = omega (arith, c.set_bought.ensures.write.crash.clean) in
       err_then c.set_clock.result (c.set_clock.ensures.write.err clean)
-      (λ _ kept. still_committed (state g.S.Store c.args.tx.now.conn.now) (state g.S.Store c.set_bought.new.tx.conn.now) (state g.S.Store c.set_clock.new.tx.conn.now) (c.requires.serves old_clean).0 (c.in_ok-set_bought.ensures.write.inside mid_clean).committed kept);
+      (λ _ kept. still_committed (state g.S.Store c.args.tx.now.conn.now) (state g.S.Store c.set_bought.new.tx.conn.now) (state g.S.Store c.set_clock.new.tx.conn.now) (c.requires.begun.serves old_clean).0 (c.in_ok-set_bought.ensures.write.inside mid_clean).committed kept);
   crash = search rules;
 }

@@ -15,11 +15,11 @@ loop-terms-preserved g c =
       survives_then old now next (λ _. ⊥) (λ _. ⊥) (λ _. ⊥) (λ _ _ none. none) (λ _ _ none. none) held.1 c.set_closed.ensures.write.crash,
       λ clean. let now_clean : HasCleanDisk now = omega (arith, c.set_closed.ensures.write.crash.clean) in
           let so = held.2 now_clean in
-          let inside = c.in-Ok.ensures.write.inside clean in (
+          let inside = c.in_ok-set_closed.ensures.write.inside clean in (
             inside.is_open,
             inside.mode,
             inside.committed ∙ so.2,
-            closing_steps c.args.due.now c.loop-terms.terms-index c.terms-item.result c.is_some.result old.now now.now next.now (omega (arith, c.loop-terms-test.true)) c.terms-item.is c.is_some.ensures so.3 (c.in-Ok.ensures.ok clean),
+            closing_steps c.args.due.now c.loop-terms.terms-index c.terms-item.result c.is_some.result old.now now.now next.now (omega (arith, c.loop-terms-test.true)) c.terms-item.is c.is_some.ensures so.3 (c.in_ok-set_closed.ensures.ok clean),
           ),
     )
 

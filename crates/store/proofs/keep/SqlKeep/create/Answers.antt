@@ -1,6 +1,6 @@
-use Rattle.std.proofs.Common.{arith, Result, Ok, Err}
-use Rattle.std.specs.Prelude.{OnErr}
+use Rattle.std.proofs.Common.{arith}
 use Rattle.store.proofs.Begins.{known_new}
+use Rattle.store_rows.proofs.StateLemmas.{on_error}
 use Rattle.store.proofs.keep.SqlKeep.create.Goals as goal
 
 pub invariant_of-result : goal.invariant_of-result
@@ -12,12 +12,9 @@ invariant_of-result g c = record {
 }
 
 -- an error leaves what is so
-on_err : {A E P : Type 0} (r : Result A E) → P → OnErr r P
-on_err (Ok a) so = tt
-on_err (Err e) so = so
 
 pub returns-in_err-make_house-clause-left : goal.returns-in_err-make_house-clause-left
-returns-in_err-make_house-clause-left g c = on_err c.from_residual.result (record {
+returns-in_err-make_house-clause-left g c = on_error c.from_residual.result (record {
   last = c.make_house.new.conn;
   back = c.in_err-make_house.ensures.err;
   survives = c.make_house.ensures.crash;

@@ -1,8 +1,8 @@
-use Rattle.std.proofs.Common.{sym, ap, arith}
+use Rattle.std.proofs.Common.{ap, arith}
 use Rattle.std.specs.Prelude.{Err}
 use Rattle.sqlite.specs.Held.{state}
 use Rattle.sqlite.specs.State.{HasCleanDisk}
-use Rattle.store.proofs.Known.{known_bands, known_sound, told_sound}
+use Rattle.store.proofs.Known.{known_bands, known_sound, told_sound, works}
 use Rattle.store.proofs.keep.SqlKeepKeep.watches_of.Goals as goal
 
 pub returns-in-Err-clause-faults : goal.returns-in-Err-clause-faults
@@ -10,9 +10,9 @@ returns-in-Err-clause-faults g c = rw (← c.self.view_is)
     (told_sound _ _ _ _ _ c.told_fault.ensures.fault c.told_fault.ensures.store (λ honest sound is.
     let clean : HasCleanDisk (state g.S.Store c.items_watched.new.conn) = omega (arith, c.told_fault.ensures.crash.clean, honest) in
     let before : HasCleanDisk (state g.S.Store c.self.inside.conn) = omega (arith, c.in-Err.ensures.read.crash.clean, clean) in
-    c.in-Err.ensures.damaged clean (known_sound _ _ _ _ (c.self.invariant.known c.if-self.false before) sound) (ap Err is)))
+    c.in-Err.ensures.damaged clean (known_sound _ _ _ _ (c.self.invariant.known (works _ _ c.self.view_is c.in_ok-serves.ensures.ok) before) sound) (ap Err is)))
 
-pub returns-in-Ok-clause-stands : goal.returns-in-Ok-clause-stands
-returns-in-Ok-clause-stands g c = λ honest.
-    let before : HasCleanDisk (state g.S.Store c.self.inside.conn) = omega (arith, c.in-Ok.ensures.read.crash.clean, honest) in
-    rw (← c.self.view_is, known_bands _ _ _ _ (c.self.invariant.known c.if-self.false before)) c.in-Ok.ensures.stands
+pub returns-in-Ok-items_watched-clause-stands : goal.returns-in-Ok-items_watched-clause-stands
+returns-in-Ok-items_watched-clause-stands g c = λ honest.
+    let before : HasCleanDisk (state g.S.Store c.self.inside.conn) = omega (arith, c.in-Ok-items_watched.ensures.read.crash.clean, honest) in
+    rw (← c.self.view_is, known_bands _ _ _ _ (c.self.invariant.known (works _ _ c.self.view_is c.in_ok-serves.ensures.ok) before)) c.in-Ok-items_watched.ensures.stands
