@@ -34,7 +34,9 @@ fn behind_spaces(bytes: &[u8]) -> &[u8]
     &bytes[end..]
 }
 
-// How many bytes in front stand for themselves in a string.
+// How many bytes in front stand for themselves in a string. Inlined, its loop would carry along each place
+// that is reckoned from its end, an instruction more a byte for each.
+#[inline(never)]
 fn plain_length(bytes: &[u8]) -> usize
     ensures plain { escape (take result bytes.now) ≡ take result bytes.now }
     ensures within { result ≤ length bytes.now }
@@ -195,7 +197,9 @@ fn ends(bytes: &[u8]) -> bool
     }
 }
 
-/// The members of an object that the bytes are. Where there are none, the bytes may yet be any.
+/// The members of an object that the bytes are. Where there are none, the bytes may yet be any. It stands
+/// apart, so that others clear no room for its table.
+#[inline(never)]
 pub(crate) fn flat_object(bytes: &[u8]) -> Option<Flat<'_>>
     ensures { IfSome result (IsFlat bytes.now) }
 {
