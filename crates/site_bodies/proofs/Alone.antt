@@ -2,7 +2,7 @@
 use Rattle.std.proofs.Common.{◌≡◌, ◌≢◌, ℕ, ◌<◌, ◌≤◌, ◌+◌, List, [], ◌∷◌, ◌++◌, length, take, get_or, refl, sym, ap, ◌∙◌, subst, Option, Some, None}
 use Rattle.std.specs.Prelude.{IfSome}
 use Rattle.std.specs.Borrow.{Bor}
-use Rattle.std.specs.Str.{IsAscii}
+use Rattle.std.specs.Str.{IsAscii, IsUtf8}
 use Rattle.std.proofs.lemmas.List.{take_more}
 use Rattle.std.proofs.lemmas.List.Concat.{flat_map-append}
 use Rattle.std.proofs.lemmas.Str.{IsUtf8-from_ascii}
@@ -65,6 +65,12 @@ text_alone {quoted = quoted} name text (Some s) own ascii front is behind gap qu
     (text_passed text (125 ∷ []) told.plain told.utf8) in
     alone (record { name = name; value = plain.Text s }) own ascii front is behind gap
     (text_value s (subst (λ l. Passes quoted (token (t.string l) ∷ []) (125 ∷ [])) (sym told.same) passed))
+
+-- a text of bytes that stand for themselves
+pub plain_is : {bytes : List ℕ} (o : Option (Bor (List ℕ))) → escape bytes ≡ bytes
+    → IfSome o (λ s. (s.now ≡ bytes) × IsUtf8 bytes) → IfSome o (λ s. IsPlain bytes s.now)
+plain_is None own told = tt
+plain_is (Some s) own told = record { same = told.0; plain = own; utf8 = told.1 }
 
 -- one byte more that stands for itself
 pub plain_step : (bytes : List ℕ) (i : ℕ) → i < length bytes → escape (take i bytes) ≡ take i bytes

@@ -1,5 +1,5 @@
 -- An object of a few texts, whole numbers and nulls, as it is read in one walk.
-use Rattle.std.proofs.Common.{◌≡◌, ℕ, ℤ, negsuc, suc, zero, ◌<◌, ◌≤◌, ◌+◌, ◌-◌, ◌^◌, List, [], ◌∷◌, ◌++◌, length, length-drop, get_or, set, take_all, take-append-drop, Bool, true, false, refl, sym, ap, ap₂, ◌∙◌, ◌==◌, subst, arith, take, drop, append_assoc, decimal, Option, Some, inl, inr, bytes_eq, cond}
+use Rattle.std.proofs.Common.{◌≡◌, ℕ, ℤ, negsuc, suc, zero, ◌<◌, ◌≤◌, ◌+◌, ◌-◌, ◌^◌, List, [], ◌∷◌, ◌++◌, length, length-drop, get_or, set, take_all, take-append-drop, Bool, true, false, refl, sym, ap, ap₂, ◌∙◌, ◌==◌, subst, arith, take, drop, append_assoc, decimal, Option, None, Some, inl, inr, bytes_eq, cond}
 use Rattle.std.specs.Borrow.{Bor}
 use Rattle.std.specs.Fmt.{signed_decimal}
 use Rattle.std.specs.Prelude.{if◌then◌else◌, IsUtf8, option_and_then, option_map, ⊤}
@@ -376,16 +376,41 @@ found_push name ss s = elim (cases_Bool (bytes_eq s.name.now name)) [
   | inr not ↦ rw not (found_before name ss s (λ e. other_key name s.name.now not (sym e)))
 ]
 
-pub last_step : (name : List ℕ) (xs : List Slot) (i : ℕ) (d : Slot) (o r : Option Data) → i < length xs
-    → o ≡ get_member name (put_all (take i xs) no_members)
-    → r ≡ cond (bytes_eq (get_or xs i d).name.now name) (Some (data_of (get_or xs i d).value)) o
-    → r ≡ get_member name (put_all (take (i + 1) xs) no_members)
-last_step name xs i d o r inside so_far told =
-    let s = get_or xs i d in
-    told ∙ ap (λ p. cond (bytes_eq s.name.now name) (Some (data_of s.value)) p) so_far
-    ∙ sym (found_push name (take i xs) s)
-    ∙ sym (ap (λ ss. get_member name (put_all ss no_members)) (take_more xs i d inside))
+-- a search from the end: the last member before the end has the name, or it has none but those before it
+last_before : (name : List ℕ) (xs : List Slot) (end : ℕ) (d : Slot) → 0 < end → end ≤ length xs
+    → get_member name (put_all (take end xs) no_members)
+    ≡ cond (bytes_eq (get_or xs (end - 1) d).name.now name) (Some (data_of (get_or xs (end - 1) d).value))
+    (get_member name (put_all (take (end - 1) xs) no_members))
+last_before name xs end d some within =
+    let one : end ≡ end - 1 + 1 = omega (arith, some) in
+    ap (λ i. get_member name (put_all (take i xs) no_members)) one
+    ∙ ap (λ ss. get_member name (put_all ss no_members)) (take_more xs (end - 1) d (omega (arith, some, within)))
+    ∙ found_push name (take (end - 1) xs) (get_or xs (end - 1) d)
 
-pub last_end : (name : List ℕ) (xs : List Slot) (i : ℕ) (o : Option Data) → length xs ≤ i
-    → o ≡ get_member name (put_all (take i xs) no_members) → o ≡ get_member name (put_all xs no_members)
-last_end name xs i o all so_far = so_far ∙ ap (λ ss. get_member name (put_all ss no_members)) (take_all i xs all)
+pub last_begins : (name : List ℕ) (xs : List Slot)
+    → get_member name (put_all (take (length xs) xs) no_members) ≡ get_member name (put_all xs no_members)
+last_begins name xs = ap (λ ss. get_member name (put_all ss no_members)) (take_all (length xs) xs (omega arith))
+
+pub last_found : (name : List ℕ) (xs : List Slot) (end : ℕ) (d : Slot) → 0 < end → end ≤ length xs
+    → get_member name (put_all (take end xs) no_members) ≡ get_member name (put_all xs no_members)
+    → bytes_eq (get_or xs (end - 1) d).name.now name ≡ true
+    → Some (data_of (get_or xs (end - 1) d).value) ≡ get_member name (put_all xs no_members)
+last_found name xs end d some within so_far here =
+    let v = Some (data_of (get_or xs (end - 1) d).value) in
+    sym (ap (λ b. cond b v (get_member name (put_all (take (end - 1) xs) no_members))) here)
+    ∙ sym (last_before name xs end d some within) ∙ so_far
+
+pub last_passed : (name : List ℕ) (xs : List Slot) (end : ℕ) (d : Slot) → 0 < end → end ≤ length xs
+    → get_member name (put_all (take end xs) no_members) ≡ get_member name (put_all xs no_members)
+    → bytes_eq (get_or xs (end - 1) d).name.now name ≡ false
+    → get_member name (put_all (take (end - 1) xs) no_members) ≡ get_member name (put_all xs no_members)
+last_passed name xs end d some within so_far other =
+    let v = Some (data_of (get_or xs (end - 1) d).value) in
+    sym (ap (λ b. cond b v (get_member name (put_all (take (end - 1) xs) no_members))) other)
+    ∙ sym (last_before name xs end d some within) ∙ so_far
+
+pub last_none : (name : List ℕ) (xs : List Slot) (end : ℕ) → end ≤ 0
+    → get_member name (put_all (take end xs) no_members) ≡ get_member name (put_all xs no_members)
+    → None ≡ get_member name (put_all xs no_members)
+last_none name xs zero none so_far = so_far
+last_none name xs (suc end) none so_far = absurd (omega (arith, none))

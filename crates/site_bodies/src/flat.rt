@@ -1,5 +1,5 @@
 //! Objects of a few texts, whole numbers and nulls, read in one walk over their bytes.
-ghost use Rattle.std.specs.Prelude.{◌≡◌, ◌≤◌, [], ◌∷◌, IfSome, IsTrue, Some, cond, length, option_map, take, true};
+ghost use Rattle.std.specs.Prelude.{◌≡◌, ◌≤◌, [], ◌∷◌, IfSome, IsTrue, Some, length, option_map, take, true};
 ghost use Rattle.std.specs.Str.{bytes_eq};
 ghost use Rattle.json.specs.Lex.{comma, token};
 ghost use Rattle.json.specs.Print.{escape};
@@ -13,7 +13,7 @@ ghost use Rattle.site_bodies.specs.Passes.{IsMember, IsSize, IsValue, Passes};
 ghost use Rattle.site_bodies.specs.Slots.{data_of, put_all};
 ghost use Rattle.site_bodies.specs.Values.{integer_in, maybe_whole_in, text_in, whole_in};
 
-use crate::lone::{behind, is_plain};
+use crate::lone::{behind, is_plain, text_of};
 use crate::numeral::signed;
 use crate::slots::{EMPTY, Flat, MOST, Plain, Slot};
 
@@ -55,10 +55,8 @@ fn text(bytes: &[u8]) -> Option<(&str, &[u8])>
     let inside = behind(bytes, b"\"")?;
     let end = plain_length(inside);
     let after = behind(&inside[end..], b"\"")?;
-    match simdutf8::compat::from_utf8(&inside[..end]) {
-        Ok(text) => Some((text, after)),
-        Err(_) => None,
-    }
+    let text = text_of(&inside[..end])?;
+    Some((text, after))
 }
 
 // How many digits stand in front.
@@ -264,28 +262,26 @@ impl<'a> Plain<'a> {
     }
 }
 
-// The value of a member, if it has that name, and else what was found before.
-fn later<'a>(slot: &Slot<'a>, name: &str, found: Option<Plain<'a>>) -> Option<Plain<'a>>
-    ensures { option_map data_of result
-        ≡ cond (bytes_eq slot.now.name.now name.now) (Some (data_of slot.now.value))
-        (option_map data_of found.entry) }
+// Whether a member has that name.
+fn is_named(slot: &Slot<'_>, name: &str) -> bool
+    ensures { result ≡ bytes_eq slot.now.name.now name.now }
 {
-    if slot.name == name {
-        Some(slot.value)
-    } else {
-        found
-    }
+    slot.name == name
 }
 
-// The last value of that name.
+// The last value of that name, which is looked for from the end.
 fn last<'a>(slots: &[Slot<'a>], name: &str) -> Option<Plain<'a>>
     ensures { option_map data_of result ≡ get_member name.now (put_all slots.now no_members) }
 {
-    let mut found = None;
-    for slot in slots {
-        found = later(slot, name, found);
+    let mut end = slots.len();
+    while end > 0 {
+        let slot = &slots[end - 1];
+        if is_named(slot, name) {
+            return Some(slot.value);
+        }
+        end -= 1;
     }
-    found
+    None
 }
 
 impl<'a> Flat<'a> {

@@ -1,10 +1,13 @@
 //! Bodies that are one number or one text under a name.
 ghost use Rattle.std.specs.Prelude.{◌≡◌, ◌≢◌, ◌≤◌, ◌++◌, ◌∷◌, [], IfSome, IsTrue};
-ghost use Rattle.std.specs.Str.{IsAscii};
+ghost use Rattle.std.specs.Str.{IsAscii, IsUtf8};
 ghost use Rattle.json.specs.Print.{escape};
 ghost use Rattle.site_bodies.specs.LoneNumber.{IsLone};
 ghost use Rattle.site_bodies.specs.LoneString.{IsLoneText, IsPlain};
 ghost use Rattle.site_bodies.specs.Passes.{Passes};
+
+// A text of fewer bytes `simdutf8` hands on to std.
+const SHORT: usize = 64;
 
 // What stands behind the front.
 #[inline(always)]
@@ -59,6 +62,23 @@ pub(crate) fn is_plain(byte: u8) -> bool
     byte >= 0x20 && byte != b'"' && byte != b'\\'
 }
 
+// The text that bytes are, if they are UTF-8. A short one, as most are, goes to std without a detour.
+pub(crate) fn text_of(bytes: &[u8]) -> Option<&str>
+    ensures { IfSome result (λ text. (text.now ≡ bytes.now) × IsUtf8 bytes.now) }
+{
+    if bytes.len() < SHORT {
+        match str::from_utf8(bytes) {
+            Ok(text) => Some(text),
+            Err(_) => None,
+        }
+    } else {
+        match simdutf8::compat::from_utf8(bytes) {
+            Ok(text) => Some(text),
+            Err(_) => None,
+        }
+    }
+}
+
 // The text that bytes are, if each stands for itself.
 fn plain_text(bytes: &[u8]) -> Option<&str>
     ensures { IfSome result (λ text. IsPlain bytes.now text.now) }
@@ -68,10 +88,7 @@ fn plain_text(bytes: &[u8]) -> Option<&str>
             return None;
         }
     }
-    match simdutf8::compat::from_utf8(bytes) {
-        Ok(text) => Some(text),
-        Err(_) => None,
-    }
+    text_of(bytes)
 }
 
 /// The whole number of a body that is an object of this one number, if it is written without spaces,

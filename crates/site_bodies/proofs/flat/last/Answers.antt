@@ -1,11 +1,23 @@
-use Rattle.std.proofs.Common.{arith}
-use Rattle.site_bodies.proofs.Walked.{last_end, last_step}
+use Rattle.std.proofs.Common.{arith, sym}
+use Rattle.site_bodies.proofs.Walked.{last_begins, last_found, last_none, last_passed}
 use Rattle.site_bodies.proofs.flat.last.Goals as goal
 
-pub loop-slot-preserved : goal.loop-slot-preserved
-loop-slot-preserved c = last_step c.args.name.now c.args.slots.now c.loop-slot.slot-index _ _ _
-    (omega (arith, c.loop-slot-test.true)) c.loop-slot.invariant c.later-found.ensures
+pub loop-end-init : goal.loop-end-init
+loop-end-init c = (omega arith, last_begins c.args.name.now c.args.slots.now)
+
+pub returns-then-is_named : goal.returns-then-is_named
+returns-then-is_named c = last_found c.args.name.now c.args.slots.now c.loop-end.end _
+    (omega (arith, c.loop-end-test.true)) c.loop-end.invariant.0 c.loop-end.invariant.1
+    (sym c.if-is_named.ensures)
+
+pub loop-end-preserved : goal.loop-end-preserved
+loop-end-preserved c = (
+  omega (arith, c.loop-end.invariant.0),
+  last_passed c.args.name.now c.args.slots.now c.loop-end.end _
+      (omega (arith, c.loop-end-test.true)) c.loop-end.invariant.0 c.loop-end.invariant.1
+      (sym c.if-is_named.ensures),
+)
 
 pub returns : goal.returns
-returns c = last_end c.args.name.now c.args.slots.now c.loop-slot.slot-index _ (omega (arith, c.loop-slot-test.false))
-    c.loop-slot.invariant
+returns c = last_none c.args.name.now c.args.slots.now c.loop-end.end (omega (arith, c.loop-end-test.false))
+    c.loop-end.invariant.1

@@ -1,11 +1,13 @@
--- the last value so far
-use Rattle.std.proofs.Common.{◌≡◌, take}
-use Rattle.std.specs.Prelude.{option_map}
+-- nothing behind the end has the name
+use Rattle.std.proofs.Common.{◌≡◌, ◌≤◌, length, take}
 use Rattle.serde_json.specs.Data.{no_members}
 use Rattle.serde_json.specs.Find.{get_member}
-use Rattle.site_bodies.specs.Slots.{data_of, put_all}
+use Rattle.site_bodies.specs.Slots.{put_all}
 use Rattle.site_bodies.proofs.flat.last.Given as goal
 
-abbrev pub invariant-loop-slot : goal.invariant-loop-slot
-invariant-loop-slot l =
-    option_map data_of l.found ≡ get_member l.name (put_all (take l.slot-index l.slots) no_members)
+abbrev pub invariant-loop-end : goal.invariant-loop-end
+invariant-loop-end l = (l.end ≤ length l.slots)
+    × (get_member l.name (put_all (take l.end l.slots) no_members) ≡ get_member l.name (put_all l.slots no_members))
+
+abbrev pub decreases-loop-end : goal.decreases-loop-end
+decreases-loop-end l = l.end
