@@ -1,5 +1,5 @@
 //! Serving a stream.
-ghost use Rattle.std.specs.Prelude.{◌≡◌, ◌⊎◌, ◌++◌, ◌<◌, ℕ, List, Ok, Err, true, false, length, IfOk, IfErr, IfSome, IsErr, OnOk, OnErr};
+ghost use Rattle.std.specs.Prelude.{◌≡◌, ◌⊎◌, ◌↔◌, ◌++◌, ◌<◌, ℕ, List, Ok, Err, true, false, length, IfOk, IfErr, IfSome, IsErr, OnOk, OnErr};
 ghost use Rattle.std.specs.Io.KnownBytes.{Appends, Consumes, IsAtEnd, Keeps};
 ghost use Rattle.device.specs.Given.{AppendsBeginning};
 ghost use Rattle.site.specs.Answers.{IsStep, zone_of};
@@ -54,7 +54,7 @@ fn fill<R: Source>(source: &mut R, inbox: &mut Inbox) -> Result<usize, Failure>
         × (inbox.new.held ≡ inbox.old.held ++ bytes)) }
     ensures end { IfOk result (λ n. n ≡ 0 → IsAtEnd (R.left source.new)) }
     ensures err { OnErr result (Keeps (R.left source.old) (R.left source.new)) }
-    ensures failed { IsErr result → R.has_failed source.new ≡ true }
+    ensures failed { IsErr result ↔ (R.has_failed source.new ≡ true) }
 {
     let count = source.take(inbox.space())?;
     inbox.took(count);
@@ -147,10 +147,13 @@ pub fn serve<R: Source, W: Sink, K: Keep + Drop>(
         (R.left source.old) (R.left source.new) most (W.taken sink.old) (W.taken sink.new)
         (keep_of site.old) (keep_of site.new) }
 
-    // All that the sink took is handed on at the end, and before each wait: any of them may fail.
+    // All that the sink took is handed on at the end, and before each wait: any of them may fail, and
+    // is told as Read then, so that a sink which fails behind it could not be told.
     ensures handed_on { OnOk result (IsFlushed W.handed_on W.taken sink.old sink.new) }
     ensures waits { result ≡ Err ServeFault.Read
         → IsFlushed W.handed_on W.taken sink.old sink.new }
+    ensures source { R.has_failed source.new ≡ true
+        → (R.has_failed source.old ≡ true) ⊎ (result ≡ Err ServeFault.Read) }
     ensures zone { zone_of site.new ≡ zone_of site.old }
 {
     let Ok(mut inbox) = Inbox::new(alloc) else {

@@ -1,5 +1,5 @@
 -- Each exit ends the run so far.
-use Rattle.std.proofs.Common.{◌≡◌, ◌∙◌, [], ap, sym, refl, arith, drop, inl}
+use Rattle.std.proofs.Common.{◌≡◌, ◌∙◌, [], ap, sym, refl, arith, drop, inl, inr}
 use Rattle.std.proofs.KnownBytes.{Keeps-refl}
 use Rattle.site_serve.specs.Serving.{fault_bytes}
 use Rattle.site_serve.proofs.Ends.{ended_in_answer, ended_in_fault, ended_so_far}
@@ -13,6 +13,7 @@ loop-messages-init g c = record {
   end = λ e. absurd cc;
   some = λ e. absurd cc;
   flushed = λ e. inl refl;
+  source = λ e. e;
   zone = refl;
 }
 
@@ -61,6 +62,7 @@ loop-messages-preserved-in-Whole g c =
       end = c.loop-messages.invariant.end;
       some = λ e. omega arith;
       flushed = λ e. absurd cc;
+      source = c.loop-messages.invariant.source;
       zone = c.answer.ensures.zone ∙ c.loop-messages.invariant.zone;
     }
 
@@ -84,13 +86,14 @@ loop-messages-preserved g c =
       some = λ e. absurd cc;
       flushed = λ e. flushed_on g.W.Sink.handed_on g.W.Sink.taken _ _ _ _ c.loop-messages.invariant.flushed
           (on_ok c.hand_on.result (sym c.is_err-in-More.ensures.value ∙ c.if-is_err-2.false) c.hand_on.ensures.flushed);
+      source = λ e. absurd (let wrong = c.in-Ok-fill.ensures.failed.1 e in cc);
       zone = c.loop-messages.invariant.zone;
     }
 
 -- where the reader failed, all had been handed on
 pub returns-in-Err-clause-read : goal.returns-in-Err-clause-read
 returns-in-Err-clause-read g c = λ e. (
-  c.in-Err.ensures.failed refl,
+  c.in-Err.ensures.failed.0 refl,
   read_failed _ _ _ _ _ _ _ _ _ _ c.loop-messages.messages c.args.most
       c.loop-messages.invariant.run c.loop-messages-test.true c.in-More.ensures.1 c.in-Err.ensures.err c.hand_on.ensures.bytes,
 )
@@ -236,3 +239,31 @@ returns-clause-crash g c =
     ended_so_far _ _ _ _ _ _ _ _ _ _ _ _ _ _ c.loop-messages.messages c.args.most
     c.loop-messages.invariant.run c.loop-messages.invariant.few (Keeps-refl _)
     c.finish-2.ensures.bytes
+
+-- a source that failed is told as such
+pub returns-in_default-clause-source : goal.returns-in_default-clause-source
+returns-in_default-clause-source g c = λ e. inl e
+
+pub returns-then-is_err-clause-source : goal.returns-then-is_err-clause-source
+returns-then-is_err-clause-source g c = λ e. inl (c.loop-messages.invariant.source e)
+
+pub returns-then-closes-clause-source : goal.returns-then-closes-clause-source
+returns-then-closes-clause-source g c = λ e. inl (c.loop-messages.invariant.source e)
+
+pub returns-then-is_err-2-clause-source : goal.returns-then-is_err-2-clause-source
+returns-then-is_err-2-clause-source g c = λ e. inl (c.loop-messages.invariant.source e)
+
+pub returns-in-Err-clause-source : goal.returns-in-Err-clause-source
+returns-in-Err-clause-source g c = λ e. inr refl
+
+pub returns-in-Clean-clause-source : goal.returns-in-Clean-clause-source
+returns-in-Clean-clause-source g c = λ e. inl (c.loop-messages.invariant.source e)
+
+pub returns-then-is_err-3-clause-source : goal.returns-then-is_err-3-clause-source
+returns-then-is_err-3-clause-source g c = λ e. inl (c.loop-messages.invariant.source e)
+
+pub returns-in-Fault-clause-source : goal.returns-in-Fault-clause-source
+returns-in-Fault-clause-source g c = λ e. inl (c.loop-messages.invariant.source e)
+
+pub returns-clause-source : goal.returns-clause-source
+returns-clause-source g c = λ e. inl (c.loop-messages.invariant.source e)

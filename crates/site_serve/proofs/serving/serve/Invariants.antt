@@ -15,6 +15,7 @@ invariant-loop-messages g l = record {
   end : l.ended ≡ true → IsAtEnd (g.R.Source.left l.source);
   some : l.given ≡ true → 0 < l.messages;
   flushed : l.given ≡ false → IsFlushed g.W.Sink.handed_on g.W.Sink.taken l.fn.sink l.sink;
+  source : g.R.Source.has_failed l.source ≡ true → g.R.Source.has_failed l.fn.source ≡ true;
   zone : zone_of l.site ≡ zone_of l.fn.site;
 }
 
