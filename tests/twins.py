@@ -68,6 +68,11 @@ def apart(member, left, right):
     return None
 
 
+def are_lists(left, right):
+    """Whether both are lists of messages: one may have been given a field more than it may have."""
+    return not any(map(frame_fault, [*left.requests, *right.requests]))
+
+
 class Pairs:
     """Pairs of lists that were audited, and which were wrong."""
 
@@ -112,7 +117,7 @@ class Pairs:
                 kinds.append(request.target.split("/")[-1])
             if len(kinds) == KEPT:
                 break
-        if not kinds:
+        if not kinds or not are_lists(left, right):
             return
         self.equal += 1
         self.kinds.update(kinds)
@@ -138,8 +143,7 @@ class Pairs:
         left = Run(settings, requests, member)
         right = Run(settings, self.changed(requests), member)
         step = apart(member, left, right)
-        # A change may give a message a field more than it may have: a file of that is no list.
-        if step is None or any(map(frame_fault, [*left.requests, *right.requests])):
+        if step is None or not are_lists(left, right):
             return
         self.apart += 1
         self.parts[min(3, 4 * step // (len(requests) + 1))] += 1
