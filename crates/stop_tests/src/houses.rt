@@ -1,0 +1,123 @@
+//! Houses on two files: made, opened, given commands, and shown.
+use crate::fault::Fault;
+use crate::order::Order;
+use house::decide;
+use house_rows::{Keep, KeepFault, Rate, Refusal, Settings, Text};
+use sqlite::{Connection, FileStore, Options};
+use std::alloc::Global;
+use std::fmt::Write;
+use steps::Bands;
+use stop_files::{Pair, Stopping};
+use store::SqlKeep;
+
+/// The keep of a house on two files.
+pub(crate) type FileKeep<'p> = SqlKeep<FileStore<Stopping<'p>>>;
+
+// What the salts of the logs are drawn from.
+const SEED: u64 = 2026;
+
+// What the houses are set up with.
+fn settings(alloc: Global) -> Result<Settings, KeepFault> {
+    let bands = Bands::example(alloc).map_err(|_| KeepFault::Memory)?;
+    let rate = Rate::new(1_000).ok_or(KeepFault::Damaged)?;
+    let zone = Text::copy_of(alloc, "UTC0").map_err(|_| KeepFault::Memory)?;
+    Ok(Settings { bands, rate, zone })
+}
+
+/// How much room a connection has.
+#[derive(Clone, Copy, Debug)]
+pub(crate) struct Room {
+    /// How many pages that were read are kept in memory.
+    pub(crate) read: usize,
+    /// How many written pages are kept in memory before they go to the log.
+    pub(crate) written: usize,
+    /// How many pages the log has before it is copied into the database file.
+    pub(crate) logged: usize,
+}
+
+// The connection with the database on two files, if it can be opened.
+fn connected(
+    alloc: Global,
+    pair: &Pair,
+    room: Room,
+) -> Result<Connection<FileStore<Stopping<'_>>>, KeepFault> {
+    let files = pair.files();
+    if !files.may_be_used() {
+        return Err(KeepFault::Store);
+    }
+    let options = Options {
+        cache_pages: room.read,
+        spill_pages: room.written,
+        checkpoint_frames: room.logged,
+        seed: SEED,
+    };
+    match Connection::open_files(alloc, files, options) {
+        Ok(conn) => Ok(conn),
+        Err(_) => Err(KeepFault::Store),
+    }
+}
+
+/// The keep of a new house.
+pub(crate) fn created(alloc: Global, pair: &Pair, room: Room) -> Result<FileKeep<'_>, KeepFault> {
+    SqlKeep::create(alloc, connected(alloc, pair, room)?, settings(alloc)?)
+}
+
+/// The keep of the house that is there.
+pub(crate) fn opened(alloc: Global, pair: &Pair, room: Room) -> Result<FileKeep<'_>, KeepFault> {
+    SqlKeep::open(alloc, connected(alloc, pair, room)?)
+}
+
+/// Gives a command, and tells why it is refused, if it is.
+pub(crate) fn give<K: Keep>(keep: &mut K, order: &Order) -> Result<Option<Refusal>, KeepFault> {
+    match decide(keep, order.moment, order.caller, &order.command) {
+        Err(fault) => Err(fault),
+        Ok(Err(refusal)) => Ok(Some(refusal)),
+        Ok(Ok(change)) => {
+            keep.apply(&change)?;
+            Ok(None)
+        }
+    }
+}
+
+/// Gives a command, which has to be accepted.
+pub(crate) fn take<K: Keep>(keep: &mut K, order: &Order) -> Result<(), Fault> {
+    match give(keep, order)? {
+        None => Ok(()),
+        Some(_) => Err(Fault::House),
+    }
+}
+
+/// All that the house shows to anybody.
+pub(crate) fn shown<K: Keep>(alloc: Global, keep: &mut K) -> Result<String, Fault> {
+    let mut text = String::new(alloc);
+    write!(text, "{} {:?}", keep.clock()?, keep.members()?)?;
+    write!(text, " {:?} {:?}", keep.categories()?, keep.items()?)?;
+    write!(
+        text,
+        " {:?} {:?}",
+        keep.all_published()?,
+        keep.all_feedback()?
+    )?;
+    for member in 1..=u64::from(keep.counts()?.members) {
+        show_member(&mut text, keep, member)?;
+    }
+    Ok(text)
+}
+
+// Adds what the house shows to a member alone.
+fn show_member<K: Keep>(text: &mut String, keep: &mut K, member: u64) -> Result<(), Fault> {
+    write!(
+        text,
+        " {:?} {:?}",
+        keep.bids_of(member, 0)?,
+        keep.watches_of(member)?
+    )?;
+    write!(
+        text,
+        " {:?} {:?}",
+        keep.questions_of(member, 0)?,
+        keep.waiting_for(member)?
+    )?;
+    write!(text, " {:?}", keep.sold_of(member)?)?;
+    Ok(())
+}
