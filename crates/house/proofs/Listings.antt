@@ -8,6 +8,7 @@ use Rattle.proxy.specs.Bids.{leader, price, second}
 use Rattle.proxy.specs.Rules.{first_failing}
 use Rattle.proxy.specs.declared.bid.Bid as bid
 use Rattle.house_rows.specs.declared.change.Change.TheVariants as change
+use Rattle.house_rows.specs.declared.change.NewItem.{NewItem}
 use Rattle.house_rows.specs.declared.command.Command.{Command}
 use Rattle.house_rows.specs.declared.command.Command.TheVariants.{Close, Settle, List as Listed}
 use Rattle.house_rows.specs.declared.refusal.Refusal.{Refusal}
@@ -116,33 +117,51 @@ offer_pass t moment caller offer none =
     tests_pass (is_lot offer.lot.now) _ (are_terms moment offer.title.now offer.text.now offer.start offer.buy_now offer.end)
     (list_any (λ k. k.category == offer.category) t.categories) (length t.items) none
 
-list_fits : (t : Tables) (moment caller : ℕ) (offer : Offer) → None ≡ first_failing (first_rules t moment caller false ++ offer_rules t moment caller offer)
-    → ListingFits t moment caller offer.category offer.lot.now offer.title.now offer.text.now offer.start offer.buy_now offer.end
-list_fits t moment caller offer told =
+-- the new item is the offer's
+pub record IsOffered (caller : ℕ) (offer : Offer) (item : NewItem) : Type 0 where
+  pub seller : item.seller ≡ caller
+  pub category : item.category ≡ offer.category
+  pub lot : item.lot.now ≡ offer.lot.now
+  pub title : item.title.now ≡ offer.title.now
+  pub text : item.text.now ≡ offer.text.now
+  pub start : item.start ≡ offer.start
+  pub buy_now : item.buy_now ≡ offer.buy_now
+  pub end : item.end ≡ offer.end
+
+pub offered : (caller : ℕ) (offer : Offer) (lot title text : Bor (List ℕ)) (taken : ℕ × Prices)
+    → lot.now ≡ offer.lot.now → title.now ≡ offer.title.now → text.now ≡ offer.text.now → AreOf offer taken
+    → IsOffered caller offer (record { seller = caller; category = taken.0; lot = lot; title = title; text = text; start = taken.1.start; buy_now = taken.1.buy_now; end = offer.end })
+offered caller offer lot title text taken same_lot same_title same_text same = record {
+  seller = refl;
+  category = same.category;
+  lot = same_lot;
+  title = same_title;
+  text = same_text;
+  start = same.start;
+  buy_now = same.buy_now;
+  end = refl;
+}
+
+-- and fits where nothing is told
+pub listing_fits : (t : Tables) (moment caller : ℕ) (offer : Offer) (item : NewItem) → IsOffered caller offer item
+    → None ≡ first_failing (first_rules t moment caller false ++ offer_rules t moment caller offer) → ListingFits t moment item
+listing_fits t moment caller offer item is told =
     let fits = caller_fits t moment caller false (first_pass (first_rules t moment caller false) (offer_rules t moment caller offer) (sym told)) in
     let pass = offer_pass t moment caller offer (later_pass (first_rules t moment caller false) (offer_rules t moment caller offer) (sym told)) in
     let terms = all_pass (is_text 1 80 offer.title.now) (is_text 0 2000 offer.text.now) (nat_le 1 offer.start) (nat_le offer.start most_cents)
     (is_buy_now offer.start offer.buy_now) (nat_lt moment offer.end) (nat_le offer.end last_moment) pass.2 in
     record {
       moment_fits = fits.moment_fits;
-      seller_there = fits.there refl;
-      category_there = some_found (λ k. k.category == offer.category) t.categories ∙ pass.3;
-      lot_fits = pass.1;
-      title_fits = terms.0;
-      text_fits = terms.1;
-      start_fits = (is_within 1 offer.start terms.2, is_within offer.start most_cents terms.3);
-      buy_now_fits = buy_now_within offer.start offer.buy_now terms.4;
-      end_fits = is_within offer.end last_moment terms.6;
+      seller_there = rw is.seller (fits.there refl);
+      category_there = rw is.category (some_found (λ k. k.category == offer.category) t.categories ∙ pass.3);
+      lot_fits = rw is.lot pass.1;
+      title_fits = rw is.title terms.0;
+      text_fits = rw is.text terms.1;
+      start_fits = rw is.start (is_within 1 offer.start terms.2, is_within offer.start most_cents terms.3);
+      buy_now_fits = rw (is.buy_now, is.start) (buy_now_within offer.start offer.buy_now terms.4);
+      end_fits = rw is.end (is_within offer.end last_moment terms.6);
       room = pass.4;
     }
-
--- the same of the change
-pub listing_fits : (t : Tables) (moment caller : ℕ) (offer : Offer) (lot title text : Bor (List ℕ)) (taken : ℕ × Prices)
-    → lot.now ≡ offer.lot.now → title.now ≡ offer.title.now → text.now ≡ offer.text.now
-    → None ≡ first_failing (first_rules t moment caller false ++ offer_rules t moment caller offer) → AreOf offer taken
-    → ListingFits t moment caller taken.0 lot.now title.now text.now taken.1.start taken.1.buy_now offer.end
-listing_fits t moment caller offer lot title text taken same_lot same_title same_text told same =
-    rw (same.category, same.start, same.buy_now, same_lot, same_title, same_text) (list_fits t moment caller offer told)
 
 lot_free : (t : Tables) (moment caller : ℕ) (offer : Offer) → None ≡ first_failing (first_rules t moment caller false ++ offer_rules t moment caller offer)
     → item_with_lot t caller offer.lot.now ≡ None
@@ -223,60 +242,65 @@ none_settled count i (s ∷ ss) above all =
     let not : (s == i) ≡ false = grind (arith, nat_tests) in
     rw not (none_settled count i ss above all.1)
 
+-- the listing of a new item
+listed_at : ℕ → NewItem → Entry
+listed_at moment item = entry moment item.seller (Listed item.category item.lot.now item.title.now item.text.now item.start item.buy_now item.end)
+
 -- the row of the new item
-new_row : (settings : Settings) (h : History) (moment caller category : ℕ) (lot title text : List ℕ) (start : ℕ) (buy_now : Option ℕ) (last : ℕ) → IsHistory settings h
-    → new_item settings.bands (length (listings h) + 1) caller category lot title text start buy_now last
-    ≡ row_now settings.bands (entry moment caller (Listed category lot title text start buy_now last) ∷ h) (record {
+new_row : (settings : Settings) (h : History) (moment : ℕ) (item : NewItem) → IsHistory settings h
+    → new_item settings.bands (length (listings h) + 1) item ≡ row_now settings.bands (listed_at moment item ∷ h) (record {
       item = length (listings h) + 1;
-      seller = caller;
-      category = category;
-      lot = lot;
-      title = title;
-      text = text;
-      start = start;
-      buy_now = buy_now;
-      end = last;
+      seller = item.seller;
+      category = item.category;
+      lot = item.lot.now;
+      title = item.title.now;
+      text = item.text.now;
+      start = item.start;
+      buy_now = item.buy_now;
+      end = item.end;
     })
-unfolding leader price second
-new_row settings h moment caller category lot title text start buy_now last is =
+unfolding leader price second listed_at
+new_row settings h moment item is =
     let i : ℕ = length (listings h) + 1 in
     let above : length (listings h) < i = omega arith in
     let bids : bids_on h i ≡ [] = no_bids h i (bids_on h i) above (bids_fit settings h i is).all in
     let bought : find (λ (p : Purchase). p.item == i) (purchases h) ≡ None = no_purchase h i (purchases h) above (purchases_fit settings h is) in
-    let taken : list_any (λ (c : Closing). nat_le i c.listed && nat_le last c.moment) (closings h) ≡ false =
-    none_takes (length (listings h)) i last (closings h) above (closings_small h) in
+    let taken : list_any (λ (c : Closing). nat_le i c.listed && nat_le item.end c.moment) (closings h) ≡ false =
+    none_takes (length (listings h)) i item.end (closings h) above (closings_small h) in
     let settled : list_any (λ s. s == i) (settlements h) ≡ false = none_settled (length (listings h)) i (settlements h) above (settlements_small settings h is) in
     simp append-nil (rw (bids, bought, taken, settled) refl)
 
-row_still : (bands : List (ℕ × ℕ)) (h : History) (moment caller category : ℕ) (lot title text : List ℕ) (start : ℕ) (buy_now : Option ℕ) (last : ℕ) (l : Listing)
-    → row_now bands h l ≡ row_now bands (entry moment caller (Listed category lot title text start buy_now last) ∷ h) l
-row_still bands h moment caller category lot title text start buy_now last l = simp append-nil
+row_still : (bands : List (ℕ × ℕ)) (h : History) (moment : ℕ) (item : NewItem) (l : Listing) → row_now bands h l ≡ row_now bands (listed_at moment item ∷ h) l
+unfolding listed_at
+row_still bands h moment item l = simp append-nil
 
-listed_rows : (settings : Settings) (h : History) (moment caller category : ℕ) (lot title text : List ℕ) (start : ℕ) (buy_now : Option ℕ) (last : ℕ) → IsHistory settings h
-    → map (row_now settings.bands h) (listings h)
-    ++ new_item settings.bands (length (map (row_now settings.bands h) (listings h)) + 1) caller category lot title text start buy_now last ∷ []
-    ≡ map (row_now settings.bands (entry moment caller (Listed category lot title text start buy_now last) ∷ h)) (listings (entry moment caller (Listed category lot title text start buy_now last) ∷ h))
-listed_rows settings h moment caller category lot title text start buy_now last is =
-    each_and_new (row_now settings.bands h) (row_now settings.bands (entry moment caller (Listed category lot title text start buy_now last) ∷ h)) (listings h) _ _
-    (row_still settings.bands h moment caller category lot title text start buy_now last)
-    (rw (length-map (listings h) (row_now settings.bands h)) (new_row settings h moment caller category lot title text start buy_now last is))
+listed_rows : (settings : Settings) (h : History) (moment : ℕ) (item : NewItem) → IsHistory settings h
+    → map (row_now settings.bands h) (listings h) ++ new_item settings.bands (length (map (row_now settings.bands h) (listings h)) + 1) item ∷ []
+    ≡ map (row_now settings.bands (listed_at moment item ∷ h)) (listings (listed_at moment item ∷ h))
+unfolding listed_at
+listed_rows settings h moment item is =
+    each_and_new (row_now settings.bands h) (row_now settings.bands (listed_at moment item ∷ h)) (listings h) _ _
+    (row_still settings.bands h moment item)
+    (rw (length-map (listings h) (row_now settings.bands h)) (new_row settings h moment item is))
 
-list_leads : (settings : Settings) (h : History) (moment caller category : ℕ) (lot title text : Bor (List ℕ)) (start : ℕ) (buy_now : Option ℕ) (last : ℕ) → IsHistory settings h
-    → changed (tables_of settings h) (change.List moment caller category lot title text start buy_now last)
-    ≡ tables_of settings (entry moment caller (Listed category lot.now title.now text.now start buy_now last) ∷ h)
-unfolding changed tables_of questions
-list_leads settings h moment caller category lot title text start buy_now last is =
-    rw (listed_rows settings h moment caller category lot.now title.now text.now start buy_now last is) (simp append-nil)
+list_leads : (settings : Settings) (h : History) (moment : ℕ) (item : NewItem) → IsHistory settings h
+    → changed (tables_of settings h) (change.List moment item) ≡ tables_of settings (listed_at moment item ∷ h)
+unfolding changed tables_of questions listed_at
+list_leads settings h moment item is = rw (listed_rows settings h moment item is) (simp append-nil)
 
-pub list_accepts : (t : Tables) (settings : Settings) (h : History) (moment caller : ℕ) (offer : Offer) (lot title text : Bor (List ℕ)) (taken : ℕ × Prices) → IsHistory settings h
-    → lot.now ≡ offer.lot.now → title.now ≡ offer.title.now → text.now ≡ offer.text.now → t ≡ tables_of settings h
-    → None ≡ first_failing (first_rules t moment caller false ++ offer_rules t moment caller offer) → AreOf offer taken
-    → IsAccepted settings h moment caller (Listed offer.category offer.lot.now offer.title.now offer.text.now offer.start offer.buy_now offer.end)
-    (change.List moment caller taken.0 lot title text taken.1.start taken.1.buy_now offer.end)
-list_accepts t settings h moment caller offer lot title text taken is same_lot same_title same_text e told same =
-    rw (same.category, same.start, same.buy_now) (record {
-      accepted = list_verdict t settings h moment caller offer e ∙ sym told;
-      fits = rw (same_lot, same_title, same_text) (rw e at (list_fits t moment caller offer told));
-      free = rw same_lot (rw e at (lot_free t moment caller offer told));
-      leads = rw (← same_lot, ← same_title, ← same_text) (list_leads settings h moment caller offer.category lot title text offer.start offer.buy_now offer.end is);
-    })
+-- what is offered is what is listed
+offered_at : (moment caller : ℕ) (offer : Offer) (item : NewItem) → IsOffered caller offer item
+    → listed_at moment item ≡ entry moment caller (Listed offer.category offer.lot.now offer.title.now offer.text.now offer.start offer.buy_now offer.end)
+unfolding listed_at
+offered_at moment caller offer item is = rw (is.seller, is.category, is.lot, is.title, is.text, is.start, is.buy_now, is.end) refl
+
+pub list_accepts : (t : Tables) (settings : Settings) (h : History) (moment caller : ℕ) (offer : Offer) (item : NewItem) → IsHistory settings h
+    → IsOffered caller offer item → t ≡ tables_of settings h
+    → None ≡ first_failing (first_rules t moment caller false ++ offer_rules t moment caller offer)
+    → IsAccepted settings h moment caller (Listed offer.category offer.lot.now offer.title.now offer.text.now offer.start offer.buy_now offer.end) (change.List moment item)
+list_accepts t settings h moment caller offer item is offered e told = record {
+  accepted = list_verdict t settings h moment caller offer e ∙ sym told;
+  fits = rw e at (listing_fits t moment caller offer item offered told);
+  free = rw (offered.seller, offered.lot) (rw e at (lot_free t moment caller offer told));
+  leads = list_leads settings h moment item is ∙ ap (λ one. tables_of settings (one ∷ h)) (offered_at moment caller offer item offered);
+}

@@ -9,8 +9,8 @@ use Rattle.house_rows.specs.declared.command.Command.TheVariants as command
 abbrev pub command_of : Change → Command
 command_of (change.Register moment name) = command.Register name.now
 command_of (change.AddCategory moment name) = command.AddCategory name.now
-command_of (change.List moment seller category lot title text start buy_now end) =
-    command.List category lot.now title.now text.now start buy_now end
+command_of (change.List moment item) =
+    command.List item.category item.lot.now item.title.now item.text.now item.start item.buy_now item.end
 command_of (change.Bid moment item placed standing) = command.Bid item placed.maximum
 command_of (change.Buy moment item buyer price) = command.Buy item
 command_of (change.Close moment) = command.Close
@@ -25,7 +25,7 @@ command_of (change.Feedback moment item from to rating text) = command.Feedback 
 abbrev pub caller_of : Change → Option ℕ
 caller_of (change.Register moment name) = None
 caller_of (change.AddCategory moment name) = None
-caller_of (change.List moment seller category lot title text start buy_now end) = Some seller
+caller_of (change.List moment item) = Some item.seller
 caller_of (change.Bid moment item placed standing) = Some placed.member
 caller_of (change.Buy moment item buyer price) = Some buyer
 caller_of (change.Close moment) = None
@@ -40,7 +40,7 @@ caller_of (change.Feedback moment item from to rating text) = Some from
 abbrev pub moment_of : Change → Option ℕ
 moment_of (change.Register moment name) = Some moment
 moment_of (change.AddCategory moment name) = Some moment
-moment_of (change.List moment seller category lot title text start buy_now end) = Some moment
+moment_of (change.List moment item) = Some moment
 moment_of (change.Bid moment item placed standing) = Some moment
 moment_of (change.Buy moment item buyer price) = Some moment
 moment_of (change.Close moment) = Some moment

@@ -18,7 +18,7 @@ ghost use Rattle.house.specs.Offered.{AreOf, offer_rules, terms_rules, told};
 
 use crate::common::{common, is_text};
 use cents::Cents;
-use house_rows::{Change, Keep, KeepFault, MOST_ITEMS, Refusal, Text};
+use house_rows::{Change, Keep, KeepFault, MOST_ITEMS, NewItem, Refusal, Text};
 use settle::LAST_MOMENT;
 
 /// What a member offers for sale, in range or not. Amounts are in cents, and the end is in whole
@@ -69,8 +69,7 @@ pub fn list<'c, K: Keep>(
         Ok(taken) => taken,
         Err(refusal) => return Ok(Err(refusal)),
     };
-    Ok(Ok(Change::List {
-        moment,
+    let item = NewItem {
         seller: caller as u32,
         category,
         lot: offer.lot.as_str(),
@@ -79,7 +78,8 @@ pub fn list<'c, K: Keep>(
         start: prices.start,
         buy_now: prices.buy_now,
         end: offer.end,
-    }))
+    };
+    Ok(Ok(Change::List { moment, item }))
 }
 
 // The category and the prices of an offer, or why it is refused.

@@ -13,6 +13,7 @@ use Rattle.proxy.specs.declared.bid.Bid as bid
 use Rattle.proxy.specs.declared.bid.BidRefusal.TheVariants.{Low, NotHigher, Full}
 use Rattle.proxy.proofs.Leads.{if_any-more, leader_above, leader_kept, somebody_leads}
 use Rattle.proxy.proofs.Placed.{standing-none}
+use Rattle.house_rows.specs.declared.change.NewItem.{NewItem}
 use Rattle.house_rows.specs.declared.item.Terms.{Terms}
 use Rattle.house_rows.specs.declared.state.State.{State}
 use Rattle.house_rows.specs.declared.state.State.TheVariants.{Open, Sold, Unsold, Settled}
@@ -376,10 +377,11 @@ new_leader : (bands : List (ℕ × ℕ)) (start : ℕ) → None ≡ (standing_of
 new_leader bands start = sym (ap (λ (k : Kept). k.leader) (standing-none bands start))
 
 -- the row of a new item fits
-pub new_fits : (bands : List (ℕ × ℕ)) (number seller category : ℕ) (lot title text : List ℕ) (start : ℕ) (buy_now : Option ℕ) (end' : ℕ) → IsItem number → IsMember seller → IsWithin 1 most_categories category
-    → is_lot lot ≡ true → is_text 1 80 title ≡ true → is_text 0 2000 text ≡ true → IsWithin 1 most_cents start → IfSome buy_now (λ amount. IsWithin start most_cents amount) → IsMoment end'
-    → ItemRowFits bands (new_item bands number seller category lot title text start buy_now end')
-new_fits bands number seller category lot title text start buy_now end' number_fits seller_fits category_fits lot_fits title_fits text_fits start_fits buy_now_fits end_fits = record {
+pub new_fits : (bands : List (ℕ × ℕ)) (number : ℕ) (item : NewItem) → IsItem number → IsMember item.seller → IsWithin 1 most_categories item.category
+    → is_lot item.lot.now ≡ true → is_text 1 80 item.title.now ≡ true → is_text 0 2000 item.text.now ≡ true → IsWithin 1 most_cents item.start
+    → IfSome item.buy_now (λ amount. IsWithin item.start most_cents amount) → IsMoment item.end
+    → ItemRowFits bands (new_item bands number item)
+new_fits bands number item number_fits seller_fits category_fits lot_fits title_fits text_fits start_fits buy_now_fits end_fits = record {
   item = record {
     terms = record {
       item = number_fits;
@@ -401,10 +403,10 @@ new_fits bands number seller category lot title text start buy_now end' number_f
     text = text_fits;
   };
   bids = [];
-  accepted = none_accepted bands start;
+  accepted = none_accepted bands item.start;
   few = omega arith;
   stands = refl;
   top = tt;
   count = refl;
-  told = inl (record { price = new_price bands start; leader = new_leader bands start });
+  told = inl (record { price = new_price bands item.start; leader = new_leader bands item.start });
 }

@@ -7,6 +7,7 @@ use Rattle.std.proofs.lemmas.List.{length-append, length-map}
 use Rattle.proxy.specs.declared.bid.Bid as bid
 use Rattle.proxy.specs.Kept.{Kept}
 use Rattle.house_rows.specs.declared.change.Change.{Change}
+use Rattle.house_rows.specs.declared.change.NewItem.{NewItem}
 use Rattle.house_rows.specs.declared.change.Change.TheVariants.{Register, AddCategory, List as Listed, Bid, Buy, Close, Settle, Watch, Unwatch, Ask, Answer, Feedback}
 use Rattle.house_rows.specs.declared.people.Category.{Category}
 use Rattle.house_rows.specs.declared.people.Member.{Member}
@@ -231,15 +232,15 @@ category_after t moment name sound fits =
     (turn_more (λ (k : Category). k.category) 1 t.categories k sound.categories_in_turn refl)
     (simp length-append (omega arith))
 
-listing_after : (t : Tables) (moment seller category : ℕ) (lot title text : List ℕ) (start : ℕ) (buy_now : Option ℕ) (end' : ℕ) → AreSound t → ListingFits t moment seller category lot title text start buy_now end'
-    → AreSound (record t { clock = moment; items = t.items ++ new_item t.settings.bands (length t.items + 1) seller category lot title text start buy_now end' ∷ [] })
-listing_after t moment seller category lot title text start buy_now end' sound fits =
-    let row : ItemRow = new_item t.settings.bands (length t.items + 1) seller category lot title text start buy_now end' in
+listing_after : (t : Tables) (moment : ℕ) (item : NewItem) → AreSound t → ListingFits t moment item
+    → AreSound (record t { clock = moment; items = t.items ++ new_item t.settings.bands (length t.items + 1) item ∷ [] })
+listing_after t moment item sound fits =
+    let row : ItemRow = new_item t.settings.bands (length t.items + 1) item in
     let room : length t.items < most_items = fits.room in
     items_after (record t { clock = moment }) (t.items ++ row ∷ []) (clock_after t moment sound fits.moment_fits)
     (every_more (ItemRowFits t.settings.bands) t.items row sound.items
-    (new_fits t.settings.bands (length t.items + 1) seller category lot title text start buy_now end' (omega arith, omega arith) (member_there t seller sound fits.seller_there)
-    (category_there t.categories category sound.categories fits.category_there) fits.lot_fits fits.title_fits fits.text_fits fits.start_fits fits.buy_now_fits fits.end_fits))
+    (new_fits t.settings.bands (length t.items + 1) item (omega arith, omega arith) (member_there t item.seller sound fits.seller_there)
+    (category_there t.categories item.category sound.categories fits.category_there) fits.lot_fits fits.title_fits fits.text_fits fits.start_fits fits.buy_now_fits fits.end_fits))
     (turn_more (λ (row : ItemRow). row.item.terms.item) 1 t.items row sound.items_in_turn refl)
     (simp length-append (omega arith))
 
@@ -392,7 +393,7 @@ pub sound_after : (t : Tables) (change : Change) → AreSound t → ChangeFits t
 unfolding changed
 sound_after t (Register moment name) sound fits = register_after t moment name.now sound fits
 sound_after t (AddCategory moment name) sound fits = category_after t moment name.now sound fits
-sound_after t (Listed moment seller category lot title text start buy_now end') sound fits = listing_after t moment seller category lot.now title.now text.now start buy_now end' sound fits
+sound_after t (Listed moment item) sound fits = listing_after t moment item sound fits
 sound_after t (Bid moment item placed standing) sound fits = bid_after t moment item placed standing sound fits
 sound_after t (Buy moment item buyer price) sound fits = purchase_after t moment item buyer price sound fits
 sound_after t (Close moment) sound fits = close_after t moment sound fits

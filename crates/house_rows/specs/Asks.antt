@@ -6,6 +6,7 @@ use Rattle.proxy.specs.Accepted.{AreAccepted}
 use Rattle.proxy.specs.Bids.{one_more, standing_of}
 use Rattle.proxy.specs.Kept.{Kept}
 use Rattle.house_rows.specs.declared.change.Change.{Change}
+use Rattle.house_rows.specs.declared.change.NewItem.{NewItem}
 use Rattle.house_rows.specs.declared.change.Change.TheVariants.{Register, AddCategory, List as Listed, Bid, Buy, Close, Settle, Watch, Unwatch, Ask, Answer, Feedback}
 use Rattle.house_rows.specs.declared.state.State.TheVariants.{Open, Sold}
 use Rattle.house_rows.specs.declared.talk.Question.{Question}
@@ -31,16 +32,16 @@ pub record NameFits (moment : ℕ) (name : List ℕ) (count most : ℕ) : Type 0
   pub name_fits : is_text 1 40 name ≡ true
   pub room : count < most
 
-pub record ListingFits (t : Tables) (moment seller category : ℕ) (lot title text : List ℕ) (start : ℕ) (buy_now : Option ℕ) (end : ℕ) : Type 0 where
+pub record ListingFits (t : Tables) (moment : ℕ) (item : NewItem) : Type 0 where
   pub moment_fits : IsMoment moment
-  pub seller_there : HasMember t seller
-  pub category_there : is_some (category_at t category) ≡ true
-  pub lot_fits : is_lot lot ≡ true
-  pub title_fits : is_text 1 80 title ≡ true
-  pub text_fits : is_text 0 2000 text ≡ true
-  pub start_fits : IsWithin 1 most_cents start
-  pub buy_now_fits : IfSome buy_now (λ amount. IsWithin start most_cents amount)
-  pub end_fits : IsMoment end
+  pub seller_there : HasMember t item.seller
+  pub category_there : is_some (category_at t item.category) ≡ true
+  pub lot_fits : is_lot item.lot.now ≡ true
+  pub title_fits : is_text 1 80 item.title.now ≡ true
+  pub text_fits : is_text 0 2000 item.text.now ≡ true
+  pub start_fits : IsWithin 1 most_cents item.start
+  pub buy_now_fits : IfSome item.buy_now (λ amount. IsWithin item.start most_cents amount)
+  pub end_fits : IsMoment item.end
   pub room : length t.items < most_items
 
 -- a bid on another member's open item, one that is accepted over the item's standing, with the standing after it
@@ -115,8 +116,7 @@ pub record RatingFits (t : Tables) (moment item from to : ℕ) (text : List ℕ)
 abbrev pub ChangeFits : Tables → Change → Type 0
 ChangeFits t (Register moment name) = NameFits moment name.now (length t.members) most_members
 ChangeFits t (AddCategory moment name) = NameFits moment name.now (length t.categories) most_categories
-ChangeFits t (Listed moment seller category lot title text start buy_now end) =
-    ListingFits t moment seller category lot.now title.now text.now start buy_now end
+ChangeFits t (Listed moment item) = ListingFits t moment item
 ChangeFits t (Bid moment item placed standing) = BidFits t moment item placed standing
 ChangeFits t (Buy moment item buyer price) = PurchaseFits t moment item buyer price
 ChangeFits t (Close moment) = IsMoment moment
@@ -131,7 +131,7 @@ ChangeFits t (Feedback moment item from to rating text) = RatingFits t moment it
 abbrev pub IsFree : Tables → Change → Type 0
 IsFree t (Register moment name) = member_named t name.now ≡ None
 IsFree t (AddCategory moment name) = category_named t name.now ≡ None
-IsFree t (Listed moment seller category lot title text start buy_now end) = item_with_lot t seller lot.now ≡ None
+IsFree t (Listed moment item) = item_with_lot t item.seller item.lot.now ≡ None
 IsFree t (Bid moment item placed standing) = list_any (λ b. (b.item == item) && (b.bid.no == placed.no)) t.bids ≡ false
 IsFree t (Buy moment item buyer price) = Unit {0}
 IsFree t (Close moment) = Unit {0}

@@ -3,6 +3,7 @@ use Rattle.std.specs.Prelude.{if◌then◌else◌, ℕ, ◌+◌, List, [], ◌�
 use Rattle.proxy.specs.Bids.{standing_of}
 use Rattle.proxy.specs.Kept.{Kept}
 use Rattle.house_rows.specs.declared.change.Change.{Change}
+use Rattle.house_rows.specs.declared.change.NewItem.{NewItem}
 use Rattle.house_rows.specs.declared.change.Change.TheVariants.{Register, AddCategory, List as Listed, Bid, Buy, Close, Settle, Watch, Unwatch, Ask, Answer, Feedback}
 use Rattle.house_rows.specs.declared.item.Terms.{Terms}
 use Rattle.house_rows.specs.declared.state.State.TheVariants.{Open, Sold, Settled}
@@ -55,27 +56,27 @@ abbrev pub with_answer : ℕ → ℕ → ℕ → List ℕ → Question → Quest
 with_answer i asker number text q = if is_question i asker number q then record q { answer = Some text } else q
 
 -- the row of a new item
-abbrev pub new_item : List (ℕ × ℕ) → ℕ → ℕ → ℕ → List ℕ → List ℕ → List ℕ → ℕ → Option ℕ → ℕ → ItemRow
-new_item bands number seller category lot title text start buy_now end = record {
+abbrev pub new_item : List (ℕ × ℕ) → ℕ → NewItem → ItemRow
+new_item bands number new = record {
   item = record {
     terms = record {
       item = number;
-      seller = seller;
-      category = category;
-      start = start;
-      buy_now = buy_now;
-      end = end;
+      seller = new.seller;
+      category = new.category;
+      start = new.start;
+      buy_now = new.buy_now;
+      end = new.end;
       state = Open;
       closed = None;
-      price = start;
+      price = new.start;
       leader = None;
       count = 0;
     };
-    lot = lot;
-    title = title;
-    text = text;
+    lot = new.lot.now;
+    title = new.title.now;
+    text = new.text.now;
   };
-  standing = standing_of bands start [];
+  standing = standing_of bands new.start [];
 }
 
 -- the tables after a change
@@ -88,9 +89,9 @@ changed t (AddCategory moment name) = record t {
   clock = moment;
   categories = t.categories ++ record { category = length t.categories + 1; name = name.now } ∷ [];
 }
-changed t (Listed moment seller category lot title text start buy_now end) = record t {
+changed t (Listed moment item) = record t {
   clock = moment;
-  items = t.items ++ new_item t.settings.bands (length t.items + 1) seller category lot.now title.now text.now start buy_now end ∷ [];
+  items = t.items ++ new_item t.settings.bands (length t.items + 1) item ∷ [];
 }
 changed t (Bid moment item placed standing) = record t {
   clock = moment;

@@ -3,6 +3,27 @@ use crate::rating::Rating;
 use cents::Cents;
 use proxy::{Bid, Standing};
 
+/// A new item, as its seller lists it. The end is in whole seconds since 1970-01-01T00:00:00Z.
+#[derive(Clone, Copy, Debug)]
+pub struct NewItem<'c> {
+    /// The number of the member that sells it.
+    pub seller: u32,
+    /// The number of its category.
+    pub category: u32,
+    /// The seller's own code for it.
+    pub lot: &'c str,
+    /// The title.
+    pub title: &'c str,
+    /// The description.
+    pub text: &'c str,
+    /// The price that bidding begins with.
+    pub start: Cents,
+    /// The price for which it may be bought at once.
+    pub buy_now: Option<Cents>,
+    /// When it ends.
+    pub end: u64,
+}
+
 /// What an accepted command changes, whole. Texts are those of the command. Moments are in whole
 /// seconds since 1970-01-01T00:00:00Z.
 #[derive(Clone, Copy, Debug)]
@@ -20,14 +41,7 @@ pub enum Change<'c> {
     /// An item comes, with the next number.
     List {
         moment: u64,
-        seller: u32,
-        category: u32,
-        lot: &'c str,
-        title: &'c str,
-        text: &'c str,
-        start: Cents,
-        buy_now: Option<Cents>,
-        end: u64,
+        item: NewItem<'c>,
     },
     /// A bid was placed, and the item stands as told.
     Bid {

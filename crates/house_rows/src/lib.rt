@@ -26,7 +26,7 @@ mod talk;
 mod text;
 mod told;
 
-pub use change::Change;
+pub use change::{Change, NewItem};
 pub use command::Command;
 pub use fault::KeepFault;
 pub use item::{Due, Item, ItemShown, OwnBest, OwnBid, Terms};

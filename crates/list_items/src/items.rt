@@ -21,12 +21,12 @@ ghost use Rattle.list_items.specs.Sales.{is_sold_with, sale_of_row};
 use crate::ending::{ended_by, is_due, next_due};
 use crate::entry::ItemEntry;
 use crate::groups::{add, numbers_of, reserve};
-use crate::listing::{Listing, new_entry};
+use crate::listing::new_entry;
 use crate::lots::{add_lot, number_at};
 use crate::numbers::{make_rising, merged, numbers_from};
 use crate::sale::sale;
 use cents::Cents;
-use house_rows::{Due, Item, KeepFault, MOST_SHOWN, Terms};
+use house_rows::{Due, Item, KeepFault, MOST_SHOWN, NewItem, Terms};
 use list_rows::{push, push_copy};
 use proxy::Standing;
 use settle::Sold;
@@ -253,19 +253,19 @@ impl Items {
     /// An item comes, with the next number. Its lot is new to its seller.
     ///
     /// The errors are `KeepFault::Damaged`, where the seller has the lot, and `KeepFault::Memory`.
-    pub fn list(&mut self, alloc: Global, listing: &Listing<'_>) -> Result<(), KeepFault>
+    pub fn list(&mut self, alloc: Global, item: &NewItem<'_>) -> Result<(), KeepFault>
         requires room { length self.old < most_items }
-        ensures listed { (bands : List (ℕ × ℕ)) → OnOk result (self.new ≡ self.old ++ new_item bands (length self.old + 1) listing.now.seller listing.now.category
-            listing.now.lot.now listing.now.title.now listing.now.text.now listing.now.start listing.now.buy_now listing.now.end ∷ []) }
+        ensures listed { (bands : List (ℕ × ℕ)) → OnOk result (self.new ≡ self.old
+            ++ new_item bands (length self.old + 1) item.now ∷ []) }
         ensures whole { Makes result self.old self.new self.new
             (option_map (λ (row : ItemRow). row.item.terms.item)
-            (find (λ row. (row.item.terms.seller == listing.now.seller) && same_text row.item.lot listing.now.lot.now) self.old) ≡ None) }
+            (find (λ row. (row.item.terms.seller == item.now.seller) && same_text row.item.lot item.now.lot.now) self.old) ≡ None) }
     {
-        let seller = u64::from(listing.seller);
-        if self.number_with_lot(seller, listing.lot).is_some() {
+        let seller = u64::from(item.seller);
+        if self.number_with_lot(seller, item.lot).is_some() {
             return Err(KeepFault::Damaged);
         }
-        self.append(alloc, listing)
+        self.append(alloc, item)
     }
 
     /// The item of that number stands as its bids now do.
@@ -324,26 +324,26 @@ impl Items {
     }
 
     // An item comes whose lot is new to its seller.
-    fn append(&mut self, alloc: Global, listing: &Listing<'_>) -> Result<(), KeepFault>
+    fn append(&mut self, alloc: Global, item: &NewItem<'_>) -> Result<(), KeepFault>
         requires room { length self.old < most_items }
-        requires free { find (λ (row : ItemRow). (row.item.terms.seller == listing.now.seller) && same_text row.item.lot listing.now.lot.now) self.old ≡ None }
-        ensures listed { (bands : List (ℕ × ℕ)) → OnOk result (self.new ≡ self.old ++ new_item bands (length self.old + 1) listing.now.seller listing.now.category
-            listing.now.lot.now listing.now.title.now listing.now.text.now listing.now.start listing.now.buy_now listing.now.end ∷ []) }
+        requires free { find (λ (row : ItemRow). (row.item.terms.seller == item.now.seller) && same_text row.item.lot item.now.lot.now) self.old ≡ None }
+        ensures listed { (bands : List (ℕ × ℕ)) → OnOk result (self.new ≡ self.old
+            ++ new_item bands (length self.old + 1) item.now ∷ []) }
         ensures err { OnErr result (self.new ≡ self.old) }
         ensures memory { IfErr result (λ e. e ≡ fault.Memory) }
     {
-        let seller = u64::from(listing.seller);
-        let category = u64::from(listing.category);
+        let seller = u64::from(item.seller);
+        let category = u64::from(item.category);
         let number = self.rows.len() as u32 + 1;
-        let entry = new_entry(alloc, number, listing)?;
+        let entry = new_entry(alloc, number, item)?;
         // With room everywhere, no index of numbers ever has one with no item.
         let Ok(()) = self.rows.try_reserve(1) else {
             return Err(KeepFault::Memory);
         };
         reserve(alloc, &mut self.categories, category)?;
         reserve(alloc, &mut self.sellers, seller)?;
-        add_lot(alloc, &mut self.lots, seller, listing.lot, number)?;
-        let Ok(_) = self.ends.insert((listing.end, number)) else {
+        add_lot(alloc, &mut self.lots, seller, item.lot, number)?;
+        let Ok(_) = self.ends.insert((item.end, number)) else {
             return Err(KeepFault::Memory);
         };
         add(&mut self.categories, category, number);

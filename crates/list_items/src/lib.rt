@@ -20,4 +20,3 @@ mod sale;
 
 pub use entry::ItemEntry;
 pub use items::Items;
-pub use listing::Listing;

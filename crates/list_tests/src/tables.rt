@@ -1,8 +1,8 @@
 //! Each table is given a row, another of the same key, and one of another key.
 use cents::Cents;
-use house_rows::{KeepFault, Rating};
+use house_rows::{KeepFault, NewItem, Rating};
 use list_bids::Bids;
-use list_items::{Items, Listing};
+use list_items::Items;
 use list_people::{Categories, Members};
 use list_talk::{FeedbackTable, Questions};
 use list_watches::Watches;
@@ -60,9 +60,9 @@ fn list(alloc: Global, table: &mut Items, seller: u32) -> Result<(), KeepFault> 
     table.list(alloc, &listing(seller))
 }
 
-// A seller's listing.
-fn listing(seller: u32) -> Listing<'static> {
-    Listing {
+// A seller's new item.
+fn listing(seller: u32) -> NewItem<'static> {
+    NewItem {
         seller,
         category: 1,
         lot: "A1",

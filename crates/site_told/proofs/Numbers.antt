@@ -5,6 +5,7 @@ use Rattle.std.proofs.lemmas.List.{length-append, length-map}
 use Rattle.house.specs.Decided.{IsAccepted}
 use Rattle.house.specs.Own.{IsOf}
 use Rattle.house_rows.specs.declared.change.Change.TheVariants as change
+use Rattle.house_rows.specs.declared.change.NewItem.{NewItem}
 use Rattle.house_rows.specs.declared.command.Command.{Command}
 use Rattle.house_rows.specs.declared.command.Command.TheVariants as command
 use Rattle.house_rows.specs.declared.fault.KeepFault.{KeepFault}
@@ -62,10 +63,11 @@ item_told settings h moment caller category lot title text start buy_now end' r 
     rw (length-append (listings h) (record { item = length (listings h) + 1; seller = caller; category = category; lot = lot; title = title; text = text; start = start; buy_now = buy_now; end = end' } ∷ []))
     (rw before at is))
 
-pub list_told : (t : Tables) (settings : Settings) (h : History) (moment caller : ℕ) (k : Command) (result : Result Told KeepFault) (at' seller category : ℕ) (lot title text : Bor (List ℕ)) (start : ℕ) (buy_now : Option ℕ) (end' : ℕ) → t ≡ tables_of settings h
-    → IsAccepted settings h moment caller k (change.List at' seller category lot title text start buy_now end') → IsOf moment caller k (change.List at' seller category lot title text start buy_now end')
+pub list_told : (t : Tables) (settings : Settings) (h : History) (moment caller : ℕ) (k : Command) (result : Result Told KeepFault) (at' : ℕ) (item : NewItem) → t ≡ tables_of settings h
+    → IsAccepted settings h moment caller k (change.List at' item) → IsOf moment caller k (change.List at' item)
     → (length t.items < most_items → IfOk result (λ r. r ≡ Listing (length t.items + 1))) → IfOk result (IsTold settings h moment caller k)
-list_told t settings h moment caller k result at' seller category lot title text start buy_now end' e is own value =
+list_told t settings h moment caller k result at' item e is own value =
     ok_as (λ r. r ≡ Listing (length (tables_of settings h).items + 1)) (IsTold settings h moment caller k) result
-    (λ r v. told_as settings h moment caller (command.List category lot.now title.now text.now start buy_now end') k r own.same_command (item_told settings h moment caller category lot.now title.now text.now start buy_now end' r v))
+    (λ r v. told_as settings h moment caller (command.List item.category item.lot.now item.title.now item.text.now item.start item.buy_now item.end) k r own.same_command
+    (item_told settings h moment caller item.category item.lot.now item.title.now item.text.now item.start item.buy_now item.end r v))
     ((rw e at value) is.fits.room)

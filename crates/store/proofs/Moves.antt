@@ -22,7 +22,7 @@ settings_stay : (t : Tables) (change : Change) → (changed t change).settings �
 unfolding changed
 settings_stay t (Register moment name) = refl
 settings_stay t (AddCategory moment name) = refl
-settings_stay t (Listed moment seller category lot title text start buy_now end) = refl
+settings_stay t (Listed moment item) = refl
 settings_stay t (Bid moment item placed standing) = refl
 settings_stay t (Buy moment item buyer price) = refl
 settings_stay t (Close moment) = refl
@@ -37,7 +37,7 @@ clock_moves : (t : Tables) (change : Change) → (changed t change).clock ≡ cl
 unfolding changed
 clock_moves t (Register moment name) = refl
 clock_moves t (AddCategory moment name) = refl
-clock_moves t (Listed moment seller category lot title text start buy_now end) = refl
+clock_moves t (Listed moment item) = refl
 clock_moves t (Bid moment item placed standing) = refl
 clock_moves t (Buy moment item buyer price) = refl
 clock_moves t (Close moment) = refl
@@ -52,7 +52,7 @@ counts_move : (t : Tables) (change : Change) → counts_of (changed t change) �
 unfolding changed
 counts_move t (Register moment name) = rw (length-append t.members) refl
 counts_move t (AddCategory moment name) = rw (length-append t.categories) refl
-counts_move t (Listed moment seller category lot title text start buy_now end) = rw (length-append t.items) refl
+counts_move t (Listed moment item) = rw (length-append t.items) refl
 counts_move t (Bid moment item placed standing) = rw (length-map t.items (with_standing item standing)) refl
 counts_move t (Buy moment item buyer price) = rw (length-map t.items (with_purchase item buyer price moment)) refl
 counts_move t (Close moment) = rw (length-map t.items (with_close moment)) refl
@@ -76,7 +76,7 @@ known_after settings counts clock change old new known is = record {
 pub fits_moment : (t : Tables) (change : Change) (clock : ℕ) → IsMoment clock → ChangeFits t change → IsMoment (clock_after clock change)
 fits_moment t (Register moment name) clock is fits = fits.moment_fits
 fits_moment t (AddCategory moment name) clock is fits = fits.moment_fits
-fits_moment t (Listed moment seller category lot title text start buy_now end) clock is fits = fits.moment_fits
+fits_moment t (Listed moment item) clock is fits = fits.moment_fits
 fits_moment t (Bid moment item placed standing) clock is fits = fits.moment_fits
 fits_moment t (Buy moment item buyer price) clock is fits = fits.moment_fits
 fits_moment t (Close moment) clock is fits = fits

@@ -8,7 +8,7 @@ use Rattle.house_rows.specs.declared.people.Counts.{Counts}
 abbrev pub counts_after : Counts → Change → Counts
 counts_after counts (Register moment name) = record counts { members = counts.members + 1 }
 counts_after counts (AddCategory moment name) = record counts { categories = counts.categories + 1 }
-counts_after counts (Listed moment seller category lot title text start buy_now end) = record counts { items = counts.items + 1 }
+counts_after counts (Listed moment item) = record counts { items = counts.items + 1 }
 counts_after counts (Bid moment item placed standing) = counts
 counts_after counts (Buy moment item buyer price) = counts
 counts_after counts (Close moment) = counts
@@ -23,7 +23,7 @@ counts_after counts (Feedback moment item from to rating text) = counts
 abbrev pub clock_after : ℕ → Change → ℕ
 clock_after clock (Register moment name) = moment
 clock_after clock (AddCategory moment name) = moment
-clock_after clock (Listed moment seller category lot title text start buy_now end) = moment
+clock_after clock (Listed moment item) = moment
 clock_after clock (Bid moment item placed standing) = moment
 clock_after clock (Buy moment item buyer price) = moment
 clock_after clock (Close moment) = moment

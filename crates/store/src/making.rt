@@ -14,9 +14,7 @@ use house_rows::{Change, Counts, KeepFault};
 use sqlite::{Alter, Connection};
 use std::alloc::Global;
 use steps::Bands;
-use store_entries::{
-    Listing, add_category, answer, ask, give_feedback, list, register, unwatch, watch,
-};
+use store_entries::{add_category, answer, ask, give_feedback, list, register, unwatch, watch};
 use store_sales::{bid, buy, close, settle};
 
 /// Makes a change. The counts are those after it.
@@ -48,29 +46,7 @@ pub(crate) fn make_change<S: Alter>(
         Change::AddCategory { moment, name } => {
             add_category(conn, after.categories, moment, name)
         }
-        Change::List {
-            moment,
-            seller,
-            category,
-            lot,
-            title,
-            text,
-            start,
-            buy_now,
-            end,
-        } => {
-            let listing = Listing {
-                seller,
-                category,
-                lot,
-                title,
-                text,
-                start,
-                buy_now,
-                end,
-            };
-            list(conn, after.items, moment, &listing)
-        }
+        Change::List { moment, ref item } => list(conn, after.items, moment, item),
         Change::Bid {
             moment,
             item,

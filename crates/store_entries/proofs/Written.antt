@@ -8,6 +8,7 @@ use Rattle.house_rows.specs.History.{put_by}
 use Rattle.house_rows.specs.Ratings.{feedback_key}
 use Rattle.house_rows.specs.Tables.{ItemRow, Tables}
 use Rattle.house_rows.specs.Watches.{WatchRow, unwatched, watch_key}
+use Rattle.house_rows.specs.declared.change.NewItem.{NewItem}
 use Rattle.house_rows.specs.declared.change.Change.TheVariants.{AddCategory, Answer, Ask, Feedback as Rated, List as Listed, Register, Unwatch, Watch}
 use Rattle.house_rows.specs.declared.rating.Rating.{Rating}
 use Rattle.house_rows.specs.declared.people.Category.{Category}
@@ -270,17 +271,17 @@ gives moment item from to rating text old mid new was one two =
     record { house = it.house; numbered = it.numbered; tables = it.tables }
 
 -- the new item has the number that comes next
-module _ (number moment seller category : ℕ) (lot title text : Bor (List ℕ)) (start : ℕ) (buy_now : Option ℕ) (end : ℕ) (old mid new : Database) where
+module _ (number moment : ℕ) (item : NewItem) (old mid new : Database) where
   with_next : number ≡ length (tables_in old.trees).items + 1
-      → Makes (λ t. record t { clock = moment; items = t.items ++ new_item (tables_in old.trees).settings.bands number seller category lot.now title.now text.now start buy_now end ∷ [] }) old new
-      → Changes (Listed moment seller category lot title text start buy_now end) old new
+      → Makes (λ t. record t { clock = moment; items = t.items ++ new_item (tables_in old.trees).settings.bands number item ∷ [] }) old new
+      → Changes (Listed moment item) old new
   unfolding changed
   with_next next it = record {
     house = it.house;
     numbered = it.numbered;
     tables = subst (λ (n : ℕ). tables_in new.trees ≡ record (tables_in old.trees) {
       clock = moment;
-      items = (tables_in old.trees).items ++ new_item (tables_in old.trees).settings.bands n seller category lot.now title.now text.now start buy_now end ∷ [];
+      items = (tables_in old.trees).items ++ new_item (tables_in old.trees).settings.bands n item ∷ [];
     }) next it.tables;
   }
 
@@ -289,9 +290,9 @@ module _ (number moment seller category : ℕ) (lot title text : Bor (List ℕ))
   same_items = refl
 
   pub lists : IsNumbered old.trees → number ≡ length (items_in old.trees) + 1
-      → AddsItem (new_item (tables_in old.trees).settings.bands number seller category lot.now title.now text.now start buy_now end) old mid → SetsClock moment mid new
-      → Changes (Listed moment seller category lot title text start buy_now end) old new
+      → AddsItem (new_item (tables_in old.trees).settings.bands number item) old mid → SetsClock moment mid new
+      → Changes (Listed moment item) old new
   lists was next one two =
-      let put = adds_item (new_item (tables_in old.trees).settings.bands number seller category lot.now title.now text.now start buy_now end) old mid was next one in
+      let put = adds_item (new_item (tables_in old.trees).settings.bands number item) old mid was next one in
       let it = makes_both _ _ old mid new put (sets_clock moment mid new put.numbered two) in
       with_next (next ∙ ap (λ n. n + 1) same_items) (record { house = it.house; numbered = it.numbered; tables = it.tables })

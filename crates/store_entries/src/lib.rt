@@ -18,7 +18,7 @@ mod ratings;
 mod watches;
 
 pub use answers::answer;
-pub use listing::{Listing, list};
+pub use listing::list;
 pub use people::{add_category, register};
 pub use questions::ask;
 pub use ratings::give_feedback;

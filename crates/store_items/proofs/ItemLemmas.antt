@@ -21,6 +21,7 @@ use Rattle.sqlite.specs.State.{State, Shown, Executes}
 use Rattle.sqlite.proofs.Callers.{reads_as}
 use Rattle.proxy.specs.Bids.{standing_of, price, leader, second}
 use Rattle.proxy.specs.Kept.{Kept}
+use Rattle.house_rows.specs.declared.change.NewItem.{NewItem}
 use Rattle.house_rows.specs.Changed.{is_item, new_item, with_standing, with_purchase, with_settlement}
 use Rattle.house_rows.specs.Limits.{most_cents}
 use Rattle.house_rows.specs.Tables.{ItemRow}
@@ -158,28 +159,28 @@ pub no_bids : (bands : List (ℕ × ℕ)) (start : ℕ) → record { start = sta
 unfolding price leader second
 no_bids bands start = refl
 
--- each number of an offer has 32 bits
-pub record IsOffer (number seller category start : ℕ) (buy_now : Option ℕ) (end : ℕ) : Type 0 where
+-- each number of a new item has 32 bits
+pub record IsStorable (number : ℕ) (item : NewItem) : Type 0 where
   pub number_low : number < 2 ^ 32
-  pub seller_low : seller < 2 ^ 32
-  pub category_low : category < 2 ^ 32
-  pub start_low : start < 2 ^ 32
-  pub buy_now_low : IsSmall buy_now
-  pub end_low : end < 2 ^ 32
+  pub seller_low : item.seller < 2 ^ 32
+  pub category_low : item.category < 2 ^ 32
+  pub start_low : item.start < 2 ^ 32
+  pub buy_now_low : IsSmall item.buy_now
+  pub end_low : item.end < 2 ^ 32
 
-pub adds_item : (old new : State) (number seller category : ℕ) (lot title text : List ℕ) (start : ℕ) (buy_now : Option ℕ) (end count : ℕ) (bands : List (ℕ × ℕ)) → IsOffer number seller category start buy_now end → IsUtf8 lot → IsUtf8 title → IsUtf8 text → IsHouse old.now
-    → Executes put_item_text (Int (pos number) ∷ Int (pos seller) ∷ Int (pos category) ∷ Text lot ∷ Text title ∷ Text text ∷ Int (pos start) ∷ stored_maybe buy_now ∷ Int (pos end) ∷ []) old new (Ok count)
-    → AddsItem (new_item bands number seller category lot title text start buy_now end) old.now new.now
-adds_item old new number seller category lot title text start buy_now end count bands low lot_utf8 title_utf8 text_utf8 house h =
-    let params = Int (pos number) ∷ Int (pos seller) ∷ Int (pos category) ∷ Text lot ∷ Text title ∷ Text text ∷ Int (pos start) ∷ stored_maybe buy_now ∷ Int (pos end) ∷ [] in
+pub adds_item : (old new : State) (number : ℕ) (item : NewItem) (count : ℕ) (bands : List (ℕ × ℕ)) → IsStorable number item → IsUtf8 item.lot.now → IsUtf8 item.title.now → IsUtf8 item.text.now → IsHouse old.now
+    → Executes put_item_text (Int (pos number) ∷ Int (pos item.seller) ∷ Int (pos item.category) ∷ Text item.lot.now ∷ Text item.title.now ∷ Text item.text.now ∷ Int (pos item.start) ∷ stored_maybe item.buy_now ∷ Int (pos item.end) ∷ []) old new (Ok count)
+    → AddsItem (new_item bands number item) old.now new.now
+adds_item old new number item count bands low lot_utf8 title_utf8 text_utf8 house h =
+    let params = Int (pos number) ∷ Int (pos item.seller) ∷ Int (pos item.category) ∷ Text item.lot.now ∷ Text item.title.now ∷ Text item.text.now ∷ Int (pos item.start) ∷ stored_maybe item.buy_now ∷ Int (pos item.end) ∷ [] in
     let rows = old.now.trees 6 in
     let given : Row =
-    Int (pos number) ∷ Null ∷ Int (pos seller) ∷ Int (pos category) ∷ Text lot ∷ Text title ∷ Text text ∷ Int (pos start) ∷ stored_maybe buy_now ∷ Int (pos end)
-    ∷ Int (pos 0) ∷ Null ∷ Int (pos start) ∷ Null ∷ Null ∷ Null ∷ Int (pos 0) ∷ [] in
+    Int (pos number) ∷ Null ∷ Int (pos item.seller) ∷ Int (pos item.category) ∷ Text item.lot.now ∷ Text item.title.now ∷ Text item.text.now ∷ Int (pos item.start) ∷ stored_maybe item.buy_now ∷ Int (pos item.end)
+    ∷ Int (pos 0) ∷ Null ∷ Int (pos item.start) ∷ Null ∷ Null ∷ Null ∷ Int (pos 0) ∷ [] in
     let shaped = house.shaped.1.1.1.1.0 in
-    let w = rw (cast_int (pos number), cast_null, cast_int (pos seller), cast_int (pos category), cast_int (pos start), cast_maybe buy_now, cast_int (pos end), cast_int (pos 0)) at
+    let w = rw (cast_int (pos number), cast_null, cast_int (pos item.seller), cast_int (pos item.category), cast_int (pos item.start), cast_maybe item.buy_now, cast_int (pos item.end), cast_int (pos 0)) at
     (puts put_item_text 4 item_layout put_terms 17 params given refl put_item_is.0 put_item_is.1 refl old new count house.schema h) in
-    let back : item_row_in given ≡ new_item bands number seller category lot title text start buy_now end = rw (small number low.number_low, small seller low.seller_low, small category low.category_low, small start low.start_low, small end low.end_low, maybe_back buy_now low.buy_now_low, sym (no_bids bands start), text_back lot lot_utf8, text_back title title_utf8, text_back text text_utf8) refl in
+    let back : item_row_in given ≡ new_item bands number item = rw (small number low.number_low, small item.seller low.seller_low, small item.category low.category_low, small item.start low.start_low, small item.end low.end_low, maybe_back item.buy_now low.buy_now_low, sym (no_bids bands item.start), text_back item.lot.now lot_utf8, text_back item.title.now title_utf8, text_back item.text.now text_utf8) refl in
     record {
       house = still_house 6 _ old.now new.now house w (IsShaped-put_row given rows refl shaped);
       others = w.others;

@@ -9,31 +9,10 @@ ghost use Rattle.store_items.specs.Items.{AddsItem, SetsBought, SetsClosed, Sets
 ghost use Rattle.store_rows.specs.Frames.{WritesOnce};
 
 use cents::Cents;
-use house_rows::KeepFault;
+use house_rows::{KeepFault, NewItem};
 use proxy::Standing;
 use sqlite::{Alter, Transaction, params};
 use store_rows::run;
-
-/// What a seller says of a new item. Its end is in seconds since 1970-01-01T00:00:00Z.
-#[derive(Clone, Copy, Debug)]
-pub struct Offer<'a> {
-    /// The number of the member that sells it.
-    pub seller: u32,
-    /// The number of its category.
-    pub category: u32,
-    /// The seller's own code for it.
-    pub lot: &'a str,
-    /// The title.
-    pub title: &'a str,
-    /// The description.
-    pub text: &'a str,
-    /// The price that bidding begins with.
-    pub start: Cents,
-    /// The price for which it may be bought at once.
-    pub buy_now: Option<Cents>,
-    /// When it ends.
-    pub end: u32,
-}
 
 // An amount as a parameter.
 fn stored(amount: Cents) -> u32
@@ -77,31 +56,31 @@ fn stored_text(text: &str) -> &str
     text
 }
 
-/// Adds an item with a number, open and with no bid, within a transaction.
+/// Adds an item with a number and an end, open and with no bid, within a transaction.
 pub fn put_item<S: Alter>(
     tx: &mut Transaction<'_, S>,
     number: u32,
-    offer: &Offer<'_>,
+    item: &NewItem<'_>,
+    end: u32,
 ) -> Result<(), KeepFault>
     requires { IsBegun (state S.Store tx.old.conn.now) }
     ensures same_reference { tx.new.conn.ghost_name ≡ tx.old.conn.ghost_name }
     ensures ok { HasCleanDisk (state S.Store tx.new.conn.now)
         → (bands : List (ℕ × ℕ))
-        → OnOk result (AddsItem (new_item bands number offer.now.seller offer.now.category
-        offer.now.lot.now offer.now.title.now offer.now.text.now offer.now.start offer.now.buy_now
-        offer.now.end) (state S.Store tx.old.conn.now).now (state S.Store tx.new.conn.now).now) }
+        → OnOk result (AddsItem (new_item bands number (record item.now { end = end }))
+        (state S.Store tx.old.conn.now).now (state S.Store tx.new.conn.now).now) }
     ensures sound { ¬ (IsErrOf result Damaged) }
     ensures write { WritesOnce (state S.Store tx.old.conn.now)
         (state S.Store tx.new.conn.now) result }
 {
-    let seller = stored_number(offer.seller);
-    let category = stored_number(offer.category);
-    let lot = stored_text(offer.lot);
-    let title = stored_text(offer.title);
-    let text = stored_text(offer.text);
-    let start = stored(offer.start);
-    let buy_now = stored_maybe(offer.buy_now);
-    let end = stored_number(offer.end);
+    let seller = stored_number(item.seller);
+    let category = stored_number(item.category);
+    let lot = stored_text(item.lot);
+    let title = stored_text(item.title);
+    let text = stored_text(item.text);
+    let start = stored(item.start);
+    let buy_now = stored_maybe(item.buy_now);
+    let end = stored_number(end);
     run(
         tx,
         "INSERT INTO item (id, seller, category, lot, title, body, start, buy_now, ending, state, closed, price, leader, top, second, count) VALUES (?1, ?2, ?3, ?4, ?5, ?6, ?7, ?8, ?9, 0, NULL, ?7, NULL, NULL, NULL, 0)",

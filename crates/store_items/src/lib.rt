@@ -16,6 +16,6 @@ mod item_reads;
 mod reads;
 mod standing;
 
-pub use item::{Offer, put_item, set_bought, set_closed, set_settled, set_standing};
+pub use item::{put_item, set_bought, set_closed, set_settled, set_standing};
 pub use item_reads::{all_items, item_at, item_with_lot, standing_at, terms_at};
 pub use reads::{item_list, terms_list};

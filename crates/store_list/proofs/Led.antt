@@ -129,8 +129,7 @@ pub led_after : (t : Tables) (change : Change) → AreSound t → AllByRecursion
 unfolding changed
 led_after t (Register moment name) sound led fits = led
 led_after t (AddCategory moment name) sound led fits = led
-led_after t (Listed moment seller category lot title text start buy_now end') sound led fits =
-    every_more (IsLed t.bids) t.items (new_item t.settings.bands (length t.items + 1) seller category lot.now title.now text.now start buy_now end') led (rw nobody tt)
+led_after t (Listed moment item) sound led fits = every_more (IsLed t.bids) t.items (new_item t.settings.bands (length t.items + 1) item) led (rw nobody tt)
 led_after t (Bid moment item placed standing) sound led fits =
     every_map (with_standing item standing) (IsLed (put_by bid_key (record { item = item; bid = placed }) t.bids)) t.items
     (every_both (IsLed t.bids) (λ row. row_at t (number_of row) ≡ Some row) (λ row. IsLed (put_by bid_key (record { item = item; bid = placed }) t.bids) (with_standing item standing row)) t.items

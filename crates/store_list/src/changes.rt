@@ -2,13 +2,11 @@
 ghost use Rattle.house_rows.specs.declared.change.Change.TheVariants as change;
 ghost use Rattle.house_rows.specs.Asks.{ChangeFits};
 ghost use Rattle.house_rows.specs.Keeping.{AreSound};
-ghost use Rattle.store_list.specs.Listed.{listed};
 ghost use Rattle.list_rows.specs.Makes.{Applies};
 
 use crate::keep::ListKeep;
 use cents::Cents;
-use house_rows::{Change, KeepFault, Rating};
-use list_items::Listing;
+use house_rows::{Change, KeepFault, NewItem, Rating};
 use proxy::{Bid, Standing};
 
 impl ListKeep {
@@ -21,29 +19,7 @@ impl ListKeep {
         match *change {
             Change::Register { moment, name } => self.register(moment, name),
             Change::AddCategory { moment, name } => self.add_category(moment, name),
-            Change::List {
-                moment,
-                seller,
-                category,
-                lot,
-                title,
-                text,
-                start,
-                buy_now,
-                end,
-            } => {
-                let listing = Listing {
-                    seller,
-                    category,
-                    lot,
-                    title,
-                    text,
-                    start,
-                    buy_now,
-                    end,
-                };
-                self.list(moment, &listing)
-            }
+            Change::List { moment, ref item } => self.list(moment, item),
             Change::Bid {
                 moment,
                 item,
@@ -102,11 +78,11 @@ impl ListKeep {
         Ok(())
     }
 
-    fn list(&mut self, moment: u64, listing: &Listing<'_>) -> Result<(), KeepFault>
-        requires fits { AreSound self.old → ChangeFits self.old (listed moment listing.now) }
-        ensures { Applies result self.old self.new (listed moment listing.now) }
+    fn list(&mut self, moment: u64, item: &NewItem<'_>) -> Result<(), KeepFault>
+        requires fits { AreSound self.old → ChangeFits self.old (change.List moment item.now) }
+        ensures { Applies result self.old self.new (change.List moment item.now) }
     {
-        self.items.list(self.alloc, listing)?;
+        self.items.list(self.alloc, item)?;
         self.clock = moment;
         Ok(())
     }

@@ -1,4 +1,4 @@
-use Rattle.house.proofs.Listings.{list_accepts, list_refusal, listing_fits}
+use Rattle.house.proofs.Listings.{list_accepts, list_refusal, listing_fits, offered}
 use Rattle.house.proofs.listing.list.Goals as goal
 
 pub returns-in-Err-clause-decided : goal.returns-in-Err-clause-decided
@@ -8,12 +8,14 @@ returns-in-Err-clause-decided g c = λ honest settings h is e.
 
 pub returns-clause-decided : goal.returns-clause-decided
 returns-clause-decided g c = λ honest settings h is e.
-    list_accepts (g.K.Keep.content c.args.keep.now) settings h c.args.moment c.args.caller c.args.offer.now c.as_str.result c.as_str-2.result c.as_str-3.result c.in-Ok.taken is
-    c.as_str.ensures c.as_str-2.ensures c.as_str-3.ensures e
-    (rw c.in-Ok.is at (c.in_ok-taken.ensures.value honest)) (rw c.in-Ok.is at (c.in_ok-taken.ensures.same honest))
+    let same = rw c.in-Ok.is at (c.in_ok-taken.ensures.same honest) in
+    list_accepts (g.K.Keep.content c.args.keep.now) settings h c.args.moment c.args.caller c.args.offer.now _ is
+    (offered c.args.caller c.args.offer.now c.as_str.result c.as_str-2.result c.as_str-3.result c.in-Ok.taken c.as_str.ensures c.as_str-2.ensures c.as_str-3.ensures same) e
+    (rw c.in-Ok.is at (c.in_ok-taken.ensures.value honest))
 
 pub returns-clause-fits : goal.returns-clause-fits
 returns-clause-fits g c = λ honest sound.
-    listing_fits (g.K.Keep.content c.args.keep.now) c.args.moment c.args.caller c.args.offer.now c.as_str.result c.as_str-2.result c.as_str-3.result c.in-Ok.taken
-    c.as_str.ensures c.as_str-2.ensures c.as_str-3.ensures
-    (rw c.in-Ok.is at (c.in_ok-taken.ensures.value honest)) (rw c.in-Ok.is at (c.in_ok-taken.ensures.same honest))
+    let same = rw c.in-Ok.is at (c.in_ok-taken.ensures.same honest) in
+    listing_fits (g.K.Keep.content c.args.keep.now) c.args.moment c.args.caller c.args.offer.now _
+    (offered c.args.caller c.args.offer.now c.as_str.result c.as_str-2.result c.as_str-3.result c.in-Ok.taken c.as_str.ensures c.as_str-2.ensures c.as_str-3.ensures same)
+    (rw c.in-Ok.is at (c.in_ok-taken.ensures.value honest))

@@ -17,7 +17,7 @@ returns-in-AddCategory-clause-told g c = λ honest settings h valid e moment cal
 pub returns-in-List-clause-told : goal.returns-in-List-clause-told
 returns-in-List-clause-told g c = λ honest settings h valid e moment caller command is own.
     let offer = c.in-List in
-    list_told (g.K.Keep.content c.args.keep.now) settings h moment caller command c.listed.result offer.moment offer.seller offer.category offer.lot offer.title offer.text offer.start offer.buy_now offer.end e
+    list_told (g.K.Keep.content c.args.keep.now) settings h moment caller command c.listed.result offer.moment offer.item e
     (rw offer.is at is) (rw offer.is at own) (c.listed.ensures.value honest)
 
 pub returns-in-Bid-clause-told : goal.returns-in-Bid-clause-told

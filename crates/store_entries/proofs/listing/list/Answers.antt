@@ -31,15 +31,15 @@ returns-clause-taken g c clean =
 
 pub returns-clause-commit : goal.returns-clause-commit
 returns-clause-commit g c =
-    let l = c.args.listing.now in record {
+    let item = c.args.item.now in record {
       ok = search rules;
       err = search rules;
       only = search rules;
       mode = search rules;
-      crash = survives_change (state g.S.Store c.args.conn.now) (state g.S.Store c.item_with_lot.new.conn) (state g.S.Store c.commit_list.new.conn) (List c.args.moment l.seller l.category l.lot l.title l.text l.start l.buy_now l.end)
+      crash = survives_change (state g.S.Store c.args.conn.now) (state g.S.Store c.item_with_lot.new.conn) (state g.S.Store c.commit_list.new.conn) (List c.args.moment item)
           c.in_ok-item_with_lot.ensures.read.same c.in_ok-item_with_lot.ensures.read.crash
-          (subst (λ (m : ℕ). Survives (state g.S.Store c.item_with_lot.new.conn) (state g.S.Store c.commit_list.new.conn) (MadeBy (List m l.seller l.category l.lot l.title l.text l.start l.buy_now l.end) (state g.S.Store c.item_with_lot.new.conn)))
+          (subst (λ (m : ℕ). Survives (state g.S.Store c.item_with_lot.new.conn) (state g.S.Store c.commit_list.new.conn) (MadeBy (List m item) (state g.S.Store c.item_with_lot.new.conn)))
           c.in_ok-moment.ensures.value
-          (subst (λ (e : ℕ). Survives (state g.S.Store c.item_with_lot.new.conn) (state g.S.Store c.commit_list.new.conn) (MadeBy (List c.in_ok-moment.moment l.seller l.category l.lot l.title l.text l.start l.buy_now e) (state g.S.Store c.item_with_lot.new.conn)))
+          (subst (λ (e : ℕ). Survives (state g.S.Store c.item_with_lot.new.conn) (state g.S.Store c.commit_list.new.conn) (MadeBy (List c.in_ok-moment.moment (record item { end = e })) (state g.S.Store c.item_with_lot.new.conn)))
           c.in_ok-end.ensures.value c.commit_list.ensures.commit.crash));
     }

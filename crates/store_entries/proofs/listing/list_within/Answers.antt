@@ -7,9 +7,8 @@ use Rattle.store_entries.proofs.listing.list_within.Goals as goal
 
 pub returns-clause-ok : goal.returns-clause-ok
 returns-clause-ok g c clean =
-    let offer = c.args.offer.now in
     ok_then c.set_clock.result (c.set_clock.ensures.ok clean) (λ _ w.
-    lists c.args.number c.args.moment offer.seller offer.category offer.lot offer.title offer.text offer.start offer.buy_now offer.end
+    lists c.args.number c.args.moment (record c.args.item.now { end = c.args.end })
     (state g.S.Store c.args.tx.now.conn.now).now (state g.S.Store c.put_item.new.tx.conn.now).now (state g.S.Store c.set_clock.new.tx.conn.now).now
     (c.requires.numbered (omega (arith, c.set_clock.ensures.write.crash.clean, c.put_item.ensures.write.crash.clean))) (c.requires.next (omega (arith, c.set_clock.ensures.write.crash.clean, c.put_item.ensures.write.crash.clean)))
     (c.in_ok-put_item.ensures.ok (omega (arith, c.set_clock.ensures.write.crash.clean)) (tables_in (state g.S.Store c.args.tx.now.conn.now).now.trees).settings.bands) w)

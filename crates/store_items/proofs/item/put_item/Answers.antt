@@ -1,17 +1,17 @@
 use Rattle.std.proofs.Common.{subst, IsUtf8, arith}
 use Rattle.store_rows.proofs.StateLemmas.{ok_then}
 use Rattle.store_items.proofs.MaybeLemmas.{bound_maybe}
-use Rattle.store_items.proofs.ItemLemmas.{IsOffer, adds_item}
+use Rattle.store_items.proofs.ItemLemmas.{IsStorable, adds_item}
 use Rattle.store_items.proofs.item.put_item.Goals as goal
 
 pub returns-clause-ok : goal.returns-clause-ok
 returns-clause-ok g c clean bands =
     let house = c.run.ensures.house clean in
-    let offer = c.args.offer.now in
+    let item = record c.args.item.now { end = c.args.end } in
     let lot = subst IsUtf8 c.stored_text-lot.ensures c.stored_text-lot.utf8 in
     let title = subst IsUtf8 c.stored_text-title.ensures c.stored_text-title.utf8 in
     let text = subst IsUtf8 c.stored_text-text.ensures c.stored_text-text.utf8 in
-    let low : IsOffer c.args.number offer.seller offer.category offer.start offer.buy_now offer.end = record {
+    let low : IsStorable c.args.number item = record {
       number_low = omega (arith, c.ranges.number);
       seller_low = c.stored_number-seller.ensures.small;
       category_low = c.stored_number-category.ensures.small;
@@ -37,6 +37,6 @@ returns-clause-ok g c clean bands =
       c.stored_number-end.ensures.value,
       c.stored-start.ensures.value,
       c.stored_maybe-buy_now.ensures.value,
-      bound_maybe offer.buy_now,
+      bound_maybe c.args.item.now.buy_now,
     ) at (c.run.ensures.ran clean))
-    (λ _ ran. adds_item _ _ c.args.number offer.seller offer.category offer.lot.now offer.title.now offer.text.now offer.start offer.buy_now offer.end ran.0 bands low lot title text house ran.1)
+    (λ _ ran. adds_item _ _ c.args.number item ran.0 bands low lot title text house ran.1)

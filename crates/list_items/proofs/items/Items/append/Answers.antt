@@ -23,23 +23,22 @@ invariant_of-self-in_err-add_lot c =
 
 pub invariant_of-self-in_default-insert : goal.invariant_of-self-in_default-insert
 invariant_of-self-in_default-insert c =
-    let free : find (has_lot c.from-seller.result c.args.listing.now.lot.now) c.self.inside.rows.items ≡ None = rw (c.from-seller.ensures, c.self.view_is) c.requires.free in
+    let free : find (has_lot c.from-seller.result c.args.item.now.lot.now) c.self.inside.rows.items ≡ None = rw (c.from-seller.ensures, c.self.view_is) c.requires.free in
     let known : IsIndexed c.self.inside.rows.items (number_at c.self.inside.lots) (numbers_at c.reserve.new.groups) (numbers_at c.reserve-2.new.groups) (numbers_at c.self.inside.purchases) (has_end c.self.inside.ends) =
     with_room c.self.inside.rows.items (number_at c.self.inside.lots) (numbers_at c.self.inside.categories) (numbers_at c.reserve.new.groups) (numbers_at c.self.inside.sellers) (numbers_at c.reserve-2.new.groups) (numbers_at c.self.inside.purchases) (has_end c.self.inside.ends) c.reserve.ensures.same c.reserve-2.ensures.same c.self.invariant in
     rw c.try_reserve.ensures.items (ends_added c.self.inside.rows.items (number_at c.add_lot.new.sellers) (numbers_at c.reserve.new.groups) (numbers_at c.reserve-2.new.groups) (numbers_at c.self.inside.purchases) (has_end c.self.inside.ends) (has_end c.insert.new.self)
     (ends_same c.self.inside.ends c.insert.new.self c.in_default-insert.ensures.err)
-    (lot_added c.self.inside.rows.items (number_at c.self.inside.lots) (number_at c.add_lot.new.sellers) (numbers_at c.reserve.new.groups) (numbers_at c.reserve-2.new.groups) (numbers_at c.self.inside.purchases) (has_end c.self.inside.ends) c.from-seller.result (c.len.result + 1) c.args.listing.now.lot.now free c.in_ok-add_lot.ensures.ok known))
+    (lot_added c.self.inside.rows.items (number_at c.self.inside.lots) (number_at c.add_lot.new.sellers) (numbers_at c.reserve.new.groups) (numbers_at c.reserve-2.new.groups) (numbers_at c.self.inside.purchases) (has_end c.self.inside.ends) c.from-seller.result (c.len.result + 1) c.args.item.now.lot.now free c.in_ok-add_lot.ensures.ok known))
 
 pub invariant_of-self-2 : goal.invariant_of-self-2
 invariant_of-self-2 c =
-    let free : find (has_lot c.from-seller.result c.args.listing.now.lot.now) c.self.inside.rows.items ≡ None = rw (c.from-seller.ensures, c.self.view_is) c.requires.free in
+    let free : find (has_lot c.from-seller.result c.args.item.now.lot.now) c.self.inside.rows.items ≡ None = rw (c.from-seller.ensures, c.self.view_is) c.requires.free in
     let known : IsIndexed c.self.inside.rows.items (number_at c.self.inside.lots) (numbers_at c.reserve.new.groups) (numbers_at c.reserve-2.new.groups) (numbers_at c.self.inside.purchases) (has_end c.self.inside.ends) =
     with_room c.self.inside.rows.items (number_at c.self.inside.lots) (numbers_at c.self.inside.categories) (numbers_at c.reserve.new.groups) (numbers_at c.self.inside.sellers) (numbers_at c.reserve-2.new.groups) (numbers_at c.self.inside.purchases) (has_end c.self.inside.ends) c.reserve.ensures.same c.reserve-2.ensures.same c.self.invariant in
     let next : c.len.result + 1 ≡ length c.self.inside.rows.items + 1 = omega (arith, c.len.ensures, c.self.inside.rows.ok.0) in
     rw (c.in-Ok-push.ensures.items, c.try_reserve.ensures.items)
-    (row_listed c.self.inside.rows.items c.in_ok-entry.entry [] (c.len.result + 1) c.args.listing.now.seller c.args.listing.now.category c.args.listing.now.lot.now c.args.listing.now.title.now c.args.listing.now.text.now
-    c.args.listing.now.start c.args.listing.now.buy_now c.args.listing.now.end c.from-seller.result c.from-category.result
+    (row_listed c.self.inside.rows.items c.in_ok-entry.entry [] (c.len.result + 1) c.args.item.now c.from-seller.result c.from-category.result
     (number_at c.self.inside.lots) (number_at c.add_lot.new.sellers) (numbers_at c.reserve.new.groups) (numbers_at c.add.new.groups) (numbers_at c.reserve-2.new.groups) (numbers_at c.add-2.new.groups) (numbers_at c.self.inside.purchases) (has_end c.self.inside.ends) (has_end c.insert.new.self)
     (c.in_ok-entry.ensures.value []) next c.from-seller.ensures c.from-category.ensures free c.in_ok-add_lot.ensures.ok
-    (ends_stay c.self.inside.ends c.insert.new.self (c.args.listing.now.end, c.len.result + 1) c.in-Ok-insert.ensures.updates) c.in-Ok-insert.ensures.updates.1
+    (ends_stay c.self.inside.ends c.insert.new.self (c.args.item.now.end, c.len.result + 1) c.in-Ok-insert.ensures.updates) c.in-Ok-insert.ensures.updates.1
     c.add.ensures c.add-2.ensures known)

@@ -5,12 +5,12 @@ use Rattle.list_items.proofs.items.Items.list.Goals as goal
 
 pub append-requires-clause-free : goal.append-requires-clause-free
 append-requires-clause-free c =
-    lot_free c.args.self.now c.args.listing.now.seller c.from-seller.result c.args.listing.now.lot.now c.number_with_lot.result c.is_some.result c.from-seller.ensures c.number_with_lot.ensures c.is_some.ensures c.if-is_some.false
+    lot_free c.args.self.now c.args.item.now.seller c.from-seller.result c.args.item.now.lot.now c.number_with_lot.result c.is_some.result c.from-seller.ensures c.number_with_lot.ensures c.is_some.ensures c.if-is_some.false
 
 pub returns-then-is_some-clause-whole : goal.returns-then-is_some-clause-whole
 returns-then-is_some-clause-whole c =
-    makes_damaged _ _ _ _ (lot_taken c.args.self.now c.args.listing.now.seller c.from-seller.result c.args.listing.now.lot.now c.number_with_lot.result c.is_some.result c.from-seller.ensures c.number_with_lot.ensures c.is_some.ensures c.if-is_some.true) refl
+    makes_damaged _ _ _ _ (lot_taken c.args.self.now c.args.item.now.seller c.from-seller.result c.args.item.now.lot.now c.number_with_lot.result c.is_some.result c.from-seller.ensures c.number_with_lot.ensures c.is_some.ensures c.if-is_some.true) refl
 
 pub returns-clause-whole : goal.returns-clause-whole
 returns-clause-whole c =
-    made_or_memory c.append.result _ _ _ (lot_untold c.args.self.now c.args.listing.now.seller c.from-seller.result c.args.listing.now.lot.now c.number_with_lot.result c.is_some.result c.from-seller.ensures c.number_with_lot.ensures c.is_some.ensures c.if-is_some.false) c.append.ensures.err c.append.ensures.memory
+    made_or_memory c.append.result _ _ _ (lot_untold c.args.self.now c.args.item.now.seller c.from-seller.result c.args.item.now.lot.now c.number_with_lot.result c.is_some.result c.from-seller.ensures c.number_with_lot.ensures c.is_some.ensures c.if-is_some.false) c.append.ensures.err c.append.ensures.memory

@@ -1,21 +1,20 @@
 use Rattle.std.proofs.Common.{refl}
 use Rattle.house_rows.specs.declared.change.Change.TheVariants as change
 use Rattle.house_rows.specs.Changed.{changed}
-use Rattle.store_list.specs.Listed.{listed}
 use Rattle.store_list.proofs.Changing.{fits_here, kept_after, makes_not, makes_ok}
 use Rattle.store_list.proofs.keep.ListKeep.list.Goals as goal
 
 pub list-requires : goal.list-requires
-list-requires c = record { room = (fits_here c.args.self.now _ (change.List c.args.moment c.args.listing.now.seller c.args.listing.now.category c.args.listing.now.lot c.args.listing.now.title c.args.listing.now.text c.args.listing.now.start c.args.listing.now.buy_now c.args.listing.now.end) c.self.view_is c.self.invariant.sound c.requires.fits).room }
+list-requires c = record { room = (fits_here c.args.self.now _ (change.List c.args.moment c.args.item.now) c.self.view_is c.self.invariant.sound c.requires.fits).room }
 
 pub invariant_of-self-2 : goal.invariant_of-self-2
 unfolding changed
-invariant_of-self-2 c = kept_after c.args.self.now _ _ (change.List c.args.moment c.args.listing.now.seller c.args.listing.now.category c.args.listing.now.lot c.args.listing.now.title c.args.listing.now.text c.args.listing.now.start c.args.listing.now.buy_now c.args.listing.now.end) c.self.view_is c.self.invariant c.requires.fits (c.in_ok-list.ensures.whole.free) (rw (c.in_ok-list.ensures.listed c.self.inside.settings.bands) refl)
+invariant_of-self-2 c = kept_after c.args.self.now _ _ (change.List c.args.moment c.args.item.now) c.self.view_is c.self.invariant c.requires.fits (c.in_ok-list.ensures.whole.free) (rw (c.in_ok-list.ensures.listed c.self.inside.settings.bands) refl)
 
 pub returns : goal.returns
 unfolding changed
-returns c = makes_ok c.args.self.now _ _ (change.List c.args.moment c.args.listing.now.seller c.args.listing.now.category c.args.listing.now.lot c.args.listing.now.title c.args.listing.now.text c.args.listing.now.start c.args.listing.now.buy_now c.args.listing.now.end) c.self.view_is (c.in_ok-list.ensures.whole.free) (rw (c.in_ok-list.ensures.listed c.self.inside.settings.bands) refl)
+returns c = makes_ok c.args.self.now _ _ (change.List c.args.moment c.args.item.now) c.self.view_is (c.in_ok-list.ensures.whole.free) (rw (c.in_ok-list.ensures.listed c.self.inside.settings.bands) refl)
 
 pub returns-in_err-list : goal.returns-in_err-list
 unfolding changed
-returns-in_err-list c = makes_not c.from_residual.result _ _ _ _ c.args.self.now _ _ (listed c.args.moment c.args.listing.now) c.self.view_is c.from_residual.ensures.1 c.in_err-list.ensures.whole (rw c.in_err-list.ensures.whole.err refl)
+returns-in_err-list c = makes_not c.from_residual.result _ _ _ _ c.args.self.now _ _ (change.List c.args.moment c.args.item.now) c.self.view_is c.from_residual.ensures.1 c.in_err-list.ensures.whole (rw c.in_err-list.ensures.whole.err refl)
