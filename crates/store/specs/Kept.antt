@@ -38,7 +38,8 @@ counts_code =
 
 abbrev pub house_code : {S : Type 0} → Coded S → Coded (House S)
 house_code {S} store =
-    code_by (Held S × (Settings × (Counts × (ℕ × Bool)))) (coded× (held_code store) (coded× settings_code (coded× counts_code (coded× coded_ℕ coded_bool))))
+    code_by (Held S × (Settings × (Counts × (ℕ × Bool))))
+    (coded× (held_code store) (coded× settings_code (coded× counts_code (coded× coded_ℕ coded_bool))))
     (λ k. (k.conn, (k.settings, (k.counts, (k.clock, k.failed)))))
     (λ p. record { conn = p.0; settings = p.1.0; counts = p.1.1.0; clock = p.1.1.1.0; failed = p.1.1.1.1 })
     (λ _. refl)

@@ -27,4 +27,5 @@ bid_told member best t = record {
 
 -- what a member has bid on the item of a number, if it has
 abbrev pub own_found : Tables → ℕ → ℕ → List OwnBid
-own_found t member item = filter (λ b. nat_lt 0 b.mine) (found_of (option_map (λ (row : ItemRow). own_bid t member row.item) (row_at t item)))
+own_found t member item = filter (λ b. nat_lt 0 b.mine)
+    (found_of (option_map (λ (row : ItemRow). own_bid t member row.item) (row_at t item)))

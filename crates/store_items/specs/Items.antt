@@ -13,7 +13,8 @@ use Rattle.store_rows.specs.ItemRows.{items_in}
 pub record AddsItem (row : ItemRow) (old new : Database) : Type 0 where
   pub house : IsHouse new
   pub others : KeepsOthers 6 old new
-  pub items : All (λ r. r.item.terms.item < row.item.terms.item) (items_in old.trees) → items_in new.trees ≡ items_in old.trees ++ row ∷ []
+  pub items : All (λ r. r.item.terms.item < row.item.terms.item) (items_in old.trees)
+      → items_in new.trees ≡ items_in old.trees ++ row ∷ []
 
 -- of each row with the number
 abbrev pub OfItem : ℕ → (ItemRow → Type 0) → Database → Type 0
@@ -30,7 +31,9 @@ pub record SetsStanding (item : ℕ) (kept : Kept) (old new : Database) : Type 0
 pub record SetsBought (item buyer price moment : ℕ) (old new : Database) : Type 0 where
   pub house : IsHouse new
   pub others : KeepsOthers 6 old new
-  pub items : OfItem item (λ row. (row.item.terms.start ≤ most_cents) × (row.standing.price ≡ row.standing.start) × (row.standing.leader ≡ None) × (row.standing.top ≡ None)) old
+  pub items : OfItem item (λ row. (row.item.terms.start ≤ most_cents)
+      × (row.standing.price ≡ row.standing.start) × (row.standing.leader ≡ None)
+      × (row.standing.top ≡ None)) old
       → items_in new.trees ≡ map (with_purchase item buyer price moment) (items_in old.trees)
 
 -- the item is closed at its end, sold or unsold
@@ -44,10 +47,12 @@ with_end item is_sold row =
 pub record SetsClosed (item : ℕ) (is_sold : Bool) (old new : Database) : Type 0 where
   pub house : IsHouse new
   pub others : KeepsOthers 6 old new
-  pub items : OfItem item (λ row. row.item.terms.start ≤ most_cents) old → items_in new.trees ≡ map (with_end item is_sold) (items_in old.trees)
+  pub items : OfItem item (λ row. row.item.terms.start ≤ most_cents) old
+      → items_in new.trees ≡ map (with_end item is_sold) (items_in old.trees)
 
 -- the item is settled, if its row fits
 pub record SetsSettled (item : ℕ) (old new : Database) : Type 0 where
   pub house : IsHouse new
   pub others : KeepsOthers 6 old new
-  pub items : OfItem item (λ row. row.item.terms.start ≤ most_cents) old → items_in new.trees ≡ map (with_settlement item) (items_in old.trees)
+  pub items : OfItem item (λ row. row.item.terms.start ≤ most_cents) old
+      → items_in new.trees ≡ map (with_settlement item) (items_in old.trees)

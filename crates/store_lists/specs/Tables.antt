@@ -18,7 +18,11 @@ unfoldable pub house_row_in : Trees → HouseRow
 house_row_in db = unwrap_or (find (λ h. h.id == 1) (houses_in db)) (record { id = 0; version = 0; clock = 0; rate = 0; zone = [] })
 
 unfoldable pub settings_in : Trees → Settings
-settings_in db = record { bands = map (λ b. (b.from, b.step)) (bands_in db); rate = (house_row_in db).rate; zone = (house_row_in db).zone }
+settings_in db = record {
+  bands = map (λ b. (b.from, b.step)) (bands_in db);
+  rate = (house_row_in db).rate;
+  zone = (house_row_in db).zone;
+}
 
 -- the tables, each in the order of its keys
 unfoldable pub tables_in : Trees → Tables

@@ -66,7 +66,8 @@ NewHouse settings trees = (db : Database) × IsHouse db × (tables_in db.trees �
 -- could find before, or the new house.
 pub record LeavesMade {S : Type 0} (g : Ghosts S) (conn : Held S) (settings : Settings) : Type 0 where
   pub last : Held S
-  pub back : HasCleanDisk (state g last) → IsTrue (state g last).is_open → conn.in_transaction ≡ false → IsBack (state g conn) (state g last)
+  pub back : HasCleanDisk (state g last) → IsTrue (state g last).is_open
+      → conn.in_transaction ≡ false → IsBack (state g conn) (state g last)
   pub survives : Survives (state g conn) (state g last) (NewHouse settings)
 
 -- What the store of a connection may become: that a wrong answer of the disk was taken as true is not forgotten, a shield is
@@ -74,7 +75,8 @@ pub record LeavesMade {S : Type 0} (g : Ghosts S) (conn : Held S) (settings : Se
 pub record Follows {S : Type 0} (g : Ghosts S) (conn : Held S) (store : S) : Type 0 where
   pub clean : doubt (state g conn).is_clean ≤ doubt (g.view store).is_clean
   pub shield : g.is_shielded conn.store → g.is_shielded store
-  pub crash : IsClean (g.view store) → (db : Trees) → g.recovers store db → g.recovers conn.store db ⊎ (db ≡ (state g conn).committed.trees)
+  pub crash : IsClean (g.view store) → (db : Trees) → g.recovers store db
+      → g.recovers conn.store db ⊎ (db ≡ (state g conn).committed.trees)
 
 -- The store that the call has left was not handed out.
 pub record LeavesStore {S : Type 0} (g : Ghosts S) (conn : Held S) : Type 0 where

@@ -45,13 +45,15 @@ KeepsOthers tree old new = AllByRecursion (λ t. t.tree ≢ tree → new.trees t
 pub record AddsMember (number : ℕ) (name : List ℕ) (old new : Database) : Type 0 where
   pub house : IsHouse new
   pub others : KeepsOthers 2 old new
-  pub members : All (λ m. m.member < number) (members_in old.trees) → members_in new.trees ≡ members_in old.trees ++ record { member = number; name = name } ∷ []
+  pub members : All (λ m. m.member < number) (members_in old.trees)
+      → members_in new.trees ≡ members_in old.trees ++ record { member = number; name = name } ∷ []
 
 -- one more category, the last where its number is over every other
 pub record AddsCategory (number : ℕ) (name : List ℕ) (old new : Database) : Type 0 where
   pub house : IsHouse new
   pub others : KeepsOthers 4 old new
-  pub categories : All (λ k. k.category < number) (categories_in old.trees) → categories_in new.trees ≡ categories_in old.trees ++ record { category = number; name = name } ∷ []
+  pub categories : All (λ k. k.category < number) (categories_in old.trees)
+      → categories_in new.trees ≡ categories_in old.trees ++ record { category = number; name = name } ∷ []
 
 -- one more bid, the last
 pub record AddsBid (bid : BidRow) (old new : Database) : Type 0 where

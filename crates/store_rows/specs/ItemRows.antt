@@ -19,9 +19,30 @@ state_in v = if number_in v == 0 then Open else (if number_in v == 1 then Sold e
 
 -- the standing of the bids: a leader with no top has bought the item at once, and then nobody has bid
 abbrev pub kept_from : ℕ → ℕ → Option ℕ → Option ℕ → Option ℕ → ℕ → Kept
-kept_from start price None top second count = record { start = start; price = price; leader = None; top = top; second = second; count = count }
-kept_from start price (Some leader) None second count = record { start = start; price = start; leader = None; top = None; second = second; count = count }
-kept_from start price (Some leader) (Some top) second count = record { start = start; price = price; leader = Some leader; top = Some top; second = second; count = count }
+kept_from start price None top second count = record {
+  start = start;
+  price = price;
+  leader = None;
+  top = top;
+  second = second;
+  count = count;
+}
+kept_from start price (Some leader) None second count = record {
+  start = start;
+  price = start;
+  leader = None;
+  top = None;
+  second = second;
+  count = count;
+}
+kept_from start price (Some leader) (Some top) second count = record {
+  start = start;
+  price = price;
+  leader = Some leader;
+  top = Some top;
+  second = second;
+  count = count;
+}
 
 -- ---- as a query shows a row
 
@@ -46,13 +67,16 @@ abbrev pub item_of : Row → Item
 item_of r = record { terms = terms_of r; lot = text_in (column r 11); title = text_in (column r 12); text = text_in (column r 13) }
 
 abbrev pub kept_of : Row → Kept
-kept_of r = kept_from (number_in (column r 0)) (number_in (column r 1)) (maybe_number_in (column r 2)) (maybe_number_in (column r 3)) (maybe_number_in (column r 4)) (number_in (column r 5))
+kept_of r = kept_from
+    (number_in (column r 0)) (number_in (column r 1)) (maybe_number_in (column r 2))
+    (maybe_number_in (column r 3)) (maybe_number_in (column r 4)) (number_in (column r 5))
 
 -- ---- as a tree holds it
 
 abbrev pub item_columns : Row → Row
 item_columns r =
-    column r 0 ∷ column r 2 ∷ column r 3 ∷ column r 7 ∷ column r 8 ∷ column r 9 ∷ column r 10 ∷ column r 11 ∷ column r 12 ∷ column r 13 ∷ column r 16
+    column r 0 ∷ column r 2 ∷ column r 3 ∷ column r 7 ∷ column r 8 ∷ column r 9 ∷ column r 10
+    ∷ column r 11 ∷ column r 12 ∷ column r 13 ∷ column r 16
     ∷ column r 4 ∷ column r 5 ∷ column r 6 ∷ []
 
 abbrev pub kept_columns : Row → Row

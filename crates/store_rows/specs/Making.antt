@@ -12,7 +12,8 @@ use Rattle.store_rows.specs.House.{IsHouse}
 abbrev pub making : List (List ℕ)
 making =
     make_house ∷ make_band ∷ make_member ∷ make_category ∷ make_item ∷ make_bid ∷ make_watch ∷ make_question ∷ make_feedback
-    ∷ make_item_by_category ∷ make_item_by_seller ∷ make_item_by_leader ∷ make_item_by_end ∷ make_bid_by_member ∷ make_question_by_asker ∷ make_feedback_by_receiver ∷ []
+    ∷ make_item_by_category ∷ make_item_by_seller ∷ make_item_by_leader ∷ make_item_by_end
+    ∷ make_bid_by_member ∷ make_question_by_asker ∷ make_feedback_by_receiver ∷ []
 
 abbrev pub making_at : ℕ → List ℕ
 making_at n = unwrap_or (slice_get making n) []

@@ -58,7 +58,13 @@ rating_in _ = Zero
 -- ---- as a query shows a row
 
 abbrev pub house_of : Row → HouseRow
-house_of r = record { id = number_in (column r 0); version = number_in (column r 1); clock = number_in (column r 2); rate = number_in (column r 3); zone = text_in (column r 4) }
+house_of r = record {
+  id = number_in (column r 0);
+  version = number_in (column r 1);
+  clock = number_in (column r 2);
+  rate = number_in (column r 3);
+  zone = text_in (column r 4);
+}
 
 abbrev pub band_of : Row → BandRow
 band_of r = record { from = number_in (column r 0); step = number_in (column r 1) }
@@ -70,13 +76,26 @@ abbrev pub category_of : Row → Category
 category_of r = record { category = number_in (column r 0); name = text_in (column r 1) }
 
 abbrev pub bid_of : Row → BidRow
-bid_of r = record { item = number_in (column r 0); bid = record { member = number_in (column r 2); maximum = number_in (column r 3); no = number_in (column r 1) } }
+bid_of r = record {
+  item = number_in (column r 0);
+  bid = record {
+    member = number_in (column r 2);
+    maximum = number_in (column r 3);
+    no = number_in (column r 1);
+  };
+}
 
 abbrev pub watch_of : Row → WatchRow
 watch_of r = record { member = number_in (column r 0); item = number_in (column r 1) }
 
 abbrev pub question_of : Row → Question
-question_of r = record { item = number_in (column r 0); asker = number_in (column r 1); number = number_in (column r 2); text = text_in (column r 4); answer = maybe_text_in (column r 3) }
+question_of r = record {
+  item = number_in (column r 0);
+  asker = number_in (column r 1);
+  number = number_in (column r 2);
+  text = text_in (column r 4);
+  answer = maybe_text_in (column r 3);
+}
 
 -- where the rating is none, the item is none of ours
 abbrev pub feedback_of : Row → Feedback

@@ -14,11 +14,25 @@ use Rattle.sqlite_catalog.specs.Listing.{automatic}
 use Rattle.sqlite_schema.specs.declared.schema.Schema.{Schema}
 
 abbrev pub strict : List ℕ → Kind → Bool → Column
-strict name kind not_null = record { name = name; kind = kind; is_strict = true; not_null = not_null; default = Null; collation = Binary }
+strict name kind not_null = record {
+  name = name;
+  kind = kind;
+  is_strict = true;
+  not_null = not_null;
+  default = Null;
+  collation = Binary;
+}
 
 -- the column at a place names a row of a table by its number
 abbrev pub refers : ℕ → List ℕ → Reference
-refers place parent = record { columns = place ∷ []; parent = parent; parent_columns = codes "id" ∷ []; on_delete = NoAction; on_update = NoAction; is_deferred = false }
+refers place parent = record {
+  columns = place ∷ [];
+  parent = parent;
+  parent_columns = codes "id" ∷ [];
+  on_delete = NoAction;
+  on_update = NoAction;
+  is_deferred = false;
+}
 
 -- what tells one table of ours from another
 pub record Layout : Type 0 where
@@ -48,18 +62,43 @@ table_of t = record {
 
 -- a table whose row has its number as rowid
 abbrev pub numbered : List ℕ → ℕ → List Column → List (List ℕ) → List Reference → Layout
-numbered name tree columns uniques references = record { name = name; tree = tree; columns = columns; key = Some 0; primary = 0 ∷ []; uniques = uniques; references = references }
+numbered name tree columns uniques references = record {
+  name = name;
+  tree = tree;
+  columns = columns;
+  key = Some 0;
+  primary = 0 ∷ [];
+  uniques = uniques;
+  references = references;
+}
 
 -- a table whose primary key is of some columns
 abbrev pub keyed : List ℕ → ℕ → List Column → List ℕ → List Reference → Layout
-keyed name tree columns key references = record { name = name; tree = tree; columns = columns; key = None; primary = key; uniques = key ∷ []; references = references }
+keyed name tree columns key references = record {
+  name = name;
+  tree = tree;
+  columns = columns;
+  key = None;
+  primary = key;
+  uniques = key ∷ [];
+  references = references;
+}
 
 abbrev pub index_on : List ℕ → ℕ → ℕ → List ℕ → Index
-index_on name tree table columns = record { name = name; tree = tree; table = table; columns = columns; order = plain; is_unique = false }
+index_on name tree table columns = record {
+  name = name;
+  tree = tree;
+  table = table;
+  columns = columns;
+  order = plain;
+  is_unique = false;
+}
 
 abbrev pub house_layout : Layout
 house_layout = numbered (codes "house") 0
-    (strict (codes "id") Integer false ∷ strict (codes "version") Integer true ∷ strict (codes "clock") Integer true ∷ strict (codes "rate") Integer true ∷ strict (codes "zone") Text true ∷ [])
+    (strict (codes "id") Integer false ∷ strict (codes "version") Integer true
+    ∷ strict (codes "clock") Integer true ∷ strict (codes "rate") Integer true
+    ∷ strict (codes "zone") Text true ∷ [])
     ([]) ([])
 
 abbrev pub house_table : Table
@@ -91,7 +130,14 @@ category_table = table_of category_layout
 
 abbrev pub item_layout : Layout
 item_layout = numbered (codes "item") 6
-    (strict (codes "id") Integer false ∷ strict (codes "seller") Integer true ∷ strict (codes "category") Integer true ∷ strict (codes "lot") Text true ∷ strict (codes "title") Text true ∷ strict (codes "body") Text true ∷ strict (codes "start") Integer true ∷ strict (codes "buy_now") Integer false ∷ strict (codes "ending") Integer true ∷ strict (codes "state") Integer true ∷ strict (codes "closed") Integer false ∷ strict (codes "price") Integer true ∷ strict (codes "leader") Integer false ∷ strict (codes "top") Integer false ∷ strict (codes "second") Integer false ∷ strict (codes "count") Integer true ∷ [])
+    (strict (codes "id") Integer false ∷ strict (codes "seller") Integer true
+    ∷ strict (codes "category") Integer true ∷ strict (codes "lot") Text true
+    ∷ strict (codes "title") Text true ∷ strict (codes "body") Text true
+    ∷ strict (codes "start") Integer true ∷ strict (codes "buy_now") Integer false
+    ∷ strict (codes "ending") Integer true ∷ strict (codes "state") Integer true
+    ∷ strict (codes "closed") Integer false ∷ strict (codes "price") Integer true
+    ∷ strict (codes "leader") Integer false ∷ strict (codes "top") Integer false
+    ∷ strict (codes "second") Integer false ∷ strict (codes "count") Integer true ∷ [])
     ((2 ∷ 4 ∷ []) ∷ []) (refers 2 (codes "member") ∷ refers 3 (codes "category") ∷ refers 13 (codes "member") ∷ [])
 
 abbrev pub item_table : Table
@@ -99,7 +145,8 @@ item_table = table_of item_layout
 
 abbrev pub bid_layout : Layout
 bid_layout = keyed (codes "bid") 8
-    (strict (codes "item") Integer true ∷ strict (codes "no") Integer true ∷ strict (codes "member") Integer true ∷ strict (codes "maximum") Integer true ∷ [])
+    (strict (codes "item") Integer true ∷ strict (codes "no") Integer true
+    ∷ strict (codes "member") Integer true ∷ strict (codes "maximum") Integer true ∷ [])
     (1 ∷ 2 ∷ []) (refers 1 (codes "item") ∷ refers 3 (codes "member") ∷ [])
 
 abbrev pub bid_table : Table
@@ -115,7 +162,9 @@ watch_table = table_of watch_layout
 
 abbrev pub question_layout : Layout
 question_layout = keyed (codes "question") 12
-    (strict (codes "item") Integer true ∷ strict (codes "asker") Integer true ∷ strict (codes "n") Integer true ∷ strict (codes "body") Text true ∷ strict (codes "answer") Text false ∷ [])
+    (strict (codes "item") Integer true ∷ strict (codes "asker") Integer true
+    ∷ strict (codes "n") Integer true ∷ strict (codes "body") Text true
+    ∷ strict (codes "answer") Text false ∷ [])
     (1 ∷ 2 ∷ 3 ∷ []) (refers 1 (codes "item") ∷ refers 2 (codes "member") ∷ [])
 
 abbrev pub question_table : Table
@@ -123,7 +172,9 @@ question_table = table_of question_layout
 
 abbrev pub feedback_layout : Layout
 feedback_layout = keyed (codes "feedback") 14
-    (strict (codes "item") Integer true ∷ strict (codes "giver") Integer true ∷ strict (codes "receiver") Integer true ∷ strict (codes "rating") Integer true ∷ strict (codes "body") Text true ∷ [])
+    (strict (codes "item") Integer true ∷ strict (codes "giver") Integer true
+    ∷ strict (codes "receiver") Integer true ∷ strict (codes "rating") Integer true
+    ∷ strict (codes "body") Text true ∷ [])
     (1 ∷ 2 ∷ []) (refers 1 (codes "item") ∷ refers 2 (codes "member") ∷ refers 3 (codes "member") ∷ [])
 
 abbrev pub feedback_table : Table
@@ -152,7 +203,8 @@ feedback_by_receiver = index_on (codes "feedback_by_receiver") 22 14 (3 ∷ 1 �
 
 abbrev pub house_schema : Schema
 house_schema = record {
-  tables = house_table ∷ band_table ∷ member_table ∷ category_table ∷ item_table ∷ bid_table ∷ watch_table ∷ question_table ∷ feedback_table ∷ [];
+  tables = house_table ∷ band_table ∷ member_table ∷ category_table ∷ item_table ∷ bid_table
+      ∷ watch_table ∷ question_table ∷ feedback_table ∷ [];
   indexes = automatic member_table 0 (2 ∷ []) 3
       ∷ automatic category_table 0 (2 ∷ []) 5
       ∷ automatic item_table 0 (2 ∷ 4 ∷ []) 7

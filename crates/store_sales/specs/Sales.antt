@@ -17,7 +17,8 @@ StartFits row = row.item.terms.start ≤ most_cents
 
 -- nobody has bid
 abbrev pub IsUnbid : ItemRow → Type 0
-IsUnbid row = (row.item.terms.start ≤ most_cents) × (row.standing.price ≡ row.standing.start) × (row.standing.leader ≡ None) × (row.standing.top ≡ None)
+IsUnbid row = (row.item.terms.start ≤ most_cents) × (row.standing.price ≡ row.standing.start)
+    × (row.standing.leader ≡ None) × (row.standing.top ≡ None)
 
 -- the bids begin at that price
 abbrev pub StartsAt : ℕ → ItemRow → Type 0
