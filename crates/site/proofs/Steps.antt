@@ -104,6 +104,7 @@ step_ok content is_failed is_honest may_leave zone asked u before after old new 
         down = λ failed asks. absurd (let wrong = acted.store.1 (failed, asks) in cc);
         honest = acted.honest;
         stays = acted.stays;
+        asleep = acted.asleep;
       },
     )
 
@@ -135,11 +136,16 @@ step_err content is_failed is_honest may_leave zone asked Memory before after ol
       down = λ failed asks. inr refl;
       honest = acted.honest;
       stays = acted.stays;
+      asleep = acted.asleep;
     }
 step_err content is_failed is_honest may_leave zone asked Store before after old new acted =
     record {
       answer = λ honest settings h is same. record {
-        outcome = inr (inr (record { told = refl; failed = (acted.store.0 refl).0 }));
+        outcome = inr (inr (record {
+          told = refl;
+          asking = (acted.store.0 refl).1;
+          failed = (acted.store.0 refl).0;
+        }));
         crash = λ t may. acted.crash_next honest settings h is same t may;
       };
       made = acted.made;
@@ -148,6 +154,7 @@ step_err content is_failed is_honest may_leave zone asked Store before after old
       down = λ failed asks. inl refl;
       honest = acted.honest;
       stays = acted.stays;
+      asleep = acted.asleep;
     }
 step_err content is_failed is_honest may_leave zone asked Damaged before after old new acted =
     record {
@@ -158,6 +165,7 @@ step_err content is_failed is_honest may_leave zone asked Damaged before after o
       down = λ failed asks. absurd (let wrong = acted.store.1 (failed, asks) in cc);
       honest = acted.honest;
       stays = acted.stays;
+      asleep = acted.asleep;
     }
 
 -- whatever carrying it out gave
@@ -206,6 +214,7 @@ step_unread content is_failed is_honest may_leave zone asked closes k same = rec
   down = λ failed asks. inr (ap (fault_text Memory) same);
   honest = λ honest. honest;
   stays = λ failed. failed;
+  asleep = λ idle. refl;
 }
 
 -- the text that stands ready for a broken frame is that of the reply
@@ -259,6 +268,7 @@ step_broken content is_failed is_honest may_leave zone f k = record {
   down = λ failed asks. absurd (not_both _ asks (broken_asks f));
   honest = λ honest. honest;
   stays = λ failed. failed;
+  asleep = λ idle. refl;
 }
 
 -- a text that is a message has no broken frame

@@ -54,9 +54,10 @@ pub record IsWanting {K : Type 0} (content : K → Tables) (is_failed : K → Bo
   pub same : is_failed new ≡ is_failed old
   pub left : (t : Tables) → may_leave new t → may_leave old t
 
--- the store failed, in this call or an earlier one
+-- the store failed, in this call or an earlier one; only what asks it for anything is told so
 pub record IsFailed (asked : Asked) (reply : List ℕ) (is_failed : Bool) : Type 0 where
   pub told : reply ≡ fault_text fault.Store asked.closes
+  pub asking : is_asking asked.message ≡ true
   pub failed : is_failed ≡ true
 
 -- what one message is answered over a history whose tables the keep has, what it leaves, and what a
@@ -96,6 +97,8 @@ pub record IsStep {K : Type 0} (content : K → Tables) (is_failed : K → Bool)
       ⊎ (reply ≡ fault_text fault.Memory asked.closes)
   pub honest : is_honest new → is_honest old
   pub stays : is_failed old ≡ true → is_failed new ≡ true
+  -- what asks the keep for nothing leaves it as it was
+  pub asleep : is_asking asked.message ≡ false → new ≡ old
 
 -- the answer stands behind what a buffer held; or it is a text that stands ready, and the buffer
 -- has what it had
