@@ -27,11 +27,13 @@ HasMember t n = IsWithin 1 (length t.members) n
 abbrev pub HasItem : Tables → ℕ → Type 0
 HasItem t i = (row : ItemRow) × (row_at t i ≡ Some row)
 
+-- a new name: the moment and the name fit, and of such rows there are fewer than there may be
 pub record NameFits (moment : ℕ) (name : List ℕ) (count most : ℕ) : Type 0 where
   pub moment_fits : IsMoment moment
   pub name_fits : is_text 1 40 name ≡ true
   pub room : count < most
 
+-- a listing by a member that is there, in a category that is there: every field of it fits
 pub record ListingFits (t : Tables) (moment : ℕ) (item : NewItem) : Type 0 where
   pub moment_fits : IsMoment moment
   pub seller_there : HasMember t item.seller
@@ -53,6 +55,7 @@ pub record BidFits (t : Tables) (moment item : ℕ) (placed : bid.Bid) (standing
   pub bidder_there : HasMember t placed.member
   pub apart : placed.member ≢ row.item.terms.seller
   pub maximum_fits : placed.maximum ≤ most_cents
+  -- some bids of which the row keeps the standing, whichever they are
   pub bids : List bid.Bid
   pub stands : row.standing ≡ standing_of t.settings.bands row.item.terms.start bids
   pub accepted : AreAccepted t.settings.bands row.item.terms.start (one_more bids placed.member placed.maximum)
@@ -70,6 +73,7 @@ pub record PurchaseFits (t : Tables) (moment item buyer price : ℕ) : Type 0 wh
   pub no_bid : row.item.terms.count ≡ 0
   pub at_price : row.item.terms.buy_now ≡ Some price
 
+-- the item is sold, and not settled yet
 pub record SettlementFits (t : Tables) (moment item : ℕ) : Type 0 where
   pub moment_fits : IsMoment moment
   pub row : ItemRow
@@ -82,10 +86,12 @@ pub record WatchFits (t : Tables) (member item : ℕ) : Type 0 where
   pub item_there : HasItem t item
   pub room : counted (λ w. (w.member == member) && not (w.item == item)) t.watches < most_watches
 
+-- the member and the item are there, whether it watches the item or not
 pub record UnwatchFits (t : Tables) (member item : ℕ) : Type 0 where
   pub member_there : HasMember t member
   pub item_there : HasItem t item
 
+-- the question has the next number of its asker on the item, and there is room for it
 pub record QuestionAsked (t : Tables) (item asker number : ℕ) (text : List ℕ) : Type 0 where
   pub item_there : HasItem t item
   pub asker_there : HasMember t asker

@@ -5,6 +5,7 @@ use Rattle.house_rows.specs.declared.command.Command.{Command}
 use Rattle.house_rows.specs.declared.command.Command.TheVariants.{Bid}
 use Rattle.house_rows.specs.History.{History, Key, put_by}
 
+-- the bid of a command, if it is one on the item
 abbrev pub bid_in : ℕ → ℕ → ℕ → Command → List bid.Bid
 bid_in i number caller (Bid j maximum) = if j == i then record { member = caller; maximum = maximum; no = number } ∷ [] else []
 bid_in i number caller _ = []
@@ -19,9 +20,11 @@ pub record BidRow : Type 0 where
   pub item : ℕ
   pub bid : bid.Bid
 
+-- bids go by item and number
 abbrev pub bid_key : BidRow → Key
 bid_key row = record { first = row.item; second = row.bid.no; third = 0 }
 
+-- a bid puts its row, with the next number of its item
 abbrev pub with_bid : History → List BidRow → ℕ → Command → List BidRow
 with_bid h rows caller (Bid i maximum) =
     put_by bid_key (record { item = i; bid = record { member = caller; maximum = maximum; no = length (bids_on h i) + 1 } }) rows

@@ -20,6 +20,7 @@ use Rattle.house_rows.specs.Watches.{unwatched, watch_key}
 abbrev pub with_terms : Terms → ItemRow → ItemRow
 with_terms terms row = record row { item = record row.item { terms = terms } }
 
+-- whether it is the item of that number
 abbrev pub is_item : ℕ → ItemRow → Bool
 is_item i row = row.item.terms.item == i
 
@@ -48,6 +49,7 @@ with_close moment row =
 abbrev pub with_settlement : ℕ → ItemRow → ItemRow
 with_settlement i row = if is_item i row then with_terms (record row.item.terms { state = Settled }) row else row
 
+-- questions go by item, asker and number
 abbrev pub question_key : Question → Key
 question_key q = record { first = q.item; second = q.asker; third = q.number }
 

@@ -14,6 +14,7 @@ use Rattle.house_rows.specs.Text.{is_lot, is_text}
 use Rattle.house_rows.specs.Verdict.{was_sold}
 use Rattle.house_rows.specs.Watches.{WatchRow}
 
+-- a number from the least to the most, both among them
 abbrev pub IsWithin : ℕ → ℕ → ℕ → Type 0
 IsWithin least most n = (least ≤ n) × (n ≤ most)
 
@@ -29,14 +30,17 @@ IsItem n = IsWithin 1 most_items n
 abbrev pub IsMoment : ℕ → Type 0
 IsMoment n = n ≤ last_moment
 
+-- a row of the members fits
 pub record MemberFits (m : Member) : Type 0 where
   pub member : IsMember m.member
   pub name : is_text 1 40 m.name ≡ true
 
+-- a row of the categories fits
 pub record CategoryFits (k : Category) : Type 0 where
   pub category : IsWithin 1 most_categories k.category
   pub name : is_text 1 40 k.name ≡ true
 
+-- what an item's row says beside its texts fits; nobody leads an item of its own
 pub record TermsFit (t : Terms) : Type 0 where
   pub item : IsItem t.item
   pub seller : IsMember t.seller
@@ -53,6 +57,7 @@ pub record TermsFit (t : Terms) : Type 0 where
   pub sold_led : was_sold t.state ≡ true → is_some t.leader ≡ true
   pub sold_closed : was_sold t.state ≡ true → is_some t.closed ≡ true
 
+-- an item fits, with its texts
 pub record ItemFits (it : Item) : Type 0 where
   pub terms : TermsFit it.terms
   pub lot : is_lot it.lot ≡ true
@@ -67,8 +72,10 @@ pub record StandingFits (k : Kept) : Type 0 where
 -- what a member has bid on an item
 pub record OwnBidFits (b : OwnBid) : Type 0 where
   pub item : IsItem b.item
+  -- how many bids are its own
   pub mine : 1 ≤ b.mine
 
+-- a question fits, and its answer where it has one
 pub record QuestionFits (q : Question) : Type 0 where
   pub item : IsItem q.item
   pub asker : IsMember q.asker
@@ -76,18 +83,21 @@ pub record QuestionFits (q : Question) : Type 0 where
   pub text : is_text 1 500 q.text ≡ true
   pub answer : IfSome q.answer (λ text. is_text 1 500 text ≡ true)
 
+-- a row of feedback fits
 pub record FeedbackFits (f : Feedback) : Type 0 where
   pub item : IsItem f.item
   pub from : IsMember f.from
   pub to : IsMember f.to
   pub text : is_text 0 200 f.text ≡ true
 
+-- a bid fits, with the number of its item
 pub record BidRowFits (b : BidRow) : Type 0 where
   pub item : IsItem b.item
   pub member : IsMember b.bid.member
   pub maximum : b.bid.maximum ≤ most_cents
   pub number : IsWithin 1 most_bids b.bid.no
 
+-- a row of the watches fits
 pub record WatchRowFits (w : WatchRow) : Type 0 where
   pub member : IsMember w.member
   pub item : IsItem w.item

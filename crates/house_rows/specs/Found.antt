@@ -26,27 +26,35 @@ use Rattle.house_rows.specs.Questions.{is_question}
 use Rattle.house_rows.specs.Tables.{ItemRow, Tables}
 use Rattle.house_rows.specs.Watches.{is_watch}
 
+-- how many members, categories and items there are
 abbrev pub counts_of : Tables → Counts
 counts_of t = record { members = length t.members; categories = length t.categories; items = length t.items }
 
+-- the member of that name
 abbrev pub member_named : Tables → List ℕ → Option Member
 member_named t name = find (λ m. same_text m.name name) t.members
 
+-- the category of that number
 abbrev pub category_at : Tables → ℕ → Option Category
 category_at t n = find (λ k. k.category == n) t.categories
 
+-- the category of that name
 abbrev pub category_named : Tables → List ℕ → Option Category
 category_named t name = find (λ k. same_text k.name name) t.categories
 
+-- the row of the item of that number, with the standing of its bids
 abbrev pub row_at : Tables → ℕ → Option ItemRow
 row_at t i = find (is_item i) t.items
 
+-- the item of that number
 abbrev pub item_at : Tables → ℕ → Option Item
 item_at t i = option_map (λ (row : ItemRow). row.item) (row_at t i)
 
+-- its terms alone, without the texts
 abbrev pub terms_at : Tables → ℕ → Option Terms
 terms_at t i = option_map (λ (row : ItemRow). row.item.terms) (row_at t i)
 
+-- the standing of its bids
 abbrev pub standing_at : Tables → ℕ → Option Kept
 standing_at t i = option_map (λ (row : ItemRow). row.standing) (row_at t i)
 
@@ -66,18 +74,23 @@ best_of t member item = record {
   mine = length (bids_of_on t member item);
 }
 
+-- whether a member watches an item
 abbrev pub is_watched : Tables → ℕ → ℕ → Bool
 is_watched t member item = list_any (is_watch member item) t.watches
 
+-- how many items a member watches
 abbrev pub watch_count : Tables → ℕ → ℕ
 watch_count t member = counted (λ w. w.member == member) t.watches
 
+-- how many questions an asker has on an item
 abbrev pub ask_count : Tables → ℕ → ℕ → ℕ
 ask_count t asker item = counted (λ q. (q.asker == asker) && (q.item == item)) t.questions
 
+-- the question of that item, asker and number
 abbrev pub question_at : Tables → ℕ → ℕ → ℕ → Option Question
 question_at t item asker number = find (is_question item asker number) t.questions
 
+-- whether a party has given feedback on an item
 abbrev pub is_given : Tables → ℕ → ℕ → Bool
 is_given t item giver = list_any (λ f. (f.item == item) && (f.from == giver)) t.feedback
 
@@ -88,6 +101,7 @@ due_at t moment = record {
   unsold = counted (λ row. is_due moment row.item.terms && not (close_sells row.item.terms.leader)) t.items;
 }
 
+-- every item, by number
 abbrev pub all_items : Tables → List Item
 all_items t = map (λ (row : ItemRow). row.item) t.items
 
@@ -95,6 +109,7 @@ all_items t = map (λ (row : ItemRow). row.item) t.items
 abbrev pub items_in : Tables → ℕ → ℕ → List Item
 items_in t category from = take most_shown (filter (λ it. (it.terms.category == category) && nat_le from it.terms.item) (all_items t))
 
+-- what a member has bid on an item, with the price and the state of the item
 abbrev pub own_bid : Tables → ℕ → Item → OwnBid
 own_bid t member it = record {
   item = it.terms.item;
@@ -109,6 +124,7 @@ own_bid t member it = record {
 abbrev pub own_bids : Tables → ℕ → ℕ → List OwnBid
 own_bids t member from = take most_shown (filter (λ b. nat_lt 0 b.mine && nat_le from b.item) (map (own_bid t member) (all_items t)))
 
+-- the published questions: those that were answered
 abbrev pub all_published : Tables → List Question
 all_published t = filter (λ q. is_some q.answer) t.questions
 
@@ -128,6 +144,7 @@ feedback_to t member from = take most_shown (filter (λ f. (f.to == member) && n
 abbrev pub items_watched : Tables → ℕ → List Item
 items_watched t member = filter (λ it. is_watched t member it.terms.item) (all_items t)
 
+-- whether a member sells the item of a row
 abbrev pub sells : Option ItemRow → ℕ → Bool
 sells None member = false
 sells (Some row) member = row.item.terms.seller == member
@@ -140,6 +157,7 @@ waiting_for t member = filter (λ q. not (is_some q.answer) && sells (row_at t q
 abbrev pub first_waiting : Tables → ℕ → List Question
 first_waiting t member = take most_shown (waiting_for t member)
 
+-- the sales of those items that were sold
 abbrev pub sales_in : List Item → List Sold
 sales_in [] = []
 sales_in (it ∷ its) = sale_of it.terms ++ sales_in its

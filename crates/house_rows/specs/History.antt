@@ -9,6 +9,7 @@ pub record Entry : Type 0 where
   pub caller : ℕ
   pub command : Command
 
+-- the accepted commands, the newest first
 abbrev pub History : Type 0
 History = List Entry
 

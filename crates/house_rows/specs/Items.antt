@@ -21,14 +21,17 @@ pub record Purchase : Type 0 where
   pub buyer : ℕ
   pub moment : ℕ
 
+-- the purchase that a command makes, if it is one
 abbrev pub purchase_in : ℕ → ℕ → Command → List Purchase
 purchase_in moment caller (Buy i) = record { item = i; buyer = caller; moment = moment } ∷ []
 purchase_in moment caller _ = []
 
+-- all purchases, in order
 abbrev pub purchases : History → List Purchase
 purchases [] = []
 purchases (e ∷ h) = purchases h ++ purchase_in e.moment e.caller e.command
 
+-- the purchase of an item, if it was bought at once
 abbrev pub purchase_of : History → ℕ → Option Purchase
 purchase_of h i = find (λ p. p.item == i) (purchases h)
 
@@ -37,14 +40,17 @@ pub record Closing : Type 0 where
   pub moment : ℕ
   pub listed : ℕ
 
+-- the close that a command makes, if it is one
 abbrev pub closing_in : ℕ → ℕ → Command → List Closing
 closing_in moment listed Close = record { moment = moment; listed = listed } ∷ []
 closing_in moment listed _ = []
 
+-- all closes, in order
 abbrev pub closings : History → List Closing
 closings [] = []
 closings (e ∷ h) = closings h ++ closing_in e.moment (length (listings h)) e.command
 
+-- the item that a command settles, if it settles one
 abbrev pub settlement_in : Command → List ℕ
 settlement_in (Settle i) = i ∷ []
 settlement_in _ = []
@@ -54,6 +60,7 @@ abbrev pub settlements : History → List ℕ
 settlements [] = []
 settlements (e ∷ h) = settlements h ++ settlement_in e.command
 
+-- whether an item was bought at once
 abbrev pub is_bought : History → ℕ → Bool
 is_bought h i = is_some (purchase_of h i)
 
@@ -61,6 +68,7 @@ is_bought h i = is_some (purchase_of h i)
 abbrev pub is_taken : History → Listing → Bool
 is_taken h l = not (is_bought h l.item) && list_any (λ c. nat_le l.item c.listed && nat_le l.end c.moment) (closings h)
 
+-- whether the sale of an item was settled
 abbrev pub is_settled : History → ℕ → Bool
 is_settled h i = list_any (λ s. s == i) (settlements h)
 
@@ -69,6 +77,7 @@ abbrev pub leader_from : Option Purchase → Option ℕ → Option ℕ
 leader_from None by_bids = by_bids
 leader_from (Some p) by_bids = Some p.buyer
 
+-- the leader of a listed item after a history
 abbrev pub leader_of : History → Listing → Option ℕ
 leader_of h l = leader_from (purchase_of h l.item) (leader (bids_on h l.item))
 
@@ -84,10 +93,12 @@ close_sells leader = is_some leader
 abbrev pub closed_state : Bool → State
 closed_state sells = if sells then Sold else Unsold
 
+-- the state by what became of an item; the latest counts: settled, bought, taken by a close
 abbrev pub state_from : Bool → Bool → Bool → Bool → State
 state_from bought taken sells settled =
     if settled then Settled else (if bought then Sold else (if taken then closed_state sells else Open))
 
+-- the state of a listed item after a history
 abbrev pub state_of : History → Listing → State
 state_of h l = state_from (is_bought h l.item) (is_taken h l) (close_sells (leader_of h l)) (is_settled h l.item)
 
@@ -96,9 +107,11 @@ abbrev pub closed_from : Option Purchase → Bool → ℕ → Option ℕ
 closed_from None taken end = if taken then Some end else None
 closed_from (Some p) taken end = Some p.moment
 
+-- the closing moment of a listed item, if it is closed
 abbrev pub closed_at : History → Listing → Option ℕ
 closed_at h l = closed_from (purchase_of h l.item) (is_taken h l) l.end
 
+-- the terms of a listed item after a history
 abbrev pub terms_now : List (ℕ × ℕ) → History → Listing → Terms
 terms_now bands h l = record {
   item = l.item;
@@ -114,6 +127,7 @@ terms_now bands h l = record {
   count = length (bids_on h l.item);
 }
 
+-- a listed item after a history, with its texts as they were listed
 abbrev pub item_now : List (ℕ × ℕ) → History → Listing → Item
 item_now bands h l = record { terms = terms_now bands h l; lot = l.lot; title = l.title; text = l.text }
 
@@ -121,6 +135,7 @@ item_now bands h l = record { terms = terms_now bands h l; lot = l.lot; title = 
 unfoldable pub items : Settings → History → List Item
 items settings h = map (item_now settings.bands h) (listings h)
 
+-- whether a state is that of an open item
 abbrev pub is_open : State → Bool
 is_open Open = true
 is_open _ = false
@@ -142,5 +157,6 @@ shown settings it = record { item = it; floor = floor_of settings.bands it.terms
 unfoldable pub items_shown : Settings → History → List ItemShown
 items_shown settings h = map (shown settings) (items settings h)
 
+-- the item of that number, if there is one
 abbrev pub shown_at : List ItemShown → ℕ → Option ItemShown
 shown_at its i = find (λ it. it.item.terms.item == i) its

@@ -31,6 +31,7 @@ pub record IsBought (row : ItemRow) : Type 0 where
 
 -- what an item's row shows of its bids is what a standing shows by these bands, whatever is sealed of it
 pub record IsByStanding (bands : List (ℕ × ℕ)) (t : Terms) : Type 0 where
+  -- the sealed maxima: the greatest, and the second
   pub top : Option ℕ
   pub second : Option ℕ
   pub shape : is_shape bands t.start t.price t.count t.leader top second ≡ true
@@ -41,6 +42,7 @@ pub record IsPurchase (t : Terms) : Type 0 where
   pub no_bid : t.count ≡ 0
   pub price : t.buy_now ≡ Some t.price
 
+-- an item's row shows the standing of some bids, or that it was bought at once
 abbrev pub Stands : List (ℕ × ℕ) → Terms → Type 0
 Stands bands t = IsByStanding bands t ⊎ IsPurchase t
 
@@ -55,12 +57,14 @@ StandsAt t item = IfSome (terms_at t item) (Stands t.settings.bands)
 -- the rows of an item fit: the item itself, and its standing, which is that of some accepted bids in range
 pub record ItemRowFits (bands : List (ℕ × ℕ)) (row : ItemRow) : Type 0 where
   pub item : ItemFits row.item
+  -- some bids of which the row keeps the standing, whichever they are
   pub bids : List Bid
   pub accepted : AreAccepted bands row.item.terms.start bids
   pub few : length bids ≤ most_bids
   pub stands : row.standing ≡ standing_of bands row.item.terms.start bids
   pub top : IfSome row.standing.top (λ amount. amount ≤ most_cents)
   pub count : row.item.terms.count ≡ length bids
+  -- what everybody sees of the row
   pub told : IsByBids row ⊎ IsBought row
 
 -- each has the next number

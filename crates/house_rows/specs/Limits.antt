@@ -9,12 +9,15 @@ last_moment = 4102444800
 abbrev pub most_cents : ℕ
 most_cents = 1000000000
 
+-- in the house
 abbrev pub most_members : ℕ
 most_members = 100000
 
+-- in the house
 abbrev pub most_categories : ℕ
 most_categories = 1000
 
+-- in the house
 abbrev pub most_items : ℕ
 most_items = 1000000
 

@@ -16,6 +16,7 @@ pub record Listing : Type 0 where
   pub buy_now : Option ℕ
   pub end : ℕ
 
+-- the listing that a command makes, if it is one
 abbrev pub listing_in : ℕ → ℕ → Command → List Listing
 listing_in number caller (Listed category lot title text start buy_now end) = record {
   item = number;

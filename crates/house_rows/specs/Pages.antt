@@ -77,17 +77,21 @@ for_all members c page = if nat_le c (length members) then page else Refused NoC
 abbrev pub for_member : List Member → ℕ → Page → Page
 for_member members c page = if nat_le 1 c && nat_le c (length members) then page else Refused NoCaller
 
+-- a page of what is known, or the refusal of what is unknown
 abbrev pub if_known : Bool → Page → Page
 if_known known page = if known then page else Refused Unknown
 
+-- the page of an item, if there is one
 abbrev pub item_page : Option ItemShown → Page
 item_page None = Refused Unknown
 item_page (Some it) = OneItem it
 
+-- the page of a member, if there is one, with how often it was rated
 abbrev pub member_page : Option Member → Ratings → Page
 member_page None ratings = Refused Unknown
 member_page (Some m) ratings = OneMember m ratings
 
+-- the member of that number
 abbrev pub member_at : List Member → ℕ → Option Member
 member_at members c = find (λ m. m.member == c) members
 

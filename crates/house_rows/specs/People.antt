@@ -6,6 +6,7 @@ use Rattle.house_rows.specs.declared.people.Member.{Member}
 use Rattle.house_rows.specs.declared.people.Category.{Category}
 use Rattle.house_rows.specs.History.{History}
 
+-- the member that a command registers, if it does
 abbrev pub member_in : ℕ → Command → List Member
 member_in number (Register name) = record { member = number; name = name } ∷ []
 member_in number _ = []
@@ -15,6 +16,7 @@ abbrev pub members : History → List Member
 members [] = []
 members (e ∷ h) = members h ++ member_in (length (members h) + 1) e.command
 
+-- the category that a command adds, if it does
 abbrev pub category_in : ℕ → Command → List Category
 category_in number (AddCategory name) = record { category = number; name = name } ∷ []
 category_in number _ = []

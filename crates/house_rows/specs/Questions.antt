@@ -13,6 +13,7 @@ pub record Asked : Type 0 where
   pub number : ℕ
   pub text : List ℕ
 
+-- questions go by item, asker and number
 abbrev pub asked_key : Asked → Key
 asked_key q = record { first = q.item; second = q.asker; third = q.number }
 
@@ -31,6 +32,7 @@ abbrev pub asked : History → List Asked
 asked [] = []
 asked (e ∷ h) = with_question (asked h) e.caller e.command
 
+-- the answer that a command gives, if it gives one
 abbrev pub answer_in : Command → List Asked
 answer_in (Answer i asker number text) = record { item = i; asker = asker; number = number; text = text } ∷ []
 answer_in _ = []
@@ -40,6 +42,7 @@ abbrev pub answers : History → List Asked
 answers [] = []
 answers (e ∷ h) = answers h ++ answer_in e.command
 
+-- whether an answer names a question: item, asker and number are the same
 abbrev pub names : Asked → Asked → Bool
 names answer q = (answer.item == q.item) && ((answer.asker == q.asker) && (answer.number == q.number))
 
@@ -48,6 +51,7 @@ abbrev pub answer_to : List Asked → Asked → Option (List ℕ)
 answer_to [] q = None
 answer_to (a ∷ answers) q = if names a q then Some a.text else answer_to answers q
 
+-- a question with its answer, if it has one among these
 abbrev pub answered : List Asked → Asked → Question
 answered answers q = record { item = q.item; asker = q.asker; number = q.number; text = q.text; answer = answer_to answers q }
 

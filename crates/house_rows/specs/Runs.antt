@@ -15,6 +15,7 @@ use Rattle.house_rows.specs.Told.{told}
 use Rattle.house_rows.specs.Verdict.{verdict}
 use Rattle.house_rows.specs.Views.{public_view}
 
+-- an entry of these parts
 abbrev pub entry : ℕ → ℕ → Command → Entry
 entry moment caller command = record { moment = moment; caller = caller; command = command }
 
@@ -34,9 +35,11 @@ abbrev pub history_from : {F : Type 0} → Settings → History → List (Messag
 history_from settings h [] = h
 history_from settings h (m ∷ ms) = history_from settings (next settings h m) ms
 
+-- the history that a list of messages makes of a new house
 abbrev pub history_of : {F : Type 0} → Settings → List (Message F) → History
 history_of settings ms = history_from settings [] ms
 
+-- what is told of an accepted command, or the refusal
 abbrev pub reply_if : {F : Type 0} → Option Refusal → Told → Reply F
 reply_if None told = Done told
 reply_if (Some refusal) told = Denied refusal
@@ -48,6 +51,7 @@ reply settings h (Order moment caller command) =
 reply settings h (Read caller query) = Shows (page_of settings h caller query)
 reply settings h (Broken caller fault) = Faulty fault
 
+-- whether a caller that may be none is that member
 abbrev pub is_caller : Option ℕ → ℕ → Bool
 is_caller None c = false
 is_caller (Some caller) c = caller == c
@@ -66,6 +70,7 @@ rendered_from meant rendered settings c h (x ∷ xs) =
     (if is_of c (meant x) then rendered x (reply settings h (meant x)) ∷ [] else [])
     ++ rendered_from meant rendered settings c (next settings h (meant x)) xs
 
+-- the rendered replies to one member, from a new house on
 abbrev pub rendered_to : {A B F : Type 0} → (A → Message F) → (A → Reply F → B) → Settings → ℕ → List A → List B
 rendered_to meant rendered settings c xs = rendered_from meant rendered settings c [] xs
 
@@ -89,6 +94,7 @@ AreTwinsFrom meant settings c h k (x ∷ xs) (y ∷ ys) =
 AreTwinsFrom meant settings c h k [] (y ∷ ys) = ⊥
 AreTwinsFrom meant settings c h k (x ∷ xs) [] = ⊥
 
+-- twin runs from a new house on
 abbrev pub AreTwins : {A F : Type 0} → (A → Message F) → Settings → ℕ → List A → List A → Type 0
 AreTwins meant settings c left right = AreTwinsFrom meant settings c [] [] left right
 

@@ -22,6 +22,7 @@ pub record ItemRow : Type 0 where
   pub item : Item
   pub standing : Kept
 
+-- what a keep holds: the settings, the clock, and the rows of each table
 pub record Tables : Type 0 where
   pub settings : Settings
   pub clock : ℕ
@@ -33,6 +34,7 @@ pub record Tables : Type 0 where
   pub questions : List Question
   pub feedback : List Feedback
 
+-- the row of a listed item after a history
 abbrev pub row_now : List (ℕ × ℕ) → History → Listing → ItemRow
 row_now bands h l = record { item = item_now bands h l; standing = standing_of bands l.start (bids_on h l.item) }
 

@@ -15,19 +15,23 @@ use Rattle.house_rows.specs.Questions.{ask_count}
 use Rattle.house_rows.specs.Ratings.{other_party}
 use Rattle.house_rows.specs.Views.{own_questions}
 
+-- of a bid: how many bids the item has, its floor, its leader and its price, as it now stands
 abbrev pub told_placed : Option ItemShown → Told
 told_placed None = Nothing
 told_placed (Some it) = Placed it.item.terms.count (unwrap_or it.floor 0) it.item.terms.leader it.item.terms.price
 
+-- of a purchase: the item and its price
 abbrev pub told_bought : Option ItemShown → Told
 told_bought None = Nothing
 told_bought (Some it) = Bought it.item.terms.item it.item.terms.price
 
+-- of a settlement: the fee, the item, what is left to the seller, and the price
 abbrev pub told_settled : ℕ → Option ItemShown → Told
 told_settled rate None = Nothing
 told_settled rate (Some it) =
     Settlement (fee_of it.item.terms.price rate) it.item.terms.item (it.item.terms.price - fee_of it.item.terms.price rate) it.item.terms.price
 
+-- of feedback: the item, the rating, and to whom it goes
 abbrev pub told_rated : ℕ → Option Rating → Option ItemShown → Told
 told_rated c (Some rating) (Some it) = Rated it.item.terms.item rating (other_party it.item.terms.seller it.item.terms.leader c)
 told_rated c _ _ = Nothing

@@ -30,6 +30,7 @@ use Rattle.house_rows.specs.Watches.{WatchRow}
 abbrev pub Rule : Type 0
 Rule = Bool × Refusal
 
+-- a command of the house alone
 abbrev pub is_house_command : Command → Bool
 is_house_command (Register name) = true
 is_house_command (AddCategory name) = true
@@ -45,12 +46,14 @@ common_rules clock members moment caller of_house =
     ∷ (of_house && not (caller == 0), HouseOnly)
     ∷ (nat_lt moment clock, MomentBehind) ∷ []
 
+-- of a registration, by the members that there are
 abbrev pub register_rules : List ℕ → List Member → List Rule
 register_rules name members =
     (not (is_text 1 40 name), Range)
     ∷ (list_any (λ m. same_text m.name name) members, NameTaken)
     ∷ (nat_le most_members (length members), Limit) ∷ []
 
+-- of a new category, by the categories that there are
 abbrev pub category_rules : List ℕ → List Category → List Rule
 category_rules name categories =
     (not (is_text 1 40 name), Range)
@@ -62,6 +65,7 @@ abbrev pub is_buy_now : ℕ → Option ℕ → Bool
 is_buy_now start None = true
 is_buy_now start (Some amount) = nat_le start amount && nat_le amount most_cents
 
+-- whether title, text, start, buy-now price and end of a listing are in range
 abbrev pub are_terms : ℕ → List ℕ → List ℕ → ℕ → Option ℕ → ℕ → Bool
 are_terms moment title text start buy_now end =
     is_text 1 80 title && (is_text 0 2000 text && (nat_le 1 start && (nat_le start most_cents
@@ -101,10 +105,12 @@ bid_rules moment caller maximum own it =
     ∷ (not (is_leader it.item.terms.leader caller) && nat_lt maximum (unwrap_or it.floor 0), Low (unwrap_or it.floor 0))
     ∷ (nat_le most_bids it.item.terms.count, Limit) ∷ [])
 
+-- of a purchase
 abbrev pub purchase_rules : ℕ → ℕ → Terms → List Rule
 purchase_rules moment caller terms =
     open_rules moment caller terms ++ ((is_none terms.buy_now, NoBuyNow) ∷ (nat_lt 0 terms.count, HasBids) ∷ [])
 
+-- sold, and not settled yet
 abbrev pub is_sold : State → Bool
 is_sold Sold = true
 is_sold _ = false
@@ -115,6 +121,7 @@ was_sold Sold = true
 was_sold Settled = true
 was_sold _ = false
 
+-- of a settlement
 abbrev pub settlement_rules : Terms → List Rule
 settlement_rules terms = (not (is_sold terms.state), NotSold) ∷ []
 

@@ -25,6 +25,7 @@ pub record Public : Type 0 where
   pub questions : List Question
   pub feedback : List Feedback
 
+-- the public view of a history
 abbrev pub public_view : Settings → History → Public
 public_view settings h = record {
   settings = settings;
@@ -41,6 +42,7 @@ pub record OwnMaximum : Type 0 where
   pub item : ℕ
   pub maximum : ℕ
 
+-- the maximum of a command, if it is a bid of that member
 abbrev pub own_maximum : ℕ → ℕ → Command → List OwnMaximum
 own_maximum c caller (Bid i maximum) = if caller == c then record { item = i; maximum = maximum } ∷ [] else []
 own_maximum c caller _ = []
@@ -64,5 +66,6 @@ pub record Own : Type 0 where
   pub watches : List WatchRow
   pub questions : List Asked
 
+-- the own view of a member
 abbrev pub own_view : History → ℕ → Own
 own_view h c = record { maxima = own_maxima h c; watches = own_watches h c; questions = own_questions h c }

@@ -9,9 +9,11 @@ pub record WatchRow : Type 0 where
   pub member : ℕ
   pub item : ℕ
 
+-- watches go by member and item
 abbrev pub watch_key : WatchRow → Key
 watch_key w = record { first = w.member; second = w.item; third = 0 }
 
+-- whether it is a member's watch of an item
 abbrev pub is_watch : ℕ → ℕ → WatchRow → Bool
 is_watch c i w = (w.member == c) && (w.item == i)
 
