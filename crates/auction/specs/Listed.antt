@@ -5,7 +5,7 @@ use Rattle.std.specs.List.{FoldsTo}
 use Rattle.house_rows.specs.Keeping.{IsRead}
 use Rattle.house_rows.specs.Pages.{member_at}
 use Rattle.house_rows.specs.Tables.{Tables}
-use Rattle.office.specs.Imports.{HasListed, IsCounted}
+use Rattle.office.specs.Imports.{HasListed, HasOrdered, IsCounted}
 use Rattle.office.specs.Lines.{totals_line}
 use Rattle.office.specs.Tallies.{nothing}
 use Rattle.office.specs.declared.order.Lister.{Lister}
@@ -24,19 +24,29 @@ pub record IsKnown {K : Type 0} (content : K → Tables) (is_failed : K → Bool
   pub read : IsRead content is_failed is_honest may_leave old new
   pub known : is_honest new → is_some (member_at (content old).members member) ≡ true
 
--- the rows of a lot file were dealt with in turn over the keep that was given, by orders of the
--- member at the moment, and what became of each was printed, and the totals
-pub record HasDealt {K : Type 0} (content : K → Tables) (is_failed : K → Bool)
-    (is_honest : K → Type 0) (may_leave : K → Tables → Type 0) (by : Lister) (text : List ℕ)
-    (before after : Option (List ℕ)) (given : K) (told : Imported) : Type 0 where
+-- the keep that was given took orders of some lots, of the member at the moment and nothing else, and
+-- was ended
+pub record HasTaken {K : Type 0} (content : K → Tables) (is_failed : K → Bool)
+    (is_honest : K → Type 0) (may_leave : K → Tables → Type 0) (is_ended : K → Type 0)
+    (by : Lister) (given : K) : Type 0 where
   pub asked : K
   pub member : IsKnown content is_failed is_honest may_leave by.member given asked
   pub zone : Zone
   pub kept_zone : is_honest asked → IsZoneOf (content asked).settings.zone zone
   pub left : K
-  pub listed : HasListed (IsStep content is_failed is_honest may_leave zone)
+  pub ordered : HasOrdered (IsStep content is_failed is_honest may_leave zone) by asked left
+  pub ended : is_ended left
+
+-- these are the orders of the rows of a lot file, which were dealt with in turn; what became of each
+-- was printed, and the totals
+pub record HasDealt {K : Type 0} (content : K → Tables) (is_failed : K → Bool)
+    (is_honest : K → Type 0) (may_leave : K → Tables → Type 0) (is_ended : K → Type 0)
+    (by : Lister) (text : List ℕ) (before after : Option (List ℕ)) (given : K) (told : Imported) :
+    Type 0 where
+  pub house : HasTaken content is_failed is_honest may_leave is_ended by given
+  pub listed : HasListed (IsStep content is_failed is_honest may_leave house.zone)
       (λ printed. Appends before after (printed ++ totals_line told))
-      by (records_of text) told asked left
+      by (records_of text) told house.asked house.left
 
 -- a row was dealt with, and it was listed, or there already
 pub record IsHad {K : Type 0} (Step : Asked → List ℕ → K → K → Type 0) (by : Lister)
@@ -47,9 +57,9 @@ pub record IsHad {K : Type 0} (Step : Asked → List ℕ → K → K → Type 0)
 
 -- and so was each
 pub record HasAll {K : Type 0} (content : K → Tables) (is_failed : K → Bool)
-    (is_honest : K → Type 0) (may_leave : K → Tables → Type 0) (by : Lister) (text : List ℕ)
-    (before after : Option (List ℕ)) (given : K) : Type 0 where
+    (is_honest : K → Type 0) (may_leave : K → Tables → Type 0) (is_ended : K → Type 0)
+    (by : Lister) (text : List ℕ) (before after : Option (List ℕ)) (given : K) : Type 0 where
   pub told : Imported
-  pub run : HasDealt content is_failed is_honest may_leave by text before after given told
-  pub had : FoldsTo (IsHad (IsStep content is_failed is_honest may_leave run.zone) by)
-      (run.asked, nothing, []) run.listed.rows (run.left, told, run.listed.printed)
+  pub run : HasDealt content is_failed is_honest may_leave is_ended by text before after given told
+  pub had : FoldsTo (IsHad (IsStep content is_failed is_honest may_leave run.house.zone) by)
+      (run.house.asked, nothing, []) run.listed.rows (run.house.left, told, run.listed.printed)

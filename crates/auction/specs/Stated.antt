@@ -24,18 +24,19 @@ pub record IsAccount (t : Tables) (asked : Inquiry) (account : Account) : Type 0
   pub lines : account ≡ statement_of (sales_to t asked.member) asked.member asked.from asked.to zone
       t.settings.rate
 
--- an account was read from a keep, which changed nothing
+-- an account was read from a keep, which changed nothing, and the keep was ended
 pub record HasRead {K : Type 0} (content : K → Tables) (is_failed : K → Bool)
-    (is_honest : K → Type 0) (may_leave : K → Tables → Type 0)
+    (is_honest : K → Type 0) (may_leave : K → Tables → Type 0) (is_ended : K → Type 0)
     (asked : Inquiry) (given : K) (account : Account) : Type 0 where
   pub left : K
   pub read : IsRead content is_failed is_honest may_leave given left
   pub shown : is_honest left → IsAccount (content given) asked account
+  pub ended : is_ended left
 
 -- and it was written
 pub record HasStated {K : Type 0} (content : K → Tables) (is_failed : K → Bool)
-    (is_honest : K → Type 0) (may_leave : K → Tables → Type 0)
+    (is_honest : K → Type 0) (may_leave : K → Tables → Type 0) (is_ended : K → Type 0)
     (asked : Inquiry) (before after : Option (List ℕ)) (given : K) : Type 0 where
   pub account : Account
-  pub found : HasRead content is_failed is_honest may_leave asked given account
+  pub found : HasRead content is_failed is_honest may_leave is_ended asked given account
   pub written : Appends before after (account_text asked.csv account)

@@ -1,7 +1,8 @@
 //! `import`: the rows of a lot file, listed in a house.
 ghost use Rattle.std.specs.Prelude.{◌≡◌, ◌≤◌, ◌↔◌, ℕ, List, Ok, Some, IfOk, IsOk, OnOk};
 ghost use Rattle.std.specs.Io.KnownBytes.{Keeps};
-ghost use Rattle.auction.specs.Listed.{HasAll, HasDealt};
+ghost use Rattle.auction.specs.Listed.{HasAll, HasDealt, HasTaken};
+ghost use Rattle.store.specs.Kept.{IsHonest, MayLeave, content, is_failed};
 
 use crate::ends::Ends;
 use crate::fault::{Fault, ended};
@@ -22,6 +23,7 @@ fn finish<W: Write, K: Ends>(
 ) -> Result<Imported, Fault>
     ensures same { IfOk result (λ told. imported ≡ Ok told) }
     ensures kept { Keeps (W.contents output.old) (W.contents output.new) }
+    ensures ended { OnOk result (K.is_ended keep) }
 {
     let flushed = output.flush();
     let ended = keep.end();
@@ -43,9 +45,11 @@ fn list_all<R: Read + Drop, W: Write, K: Keep + Drop + Ends>(
 ) -> Result<Imported, Fault>
     ensures listed { IfOk result (λ told. (reader : R) → lots ≡ Ok reader → (text : List ℕ)
         → R.remaining reader ≡ Some text
-        → HasDealt K.content K.is_failed K.is_honest K.may_leave by text
+        → HasDealt K.content K.is_failed K.is_honest K.may_leave K.is_ended by text
         (W.contents output.old) (W.contents output.new) keep told) }
     ensures open { OnOk result (IsOk lots) }
+    ensures ended { OnOk result
+        (HasTaken K.content K.is_failed K.is_honest K.may_leave K.is_ended by keep) }
 {
     let mut keep = sound(alloc, keep)?;
     check_member(&mut keep, by.member)?;
@@ -76,9 +80,12 @@ pub fn import_run<R: Read + Drop, W: Write, E: Write, K: Keep + Drop + Ends>(
 ) -> u8
     ensures listed { result ≡ 0 → (reader : R) → lots ≡ Ok reader → (text : List ℕ)
         → R.remaining reader ≡ Some text
-        → HasAll K.content K.is_failed K.is_honest K.may_leave by text
+        → HasAll K.content K.is_failed K.is_honest K.may_leave K.is_ended by text
         (W.contents output.old) (W.contents output.new) keep }
     ensures open { result ≡ 0 → IsOk lots }
+    // Also where the reader tells no bytes.
+    ensures ended { result ≡ 0
+        → HasTaken K.content K.is_failed K.is_honest K.may_leave K.is_ended by keep }
     ensures within { result ≤ 1 }
 {
     match list_all(alloc, keep, lots, by, output) {
@@ -98,7 +105,15 @@ pub fn import_house<R: Read + Drop, W: Write, E: Write, S: Alter + Drop>(
 ) -> u8
 where
     SqlKeep<S>: Ends,
-    ensures { result ≤ 1 }
+    ensures listed { result ≡ 0 → (reader : R) → lots ≡ Ok reader → (text : List ℕ)
+        → R.remaining reader ≡ Some text
+        → HasAll (content S.Store) is_failed (IsHonest S.Store) (MayLeave S.Store)
+        ⟦<SqlKeep<S> as Ends>⟧.is_ended by text
+        (W.contents output.old) (W.contents output.new) keep }
+    ensures open { result ≡ 0 → IsOk lots }
+    ensures ended { result ≡ 0 → HasTaken (content S.Store) is_failed (IsHonest S.Store)
+        (MayLeave S.Store) ⟦<SqlKeep<S> as Ends>⟧.is_ended by keep }
+    ensures within { result ≤ 1 }
 {
     import_run(alloc, keep, lots, by, output, errors)
 }

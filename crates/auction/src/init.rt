@@ -19,7 +19,8 @@ fn tell<W: Write>(output: &mut W) -> Result<(), Fault>
 
 // Ends the keep, and tells that the house is made.
 fn finish<W: Write, K: Ends>(output: &mut W, keep: K) -> Result<(), Fault>
-    ensures { OnOk result (Appends (W.contents output.old) (W.contents output.new) created) }
+    ensures told { OnOk result (Appends (W.contents output.old) (W.contents output.new) created) }
+    ensures ended { OnOk result (K.is_ended keep) }
 {
     keep.end()?;
     tell(output)
@@ -29,6 +30,7 @@ fn finish<W: Write, K: Ends>(output: &mut W, keep: K) -> Result<(), Fault>
 /// in its line on `errors`.
 pub fn init_run<W: Write, E: Write, K: Ends>(output: &mut W, errors: &mut E, keep: K) -> u8
     ensures done { result ≡ 0 → Appends (W.contents output.old) (W.contents output.new) created }
+    ensures ended { result ≡ 0 → K.is_ended keep }
     ensures within { result ≤ 1 }
 {
     ended(errors, finish(output, keep))

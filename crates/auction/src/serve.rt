@@ -121,7 +121,9 @@ pub fn answer_each<W: Write, S: Alter + Drop>(
 
 // Ends the keep, and tells how many connections were answered.
 fn finish<W: Write, K: Ends>(output: &mut W, keep: K, count: u64) -> Result<(), Fault>
-    ensures { OnOk result (Appends (W.contents output.old) (W.contents output.new) (served count)) }
+    ensures told { OnOk result
+        (Appends (W.contents output.old) (W.contents output.new) (served count)) }
+    ensures ended { OnOk result (K.is_ended keep) }
 {
     keep.end()?;
     tell_served(output, count)
@@ -138,6 +140,7 @@ pub fn serve_run<W: Write, E: Write, K: Ends>(
     ensures done { result ≡ 0 → Appends (W.contents output.old) (W.contents output.new)
         (served count) }
     ensures ok { result ≡ 0 → IsOk answered }
+    ensures ended { result ≡ 0 → IfOk answered K.is_ended }
     ensures within { result ≤ 1 }
 {
     match answered {

@@ -3,6 +3,7 @@ ghost use Rattle.std.specs.Prelude.{◌≡◌, ◌≤◌, IfOk, OnOk};
 ghost use Rattle.std.specs.Io.KnownBytes.{Appends};
 ghost use Rattle.settle.specs.Calendar.{day_text};
 ghost use Rattle.auction.specs.Stated.{HasRead, HasStated, account_text};
+ghost use Rattle.store.specs.Kept.{IsHonest, MayLeave, content, is_failed};
 
 use crate::command_line::StatementWords;
 use crate::ends::Ends;
@@ -93,7 +94,7 @@ fn settled<K: Keep + Drop + Ends>(
     asked: Inquiry,
 ) -> Result<Statement, Fault>
     ensures { IfOk result
-        (HasRead K.content K.is_failed K.is_honest K.may_leave asked keep) }
+        (HasRead K.content K.is_failed K.is_honest K.may_leave K.is_ended asked keep) }
 {
     let mut keep = sound(alloc, keep)?;
     let statement = statement(alloc, &mut keep, asked.member, asked.from, asked.to)?;
@@ -108,8 +109,8 @@ fn state<W: Sink, K: Keep + Drop + Ends>(
     asked: Inquiry,
     sink: &mut W,
 ) -> Result<(), Fault>
-    ensures stated { OnOk result (HasStated K.content K.is_failed K.is_honest K.may_leave asked
-        (W.taken sink.old) (W.taken sink.new) keep) }
+    ensures stated { OnOk result (HasStated K.content K.is_failed K.is_honest K.may_leave K.is_ended
+        asked (W.taken sink.old) (W.taken sink.new) keep) }
     ensures handed_on { OnOk result (W.handed_on sink.new ≡ W.taken sink.new) }
 {
     let csv = asked.csv;
@@ -126,8 +127,8 @@ pub fn statement_run<W: Sink, E: Write, K: Keep + Drop + Ends>(
     sink: &mut W,
     errors: &mut E,
 ) -> u8
-    ensures stated { result ≡ 0 → HasStated K.content K.is_failed K.is_honest K.may_leave asked
-        (W.taken sink.old) (W.taken sink.new) keep }
+    ensures stated { result ≡ 0 → HasStated K.content K.is_failed K.is_honest K.may_leave K.is_ended
+        asked (W.taken sink.old) (W.taken sink.new) keep }
     ensures handed_on { result ≡ 0 → W.handed_on sink.new ≡ W.taken sink.new }
     ensures within { result ≤ 1 }
 {
@@ -144,7 +145,11 @@ pub fn statement_house<W: Sink, E: Write, S: Alter + Drop>(
 ) -> u8
 where
     SqlKeep<S>: Ends,
-    ensures { result ≤ 1 }
+    ensures stated { result ≡ 0 → HasStated (content S.Store) is_failed (IsHonest S.Store)
+        (MayLeave S.Store) ⟦<SqlKeep<S> as Ends>⟧.is_ended asked
+        (W.taken sink.old) (W.taken sink.new) keep }
+    ensures handed_on { result ≡ 0 → W.handed_on sink.new ≡ W.taken sink.new }
+    ensures within { result ≤ 1 }
 {
     statement_run(alloc, keep, asked, sink, errors)
 }

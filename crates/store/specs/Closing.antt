@@ -1,14 +1,17 @@
 -- What a keep that is ended leaves in its files.
-use Rattle.std.specs.Prelude.{◌≡◌}
+use Rattle.std.specs.Prelude.{◌≡◌, false, IsTrue}
 use Rattle.sqlite_disk.specs.declared.Disk.{Ghosts}
 use Rattle.sqlite_disk.specs.declared.Files.{Files}
 use Rattle.sqlite_wal.specs.Recovery.{Image}
 use Rattle.sqlite_wal.specs.Files.{outcomes}
+use Rattle.sqlite_wal.specs.Reads.{AreClean}
 use Rattle.sqlite_trees.specs.Tree.{Trees}
+use Rattle.sqlite_store.specs.declared.store.FileStore.{FileStore}
 use Rattle.sqlite.specs.Closing.{HoldsAlone}
-use Rattle.sqlite.specs.Files.{image_of}
+use Rattle.sqlite.specs.Files.{image_of, over_files}
 use Rattle.house_rows.specs.Tables.{Tables}
 use Rattle.store_lists.specs.Tables.{tables_in}
+use Rattle.store.specs.Kept.{House, content}
 
 -- the tables of a house lie in the database file, with its log and without it
 pub record HoldsHouse (image : Image) (t : Tables) : Type 0 where
@@ -20,3 +23,12 @@ pub record HoldsHouse (image : Image) (t : Tables) : Type 0 where
 pub record HoldHouse {D : Type 0} (g : Ghosts D) (files : Files D) (t : Tables) : Type 0 where
   pub seen : HoldsHouse (image_of g files) t
   pub left : (image : Image) → outcomes g files.log files.db image → HoldsHouse image t
+
+-- A keep was ended: some files were given back by it, and where it had not failed they hold its
+-- house. Which files it is not said, where they were closed and handed to nobody.
+pub record IsEnded {D : Type 0} (g : Ghosts D) (keep : House (FileStore D g)) : Type 0 where
+  pub files : Files D
+  pub log : IsTrue (g.is_usable files.log)
+  pub file : IsTrue (g.is_usable files.db)
+  pub house : AreClean g files.log files.db → keep.failed ≡ false
+      → HoldHouse g files (content over_files keep)

@@ -1,9 +1,9 @@
 //! How a keep in a file ends.
-ghost use Rattle.std.specs.Prelude.{◌≡◌, ◌≢◌, false, IfErr, IfOk, IsErrOf, IsTrue};
+ghost use Rattle.std.specs.Prelude.{◌≡◌, ◌≢◌, false, IfErr, IfOk, IsErrOf, IsTrue, OnOk};
 ghost use Rattle.house_rows.specs.declared.fault.KeepFault.TheVariants.{Damaged};
 ghost use Rattle.sqlite.specs.Files.{IsClosed, file_state};
 ghost use Rattle.sqlite_wal.specs.Reads.{AreClean};
-ghost use Rattle.store.specs.Closing.{HoldHouse};
+ghost use Rattle.store.specs.Closing.{HoldHouse, IsEnded};
 ghost use Rattle.store_lists.specs.Tables.{tables_in};
 
 use crate::keep::SqlKeep;
@@ -41,9 +41,11 @@ impl<D: Disk + Drop> SqlKeep<FileStore<D>> {
         }
     }
 
-    /// As `close_files`, and the files are closed. It gives nothing back that a clause could name.
+    /// As `close_files`, and the files are closed. It gives nothing back that a clause could name: so
+    /// after Ok there are such files, and a clause doesn't say which.
     pub fn close(self) -> Result<(), KeepFault>
-        ensures { ¬ (IsErrOf result Damaged) }
+        ensures ended { OnOk result (IsEnded D.Disk self) }
+        ensures sound { ¬ (IsErrOf result Damaged) }
     {
         match self.close_files() {
             Ok(_) => Ok(()),
