@@ -93,6 +93,11 @@ def killed(program, folder, init):
         exchange(server.port, b"".join(COMMANDS))
         server.process.kill()
     size = (folder / "stopped-wal").stat().st_size
+    # A statement reads nothing but what stands there, and ends its keep.
+    statement = ["--member", "1", "--from", "1970-01-01", "--to", "1970-01-01"]
+    told = program.ended("statement", copied(folder, "stopped", "stated", log=size), *statement)
+    check("a statement of it", (told[0], told[2]), (0, b""))
+    check("a stated house alone", rows(folder, copied(folder, "stated", "read")), TABLES)
     states = [seen_after(program, init, count) for count in range(len(COMMANDS) + 1)]
     check("killed", seen(program, copied(folder, "stopped", "cut", log=size)), states[-1])
     last = 0

@@ -3,8 +3,10 @@
 
 Each fault of `import`, `statement` and `audit` has its line and its exit status, and of two faults the one that comes
 first in order is told. What is printed has to be what the worked rows have; an import that is made again lists nothing
-and leaves every table as it was; and the file alone is then the house. The last line is 'N checks, M wrong'.
+and leaves every table as it was; and the file alone is then the house. An import ends where its output or the store
+fails, and what it printed stands. The last line is 'N checks, M wrong'.
 """
+import contextlib
 import pathlib
 import shutil
 import sqlite3
@@ -12,6 +14,7 @@ import subprocess
 import sys
 import tempfile
 
+from house_file import limited
 from served import CHECKS, EXAMPLE, PRESET, Program, check, fault, message, served
 
 HEAD = "lot,category,title,text,start,buy_now,end\n"
@@ -66,6 +69,7 @@ AS_CSV = (b"day,item,role,other,price,fee,net\n1970-01-01,1,sell,2,9.99,0.99,9.0
           b"1970-01-02,2,sell,2,0.01,0.00,0.01\n")
 
 READ_ITEM = message("GET", "/items/1", 2)
+LAST_MOMENT = 4_102_444_800
 
 
 def printed(text, status=0):
@@ -154,6 +158,57 @@ def import_faults(program, folder):
           (1, True, 1, b"auction: lots: Csv\n"))
     check("its row before it stands", len(rows(folder, "house")), len(before) + 1)
     check("full", on_full_device(program, "import", "house", lots, *BY_ANA), (1, b"auction: output: Write\n"))
+    check("a long record before a full output", on_full_device(program, "import", "house", short, *BY_ANA),
+          (1, b"auction: lots: Csv\n"))
+
+
+def changed(folder, name, *statements):
+    """A copy of a house, in which SQLite has changed rows."""
+    shutil.copy(folder / "house", folder / name)
+    with contextlib.closing(sqlite3.connect(folder / name)) as tables:
+        for statement in statements:
+            tables.execute(statement)
+        tables.commit()
+    return name
+
+
+def items(folder, name):
+    """How many items a house's file has, by SQLite, without its log."""
+    return sum("INSERT INTO \"item\"" in row for row in rows(folder, name))
+
+
+def failed_imports(program, folder):
+    """Imports that end between their rows: the output fails, or the store."""
+    unread = written(folder, "unread.csv", HEAD + "U1,x,T,,5.00,,5000\n" * 600 + "U2,1,T,,5.00,,5000\n")
+    file = changed(folder, "unprinted")
+    before = items(folder, file)
+    check("a full output, many rows", on_full_device(program, "import", file, unread, *BY_ANA),
+          (1, b"auction: output: Write\n"))
+    check("no row is listed behind a failed output", items(folder, file), before)
+    many = written(folder, "many.csv", HEAD + "".join(f"M{row},1,T,,5.00,,5000\n" for row in range(60)))
+    file = changed(folder, "tight")
+    tight = Program(program.path, program.folder, limited(300_000))
+    status, told, error = tight.ended("import", file, many, *BY_ANA)
+    listed = told.count(b"\n")
+    check("a full disk", (status, error), (1, b"auction: file: Store\n"))
+    check("its rows", told, b"".join(b"row %d: item %d\n" % (row, row + before) for row in range(1, listed + 1)))
+    ended = program.ended("import", file, many, *BY_ANA)[1].splitlines()
+    check("which stand, and at most one more", sum(b"there already" in line for line in ended[:-1]) - listed in (0, 1),
+          True)
+
+
+def edges(program, folder):
+    """The first and the last moment, and a member of a large house."""
+    row = written(folder, "row.csv", HEAD + f"E1,1,T,,5.00,,{LAST_MOMENT}\n")
+    file = changed(folder, "early", "UPDATE house SET clock = 0")
+    listed = items(folder, file) + 1
+    told = b"row 1: item %d\n1 listed, 0 there already, 0 refused\n" % listed
+    check("at moment 0", program.ended("import", file, row, "--member", "2", "--moment", "0"), printed(told))
+    file = changed(folder, "large", *(f"INSERT INTO member VALUES ({row}, 'n{row}')" for row in range(4, 301)))
+    by_last = ["--member", "300", "--moment", str(LAST_MOMENT - 1)]
+    check("before the last moment", program.ended("import", file, row, *by_last), printed(told))
+    check("of the last member", program.ended("statement", file, "--member", "300", "--from", "1970-01-01", "--to",
+                                              "2100-12-31"), printed(NO_DAY))
 
 
 def statements(program, folder):
@@ -227,8 +282,18 @@ def audits(program, folder):
     wrong = ["--bands", "missing.csv", "--zone", "nowhere"]
     check("bands before the zone", audit("missing", "left", "2", *wrong), fault("bands: Device"))
     check("the zone before left", audit("missing", "left", "2", *wrong[2:]), fault("zone"))
-    check("full", on_full_device(program, "audit", "left", "right", "--member", "2"),
-          (1, b"auction: output: Write\n"))
+    for name in ("right", "near"):
+        check(f"full, {name}", on_full_device(program, "audit", "left", name, "--member", "2"),
+              (1, b"auction: output: Write\n"))
+    # Long lists, with long messages, that differ in the last of all alone.
+    text = message("POST", "/items", 2, 1002, '{"category":1,"end":5000,"lot":"L","start":1,"text":"%s","title":"T"}'
+                   % ("x" * 9_000))
+    many = run(3000, [READ_ITEM, text] * 150)
+    written(folder, "many", many)
+    written(folder, "more", many + message("POST", "/items/1/bids", 3, 1002, '{"maximum":9000}'))
+    written(folder, "most", many + message("POST", "/items/1/bids", 1, 1002, '{"maximum":9000}'))
+    check("many messages", audit("many", "many"), printed(b"equal, 302 replies\n"))
+    check("apart at the last of many", audit("more", "most"), printed(b"apart at step 309\n", 1))
 
 
 def main():
@@ -241,6 +306,8 @@ def main():
         house(program, "sales", ["--bands", "bands.csv", "--rate", "1000", "--zone", "CET-1"], SALES)
         imports(program, folder)
         import_faults(program, folder)
+        failed_imports(program, folder)
+        edges(program, folder)
         statements(program, folder)
         audits(program, folder)
     print(f"{len(CHECKS)} checks, {CHECKS.count(False)} wrong")

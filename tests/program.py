@@ -151,8 +151,9 @@ def cases(folder, full):
     yield ("a directory as input", REPLAY, {"stdin": directory, "stdout": subprocess.PIPE},
            fault("input: Read"))
     os.close(directory)
-    yield ("a full device as output", REPLAY, {"input": READ, "stdout": full},
-           lambda result: (result.returncode, result.stderr) == (1, b"auction: output: Write\n"))
+    for name, words, given in (("of an answer", REPLAY, READ), ("of the record alone", [*REPLAY, "--record"], b"")):
+        yield (f"a full device as output {name}", words, {"input": given, "stdout": full},
+               lambda result: (result.returncode, result.stderr) == (1, b"auction: output: Write\n"))
 
 
 def main():

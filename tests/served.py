@@ -207,6 +207,30 @@ def faults(program, init):
         check("a taken port", program.ended("serve", "house", *words), fault("socket"))
 
 
+def lost_output(program, init):
+    """How `init` and `serve` end whose output is full, or is closed behind its first line."""
+    wanted = 1, b"auction: output: Write\n"
+    words = ["--port", str(free_port()), "--count", "1"]
+    for name, run in (("init", ["init", "untold", *init]), ("serve", ["serve", "house", *words])):
+        with open("/dev/full", "wb") as full:
+            result = subprocess.run([program.path, *run], cwd=program.folder, stdout=full, stderr=subprocess.PIPE,
+                                    timeout=60)
+        check(f"{name} with a full output", (result.returncode, result.stderr), wanted)
+    process = subprocess.Popen([program.path, "serve", "untold", *words], cwd=program.folder, restore_signals=False,
+                               stdout=subprocess.PIPE, stderr=subprocess.PIPE)
+    check("what is made untold is served", process.stdout.readline(), b"listening\n")
+    process.stdout.close()
+    exchange(int(words[1]), READS[0])
+    check("an output that is closed", (process.wait(60), process.stderr.read()), wanted)
+
+
+def most(program):
+    """A connection has so many messages answered, and not one more."""
+    told, ending = program.answers("house", [READS[0] * 10_001])
+    check("the most of a connection", told[0].count(b"HTTP/1.1 "), 10_000)
+    check("the most ended", ending, served(1))
+
+
 def setting(words, name, default):
     """What a word of a case is set to."""
     return words[words.index(name) + 1] if name in words else default
@@ -239,6 +263,8 @@ def main():
         init = ["--bands", "bands.csv", *SETTINGS]
         compare(program, init)
         faults(program, init)
+        lost_output(program, init)
+        most(program)
         if len(sys.argv) > 2:
             rows = "".join(f"{at},{step}\n" for at, step in EXAMPLE)
             (pathlib.Path(folder) / "example.csv").write_text("at,step\n" + rows)
