@@ -3,3 +3,10 @@ pub mod Chains
 pub mod Rows
 pub mod Ends
 pub mod Grown
+pub mod ReadNumbers
+pub mod OrderHeads
+pub mod OrderFrames
+pub mod OrderBodies
+pub mod OrderRoutes
+pub mod OrderAsks
+pub mod Listed
