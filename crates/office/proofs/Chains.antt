@@ -1,11 +1,9 @@
 -- Orders and rows, one after the other.
-use Rattle.std.proofs.Common.{◌≡◌, ℕ, ◌+◌, List, [], ◌∷◌, ◌++◌, length, refl, sym, ap, ◌∙◌, subst, arith, Bool, true, false, Option, Some, None, Result, Ok, Err, IfErr, IfOk, inl, inr}
+use Rattle.std.proofs.Common.{◌≡◌, ℕ, ◌+◌, List, [], ◌∷◌, ◌++◌, length, refl, sym, ap, ◌∙◌, subst, arith, Bool, true, false, Option, Some, None, Result, Ok, Err, IfErr, IfOk, inr}
 use Rattle.std.specs.Prelude.{if◌then◌else◌, nat_lt}
 use Rattle.std.specs.Io.KnownBytes.{Appends}
 use Rattle.std.specs.List.{FoldsTo}
-use Rattle.std.proofs.KnownBytes.{Appends-trans}
 use Rattle.std.proofs.lemmas.Fn.{FoldsTo-push}
-use Rattle.site_asks.specs.Asked.{IsAsked}
 use Rattle.site_asks.specs.declared.asked.Asked.{Asked}
 use Rattle.office.specs.declared.fault.ImportFault.{ImportFault}
 use Rattle.office.specs.declared.fault.ImportFault.TheVariants as importing
@@ -16,9 +14,11 @@ use Rattle.office.specs.declared.outcome.Outcome.TheVariants as outcome
 use Rattle.office.specs.declared.tally.Imported.{Imported}
 use Rattle.office.specs.Imports.{EndsAtLot, HasImported, HasOrdered, IsCounted, IsDone, IsOrder, IsRow, IsTold, UnlessWrite}
 use Rattle.office.specs.Lines.{told_line}
+use Rattle.office.specs.Listings.{IsListable, IsOrderOf}
 use Rattle.office.specs.Orders.{body_of, message_of, order_text}
 use Rattle.office.specs.Outcomes.{Fails}
 use Rattle.office.specs.Tallies.{counted, nothing, sum_of}
+use Rattle.office.proofs.Listed.{order_of}
 
 -- steps in turn, and then more
 folds_on : {P A : Type 0} (R : P → A → P → Type 0) (p : P) (xs : List A) (q : P) (ys : List A)
@@ -70,15 +70,15 @@ fits_is by lot text = go (nat_lt 16384 (length (body_of lot)))
 -- the order of a lot was answered
 pub told_ordered : {K : Type 0} (Step : Asked → List ℕ → K → K → Type 0)
     (Prints : List ℕ → Type 0) (by : Lister) (lot : Lot) (text : List ℕ) (number : ℕ)
-    (result : Result Outcome ImportFault) (old new : K) → message_of by lot ≡ Some text
-    → IsTold Step Prints text number result old new → HasOrdered Step by old new
-told_ordered Step Prints by lot text number result old new fits told = record {
+    (result : Result Outcome ImportFault) (old new : K) → IsListable lot
+    → message_of by lot ≡ Some text → IsTold Step Prints text number result old new → HasOrdered Step by old new
+told_ordered Step Prints by lot text number result old new listable fits told = record {
   lots = lot ∷ [];
   orders = (
     new,
     record {
       asked = told.asked;
-      by_text = subst (λ t. IsAsked t told.asked) (fits_is by lot text fits) told.by_text;
+      order = order_of by lot text told.asked listable fits told.by_text;
       reply = told.reply;
       step = told.step;
     },
@@ -89,16 +89,16 @@ told_ordered Step Prints by lot text number result old new fits told = record {
 -- and came to what the answer tells
 pub told_done : {K : Type 0} (Step : Asked → List ℕ → K → K → Type 0)
     (Prints : List ℕ → Type 0) (by : Lister) (lot : Lot) (text : List ℕ) (number : ℕ)
-    (result : Result Outcome ImportFault) (old new : K) → message_of by lot ≡ Some text
-    → IsTold Step Prints text number result old new
+    (result : Result Outcome ImportFault) (old new : K) → IsListable lot
+    → message_of by lot ≡ Some text → IsTold Step Prints text number result old new
     → IfOk result (λ o. (line : List ℕ) × IsDone Step by number lot o line old new × Prints line)
-told_done Step Prints by lot text number (Ok o) old new fits told =
+told_done Step Prints by lot text number (Ok o) old new listable fits told =
     let same = fits_is by lot text fits in (
       told_line number o told.reply,
       inr (record {
         fits = rw same at fits;
         asked = told.asked;
-        by_text = subst (λ t. IsAsked t told.asked) same told.by_text;
+        order = order_of by lot text told.asked listable fits told.by_text;
         reply = told.reply;
         step = told.step;
         told = told.told.0;
@@ -106,53 +106,53 @@ told_done Step Prints by lot text number (Ok o) old new fits told =
       }),
       told.told.1,
     )
-told_done Step Prints by lot text number (Err fault) old new fits told = tt
+told_done Step Prints by lot text number (Err fault) old new listable fits told = tt
 
 -- or ended the import
 pub told_ended : {K : Type 0} (Step : Asked → List ℕ → K → K → Type 0)
     (Prints : List ℕ → Type 0) (by : Lister) (lot : Lot) (text : List ℕ) (number : ℕ)
-    (result : Result Outcome ImportFault) (old new : K) → message_of by lot ≡ Some text
-    → IsTold Step Prints text number result old new
+    (result : Result Outcome ImportFault) (old new : K) → IsListable lot
+    → message_of by lot ≡ Some text → IsTold Step Prints text number result old new
     → IfErr result (λ fault. EndsAtLot Step by number lot fault old new)
-told_ended Step Prints by lot text number (Ok o) old new fits told = tt
-told_ended Step Prints by lot text number (Err fault) old new fits told =
+told_ended Step Prints by lot text number (Ok o) old new listable fits told = tt
+told_ended Step Prints by lot text number (Err fault) old new listable fits told =
     let same = fits_is by lot text fits in
-    at fault told.failed (subst (λ t. IsAsked t told.asked) same told.by_text) (rw same at fits)
+    at fault told.failed (order_of by lot text told.asked listable fits told.by_text) (rw same at fits)
   where
-    at : (f : ImportFault) → Fails told.reply f → IsAsked (order_text by lot) told.asked
+    at : (f : ImportFault) → Fails told.reply f → IsOrderOf by lot told.asked
         → message_of by lot ≡ Some (order_text by lot) → EndsAtLot Step by number lot f old new
-    at importing.Memory is by_text fits = inr (record {
+    at importing.Memory is order fits = inr (record {
       asked = told.asked;
-      by_text = by_text;
+      order = order;
       step = rw is at told.step;
     })
-    at importing.Store is by_text fits = record {
+    at importing.Store is order fits = record {
       asked = told.asked;
-      by_text = by_text;
+      order = order;
       step = rw is at told.step;
     }
-    at importing.Damaged is by_text fits = record {
+    at importing.Damaged is order fits = record {
       asked = told.asked;
-      by_text = by_text;
+      order = order;
       step = rw is at told.step;
     }
-    at importing.Write is by_text fits = (
+    at importing.Write is order fits = (
       is.0,
       told_line number is.0 told.reply,
       inr (record {
         fits = fits;
         asked = told.asked;
-        by_text = by_text;
+        order = order;
         reply = told.reply;
         step = told.step;
         told = is.1;
         line_is = refl;
       }),
     )
-    at importing.Member is by_text fits = absurd is
-    at importing.Head is by_text fits = absurd is
-    at importing.Csv is by_text fits = absurd is
-    at importing.Read is by_text fits = absurd is
+    at importing.Member is order fits = absurd is
+    at importing.Head is order fits = absurd is
+    at importing.Csv is order fits = absurd is
+    at importing.Read is order fits = absurd is
 
 -- no row, and then one more
 pub imported_none : {K : Type 0} (Step : Asked → List ℕ → K → K → Type 0) (by : Lister) (k : K)

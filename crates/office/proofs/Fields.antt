@@ -1,5 +1,5 @@
 -- The fields of a record by their places, the head of a lot file, and how its reader fails.
-use Rattle.std.proofs.Common.{◌≡◌, ℕ, List, [], ◌∷◌, ◌++◌, length, arith, Some, sym, ◌∙◌, refl, Option, codes, inl, inr, true, false}
+use Rattle.std.proofs.Common.{◌≡◌, ℕ, List, [], ◌∷◌, length, arith, Some, sym, ◌∙◌, refl, Option, codes, inl, inr, false}
 use Rattle.csv.specs.Reading.{ExplainsRead}
 use Rattle.csv.specs.Records.{field_at}
 use Rattle.csv.specs.declared.error.ErrorKind.{ErrorKind}

@@ -1,6 +1,6 @@
 -- What an import does to a keep, and what it prints. A step is what answering one message does, and
 -- `Prints` says of a text that the output grew by it.
-use Rattle.std.specs.Prelude.{◌≡◌, ◌≢◌, ◌⊎◌, ℕ, ◌+◌, List, [], ◌∷◌, ◌++◌, length, false, Option, Some, None, Result, IfErr, IfOk}
+use Rattle.std.specs.Prelude.{◌≡◌, ◌≢◌, ◌⊎◌, ℕ, ◌+◌, List, [], ◌∷◌, ◌++◌, length, false, Some, None, Result, IfErr, IfOk}
 use Rattle.std.specs.List.{FoldsTo}
 use Rattle.house_rows.specs.declared.fault.KeepFault.{KeepFault}
 use Rattle.house_rows.specs.declared.fault.KeepFault.TheVariants as keep
@@ -18,6 +18,7 @@ use Rattle.office.specs.declared.outcome.Outcome.TheVariants.{Refused}
 use Rattle.office.specs.declared.tally.Imported.{Imported}
 use Rattle.office.specs.Lines.{fault_line, range_line, told_line}
 use Rattle.office.specs.Lots.{IsFirstFault, Spells, head}
+use Rattle.office.specs.Listings.{IsOrderOf}
 use Rattle.office.specs.Orders.{message_of, order_text}
 use Rattle.office.specs.Outcomes.{Fails, Tells}
 use Rattle.office.specs.Tallies.{counted, nothing, sum_of}
@@ -41,7 +42,7 @@ pub record IsTold {K : Type 0} (Step : Asked → List ℕ → K → K → Type 0
 pub record IsOrder {K : Type 0} (Step : Asked → List ℕ → K → K → Type 0) (by : Lister)
     (old : K) (lot : Lot) (new : K) : Type 0 where
   pub asked : Asked
-  pub by_text : IsAsked (order_text by lot) asked
+  pub order : IsOrderOf by lot asked
   pub reply : List ℕ
   pub step : Step asked reply old new
 
@@ -64,7 +65,7 @@ pub record IsListing {K : Type 0} (Step : Asked → List ℕ → K → K → Typ
     (number : ℕ) (lot : Lot) (outcome : Outcome) (line : List ℕ) (old new : K) : Type 0 where
   pub fits : message_of by lot ≡ Some (order_text by lot)
   pub asked : Asked
-  pub by_text : IsAsked (order_text by lot) asked
+  pub order : IsOrderOf by lot asked
   pub reply : List ℕ
   pub step : Step asked reply old new
   pub told : Tells reply outcome
@@ -123,7 +124,7 @@ pub record HasListed {K : Type 0} (Step : Asked → List ℕ → K → K → Typ
 pub record IsFaulty {K : Type 0} (Step : Asked → List ℕ → K → K → Type 0) (by : Lister)
     (lot : Lot) (fault : KeepFault) (old new : K) : Type 0 where
   pub asked : Asked
-  pub by_text : IsAsked (order_text by lot) asked
+  pub order : IsOrderOf by lot asked
   pub step : Step asked (fault_text fault false) old new
 
 -- how an import ends at a lot: memory was refused before its order, or the order was answered by

@@ -9,6 +9,7 @@ ghost use Rattle.steps.specs.Reading.{HasRead, records_of};
 ghost use Rattle.office.specs.Faults.{IsLookUpFault};
 ghost use Rattle.office.specs.Imports.{EndsAtLot, EndsAtRow, HasEnded, HasListed, HasOrdered, IsCut, IsDone, IsRow, IsTold, UnlessWrite, keep_of};
 ghost use Rattle.office.specs.Lines.{fault_line, range_line, told_line, totals_line};
+ghost use Rattle.office.specs.Listings.{IsListable};
 ghost use Rattle.office.specs.Lots.{head};
 ghost use Rattle.office.specs.Outcomes.{Fails, Tells};
 ghost use Rattle.office.specs.Tallies.{sum_of};
@@ -115,6 +116,7 @@ fn list<W: Write, K: Keep + Drop>(
     number: u64,
     output: &mut W,
 ) -> Result<Outcome, ImportFault>
+    requires { IsListable lot.now }
     ensures done { IfOk result (λ outcome. (line : List ℕ) × IsDone
         (IsStep K.content K.is_failed K.is_honest K.may_leave (zone_of site.old))
         by number lot.now outcome line (keep_of site.old) (keep_of site.new)

@@ -3,8 +3,12 @@ use Rattle.std.specs.Io.KnownBytes.{Appends}
 use Rattle.csv.specs.Records.{fields_of}
 use Rattle.site.specs.Answers.{IsStep, zone_of}
 use Rattle.office.specs.Imports.{keep_of}
+use Rattle.office.proofs.Listed.{spelled_listable}
 use Rattle.office.proofs.Rows.{done_row, ended_row, unprinted_row, unread_row, write_stands}
 use Rattle.office.proofs.imports.import_row.Goals as goal
+
+pub list-requires : goal.list-requires
+list-requires g c = spelled_listable (fields_of c.args.row.now) c.in-Ok.lot c.in-Ok.ensures.lot
 
 pub returns-in-Ok-clause-row : goal.returns-in-Ok-clause-row
 returns-in-Ok-clause-row g c =

@@ -1,7 +1,7 @@
-use Rattle.std.proofs.Common.{◌≡◌, None, Some, sym}
+use Rattle.std.proofs.Common.{◌≡◌, None, Some}
 use Rattle.std.specs.Io.KnownBytes.{Appends}
 use Rattle.site.specs.Answers.{IsStep, zone_of}
-use Rattle.office.specs.Imports.{IsTold, keep_of}
+use Rattle.office.specs.Imports.{keep_of}
 use Rattle.office.specs.Orders.{message_of}
 use Rattle.office.proofs.Chains.{told_done, told_ended, told_ordered}
 use Rattle.office.proofs.Rows.{long_done, long_ended, write_stands}
@@ -16,7 +16,7 @@ returns-then-branch-clause-done g c =
     rw c.if-branch.true at c.in_ok-write.ensures in
     told_done step (Appends (g.W.Write.contents c.args.output.now) (g.W.Write.contents c.ask.new.output))
     c.args.by c.args.lot.now c.write.new.self.text.items c.args.number c.ask.result
-    (keep_of c.args.site.now) (keep_of c.ask.new.site) fits
+    (keep_of c.args.site.now) (keep_of c.ask.new.site) c.requires fits
     (rw c.deref.ensures.value at c.ask.ensures.told)
 
 pub returns-then-branch-clause-ended : goal.returns-then-branch-clause-ended
@@ -28,7 +28,7 @@ returns-then-branch-clause-ended g c =
     rw c.if-branch.true at c.in_ok-write.ensures in
     told_ended step (Appends (g.W.Write.contents c.args.output.now) (g.W.Write.contents c.ask.new.output))
     c.args.by c.args.lot.now c.write.new.self.text.items c.args.number c.ask.result
-    (keep_of c.args.site.now) (keep_of c.ask.new.site) fits
+    (keep_of c.args.site.now) (keep_of c.ask.new.site) c.requires fits
     (rw c.deref.ensures.value at c.ask.ensures.told)
 
 pub returns-then-branch-clause-ordered : goal.returns-then-branch-clause-ordered
@@ -40,7 +40,7 @@ returns-then-branch-clause-ordered g c =
     rw c.if-branch.true at c.in_ok-write.ensures in
     told_ordered step (Appends (g.W.Write.contents c.args.output.now) (g.W.Write.contents c.ask.new.output))
     c.args.by c.args.lot.now c.write.new.self.text.items c.args.number c.ask.result
-    (keep_of c.args.site.now) (keep_of c.ask.new.site) fits
+    (keep_of c.args.site.now) (keep_of c.ask.new.site) c.requires fits
     (rw c.deref.ensures.value at c.ask.ensures.told)
 
 pub returns-else-branch-clause-done : goal.returns-else-branch-clause-done
