@@ -1,11 +1,10 @@
 //! How entries are shown, and lists of them.
-ghost use Rattle.std.specs.Prelude.{◌≡◌, ◌++◌, OnErr, OnOk, length};
-ghost use Rattle.json.specs.Print.{print};
-ghost use Rattle.pages_json.specs.Words.{array_of, entries_tokens, text_of, tokens_of};
+ghost use Rattle.std.specs.Prelude.{◌≡◌, ◌++◌, ◌≤◌, OnErr, OnOk, length, take};
+ghost use Rattle.std.specs.Io.{StartsWith};
+ghost use Rattle.pages_json.specs.Words.{array_of, entries_text, text_of};
 
-use json::Writer;
+use crate::object::enclose;
 use std::alloc::{AllocError, Global};
-use std::mem::replace;
 
 /// A way to show entries: what stands on a page for each.
 pub trait Shows<E> {
@@ -14,40 +13,50 @@ pub trait Shows<E> {
     /// The tree of an entry.
     ghost tree: { Self → E → Data };
 
-    /// Appends its text.
-    fn put(&self, w: &mut Writer, entry: &E) -> Result<(), AllocError>
-        ensures tokens { OnOk result
-            (w.new.tokens ≡ w.old.tokens ++ tokens_of (tree self.now entry.now)) }
-        ensures before { w.new.before ≡ w.old.before };
+    /// Appends its text. After an `Err` a part of it may stand.
+    fn put(&self, alloc: Global, out: &mut Vec<u8>, entry: &E) -> Result<(), AllocError>
+        ensures text { OnOk result
+            (out.new.items ≡ out.old.items ++ text_of (tree self.now entry.now)) }
+        ensures front { StartsWith out.new.items out.old.items };
 }
 
-// Appends the entries, without the brackets.
-fn put_entries<E, F: Shows<E>>(w: &mut Writer, form: &F, entries: &[E]) -> Result<(), AllocError>
-    ensures tokens { OnOk result
-        (w.new.tokens ≡ w.old.tokens ++ entries_tokens (F.tree form.now) entries.now) }
-    ensures before { w.new.before ≡ w.old.before }
+// Appends the entries, each behind its comma.
+fn put_entries<E, F: Shows<E>>(
+    alloc: Global,
+    out: &mut Vec<u8>,
+    form: &F,
+    entries: &[E],
+) -> Result<(), AllocError>
+    ensures text { OnOk result
+        (out.new.items ≡ out.old.items ++ entries_text (F.tree form.now) entries.now) }
+    ensures front { StartsWith out.new.items out.old.items }
 {
     for entry in entries {
-        form.put(w, entry)?;
+        out.push(b',')?;
+        form.put(alloc, out, entry)?;
     }
     Ok(())
 }
 
-/// Appends a list.
-#[tactic(auto, using(crate::proofs::Tokens::array_written))]
-pub fn put_array<E, F: Shows<E>>(w: &mut Writer, form: &F, entries: &[E]) -> Result<(), AllocError>
-    ensures tokens { OnOk result
-        (w.new.tokens ≡ w.old.tokens ++ tokens_of (array_of (F.tree form.now) entries.now)) }
-    ensures before { w.new.before ≡ w.old.before }
+/// Appends a list. After an `Err` a part of it may stand.
+#[tactic(auto, using(crate::proofs::Texts::array_enclosed, crate::proofs::Texts::front_then))]
+pub fn put_array<E, F: Shows<E>>(
+    alloc: Global,
+    out: &mut Vec<u8>,
+    form: &F,
+    entries: &[E],
+) -> Result<(), AllocError>
+    ensures text { OnOk result
+        (out.new.items ≡ out.old.items ++ text_of (array_of (F.tree form.now) entries.now)) }
+    ensures front { StartsWith out.new.items out.old.items }
 {
-    w.begin_array()?;
-    put_entries(w, form, entries)?;
-    w.end_array()?;
+    let start = out.len();
+    put_entries(alloc, out, form, entries)?;
+    enclose(out, start, b'[', b']')?;
     Ok(())
 }
 
 /// Appends the text of an entry to a buffer. After an `Err` the buffer has what it had.
-#[tactic(auto, using(crate::proofs::Tokens::print_tree))]
 pub fn append<E, F: Shows<E>>(
     alloc: Global,
     out: &mut Vec<u8>,
@@ -59,20 +68,16 @@ pub fn append<E, F: Shows<E>>(
     ensures err { OnErr result (out.new.items ≡ out.old.items) }
 {
     let before = out.len();
-    let mut w = Writer::new(replace(out, Vec::new(alloc)));
-    let put = form.put(&mut w, entry);
-    finish(out, before, w, put)
+    let put = form.put(alloc, out, entry);
+    finish(out, before, put)
 }
 
-/// Hands a writer's text to the buffer that it was begun with: all of it, or after an `Err` what
-/// stood there before, of that length.
-pub fn finish<E>(out: &mut Vec<u8>, before: usize, w: Writer, put: Result<(), E>) -> Result<(), E>
-    requires { before ≡ length w.before }
+/// Ends what was appended behind a place: after an `Err` nothing stays of it.
+pub fn finish<E>(out: &mut Vec<u8>, before: usize, put: Result<(), E>) -> Result<(), E>
     ensures same { result ≡ put }
-    ensures ok { OnOk result (out.new.items ≡ w.before ++ print w.tokens) }
-    ensures err { OnErr result (out.new.items ≡ w.before) }
+    ensures ok { OnOk result (out.new.items ≡ out.old.items) }
+    ensures err { OnErr result (out.new.items ≡ take before out.old.items) }
 {
-    *out = w.into_inner();
     if put.is_err() {
         out.truncate(before);
     }

@@ -1,10 +1,14 @@
 //! The plain values of an object.
 ghost use Rattle.std.specs.Prelude.{◌≡◌, ◌++◌, OnOk};
-ghost use Rattle.pages_json.specs.Words.{integer, tokens_of};
+ghost use Rattle.std.specs.Io.{StartsWith};
+ghost use Rattle.json.specs.Print.{quoted};
+ghost use Rattle.pages_json.specs.Words.{text_of};
 ghost use Rattle.pages_json.specs.Fields.{field_tree};
 
-use json::{Token, Writer};
-use std::alloc::AllocError;
+use itoa::{Buffer, Integer};
+use json::Writer;
+use std::alloc::{AllocError, Global};
+use std::mem::replace;
 
 /// What a key of an object has.
 #[derive(Clone, Copy)]
@@ -23,30 +27,45 @@ pub enum Field<'a> {
     Flag(bool),
 }
 
-// Appends a number that may be below zero.
-#[tactic(auto, unfolding(crate::specs::Words::tokens_of))]
-fn put_integer(w: &mut Writer, z: i64) -> Result<(), AllocError>
-    ensures tokens { OnOk result (w.new.tokens ≡ w.old.tokens ++ tokens_of (integer z)) }
-    ensures before { w.new.before ≡ w.old.before }
+// Appends the digits of a number.
+fn put_digits<I: Integer>(out: &mut Vec<u8>, n: I) -> Result<(), AllocError>
+    ensures text { OnOk result (out.new.items ≡ out.old.items ++ I.text n) }
+    ensures front { StartsWith out.new.items out.old.items }
 {
-    match u64::try_from(z) {
-        Ok(n) => w.u64(n),
-        Err(_) => w.i64(z),
-    }
+    let mut digits = Buffer::new();
+    out.extend_from_slice(digits.format(n).as_bytes())?;
+    Ok(())
+}
+
+// Appends a text between quotes, with its escapes.
+#[tactic(auto, using(crate::proofs::Texts::string_printed))]
+fn put_text(alloc: Global, out: &mut Vec<u8>, text: &str) -> Result<(), AllocError>
+    ensures text { OnOk result (out.new.items ≡ out.old.items ++ quoted text.now) }
+    ensures front { StartsWith out.new.items out.old.items }
+{
+    let mut w = Writer::new(replace(out, Vec::new(alloc)));
+    let put = w.string(text);
+    *out = w.into_inner();
+    put
 }
 
 // Appends one value.
-#[tactic(auto, unfolding(crate::specs::Words::tokens_of))]
-pub(crate) fn put_value(w: &mut Writer, field: &Field<'_>) -> Result<(), AllocError>
-    ensures tokens { OnOk result
-        (w.new.tokens ≡ w.old.tokens ++ tokens_of (field_tree field.now)) }
-    ensures before { w.new.before ≡ w.old.before }
+#[tactic(auto, unfolding(crate::specs::Words::text_of))]
+pub(crate) fn put_value(
+    alloc: Global,
+    out: &mut Vec<u8>,
+    field: &Field<'_>,
+) -> Result<(), AllocError>
+    ensures text { OnOk result
+        (out.new.items ≡ out.old.items ++ text_of (field_tree field.now)) }
+    ensures front { StartsWith out.new.items out.old.items }
 {
     match field {
-        Field::Number(n) | Field::Maybe(Some(n)) => w.u64(*n),
-        Field::Maybe(None) | Field::MaybeText(None) => w.token(Token::Null),
-        Field::Text(text) | Field::MaybeText(Some(text)) => w.string(text),
-        Field::Integer(z) => put_integer(w, *z),
-        Field::Flag(holds) => w.boolean(*holds),
+        Field::Number(n) | Field::Maybe(Some(n)) => put_digits(out, *n),
+        Field::Text(text) | Field::MaybeText(Some(text)) => put_text(alloc, out, text),
+        Field::Maybe(None) | Field::MaybeText(None) => out.extend_from_slice(b"null"),
+        Field::Integer(z) => put_digits(out, *z),
+        Field::Flag(true) => out.extend_from_slice(b"true"),
+        Field::Flag(false) => out.extend_from_slice(b"false"),
     }
 }

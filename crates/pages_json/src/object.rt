@@ -1,93 +1,158 @@
 //! Objects, a key at a time. The keys of every object here are given in byte order.
-ghost use Rattle.std.specs.Prelude.{◌≡◌, ◌++◌, ◌∷◌, [], OnOk, map};
-ghost use Rattle.pages_json.specs.Fields.{member_of};
-ghost use Rattle.pages_json.specs.Words.{array_of, members_tokens, object_of, tokens_of};
+//!
+//! Each member and each entry is written behind a comma. In the end the opening bracket takes the
+//! place of the first comma.
+ghost use Rattle.std.specs.Prelude.{◌≡◌, ◌++◌, ◌∷◌, ◌≤◌, [], IsTrue, OnOk, drop, length, map, take};
+ghost use Rattle.std.specs.Io.{StartsWith};
+ghost use Rattle.pages_json.specs.Fields.{are_keys, member_of};
+ghost use Rattle.pages_json.specs.Words.{array_of, enclosed, is_key, members_text, name_in, object_of, text_of};
 
 use crate::entry::{Shows, put_array};
 use crate::field::{Field, put_value};
-use json::Writer;
-use std::alloc::AllocError;
+use std::alloc::{AllocError, Global};
 
-/// Appends members of an object, without the brackets.
-pub fn put_members(w: &mut Writer, fields: &[(&str, Field<'_>)]) -> Result<(), AllocError>
-    ensures tokens { OnOk result
-        (w.new.tokens ≡ w.old.tokens ++ members_tokens (map member_of fields.now)) }
-    ensures before { w.new.before ≡ w.old.before }
+/// A key as it stands in a text: behind its comma, between quotes, and with its colon.
+#[macro_export]
+macro_rules! key {
+    ($name:literal) => {
+        concat!(",\"", $name, "\":")
+    };
+}
+
+// Puts the text from a place on between brackets. The first takes the place of the first byte.
+#[tactic(auto, using(crate::proofs::Texts::enclosed_none, crate::proofs::Texts::enclosed_some))]
+pub(crate) fn enclose(
+    out: &mut Vec<u8>,
+    start: usize,
+    first: u8,
+    last: u8,
+) -> Result<(), AllocError>
+    requires { start ≤ length out.old.items }
+    ensures text { OnOk result (out.new.items
+        ≡ take start out.old.items ++ enclosed first last (drop start out.old.items)) }
+    ensures front { take start out.new.items ≡ take start out.old.items }
+{
+    if start == out.len() {
+        out.push(first)?;
+        out.push(last)?;
+        return Ok(());
+    }
+    out[start] = first;
+    out.push(last)?;
+    Ok(())
+}
+
+/// Makes an object of the members that were written from a place on. After an `Err` they may stand
+/// in part.
+pub fn end_object(out: &mut Vec<u8>, start: usize) -> Result<(), AllocError>
+    requires { start ≤ length out.old.items }
+    ensures text { OnOk result (out.new.items
+        ≡ take start out.old.items ++ enclosed 123 125 (drop start out.old.items)) }
+    ensures front { take start out.new.items ≡ take start out.old.items }
+{
+    enclose(out, start, b'{', b'}')
+}
+
+/// Appends members of an object, each behind a comma. After an `Err` a part of them may stand.
+pub fn put_members(
+    alloc: Global,
+    out: &mut Vec<u8>,
+    fields: &[(&str, Field<'_>)],
+) -> Result<(), AllocError>
+    requires { IsTrue (are_keys fields.now) }
+    ensures text { OnOk result
+        (out.new.items ≡ out.old.items ++ members_text (map member_of fields.now)) }
+    ensures front { StartsWith out.new.items out.old.items }
 {
     for field in fields {
-        w.key(field.0)?;
-        put_value(w, &field.1)?;
+        out.extend_from_slice(field.0.as_bytes())?;
+        put_value(alloc, out, &field.1)?;
     }
     Ok(())
 }
 
-/// Appends a member of an object that is a list, without the brackets of the object.
-#[tactic(auto, using(crate::proofs::Tokens::one_member))]
+/// Appends a member of an object that is a list, behind a comma. After an `Err` a part of it may
+/// stand.
+#[tactic(auto, using(crate::proofs::Texts::one_member, crate::proofs::Texts::front_then))]
 pub fn put_member_list<E, F: Shows<E>>(
-    w: &mut Writer,
-    name: &str,
+    alloc: Global,
+    out: &mut Vec<u8>,
+    key: &str,
     form: &F,
     entries: &[E],
 ) -> Result<(), AllocError>
-    ensures tokens { OnOk result (w.new.tokens ≡ w.old.tokens
-        ++ members_tokens ((name.now, array_of (F.tree form.now) entries.now) ∷ [])) }
-    ensures before { w.new.before ≡ w.old.before }
+    requires { IsTrue (is_key key.now) }
+    ensures text { OnOk result (out.new.items ≡ out.old.items
+        ++ members_text ((name_in key.now, array_of (F.tree form.now) entries.now) ∷ [])) }
+    ensures front { StartsWith out.new.items out.old.items }
 {
-    w.key(name)?;
-    put_array(w, form, entries)?;
+    out.extend_from_slice(key.as_bytes())?;
+    put_array(alloc, out, form, entries)?;
     Ok(())
 }
 
-/// Appends an object of these keys.
-#[tactic(auto, using(crate::proofs::Tokens::object_written))]
-pub fn put_object(w: &mut Writer, fields: &[(&str, Field<'_>)]) -> Result<(), AllocError>
-    ensures tokens { OnOk result
-        (w.new.tokens ≡ w.old.tokens ++ tokens_of (object_of (map member_of fields.now))) }
-    ensures before { w.new.before ≡ w.old.before }
+/// Appends an object of these keys. After an `Err` a part of it may stand.
+#[tactic(auto, using(crate::proofs::Texts::object_enclosed, crate::proofs::Texts::front_then))]
+pub fn put_object(
+    alloc: Global,
+    out: &mut Vec<u8>,
+    fields: &[(&str, Field<'_>)],
+) -> Result<(), AllocError>
+    requires { IsTrue (are_keys fields.now) }
+    ensures text { OnOk result
+        (out.new.items ≡ out.old.items ++ text_of (object_of (map member_of fields.now))) }
+    ensures front { StartsWith out.new.items out.old.items }
 {
-    w.begin_object()?;
-    put_members(w, fields)?;
-    w.end_object()?;
+    let start = out.len();
+    put_members(alloc, out, fields)?;
+    end_object(out, start)?;
     Ok(())
 }
 
-/// Appends an object with one key, which has a list.
-#[tactic(auto, using(crate::proofs::Tokens::object_written))]
+/// Appends an object with one key, which has a list. After an `Err` a part of it may stand.
+#[tactic(auto, using(crate::proofs::Texts::object_enclosed, crate::proofs::Texts::front_then))]
 pub fn put_list<E, F: Shows<E>>(
-    w: &mut Writer,
-    name: &str,
+    alloc: Global,
+    out: &mut Vec<u8>,
+    key: &str,
     form: &F,
     entries: &[E],
 ) -> Result<(), AllocError>
-    ensures tokens { OnOk result (w.new.tokens ≡ w.old.tokens
-        ++ tokens_of (object_of ((name.now, array_of (F.tree form.now) entries.now) ∷ []))) }
-    ensures before { w.new.before ≡ w.old.before }
+    requires { IsTrue (is_key key.now) }
+    ensures text { OnOk result (out.new.items ≡ out.old.items
+        ++ text_of (object_of ((name_in key.now, array_of (F.tree form.now) entries.now) ∷ []))) }
+    ensures front { StartsWith out.new.items out.old.items }
 {
-    w.begin_object()?;
-    put_member_list(w, name, form, entries)?;
-    w.end_object()?;
+    let start = out.len();
+    put_member_list(alloc, out, key, form, entries)?;
+    end_object(out, start)?;
     Ok(())
 }
 
-/// Appends an object of the keys `front`, then one that has a list, then the keys `back`.
-#[tactic(auto, using(crate::proofs::Tokens::three_parts))]
+/// Appends an object of the keys `front`, then one that has a list, then the keys `back`. After an
+/// `Err` a part of it may stand.
+#[tactic(auto, using(crate::proofs::Texts::three_parts, crate::proofs::Texts::front_then))]
 pub fn put_object_around<E, F: Shows<E>>(
-    w: &mut Writer,
+    alloc: Global,
+    out: &mut Vec<u8>,
     front: &[(&str, Field<'_>)],
-    name: &str,
+    key: &str,
     form: &F,
     entries: &[E],
     back: &[(&str, Field<'_>)],
 ) -> Result<(), AllocError>
-    ensures tokens { OnOk result (w.new.tokens ≡ w.old.tokens ++ tokens_of (object_of
-        (map member_of front.now ++ ((name.now, array_of (F.tree form.now) entries.now) ∷ []
+    requires front { IsTrue (are_keys front.now) }
+    requires key { IsTrue (is_key key.now) }
+    requires back { IsTrue (are_keys back.now) }
+    ensures text { OnOk result (out.new.items ≡ out.old.items ++ text_of (object_of
+        (map member_of front.now ++ ((name_in key.now, array_of (F.tree form.now) entries.now) ∷ []
         ++ map member_of back.now)))) }
-    ensures before { w.new.before ≡ w.old.before }
+    ensures front { StartsWith out.new.items out.old.items }
 {
-    w.begin_object()?;
-    put_members(w, front)?;
-    put_member_list(w, name, form, entries)?;
-    put_members(w, back)?;
-    w.end_object()?;
+    let start = out.len();
+    put_members(alloc, out, front)?;
+    put_member_list(alloc, out, key, form, entries)?;
+    put_members(alloc, out, back)?;
+    end_object(out, start)?;
     Ok(())
 }

@@ -1,8 +1,8 @@
 //! Objects and lists as trees in memory.
-ghost use Rattle.std.specs.Prelude.{◌≡◌, ◌∷◌, ◌++◌, [], IfOk, OnOk, map};
+ghost use Rattle.std.specs.Prelude.{◌≡◌, ◌∷◌, ◌++◌, [], IfOk, IsTrue, OnOk, map};
 ghost use Rattle.serde_json.specs.View.{members_view, view};
-ghost use Rattle.pages_json.specs.Fields.{field_tree, member_of};
-ghost use Rattle.pages_json.specs.Words.{AreInOrder, array_of, object_of, put_all};
+ghost use Rattle.pages_json.specs.Fields.{are_keys, field_tree, member_of};
+ghost use Rattle.pages_json.specs.Words.{AreInOrder, array_of, is_key, name_in, object_of, put_all};
 
 use crate::entry::Shows;
 use crate::field::Field;
@@ -31,18 +31,27 @@ fn grow_value(alloc: Global, field: &Field<'_>) -> Result<Value, AllocError>
     })
 }
 
+// The name in a key.
+fn name_in(key: &str) -> &str
+    requires { IsTrue (is_key key.now) }
+    ensures { result.now ≡ name_in key.now }
+{
+    &key[2..key.len() - 2]
+}
+
 /// Puts these members into a map.
 pub fn grow_members(
     alloc: Global,
     members: &mut Map<String, Value>,
     fields: &[(&str, Field<'_>)],
 ) -> Result<(), AllocError>
+    requires { IsTrue (are_keys fields.now) }
     ensures { OnOk result (members_view members.new.entries
         ≡ put_all (map member_of fields.now) (members_view members.old.entries)) }
 {
     for field in fields {
         let value = grow_value(alloc, &field.1)?;
-        put(members, alloc, field.0, value)?;
+        put(members, alloc, name_in(field.0), value)?;
     }
     Ok(())
 }
@@ -81,7 +90,8 @@ pub fn grow_array<E, F: Grows<E>>(
 
 /// Makes an object of these keys, which stand in byte order.
 pub fn grow_object(alloc: Global, fields: &[(&str, Field<'_>)]) -> Result<Value, AllocError>
-    requires { AreInOrder (map member_of fields.now) }
+    requires keys { IsTrue (are_keys fields.now) }
+    requires order { AreInOrder (map member_of fields.now) }
     ensures { IfOk result (λ v. view v ≡ object_of (map member_of fields.now)) }
 {
     let mut members = Map::new(alloc);
@@ -114,7 +124,9 @@ pub fn grow_object_around<E, F: Grows<E>>(
     entries: &[E],
     back: &[(&str, Field<'_>)],
 ) -> Result<Value, AllocError>
-    requires { AreInOrder (map member_of front.now
+    requires front { IsTrue (are_keys front.now) }
+    requires back { IsTrue (are_keys back.now) }
+    requires order { AreInOrder (map member_of front.now
         ++ ((name.now, array_of (F.tree form.now) entries.now) ∷ [] ++ map member_of back.now)) }
     ensures { IfOk result (λ v. view v ≡ object_of (map member_of front.now
         ++ ((name.now, array_of (F.tree form.now) entries.now) ∷ [] ++ map member_of back.now))) }
