@@ -1,12 +1,11 @@
 //! Entries that stand on pages as they are.
-ghost use Rattle.std.specs.Prelude.{◌≡◌, map};
-ghost use Rattle.pages_json.specs.Fields.{member_of};
+ghost use Rattle.std.specs.Prelude.{◌≡◌, IsTrue, map};
+ghost use Rattle.pages_json.specs.Fields.{are_keys, member_of};
 ghost use Rattle.pages_json.specs.Words.{AreInOrder, object_of};
 ghost use Rattle.pages_text.specs.Trees.{band_tree, category_tree, feedback_tree, member_tree, own_bid_tree, question_tree, rating_value};
 
 use house_rows::{Category, Feedback, Member, OwnBid, Question, Rating, Text};
-use json::Writer;
-use pages_json::{Field, Grows, Shows, grow_object, put_object};
+use pages_json::{Field, Grows, Shows, grow_object, key, put_object};
 use serde_json::Value;
 use std::alloc::{AllocError, Global};
 
@@ -14,10 +13,11 @@ use std::alloc::{AllocError, Global};
 fn band_fields(band: &(u64, u64)) -> [(&'static str, Field<'_>); 2]
     ensures tree { object_of (map member_of result) ≡ band_tree band.now }
     ensures order { AreInOrder (map member_of result) }
+    ensures keys { IsTrue (are_keys result) }
 {
     [
-        ("at", Field::Number(band.0)),
-        ("step", Field::Number(band.1)),
+        (key!("at"), Field::Number(band.0)),
+        (key!("step"), Field::Number(band.1)),
     ]
 }
 
@@ -30,8 +30,8 @@ impl Shows<(u64, u64)> for AsBands {
 
     ghost tree = { λ _ band. band_tree band };
 
-    fn put(&self, w: &mut Writer, band: &(u64, u64)) -> Result<(), AllocError> {
-        put_object(w, &band_fields(band))
+    fn put(&self, alloc: Global, out: &mut Vec<u8>, band: &(u64, u64)) -> Result<(), AllocError> {
+        put_object(alloc, out, &band_fields(band))
     }
 }
 
@@ -45,10 +45,14 @@ impl Grows<(u64, u64)> for AsBands {
 fn category_fields(category: &Category) -> [(&'static str, Field<'_>); 2]
     ensures tree { object_of (map member_of result) ≡ category_tree category.now }
     ensures order { AreInOrder (map member_of result) }
+    ensures keys { IsTrue (are_keys result) }
 {
     [
-        ("category", Field::Number(u64::from(category.category))),
-        ("name", Field::Text(category.name.as_str())),
+        (
+            key!("category"),
+            Field::Number(u64::from(category.category)),
+        ),
+        (key!("name"), Field::Text(category.name.as_str())),
     ]
 }
 
@@ -61,8 +65,8 @@ impl Shows<Category> for AsCategories {
 
     ghost tree = { λ _ k. category_tree k };
 
-    fn put(&self, w: &mut Writer, category: &Category) -> Result<(), AllocError> {
-        put_object(w, &category_fields(category))
+    fn put(&self, alloc: Global, out: &mut Vec<u8>, category: &Category) -> Result<(), AllocError> {
+        put_object(alloc, out, &category_fields(category))
     }
 }
 
@@ -76,10 +80,11 @@ impl Grows<Category> for AsCategories {
 fn member_fields(member: &Member) -> [(&'static str, Field<'_>); 2]
     ensures tree { object_of (map member_of result) ≡ member_tree member.now }
     ensures order { AreInOrder (map member_of result) }
+    ensures keys { IsTrue (are_keys result) }
 {
     [
-        ("member", Field::Number(u64::from(member.member))),
-        ("name", Field::Text(member.name.as_str())),
+        (key!("member"), Field::Number(u64::from(member.member))),
+        (key!("name"), Field::Text(member.name.as_str())),
     ]
 }
 
@@ -92,8 +97,8 @@ impl Shows<Member> for AsMembers {
 
     ghost tree = { λ _ m. member_tree m };
 
-    fn put(&self, w: &mut Writer, member: &Member) -> Result<(), AllocError> {
-        put_object(w, &member_fields(member))
+    fn put(&self, alloc: Global, out: &mut Vec<u8>, member: &Member) -> Result<(), AllocError> {
+        put_object(alloc, out, &member_fields(member))
     }
 }
 
@@ -107,14 +112,15 @@ impl Grows<Member> for AsMembers {
 fn own_bid_fields(bid: &OwnBid) -> [(&'static str, Field<'_>); 6]
     ensures tree { object_of (map member_of result) ≡ own_bid_tree bid.now }
     ensures order { AreInOrder (map member_of result) }
+    ensures keys { IsTrue (are_keys result) }
 {
     [
-        ("item", Field::Number(u64::from(bid.item))),
-        ("leading", Field::Flag(bid.leading)),
-        ("maximum", Field::Number(bid.maximum.value())),
-        ("mine", Field::Number(bid.mine)),
-        ("price", Field::Number(bid.price.value())),
-        ("state", Field::Text(bid.state.name())),
+        (key!("item"), Field::Number(u64::from(bid.item))),
+        (key!("leading"), Field::Flag(bid.leading)),
+        (key!("maximum"), Field::Number(bid.maximum.value())),
+        (key!("mine"), Field::Number(bid.mine)),
+        (key!("price"), Field::Number(bid.price.value())),
+        (key!("state"), Field::Text(bid.state.name())),
     ]
 }
 
@@ -127,8 +133,8 @@ impl Shows<OwnBid> for AsOwnBids {
 
     ghost tree = { λ _ b. own_bid_tree b };
 
-    fn put(&self, w: &mut Writer, bid: &OwnBid) -> Result<(), AllocError> {
-        put_object(w, &own_bid_fields(bid))
+    fn put(&self, alloc: Global, out: &mut Vec<u8>, bid: &OwnBid) -> Result<(), AllocError> {
+        put_object(alloc, out, &own_bid_fields(bid))
     }
 }
 
@@ -142,16 +148,17 @@ impl Grows<OwnBid> for AsOwnBids {
 fn question_fields(question: &Question) -> [(&'static str, Field<'_>); 5]
     ensures tree { object_of (map member_of result) ≡ question_tree question.now }
     ensures order { AreInOrder (map member_of result) }
+    ensures keys { IsTrue (are_keys result) }
 {
     [
         (
-            "answer",
+            key!("answer"),
             Field::MaybeText(question.answer.as_ref().map(Text::as_str)),
         ),
-        ("asker", Field::Number(u64::from(question.asker))),
-        ("item", Field::Number(u64::from(question.item))),
-        ("number", Field::Number(u64::from(question.number))),
-        ("text", Field::Text(question.text.as_str())),
+        (key!("asker"), Field::Number(u64::from(question.asker))),
+        (key!("item"), Field::Number(u64::from(question.item))),
+        (key!("number"), Field::Number(u64::from(question.number))),
+        (key!("text"), Field::Text(question.text.as_str())),
     ]
 }
 
@@ -164,8 +171,8 @@ impl Shows<Question> for AsQuestions {
 
     ghost tree = { λ _ q. question_tree q };
 
-    fn put(&self, w: &mut Writer, question: &Question) -> Result<(), AllocError> {
-        put_object(w, &question_fields(question))
+    fn put(&self, alloc: Global, out: &mut Vec<u8>, question: &Question) -> Result<(), AllocError> {
+        put_object(alloc, out, &question_fields(question))
     }
 }
 
@@ -190,13 +197,17 @@ pub(crate) fn rating_value(rating: Rating) -> i64
 fn feedback_fields(feedback: &Feedback) -> [(&'static str, Field<'_>); 5]
     ensures tree { object_of (map member_of result) ≡ feedback_tree feedback.now }
     ensures order { AreInOrder (map member_of result) }
+    ensures keys { IsTrue (are_keys result) }
 {
     [
-        ("from", Field::Number(u64::from(feedback.from))),
-        ("item", Field::Number(u64::from(feedback.item))),
-        ("rating", Field::Integer(rating_value(feedback.rating))),
-        ("text", Field::Text(feedback.text.as_str())),
-        ("to", Field::Number(u64::from(feedback.to))),
+        (key!("from"), Field::Number(u64::from(feedback.from))),
+        (key!("item"), Field::Number(u64::from(feedback.item))),
+        (
+            key!("rating"),
+            Field::Integer(rating_value(feedback.rating)),
+        ),
+        (key!("text"), Field::Text(feedback.text.as_str())),
+        (key!("to"), Field::Number(u64::from(feedback.to))),
     ]
 }
 
@@ -209,8 +220,8 @@ impl Shows<Feedback> for AsFeedback {
 
     ghost tree = { λ _ f. feedback_tree f };
 
-    fn put(&self, w: &mut Writer, feedback: &Feedback) -> Result<(), AllocError> {
-        put_object(w, &feedback_fields(feedback))
+    fn put(&self, alloc: Global, out: &mut Vec<u8>, feedback: &Feedback) -> Result<(), AllocError> {
+        put_object(alloc, out, &feedback_fields(feedback))
     }
 }
 

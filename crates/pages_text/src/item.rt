@@ -1,14 +1,13 @@
 //! Items.
-ghost use Rattle.std.specs.Prelude.{◌≡◌, map};
+ghost use Rattle.std.specs.Prelude.{◌≡◌, IsTrue, map};
 ghost use Rattle.house_rows.specs.Items.{floor_of};
-ghost use Rattle.pages_json.specs.Fields.{member_of};
+ghost use Rattle.pages_json.specs.Fields.{are_keys, member_of};
 ghost use Rattle.pages_json.specs.Words.{AreInOrder, object_of};
 ghost use Rattle.pages_text.specs.Trees.{item_tree};
 
 use cents::Cents;
 use house_rows::{Item, ItemShown, Settings, State, Terms};
-use json::Writer;
-use pages_json::{Field, Grows, Shows, grow_object, put_object};
+use pages_json::{Field, Grows, Shows, grow_object, key, put_object};
 use serde_json::Value;
 use std::alloc::{AllocError, Global};
 use steps::Bands;
@@ -31,24 +30,28 @@ fn item_fields(item: &Item, floor: Option<u64>) -> [(&'static str, Field<'_>); 1
     ensures tree { object_of (map member_of result)
         ≡ item_tree (record { item = item.now; floor = floor }) }
     ensures order { AreInOrder (map member_of result) }
+    ensures keys { IsTrue (are_keys result) }
 {
     let terms = &item.terms;
     [
-        ("buy_now", Field::Maybe(terms.buy_now.map(Cents::value))),
-        ("category", Field::Number(u64::from(terms.category))),
-        ("closed", Field::Maybe(terms.closed)),
-        ("count", Field::Number(u64::from(terms.count))),
-        ("end", Field::Number(terms.end)),
-        ("floor", Field::Maybe(floor)),
-        ("item", Field::Number(u64::from(terms.item))),
-        ("leader", Field::Maybe(terms.leader.map(u64::from))),
-        ("lot", Field::Text(item.lot.as_str())),
-        ("price", Field::Number(terms.price.value())),
-        ("seller", Field::Number(u64::from(terms.seller))),
-        ("start", Field::Number(terms.start.value())),
-        ("state", Field::Text(terms.state.name())),
-        ("text", Field::Text(item.text.as_str())),
-        ("title", Field::Text(item.title.as_str())),
+        (
+            key!("buy_now"),
+            Field::Maybe(terms.buy_now.map(Cents::value)),
+        ),
+        (key!("category"), Field::Number(u64::from(terms.category))),
+        (key!("closed"), Field::Maybe(terms.closed)),
+        (key!("count"), Field::Number(u64::from(terms.count))),
+        (key!("end"), Field::Number(terms.end)),
+        (key!("floor"), Field::Maybe(floor)),
+        (key!("item"), Field::Number(u64::from(terms.item))),
+        (key!("leader"), Field::Maybe(terms.leader.map(u64::from))),
+        (key!("lot"), Field::Text(item.lot.as_str())),
+        (key!("price"), Field::Number(terms.price.value())),
+        (key!("seller"), Field::Number(u64::from(terms.seller))),
+        (key!("start"), Field::Number(terms.start.value())),
+        (key!("state"), Field::Text(terms.state.name())),
+        (key!("text"), Field::Text(item.text.as_str())),
+        (key!("title"), Field::Text(item.title.as_str())),
     ]
 }
 
@@ -61,8 +64,8 @@ impl Shows<ItemShown> for AsItems {
 
     ghost tree = { λ _ it. item_tree it };
 
-    fn put(&self, w: &mut Writer, shown: &ItemShown) -> Result<(), AllocError> {
-        put_object(w, &item_fields(&shown.item, shown.floor))
+    fn put(&self, alloc: Global, out: &mut Vec<u8>, shown: &ItemShown) -> Result<(), AllocError> {
+        put_object(alloc, out, &item_fields(&shown.item, shown.floor))
     }
 }
 
@@ -85,9 +88,9 @@ impl Shows<Item> for BySettings<'_> {
 
     ghost tree = { λ by it. item_tree (shown by.settings.now it) };
 
-    fn put(&self, w: &mut Writer, item: &Item) -> Result<(), AllocError> {
+    fn put(&self, alloc: Global, out: &mut Vec<u8>, item: &Item) -> Result<(), AllocError> {
         let floor = floor(&self.settings.bands, &item.terms);
-        put_object(w, &item_fields(item, floor))
+        put_object(alloc, out, &item_fields(item, floor))
     }
 }
 

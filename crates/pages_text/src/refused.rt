@@ -1,13 +1,12 @@
 //! Why nothing is shown or done.
-ghost use Rattle.std.specs.Prelude.{◌≡◌, map, Some, None};
+ghost use Rattle.std.specs.Prelude.{◌≡◌, IsTrue, map, Some, None};
 ghost use Rattle.house_rows.specs.Names.{refusal_name, refusal_number};
-ghost use Rattle.pages_json.specs.Fields.{member_of};
+ghost use Rattle.pages_json.specs.Fields.{are_keys, member_of};
 ghost use Rattle.pages_json.specs.Words.{AreInOrder, object_of};
 ghost use Rattle.pages_text.specs.Trees.{fault_word, floor_told, refused_with};
 
 use house_rows::{KeepFault, Refusal};
-use json::Writer;
-use pages_json::{Field, Grows, Shows, grow_object, put_object};
+use pages_json::{Field, Grows, Shows, grow_object, key, put_object};
 use serde_json::Value;
 use std::alloc::{AllocError, Global};
 
@@ -26,10 +25,11 @@ fn plain_fields(refusal: Refusal) -> [(&'static str, Field<'static>); 2]
     ensures tree { object_of (map member_of result)
         ≡ refused_with (refusal_name refusal) (refusal_number refusal) None }
     ensures order { AreInOrder (map member_of result) }
+    ensures keys { IsTrue (are_keys result) }
 {
     [
-        ("error", Field::Text(refusal.name())),
-        ("number", Field::Number(u64::from(refusal.number()))),
+        (key!("error"), Field::Text(refusal.name())),
+        (key!("number"), Field::Number(u64::from(refusal.number()))),
     ]
 }
 
@@ -38,11 +38,12 @@ fn fields_with(refusal: Refusal, floor: u64) -> [(&'static str, Field<'static>);
     ensures tree { object_of (map member_of result)
         ≡ refused_with (refusal_name refusal) (refusal_number refusal) (Some floor) }
     ensures order { AreInOrder (map member_of result) }
+    ensures keys { IsTrue (are_keys result) }
 {
     [
-        ("error", Field::Text(refusal.name())),
-        ("floor", Field::Number(floor)),
-        ("number", Field::Number(u64::from(refusal.number()))),
+        (key!("error"), Field::Text(refusal.name())),
+        (key!("floor"), Field::Number(floor)),
+        (key!("number"), Field::Number(u64::from(refusal.number()))),
     ]
 }
 
@@ -55,10 +56,10 @@ impl Shows<Refusal> for AsRefusals {
 
     ghost tree = { λ _ refusal. refusal_tree refusal };
 
-    fn put(&self, w: &mut Writer, refusal: &Refusal) -> Result<(), AllocError> {
+    fn put(&self, alloc: Global, out: &mut Vec<u8>, refusal: &Refusal) -> Result<(), AllocError> {
         match floor_told(*refusal) {
-            None => put_object(w, &plain_fields(*refusal)),
-            Some(floor) => put_object(w, &fields_with(*refusal, floor)),
+            None => put_object(alloc, out, &plain_fields(*refusal)),
+            Some(floor) => put_object(alloc, out, &fields_with(*refusal, floor)),
         }
     }
 }
@@ -92,7 +93,11 @@ impl Shows<KeepFault> for AsFaults {
 
     ghost tree = { λ _ fault. fault_tree fault };
 
-    fn put(&self, w: &mut Writer, fault: &KeepFault) -> Result<(), AllocError> {
-        put_object(w, &[("error", Field::Text(fault_word(*fault)))])
+    fn put(&self, alloc: Global, out: &mut Vec<u8>, fault: &KeepFault) -> Result<(), AllocError> {
+        put_object(
+            alloc,
+            out,
+            &[(key!("error"), Field::Text(fault_word(*fault)))],
+        )
     }
 }

@@ -1,16 +1,16 @@
 //! Statements.
-ghost use Rattle.std.specs.Prelude.{◌≡◌, ◌++◌, ◌∷◌, [], ◌<◌, ◌^◌, IfOk, OnOk, codes, map};
+ghost use Rattle.std.specs.Prelude.{◌≡◌, ◌++◌, ◌∷◌, [], ◌<◌, ◌^◌, IfOk, IsTrue, OnOk, codes, map};
 ghost use Rattle.serde_json.specs.View.{view};
 ghost use Rattle.settle.specs.Statement.{statement_of};
-ghost use Rattle.pages_json.specs.Fields.{member_of};
-ghost use Rattle.pages_json.specs.Words.{AreInOrder, object_of, tokens_of, whole};
+ghost use Rattle.std.specs.Io.{StartsWith};
+ghost use Rattle.pages_json.specs.Fields.{are_keys, member_of};
+ghost use Rattle.pages_json.specs.Words.{AreInOrder, object_of, text_of, whole};
 ghost use Rattle.pages_text.specs.Trees.{line_with, role_of, statement_from, statement_tree};
 ghost use Rattle.pages_text.specs.Fits.{AreSales};
 
 use house_rows::Rate;
-use json::Writer;
 use pages_json::{
-    Field, Grows, Shows, grow_object, grow_object_around, put_object, put_object_around,
+    Field, Grows, Shows, grow_object, grow_object_around, key, put_object, put_object_around,
 };
 use serde_json::Value;
 use settle::{Day, Line, Sold, Totals, Zone, lines};
@@ -18,9 +18,7 @@ use std::alloc::{AllocError, Global};
 
 // Lines of statements.
 #[derive(Clone, Copy)]
-struct AsLines {
-    alloc: Global,
-}
+struct AsLines;
 
 // The word for a seller's line, and for a buyer's.
 #[tactic(auto, unfolding(crate::specs::Trees::role_of))]
@@ -35,15 +33,16 @@ fn line_fields<'d>(day: &'d str, line: &Line) -> [(&'static str, Field<'d>); 7]
     ensures tree { object_of (map member_of result)
         ≡ line_with day.now (role_of line.now.sell) line.now }
     ensures order { AreInOrder (map member_of result) }
+    ensures keys { IsTrue (are_keys result) }
 {
     [
-        ("day", Field::Text(day)),
-        ("fee", Field::Number(line.fee)),
-        ("item", Field::Number(u64::from(line.item))),
-        ("net", Field::Number(line.net)),
-        ("other", Field::Number(u64::from(line.other))),
-        ("price", Field::Number(line.price.value())),
-        ("role", Field::Text(role(line.sell))),
+        (key!("day"), Field::Text(day)),
+        (key!("fee"), Field::Number(line.fee)),
+        (key!("item"), Field::Number(u64::from(line.item))),
+        (key!("net"), Field::Number(line.net)),
+        (key!("other"), Field::Number(u64::from(line.other))),
+        (key!("price"), Field::Number(line.price.value())),
+        (key!("role"), Field::Text(role(line.sell))),
     ]
 }
 
@@ -52,9 +51,9 @@ impl Shows<Line> for AsLines {
 
     ghost tree = { λ _ line. line_tree line };
 
-    fn put(&self, w: &mut Writer, line: &Line) -> Result<(), AllocError> {
-        let day = format!(in self.alloc; "{}", line.day)?;
-        put_object(w, &line_fields(day.as_str(), line))
+    fn put(&self, alloc: Global, out: &mut Vec<u8>, line: &Line) -> Result<(), AllocError> {
+        let day = format!(in alloc; "{}", line.day)?;
+        put_object(alloc, out, &line_fields(day.as_str(), line))
     }
 }
 
@@ -67,45 +66,48 @@ impl Grows<Line> for AsLines {
 
 // The keys before the lines of a statement, and what they have.
 fn front_fields(totals: Totals) -> [(&'static str, Field<'static>); 2]
-    ensures { map member_of result
+    ensures members { map member_of result
         ≡ (codes "bought", whole totals.bought) ∷ (codes "fees", whole totals.fees) ∷ [] }
+    ensures keys { IsTrue (are_keys result) }
 {
     [
-        ("bought", Field::Number(totals.bought)),
-        ("fees", Field::Number(totals.fees)),
+        (key!("bought"), Field::Number(totals.bought)),
+        (key!("fees"), Field::Number(totals.fees)),
     ]
 }
 
 // And those behind them.
 fn back_fields(member: u64, totals: Totals) -> [(&'static str, Field<'static>); 3]
-    ensures { map member_of result
+    ensures members { map member_of result
         ≡ (codes "member", whole member) ∷ (codes "net", whole totals.net)
         ∷ (codes "sold", whole totals.sold) ∷ [] }
+    ensures keys { IsTrue (are_keys result) }
 {
     [
-        ("member", Field::Number(member)),
-        ("net", Field::Number(totals.net)),
-        ("sold", Field::Number(totals.sold)),
+        (key!("member"), Field::Number(member)),
+        (key!("net"), Field::Number(totals.net)),
+        (key!("sold"), Field::Number(totals.sold)),
     ]
 }
 
 // Appends a statement of these lines and totals.
 fn put_rows(
     alloc: Global,
-    w: &mut Writer,
+    out: &mut Vec<u8>,
     member: u64,
     rows: &[Line],
     totals: Totals,
 ) -> Result<(), AllocError>
-    ensures tokens { OnOk result (w.new.tokens ≡ w.old.tokens
-        ++ tokens_of (statement_from member rows.now totals)) }
-    ensures before { w.new.before ≡ w.old.before }
+    ensures text { OnOk result
+        (out.new.items ≡ out.old.items ++ text_of (statement_from member rows.now totals)) }
+    ensures front { StartsWith out.new.items out.old.items }
 {
     put_object_around(
-        w,
+        alloc,
+        out,
         &front_fields(totals),
-        "lines",
-        &AsLines { alloc },
+        key!("lines"),
+        &AsLines,
         rows,
         &back_fields(member, totals),
     )
@@ -119,7 +121,7 @@ fn grow_rows(alloc: Global, member: u64, rows: &[Line], totals: Totals) -> Resul
         alloc,
         &front_fields(totals),
         "lines",
-        &AsLines { alloc },
+        &AsLines,
         rows,
         &back_fields(member, totals),
     )
@@ -130,7 +132,7 @@ fn grow_rows(alloc: Global, member: u64, rows: &[Line], totals: Totals) -> Resul
 #[tactic(auto, using(crate::proofs::Periods::no_rows))]
 pub(crate) fn put_statement(
     alloc: Global,
-    w: &mut Writer,
+    out: &mut Vec<u8>,
     zone: &Zone,
     rate: Rate,
     member: u64,
@@ -140,15 +142,15 @@ pub(crate) fn put_statement(
 ) -> Result<(), AllocError>
     requires member { member < 2 ^ 32 }
     requires sales { AreSales sales.now }
-    ensures tokens { OnOk result (w.new.tokens ≡ w.old.tokens
-        ++ tokens_of (statement_tree (statement_of sales.now member from to zone.now rate))) }
-    ensures before { w.new.before ≡ w.old.before }
+    ensures text { OnOk result (out.new.items ≡ out.old.items
+        ++ text_of (statement_tree (statement_of sales.now member from to zone.now rate))) }
+    ensures front { StartsWith out.new.items out.old.items }
 {
     if to < from {
-        return put_rows(alloc, w, member, &[], Totals::of(&[]));
+        return put_rows(alloc, out, member, &[], Totals::of(&[]));
     }
     match lines(alloc, sales, member as u32, from, to, zone, rate.value()) {
-        Ok(statement) => put_rows(alloc, w, member, statement.rows(), statement.totals()),
+        Ok(statement) => put_rows(alloc, out, member, statement.rows(), statement.totals()),
         Err(_) => Err(AllocError),
     }
 }

@@ -3,9 +3,8 @@ ghost use Rattle.std.specs.Prelude.{◌≡◌, ◌++◌, OnOk};
 
 use crate::entries::rating_value;
 use house_rows::Told;
-use json::Writer;
-use pages_json::{Field, Shows, put_object};
-use std::alloc::AllocError;
+use pages_json::{Field, Shows, key, put_object};
+use std::alloc::{AllocError, Global};
 
 /// What is told of accepted commands.
 #[derive(Clone, Copy)]
@@ -16,37 +15,48 @@ impl Shows<Told> for AsTold {
 
     ghost tree = { λ _ told. told_tree told };
 
-    fn put(&self, w: &mut Writer, told: &Told) -> Result<(), AllocError> {
+    fn put(&self, alloc: Global, out: &mut Vec<u8>, told: &Told) -> Result<(), AllocError> {
         match *told {
-            Told::Registered { member } => put_object(w, &[("member", number(member))]),
-            Told::Added { category } => put_object(w, &[("category", number(category))]),
-            Told::Listing { item } => put_object(w, &[("item", number(item))]),
+            Told::Registered { member } => put_object(
+                alloc,
+                out,
+                &[(key!("member"), number(member))],
+            ),
+            Told::Added { category } => put_object(
+                alloc,
+                out,
+                &[(key!("category"), number(category))],
+            ),
+            Told::Listing { item } => put_object(alloc, out, &[(key!("item"), number(item))]),
             Told::Placed {
                 count,
                 floor,
                 leader,
                 price,
             } => put_object(
-                w,
+                alloc,
+                out,
                 &[
-                    ("count", number(count)),
-                    ("floor", Field::Number(floor)),
-                    ("leader", Field::Maybe(leader.map(u64::from))),
-                    ("price", Field::Number(price.value())),
+                    (key!("count"), number(count)),
+                    (key!("floor"), Field::Number(floor)),
+                    (key!("leader"), Field::Maybe(leader.map(u64::from))),
+                    (key!("price"), Field::Number(price.value())),
                 ],
             ),
             Told::Bought { item, price } => put_object(
-                w,
+                alloc,
+                out,
                 &[
-                    ("item", number(item)),
-                    ("price", Field::Number(price.value())),
+                    (key!("item"), number(item)),
+                    (key!("price"), Field::Number(price.value())),
                 ],
             ),
             Told::Closed { sold, unsold } => put_object(
-                w,
+                alloc,
+                out,
                 &[
-                    ("sold", Field::Number(sold)),
-                    ("unsold", Field::Number(unsold)),
+                    (key!("sold"), Field::Number(sold)),
+                    (key!("unsold"), Field::Number(unsold)),
                 ],
             ),
             Told::Settlement {
@@ -55,39 +65,46 @@ impl Shows<Told> for AsTold {
                 net,
                 price,
             } => put_object(
-                w,
+                alloc,
+                out,
                 &[
-                    ("fee", Field::Number(fee)),
-                    ("item", number(item)),
-                    ("net", Field::Number(net)),
-                    ("price", Field::Number(price.value())),
+                    (key!("fee"), Field::Number(fee)),
+                    (key!("item"), number(item)),
+                    (key!("net"), Field::Number(net)),
+                    (key!("price"), Field::Number(price.value())),
                 ],
             ),
             Told::Watched { item, watched } => put_object(
-                w,
-                &[("item", number(item)), ("watched", Field::Flag(watched))],
+                alloc,
+                out,
+                &[
+                    (key!("item"), number(item)),
+                    (key!("watched"), Field::Flag(watched)),
+                ],
             ),
             Told::Question {
                 asker,
                 item,
                 number: place,
             } => put_object(
-                w,
+                alloc,
+                out,
                 &[
-                    ("asker", number(asker)),
-                    ("item", number(item)),
-                    ("number", number(place)),
+                    (key!("asker"), number(asker)),
+                    (key!("item"), number(item)),
+                    (key!("number"), number(place)),
                 ],
             ),
             Told::Rated { item, rating, to } => put_object(
-                w,
+                alloc,
+                out,
                 &[
-                    ("item", number(item)),
-                    ("rating", Field::Integer(rating_value(rating))),
-                    ("to", number(to)),
+                    (key!("item"), number(item)),
+                    (key!("rating"), Field::Integer(rating_value(rating))),
+                    (key!("to"), number(to)),
                 ],
             ),
-            Told::Nothing => put_object(w, &[]),
+            Told::Nothing => put_object(alloc, out, &[]),
         }
     }
 }
