@@ -1,90 +1,89 @@
 //! The public record, written list by list: no more than one list is held beside the text.
 ghost use Rattle.std.specs.Prelude.{◌≡◌, ◌++◌, ◌∷◌, [], codes, OnErr, OnOk};
+ghost use Rattle.std.specs.Io.{StartsWith};
 ghost use Rattle.house_rows.specs.declared.settings.Settings.{Settings as TheSettings};
 ghost use Rattle.house_rows.specs.History.{History};
 ghost use Rattle.house_rows.specs.Tables.{tables_of};
 ghost use Rattle.house_rows.specs.Keeping.{Faults, IsRead};
 ghost use Rattle.serde_json.specs.Data.{string};
-ghost use Rattle.pages_json.specs.Words.{members_tokens, tokens_of, whole};
+ghost use Rattle.pages_json.specs.Words.{members_text, text_of, whole};
 ghost use Rattle.pages_record.specs.Record.{back_by, bands_by, categories_by, clock_by, feedback_by, front_by, items_by, members_by, middle_by, questions_by, record_by, record_text, settings_by};
 
 use house_rows::{Keep, KeepFault, Settings};
-use json::Writer;
-use pages_json::{Field, finish, put_member_list, put_members};
+use pages_json::{Field, end_object, finish, key, put_member_list, put_members};
 use pages_text::{AsBands, AsCategories, AsFeedback, AsMembers, AsQuestions, BySettings};
 use std::alloc::{AllocError, Global};
-use std::mem::replace;
 
-fn put_bands<K: Keep>(keep: &mut K, w: &mut Writer) -> Result<(), KeepFault>
-    ensures tokens { K.is_honest keep.new → OnOk result
-        (w.new.tokens ≡ w.old.tokens ++ members_tokens (bands_by (K.content keep.old))) }
-    ensures before { w.new.before ≡ w.old.before }
+fn put_bands<K: Keep>(alloc: Global, keep: &mut K, out: &mut Vec<u8>) -> Result<(), KeepFault>
+    ensures text { K.is_honest keep.new → OnOk result
+        (out.new.items ≡ out.old.items ++ members_text (bands_by (K.content keep.old))) }
+    ensures front { StartsWith out.new.items out.old.items }
     ensures faults { Faults result (K.is_honest keep.new) (K.is_failed keep.new)
         (K.content keep.old) }
     ensures read { IsRead K.content K.is_failed K.is_honest K.may_leave keep.old keep.new }
 {
-    put_member_list(w, "bands", &AsBands, keep.settings()?.bands.rows())?;
+    put_member_list(alloc, out, key!("bands"), &AsBands, keep.settings()?.bands.rows())?;
     Ok(())
 }
 
-fn put_categories<K: Keep>(keep: &mut K, w: &mut Writer) -> Result<(), KeepFault>
-    ensures tokens { K.is_honest keep.new → OnOk result
-        (w.new.tokens ≡ w.old.tokens ++ members_tokens (categories_by (K.content keep.old))) }
-    ensures before { w.new.before ≡ w.old.before }
+fn put_categories<K: Keep>(alloc: Global, keep: &mut K, out: &mut Vec<u8>) -> Result<(), KeepFault>
+    ensures text { K.is_honest keep.new → OnOk result
+        (out.new.items ≡ out.old.items ++ members_text (categories_by (K.content keep.old))) }
+    ensures front { StartsWith out.new.items out.old.items }
     ensures faults { Faults result (K.is_honest keep.new) (K.is_failed keep.new)
         (K.content keep.old) }
     ensures read { IsRead K.content K.is_failed K.is_honest K.may_leave keep.old keep.new }
 {
     let categories = keep.categories()?;
-    put_member_list(w, "categories", &AsCategories, &categories)?;
+    put_member_list(alloc, out, key!("categories"), &AsCategories, &categories)?;
     Ok(())
 }
 
-fn put_clock<K: Keep>(keep: &mut K, w: &mut Writer) -> Result<(), KeepFault>
-    ensures tokens { K.is_honest keep.new → OnOk result
-        (w.new.tokens ≡ w.old.tokens ++ members_tokens (clock_by (K.content keep.old))) }
-    ensures before { w.new.before ≡ w.old.before }
+fn put_clock<K: Keep>(alloc: Global, keep: &mut K, out: &mut Vec<u8>) -> Result<(), KeepFault>
+    ensures text { K.is_honest keep.new → OnOk result
+        (out.new.items ≡ out.old.items ++ members_text (clock_by (K.content keep.old))) }
+    ensures front { StartsWith out.new.items out.old.items }
     ensures faults { Faults result (K.is_honest keep.new) (K.is_failed keep.new)
         (K.content keep.old) }
     ensures read { IsRead K.content K.is_failed K.is_honest K.may_leave keep.old keep.new }
 {
     let clock = keep.clock()?;
-    put_members(w, &[("clock", Field::Number(clock))])?;
+    put_members(alloc, out, &[(key!("clock"), Field::Number(clock))])?;
     Ok(())
 }
 
-#[tactic(auto, using(crate::proofs::Parts::three_members), unfolding(crate::specs::Record::front_by))]
-fn put_front<K: Keep>(keep: &mut K, w: &mut Writer) -> Result<(), KeepFault>
-    ensures tokens { K.is_honest keep.new → OnOk result
-        (w.new.tokens ≡ w.old.tokens ++ members_tokens (front_by (K.content keep.old))) }
-    ensures before { w.new.before ≡ w.old.before }
+#[tactic(auto, using(pages_json::proofs::Texts::three_members, pages_json::proofs::Texts::front_then), unfolding(crate::specs::Record::front_by))]
+fn put_front<K: Keep>(alloc: Global, keep: &mut K, out: &mut Vec<u8>) -> Result<(), KeepFault>
+    ensures text { K.is_honest keep.new → OnOk result
+        (out.new.items ≡ out.old.items ++ members_text (front_by (K.content keep.old))) }
+    ensures front { StartsWith out.new.items out.old.items }
     ensures faults { Faults result (K.is_honest keep.new) (K.is_failed keep.new)
         (K.content keep.old) }
     ensures read { IsRead K.content K.is_failed K.is_honest K.may_leave keep.old keep.new }
 {
-    put_bands(keep, w)?;
-    put_categories(keep, w)?;
-    put_clock(keep, w)?;
+    put_bands(alloc, keep, out)?;
+    put_categories(alloc, keep, out)?;
+    put_clock(alloc, keep, out)?;
     Ok(())
 }
 
-fn put_feedback<K: Keep>(keep: &mut K, w: &mut Writer) -> Result<(), KeepFault>
-    ensures tokens { K.is_honest keep.new → OnOk result
-        (w.new.tokens ≡ w.old.tokens ++ members_tokens (feedback_by (K.content keep.old))) }
-    ensures before { w.new.before ≡ w.old.before }
+fn put_feedback<K: Keep>(alloc: Global, keep: &mut K, out: &mut Vec<u8>) -> Result<(), KeepFault>
+    ensures text { K.is_honest keep.new → OnOk result
+        (out.new.items ≡ out.old.items ++ members_text (feedback_by (K.content keep.old))) }
+    ensures front { StartsWith out.new.items out.old.items }
     ensures faults { Faults result (K.is_honest keep.new) (K.is_failed keep.new)
         (K.content keep.old) }
     ensures read { IsRead K.content K.is_failed K.is_honest K.may_leave keep.old keep.new }
 {
     let feedback = keep.all_feedback()?;
-    put_member_list(w, "feedback", &AsFeedback, &feedback)?;
+    put_member_list(alloc, out, key!("feedback"), &AsFeedback, &feedback)?;
     Ok(())
 }
 
-fn put_items<K: Keep>(keep: &mut K, w: &mut Writer) -> Result<(), KeepFault>
-    ensures tokens { K.is_honest keep.new → OnOk result
-        (w.new.tokens ≡ w.old.tokens ++ members_tokens (items_by (K.content keep.old))) }
-    ensures before { w.new.before ≡ w.old.before }
+fn put_items<K: Keep>(alloc: Global, keep: &mut K, out: &mut Vec<u8>) -> Result<(), KeepFault>
+    ensures text { K.is_honest keep.new → OnOk result
+        (out.new.items ≡ out.old.items ++ members_text (items_by (K.content keep.old))) }
+    ensures front { StartsWith out.new.items out.old.items }
     ensures faults { Faults result (K.is_honest keep.new) (K.is_failed keep.new)
         (K.content keep.old) }
     ensures read { IsRead K.content K.is_failed K.is_honest K.may_leave keep.old keep.new }
@@ -93,113 +92,116 @@ fn put_items<K: Keep>(keep: &mut K, w: &mut Writer) -> Result<(), KeepFault>
     let form = BySettings {
         settings: keep.settings()?,
     };
-    put_member_list(w, "items", &form, &items)?;
+    put_member_list(alloc, out, key!("items"), &form, &items)?;
     Ok(())
 }
 
-fn put_all_members<K: Keep>(keep: &mut K, w: &mut Writer) -> Result<(), KeepFault>
-    ensures tokens { K.is_honest keep.new → OnOk result
-        (w.new.tokens ≡ w.old.tokens ++ members_tokens (members_by (K.content keep.old))) }
-    ensures before { w.new.before ≡ w.old.before }
+fn put_all_members<K: Keep>(alloc: Global, keep: &mut K, out: &mut Vec<u8>) -> Result<(), KeepFault>
+    ensures text { K.is_honest keep.new → OnOk result
+        (out.new.items ≡ out.old.items ++ members_text (members_by (K.content keep.old))) }
+    ensures front { StartsWith out.new.items out.old.items }
     ensures faults { Faults result (K.is_honest keep.new) (K.is_failed keep.new)
         (K.content keep.old) }
     ensures read { IsRead K.content K.is_failed K.is_honest K.may_leave keep.old keep.new }
 {
     let members = keep.members()?;
-    put_member_list(w, "members", &AsMembers, &members)?;
+    put_member_list(alloc, out, key!("members"), &AsMembers, &members)?;
     Ok(())
 }
 
-fn put_questions<K: Keep>(keep: &mut K, w: &mut Writer) -> Result<(), KeepFault>
-    ensures tokens { K.is_honest keep.new → OnOk result
-        (w.new.tokens ≡ w.old.tokens ++ members_tokens (questions_by (K.content keep.old))) }
-    ensures before { w.new.before ≡ w.old.before }
+fn put_questions<K: Keep>(alloc: Global, keep: &mut K, out: &mut Vec<u8>) -> Result<(), KeepFault>
+    ensures text { K.is_honest keep.new → OnOk result
+        (out.new.items ≡ out.old.items ++ members_text (questions_by (K.content keep.old))) }
+    ensures front { StartsWith out.new.items out.old.items }
     ensures faults { Faults result (K.is_honest keep.new) (K.is_failed keep.new)
         (K.content keep.old) }
     ensures read { IsRead K.content K.is_failed K.is_honest K.may_leave keep.old keep.new }
 {
     let questions = keep.all_published()?;
-    put_member_list(w, "questions", &AsQuestions, &questions)?;
+    put_member_list(alloc, out, key!("questions"), &AsQuestions, &questions)?;
     Ok(())
 }
 
 // The rate and the zone of settings.
-fn put_settings_of(w: &mut Writer, settings: &Settings) -> Result<(), AllocError>
-    ensures tokens { OnOk result (w.new.tokens ≡ w.old.tokens ++ members_tokens
+fn put_settings_of(
+    alloc: Global,
+    out: &mut Vec<u8>, settings: &Settings) -> Result<(), AllocError>
+    ensures text { OnOk result (out.new.items ≡ out.old.items ++ members_text
         ((codes "rate", whole settings.now.rate) ∷ (codes "zone", string settings.now.zone) ∷ [])) }
-    ensures before { w.new.before ≡ w.old.before }
+    ensures front { StartsWith out.new.items out.old.items }
 {
     put_members(
-        w,
+        alloc,
+        out,
         &[
-            ("rate", Field::Number(settings.rate.value())),
-            ("zone", Field::Text(settings.zone.as_str())),
+            (key!("rate"), Field::Number(settings.rate.value())),
+            (key!("zone"), Field::Text(settings.zone.as_str())),
         ],
     )
 }
 
-fn put_settings<K: Keep>(keep: &mut K, w: &mut Writer) -> Result<(), KeepFault>
-    ensures tokens { K.is_honest keep.new → OnOk result
-        (w.new.tokens ≡ w.old.tokens ++ members_tokens (settings_by (K.content keep.old))) }
-    ensures before { w.new.before ≡ w.old.before }
+fn put_settings<K: Keep>(alloc: Global, keep: &mut K, out: &mut Vec<u8>) -> Result<(), KeepFault>
+    ensures text { K.is_honest keep.new → OnOk result
+        (out.new.items ≡ out.old.items ++ members_text (settings_by (K.content keep.old))) }
+    ensures front { StartsWith out.new.items out.old.items }
     ensures faults { Faults result (K.is_honest keep.new) (K.is_failed keep.new)
         (K.content keep.old) }
     ensures read { IsRead K.content K.is_failed K.is_honest K.may_leave keep.old keep.new }
 {
-    put_settings_of(w, keep.settings()?)?;
+    put_settings_of(alloc, out, keep.settings()?)?;
     Ok(())
 }
 
-#[tactic(auto, using(crate::proofs::Parts::three_members), unfolding(crate::specs::Record::middle_by))]
-fn put_middle<K: Keep>(keep: &mut K, w: &mut Writer) -> Result<(), KeepFault>
-    ensures tokens { K.is_honest keep.new → OnOk result
-        (w.new.tokens ≡ w.old.tokens ++ members_tokens (middle_by (K.content keep.old))) }
-    ensures before { w.new.before ≡ w.old.before }
+#[tactic(auto, using(pages_json::proofs::Texts::three_members, pages_json::proofs::Texts::front_then), unfolding(crate::specs::Record::middle_by))]
+fn put_middle<K: Keep>(alloc: Global, keep: &mut K, out: &mut Vec<u8>) -> Result<(), KeepFault>
+    ensures text { K.is_honest keep.new → OnOk result
+        (out.new.items ≡ out.old.items ++ members_text (middle_by (K.content keep.old))) }
+    ensures front { StartsWith out.new.items out.old.items }
     ensures faults { Faults result (K.is_honest keep.new) (K.is_failed keep.new)
         (K.content keep.old) }
     ensures read { IsRead K.content K.is_failed K.is_honest K.may_leave keep.old keep.new }
 {
-    put_feedback(keep, w)?;
-    put_items(keep, w)?;
-    put_all_members(keep, w)?;
+    put_feedback(alloc, keep, out)?;
+    put_items(alloc, keep, out)?;
+    put_all_members(alloc, keep, out)?;
     Ok(())
 }
 
-#[tactic(auto, using(crate::proofs::Parts::two_members), unfolding(crate::specs::Record::back_by))]
-fn put_back<K: Keep>(keep: &mut K, w: &mut Writer) -> Result<(), KeepFault>
-    ensures tokens { K.is_honest keep.new → OnOk result
-        (w.new.tokens ≡ w.old.tokens ++ members_tokens (back_by (K.content keep.old))) }
-    ensures before { w.new.before ≡ w.old.before }
+#[tactic(auto, using(pages_json::proofs::Texts::two_members, pages_json::proofs::Texts::front_then), unfolding(crate::specs::Record::back_by))]
+fn put_back<K: Keep>(alloc: Global, keep: &mut K, out: &mut Vec<u8>) -> Result<(), KeepFault>
+    ensures text { K.is_honest keep.new → OnOk result
+        (out.new.items ≡ out.old.items ++ members_text (back_by (K.content keep.old))) }
+    ensures front { StartsWith out.new.items out.old.items }
     ensures faults { Faults result (K.is_honest keep.new) (K.is_failed keep.new)
         (K.content keep.old) }
     ensures read { IsRead K.content K.is_failed K.is_honest K.may_leave keep.old keep.new }
 {
-    put_questions(keep, w)?;
-    put_settings(keep, w)?;
+    put_questions(alloc, keep, out)?;
+    put_settings(alloc, keep, out)?;
     Ok(())
 }
 
-#[tactic(auto, using(pages_json::proofs::Tokens::three_parts), unfolding(crate::specs::Record::record_by))]
-fn put_record<K: Keep>(keep: &mut K, w: &mut Writer) -> Result<(), KeepFault>
-    ensures tokens { K.is_honest keep.new → OnOk result
-        (w.new.tokens ≡ w.old.tokens ++ tokens_of (record_by (K.content keep.old))) }
-    ensures before { w.new.before ≡ w.old.before }
+#[tactic(auto, using(pages_json::proofs::Texts::three_parts), unfolding(crate::specs::Record::record_by))]
+fn put_record<K: Keep>(alloc: Global, keep: &mut K, out: &mut Vec<u8>) -> Result<(), KeepFault>
+    ensures text { K.is_honest keep.new → OnOk result
+        (out.new.items ≡ out.old.items ++ text_of (record_by (K.content keep.old))) }
+    ensures front { StartsWith out.new.items out.old.items }
     ensures faults { Faults result (K.is_honest keep.new) (K.is_failed keep.new)
         (K.content keep.old) }
     ensures read { IsRead K.content K.is_failed K.is_honest K.may_leave keep.old keep.new }
 {
     // Asked first, so that a keep that has failed answers so.
     keep.settings()?;
-    w.begin_object()?;
-    put_front(keep, w)?;
-    put_middle(keep, w)?;
-    put_back(keep, w)?;
-    w.end_object()?;
+    let start = out.len();
+    put_front(alloc, keep, out)?;
+    put_middle(alloc, keep, out)?;
+    put_back(alloc, keep, out)?;
+    end_object(out, start)?;
     Ok(())
 }
 
 /// Appends the public record to a buffer. After an `Err` the buffer has what it had.
-#[tactic(auto, using(pages_json::proofs::Tokens::print_tree, crate::proofs::Public::record_same))]
+#[tactic(auto, using(crate::proofs::Public::record_same))]
 pub fn append_record<K: Keep>(
     alloc: Global,
     keep: &mut K,
@@ -214,7 +216,6 @@ pub fn append_record<K: Keep>(
     ensures read { IsRead K.content K.is_failed K.is_honest K.may_leave keep.old keep.new }
 {
     let before = out.len();
-    let mut w = Writer::new(replace(out, Vec::new(alloc)));
-    let put = put_record(keep, &mut w);
-    finish(out, before, w, put)
+    let put = put_record(alloc, keep, out);
+    finish(out, before, put)
 }
