@@ -1,24 +1,14 @@
--- Members of an object, one behind the other, as tokens and in a map.
-use Rattle.std.proofs.Common.{◌≡◌, ℕ, List, ◌++◌, ◌∙◌, ap, refl, sym, append_assoc}
-use Rattle.json.specs.Token.{Token}
+-- Members of an object, one behind the other, as text and in a map.
+use Rattle.std.proofs.Common.{◌≡◌, ℕ, List, ◌++◌, ◌∙◌, take, drop, length, ap, refl, sym, append_assoc}
 use Rattle.house_rows.specs.Tables.{Tables}
 use Rattle.serde_json.specs.Data.{Data, Members, no_members, object}
-use Rattle.pages_json.specs.Words.{AreInOrder, members_tokens, put_all}
-use Rattle.pages_json.proofs.Tokens.{members_append}
+use Rattle.pages_json.specs.Words.{AreInOrder, enclosed, members_text, put_all, text_of}
+use Rattle.pages_json.proofs.Texts.{members_append, object_enclosed}
 use Rattle.pages_record.specs.Record.{back_by, front_by, middle_by, questions_by, record_by, settings_by}
 
-pub three_members : (a b c : List (List ℕ × Data)) (old : List Token)
-    → ((old ++ members_tokens a) ++ members_tokens b) ++ members_tokens c ≡ old
-    ++ members_tokens (a ++ (b ++ c))
-three_members a b c old =
-    append_assoc (old ++ members_tokens a) (members_tokens b) (members_tokens c)
-    ∙ append_assoc old (members_tokens a) (members_tokens b ++ members_tokens c)
-    ∙ ap (λ t. old ++ (members_tokens a ++ t)) (sym (members_append b c))
-    ∙ ap (λ t. old ++ t) (sym (members_append a (b ++ c)))
-
-pub two_members : (a b : List (List ℕ × Data)) (old : List Token)
-    → (old ++ members_tokens a) ++ members_tokens b ≡ old ++ members_tokens (a ++ b)
-two_members a b old = append_assoc old (members_tokens a) (members_tokens b)
+pub two_members : (a b : List (List ℕ × Data)) (old : List ℕ)
+    → (old ++ members_text a) ++ members_text b ≡ old ++ members_text (a ++ b)
+two_members a b old = append_assoc old (members_text a) (members_text b)
     ∙ ap (λ t. old ++ t) (sym (members_append a b))
 
 -- questions are one member
@@ -38,3 +28,10 @@ pub record_grown : (t : Tables) (none last : Members) → none ≡ no_members
 unfolding record_by
 record_grown t none last e0 e1 =
     ap object (e1 ∙ ap (put_all (front_by t ++ (middle_by t ++ back_by t))) e0 ∙ in_order t)
+
+-- and its text, once they are written
+pub record_put : (t : Tables) (old now : List ℕ) (start : ℕ) → start ≡ length old
+    → now ≡ old ++ members_text (front_by t ++ (middle_by t ++ back_by t))
+    → take start now ++ enclosed 123 125 (drop start now) ≡ old ++ text_of (record_by t)
+unfolding record_by
+record_put t old now start at is = object_enclosed (front_by t ++ (middle_by t ++ back_by t)) old now start at is

@@ -12,7 +12,7 @@ ghost use Rattle.pages_text.specs.Faults.{PageFaults};
 ghost use Rattle.pages_record.specs.Record.{back_by, bands_by, categories_by, clock_by, feedback_by, front_by, items_by, members_by, middle_by, questions_by, record_by, record_tree, settings_by};
 
 use house_rows::{Keep, Settings};
-use pages_json::{Field, grow_member_list, grow_members};
+use pages_json::{Field, grow_member_list, grow_members, key};
 use pages_text::{
     AsBands, AsCategories, AsFeedback, AsMembers, AsQuestions, BySettings, PageFault,
 };
@@ -68,7 +68,7 @@ fn grow_clock<K: Keep>(
     ensures read { IsRead K.content K.is_failed K.is_honest K.may_leave keep.old keep.new }
 {
     let clock = keep.clock()?;
-    grow_members(alloc, members, &[("clock", Field::Number(clock))])?;
+    grow_members(alloc, members, &[(key!("clock"), Field::Number(clock))])?;
     Ok(())
 }
 
@@ -189,8 +189,8 @@ fn grow_settings_of(
         alloc,
         members,
         &[
-            ("rate", Field::Number(settings.rate.value())),
-            ("zone", Field::Text(settings.zone.as_str())),
+            (key!("rate"), Field::Number(settings.rate.value())),
+            (key!("zone"), Field::Text(settings.zone.as_str())),
         ],
     )
 }

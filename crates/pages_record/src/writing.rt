@@ -22,7 +22,13 @@ fn put_bands<K: Keep>(alloc: Global, keep: &mut K, out: &mut Vec<u8>) -> Result<
         (K.content keep.old) }
     ensures read { IsRead K.content K.is_failed K.is_honest K.may_leave keep.old keep.new }
 {
-    put_member_list(alloc, out, key!("bands"), &AsBands, keep.settings()?.bands.rows())?;
+    put_member_list(
+        alloc,
+        out,
+        key!("bands"),
+        &AsBands,
+        keep.settings()?.bands.rows(),
+    )?;
     Ok(())
 }
 
@@ -123,9 +129,7 @@ fn put_questions<K: Keep>(alloc: Global, keep: &mut K, out: &mut Vec<u8>) -> Res
 }
 
 // The rate and the zone of settings.
-fn put_settings_of(
-    alloc: Global,
-    out: &mut Vec<u8>, settings: &Settings) -> Result<(), AllocError>
+fn put_settings_of(alloc: Global, out: &mut Vec<u8>, settings: &Settings) -> Result<(), AllocError>
     ensures text { OnOk result (out.new.items ≡ out.old.items ++ members_text
         ((codes "rate", whole settings.now.rate) ∷ (codes "zone", string settings.now.zone) ∷ [])) }
     ensures front { StartsWith out.new.items out.old.items }
@@ -167,7 +171,7 @@ fn put_middle<K: Keep>(alloc: Global, keep: &mut K, out: &mut Vec<u8>) -> Result
     Ok(())
 }
 
-#[tactic(auto, using(pages_json::proofs::Texts::two_members, pages_json::proofs::Texts::front_then), unfolding(crate::specs::Record::back_by))]
+#[tactic(auto, using(crate::proofs::Parts::two_members, pages_json::proofs::Texts::front_then), unfolding(crate::specs::Record::back_by))]
 fn put_back<K: Keep>(alloc: Global, keep: &mut K, out: &mut Vec<u8>) -> Result<(), KeepFault>
     ensures text { K.is_honest keep.new → OnOk result
         (out.new.items ≡ out.old.items ++ members_text (back_by (K.content keep.old))) }
@@ -181,7 +185,25 @@ fn put_back<K: Keep>(alloc: Global, keep: &mut K, out: &mut Vec<u8>) -> Result<(
     Ok(())
 }
 
-#[tactic(auto, using(pages_json::proofs::Texts::three_parts), unfolding(crate::specs::Record::record_by))]
+// All members of the record.
+#[tactic(auto, using(pages_json::proofs::Texts::three_members, pages_json::proofs::Texts::front_then))]
+fn put_all<K: Keep>(alloc: Global, keep: &mut K, out: &mut Vec<u8>) -> Result<(), KeepFault>
+    ensures text { K.is_honest keep.new → OnOk result (out.new.items ≡ out.old.items
+        ++ members_text (front_by (K.content keep.old) ++ (middle_by (K.content keep.old)
+        ++ back_by (K.content keep.old)))) }
+    ensures front { StartsWith out.new.items out.old.items }
+    ensures faults { Faults result (K.is_honest keep.new) (K.is_failed keep.new)
+        (K.content keep.old) }
+    ensures read { IsRead K.content K.is_failed K.is_honest K.may_leave keep.old keep.new }
+{
+    put_front(alloc, keep, out)?;
+    put_middle(alloc, keep, out)?;
+    put_back(alloc, keep, out)?;
+    Ok(())
+}
+
+// The record by the tables.
+#[tactic(auto, using(pages_json::proofs::Texts::front_then))]
 fn put_record<K: Keep>(alloc: Global, keep: &mut K, out: &mut Vec<u8>) -> Result<(), KeepFault>
     ensures text { K.is_honest keep.new → OnOk result
         (out.new.items ≡ out.old.items ++ text_of (record_by (K.content keep.old))) }
@@ -193,9 +215,7 @@ fn put_record<K: Keep>(alloc: Global, keep: &mut K, out: &mut Vec<u8>) -> Result
     // Asked first, so that a keep that has failed answers so.
     keep.settings()?;
     let start = out.len();
-    put_front(alloc, keep, out)?;
-    put_middle(alloc, keep, out)?;
-    put_back(alloc, keep, out)?;
+    put_all(alloc, keep, out)?;
     end_object(out, start)?;
     Ok(())
 }
