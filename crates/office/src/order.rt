@@ -1,13 +1,12 @@
 //! The order of a lot, as a message.
-ghost use Rattle.std.specs.Prelude.{if◌then◌else◌, ◌≡◌, None, Some, IfOk, OnOk, map};
-ghost use Rattle.pages_json.specs.Fields.{member_of};
+ghost use Rattle.std.specs.Prelude.{if◌then◌else◌, ◌≡◌, None, Some, IfOk, IsTrue, OnOk, map};
+ghost use Rattle.pages_json.specs.Fields.{are_keys, member_of};
 ghost use Rattle.pages_json.specs.Words.{object_of};
 ghost use Rattle.office.specs.Orders.{framed, message_of, tree_with};
 
 use crate::lot::Lot;
 use itoa::Buffer;
-use json::Writer;
-use pages_json::{Field, Shows, append, put_object};
+use pages_json::{Field, Shows, append, key, put_object};
 use std::alloc::{AllocError, Global};
 
 // The longest body that a message may have.
@@ -24,30 +23,32 @@ pub struct Lister {
 
 // The keys of a lot that can't be bought at once, and what they have.
 fn plain_fields<'a>(lot: &Lot<'a>) -> [(&'static str, Field<'a>); 6]
-    ensures { object_of (map member_of result) ≡ tree_with lot.now None }
+    ensures tree { object_of (map member_of result) ≡ tree_with lot.now None }
+    ensures keys { IsTrue (are_keys result) }
 {
     [
-        ("category", Field::Number(lot.category)),
-        ("end", Field::Number(lot.end)),
-        ("lot", Field::Text(lot.lot)),
-        ("start", Field::Number(lot.start)),
-        ("text", Field::Text(lot.text)),
-        ("title", Field::Text(lot.title)),
+        (key!("category"), Field::Number(lot.category)),
+        (key!("end"), Field::Number(lot.end)),
+        (key!("lot"), Field::Text(lot.lot)),
+        (key!("start"), Field::Number(lot.start)),
+        (key!("text"), Field::Text(lot.text)),
+        (key!("title"), Field::Text(lot.title)),
     ]
 }
 
 // And those of one that can.
 fn fields_with<'a>(lot: &Lot<'a>, buy_now: u64) -> [(&'static str, Field<'a>); 7]
-    ensures { object_of (map member_of result) ≡ tree_with lot.now (Some buy_now) }
+    ensures tree { object_of (map member_of result) ≡ tree_with lot.now (Some buy_now) }
+    ensures keys { IsTrue (are_keys result) }
 {
     [
-        ("buy_now", Field::Number(buy_now)),
-        ("category", Field::Number(lot.category)),
-        ("end", Field::Number(lot.end)),
-        ("lot", Field::Text(lot.lot)),
-        ("start", Field::Number(lot.start)),
-        ("text", Field::Text(lot.text)),
-        ("title", Field::Text(lot.title)),
+        (key!("buy_now"), Field::Number(buy_now)),
+        (key!("category"), Field::Number(lot.category)),
+        (key!("end"), Field::Number(lot.end)),
+        (key!("lot"), Field::Text(lot.lot)),
+        (key!("start"), Field::Number(lot.start)),
+        (key!("text"), Field::Text(lot.text)),
+        (key!("title"), Field::Text(lot.title)),
     ]
 }
 
@@ -60,10 +61,10 @@ impl<'a> Shows<Lot<'a>> for AsOrders {
 
     ghost tree = { λ _ lot. lot_tree lot };
 
-    fn put(&self, w: &mut Writer, lot: &Lot<'a>) -> Result<(), AllocError> {
+    fn put(&self, alloc: Global, out: &mut Vec<u8>, lot: &Lot<'a>) -> Result<(), AllocError> {
         match lot.buy_now {
-            None => put_object(w, &plain_fields(lot)),
-            Some(buy_now) => put_object(w, &fields_with(lot, buy_now)),
+            None => put_object(alloc, out, &plain_fields(lot)),
+            Some(buy_now) => put_object(alloc, out, &fields_with(lot, buy_now)),
         }
     }
 }
