@@ -261,6 +261,15 @@ def audits(program, folder):
     check("another price", audit("left", "near"), printed(b"apart at step 7\n", 1))
     check("for who bid", audit("left", "right", "3"), printed(b"apart at step 7\n", 1))
     check("for another", audit("left", "right", "1"), printed(b"equal, 1 replies\n"))
+    # What waits for a seller's answer is the seller's to see.
+    for name, text in (("asked", "Old?"), ("asked-so", "New?")):
+        written(folder, name, b"".join([*PRESET, message("POST", "/items/1/questions", 2, 1001, '{"text":"%s"}' % text)]))
+    check("another question waits", audit("asked", "asked-so", "1"), printed(b"apart at step 6\n", 1))
+    check("which others don't see", audit("asked", "asked-so", "3"), printed(b"equal, 0 replies\n"))
+    # An own bid that leads on one side alone is the first to show what was sealed, and the last message.
+    for name, third in (("leads", 3000), ("trails", 8000)):
+        written(folder, name, run(third, [message("POST", "/items/1/bids", 2, 1003, '{"maximum":5000}')]))
+    check("an own bid shows it", audit("leads", "trails"), printed(b"apart at step 9\n", 1))
     check("one more on the right", audit("left", "long"), printed(b"apart at step 9\n", 1))
     check("one more on the left", audit("long", "left"), printed(b"apart at step 9\n", 1))
     check("no message", audit("empty", "empty"), printed(b"equal, 0 replies\n"))
