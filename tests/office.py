@@ -142,6 +142,8 @@ def import_faults(program, folder):
     check("no house", program.ended("import", "missing", lots, *BY_ANA), fault("file: Store"))
     check("a text", program.ended("import", "text", lots, *BY_ANA), fault("file: Damaged"))
     check("the file before the member", program.ended("import", "text", lots, *by_nobody), fault("file: Damaged"))
+    nowhere = changed(folder, "nowhere", "UPDATE house SET zone = 'nowhere'")
+    check("the zone before the member", program.ended("import", nowhere, lots, *by_nobody), fault("file: Damaged"))
     check("no member", program.ended("import", "house", lots, *by_nobody), fault("no member"))
     check("the member before the lots", program.ended("import", "house", "missing.csv", *by_nobody),
           fault("no member"))
