@@ -10,7 +10,7 @@ use sqlite::{Alter, Connection};
 use sqlite_trees::memory::MemStore;
 use std::alloc::{AllocError, Global};
 use steps::Bands;
-use store_open::{Opened, make_house, opened};
+use store_open::{Opened, make_house, open_house};
 use thiserror::Error;
 
 /// Why a script isn't played on.
@@ -71,7 +71,7 @@ fn opening<S: Alter + Drop>(
     sql: &str,
 ) -> Result<String, Fault> {
     conn.execute_batch(sql).map_err(|_| Fault::Script)?;
-    match opened(alloc, conn) {
+    match open_house(alloc, conn) {
         Ok(house) => told(alloc, &house),
         Err(fault) => Ok(name(alloc, fault)?),
     }

@@ -17,9 +17,9 @@ use Rattle.house_rows.specs.declared.talk.Question.{Question}
 use Rattle.store_rows.specs.ItemRows.{items_in}
 use Rattle.store_rows.proofs.Small.{none_narrower}
 use Rattle.store_items.proofs.Small.{no_items_of}
-use Rattle.store_lists.specs.Sorted.{sorted_bids, sorted_feedback, sorted_questions, sorted_watches}
-use Rattle.store_lists.specs.Tables.{tables_in}
-use Rattle.store_lists.proofs.Small.{no_bids_by, no_bids_on, no_feedback_from, no_feedback_on, no_feedback_to, no_questions_by, no_questions_numbered, no_questions_on, no_watches_by, no_watches_of}
+use Rattle.store_rows.specs.Sorted.{sorted_bids, sorted_feedback, sorted_questions, sorted_watches}
+use Rattle.store_rows.specs.Tables.{tables_in}
+use Rattle.store_rows.proofs.SmallByKey.{no_bids_by, no_bids_on, no_feedback_from, no_feedback_on, no_feedback_to, no_questions_by, no_questions_numbered, no_questions_on, no_watches_by, no_watches_of}
 use Rattle.store.proofs.Nothing.{first_fails, second_fails}
 
 module _ (db : Trees) (n : ℕ) (high : 2 ^ 32 ≤ n) (low : n < 2 ^ 64) where

@@ -21,9 +21,9 @@ use Rattle.house_rows.specs.declared.talk.Question.{Question}
 use Rattle.store_rows.specs.ItemRows as stored
 use Rattle.store_rows.proofs.Small.{none_narrower}
 use Rattle.store_items.proofs.Small.{no_items_in, no_items_led, no_items_of}
-use Rattle.store_lists.specs.Sorted.{sorted_feedback, sorted_questions}
-use Rattle.store_lists.specs.Tables.{tables_in}
-use Rattle.store_lists.proofs.Small.{no_feedback_to, no_questions_by, no_questions_on}
+use Rattle.store_rows.specs.Sorted.{sorted_feedback, sorted_questions}
+use Rattle.store_rows.specs.Tables.{tables_in}
+use Rattle.store_rows.proofs.SmallByKey.{no_feedback_to, no_questions_by, no_questions_on}
 use Rattle.store.proofs.Absent.{no_bids_of, no_watcher}
 use Rattle.store.proofs.Nothing.{always_fails, each_fails, first_fails, none_among, second_fails}
 

@@ -5,7 +5,7 @@ use Rattle.house_rows.specs.Found.{counts_of}
 use Rattle.house_rows.specs.Tables.{Tables, tables_of}
 use Rattle.house_rows.specs.declared.people.Counts.{Counts}
 use Rattle.house_rows.specs.declared.settings.Settings.{Settings}
-use Rattle.store_lists.specs.Tables.{settings_in, tables_in}
+use Rattle.store_rows.specs.Tables.{settings_in, tables_in}
 use Rattle.store.specs.Kept.{IsKnown}
 
 -- of a house to which nothing has happened

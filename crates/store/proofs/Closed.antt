@@ -7,7 +7,7 @@ use Rattle.sqlite.specs.Closing.{IsCopied}
 use Rattle.sqlite.specs.Effect.{Database}
 use Rattle.sqlite.specs.Files.{file_state}
 use Rattle.sqlite.specs.Held.{Held}
-use Rattle.store_lists.specs.Tables.{IsAtRest, tables_in}
+use Rattle.store_rows.specs.Tables.{IsAtRest, tables_in}
 use Rattle.store.specs.Closing.{HoldHouse}
 
 pub house_held : {D : Type 0} {g : Ghosts D} (conn : Held (FileStore D g)) (files : Files D)

@@ -10,8 +10,8 @@ use Rattle.house_rows.specs.declared.fault.KeepFault.TheVariants.{Store, Damaged
 use Rattle.house_rows.specs.declared.people.Counts.{Counts}
 use Rattle.house_rows.specs.declared.settings.Settings.{Settings}
 use Rattle.store_rows.specs.ItemRows.{items_in}
-use Rattle.store_lists.specs.Tables.{tables_in}
-use Rattle.store_answers.proofs.Sound.{rows_fit}
+use Rattle.store_rows.specs.Tables.{tables_in}
+use Rattle.store_rows.proofs.Sound.{rows_fit}
 use Rattle.store.specs.Kept.{House, IsKnown, is_failed}
 
 module _ (db : Trees) (settings : Settings) (counts : Counts) (clock : ℕ) (known : IsKnown settings counts clock db) where

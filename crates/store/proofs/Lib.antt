@@ -1,8 +1,8 @@
+pub mod Nothing
 pub mod Absent
 pub mod AbsentLists
-pub mod Nothing
-pub mod Sound
-pub mod Moves
 pub mod Begins
-pub mod Known
 pub mod Closed
+pub mod Known
+pub mod Moves
+pub mod Sound

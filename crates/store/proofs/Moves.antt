@@ -14,7 +14,7 @@ use Rattle.house_rows.specs.declared.change.Change.{Change}
 use Rattle.house_rows.specs.declared.change.Change.TheVariants.{Register, AddCategory, List as Listed, Bid, Buy, Close, Settle, Watch, Unwatch, Ask, Answer, Feedback}
 use Rattle.house_rows.specs.declared.people.Counts.{Counts}
 use Rattle.house_rows.specs.declared.settings.Settings.{Settings}
-use Rattle.store_lists.specs.Tables.{Changes, tables_in}
+use Rattle.store_rows.specs.Tables.{Changes, tables_in}
 use Rattle.store.specs.After.{clock_after, counts_after}
 use Rattle.store.specs.Kept.{IsKnown}
 

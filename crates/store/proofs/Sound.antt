@@ -11,9 +11,9 @@ use Rattle.house_rows.specs.Tables.{ItemRow}
 use Rattle.store_rows.specs.House.{IsHouse}
 use Rattle.store_rows.specs.ItemRows.{items_in}
 use Rattle.store_rows.specs.Rows.{questions_in}
-use Rattle.store_lists.specs.Sorted.{sorted_questions}
-use Rattle.store_lists.specs.Tables.{tables_in}
-use Rattle.store_lists.proofs.SortedTables.{found_sorted}
+use Rattle.store_rows.specs.Sorted.{sorted_questions}
+use Rattle.store_rows.specs.Tables.{tables_in}
+use Rattle.store_talk.proofs.SortedTalk.{found_sorted}
 
 -- the number of an item that is found
 pub sound_number : (db : Trees) (p : ItemRow → Bool) → AreSound (tables_in db) → IfSome (option_map (λ (row : ItemRow). row.item.terms.item) (find p (items_in db))) IsItem

@@ -10,7 +10,7 @@ use Rattle.sqlite_store.specs.declared.store.FileStore.{FileStore}
 use Rattle.sqlite.specs.Closing.{HoldsAlone}
 use Rattle.sqlite.specs.Files.{image_of, over_files}
 use Rattle.house_rows.specs.Tables.{Tables}
-use Rattle.store_lists.specs.Tables.{tables_in}
+use Rattle.store_rows.specs.Tables.{tables_in}
 use Rattle.store.specs.Kept.{House, content}
 
 -- the tables of a house lie in the database file, with its log and without it

@@ -10,7 +10,7 @@ use Rattle.house_rows.specs.Found.{counts_of}
 use Rattle.house_rows.specs.Tables.{Tables}
 use Rattle.house_rows.specs.declared.people.Counts.{Counts}
 use Rattle.house_rows.specs.declared.settings.Settings.{Settings}
-use Rattle.store_lists.specs.Tables.{IsAtRest, tables_in}
+use Rattle.store_rows.specs.Tables.{IsAtRest, tables_in}
 
 -- the connection, and what is known of its tables without asking it
 pub record House (S : Type 0) : Type 0 where

@@ -1,3 +1,3 @@
-pub mod Kept
 pub mod After
+pub mod Kept
 pub mod Closing

@@ -4,7 +4,7 @@ ghost use Rattle.house_rows.specs.declared.fault.KeepFault.TheVariants.{Damaged}
 ghost use Rattle.sqlite.specs.Files.{IsClosed, file_state};
 ghost use Rattle.sqlite_wal.specs.Reads.{AreClean};
 ghost use Rattle.store.specs.Closing.{HoldHouse, IsEnded};
-ghost use Rattle.store_lists.specs.Tables.{tables_in};
+ghost use Rattle.store_rows.specs.Tables.{tables_in};
 
 use crate::keep::SqlKeep;
 use house_rows::KeepFault;

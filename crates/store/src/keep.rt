@@ -19,17 +19,19 @@ use settle::Sold;
 use sqlite::{Alter, Connection};
 use std::alloc::Global;
 use std::marker::Model;
-use store_answers::{
-    due, first_waiting, items_watched, own_best, own_bids, ratings, sales_to, waiting_for,
-    watch_count,
+use store_bids::{own_best, own_bids};
+use store_items::{
+    all_items, due, item_at, item_with_lot, items_in, sales_to, standing_at, terms_at,
 };
-use store_finds::{ask_count, has_category, has_member, is_given, is_watched};
-use store_items::{all_items, item_at, item_with_lot, standing_at, terms_at};
-use store_lists::{all_feedback, all_published};
-use store_pages::{feedback_to, items_in, published_on, questions_of};
-use store_rows::{
-    all_categories, all_members, category_at, category_named, member_at, member_named, question_at,
+use store_people::{
+    all_categories, all_members, category_at, category_named, has_category, has_member, member_at,
+    member_named,
 };
+use store_talk::{
+    all_feedback, all_published, ask_count, feedback_to, first_waiting, is_given, published_on,
+    question_at, questions_of, ratings, waiting_for,
+};
+use store_watches::{is_watched, items_watched, watch_count};
 
 // What a look-up answered, or which fault the keep tells where it failed.
 macro_rules! told {
@@ -116,7 +118,7 @@ impl<S: Alter> Keep for SqlKeep<S> {
         Ok(self.counts)
     }
 
-    #[tactic(auto, using(store_rows::proofs::Small::no_member), unfolding(store_lists::specs::Tables::tables_in))]
+    #[tactic(auto, using(store_rows::proofs::Small::no_member), unfolding(store_rows::specs::Tables::tables_in))]
     fn member(&mut self, member: u64) -> Result<Option<Member>, KeepFault> {
         self.serves()?;
         let Ok(member) = u32::try_from(member) else {
@@ -125,7 +127,7 @@ impl<S: Alter> Keep for SqlKeep<S> {
         told!(self, member_at(&mut self.conn, member))
     }
 
-    #[tactic(auto, using(store_rows::proofs::Small::no_member), unfolding(store_lists::specs::Tables::tables_in))]
+    #[tactic(auto, using(store_rows::proofs::Small::no_member), unfolding(store_rows::specs::Tables::tables_in))]
     fn has_member(&mut self, member: u64) -> Result<bool, KeepFault> {
         self.serves()?;
         let Ok(member) = u32::try_from(member) else {
@@ -134,13 +136,13 @@ impl<S: Alter> Keep for SqlKeep<S> {
         told!(self, has_member(&mut self.conn, member))
     }
 
-    #[tactic(auto, unfolding(store_lists::specs::Tables::tables_in))]
+    #[tactic(auto, unfolding(store_rows::specs::Tables::tables_in))]
     fn member_named(&mut self, name: &str) -> Result<Option<Member>, KeepFault> {
         self.serves()?;
         told!(self, member_named(&mut self.conn, name))
     }
 
-    #[tactic(auto, using(store_rows::proofs::Small::no_category), unfolding(store_lists::specs::Tables::tables_in))]
+    #[tactic(auto, using(store_rows::proofs::Small::no_category), unfolding(store_rows::specs::Tables::tables_in))]
     fn category(&mut self, category: u64) -> Result<Option<Category>, KeepFault> {
         self.serves()?;
         let Ok(category) = u32::try_from(category) else {
@@ -149,7 +151,7 @@ impl<S: Alter> Keep for SqlKeep<S> {
         told!(self, category_at(&mut self.conn, category))
     }
 
-    #[tactic(auto, using(store_rows::proofs::Small::no_category), unfolding(store_lists::specs::Tables::tables_in))]
+    #[tactic(auto, using(store_rows::proofs::Small::no_category), unfolding(store_rows::specs::Tables::tables_in))]
     fn has_category(&mut self, category: u64) -> Result<bool, KeepFault> {
         self.serves()?;
         let Ok(category) = u32::try_from(category) else {
@@ -158,13 +160,13 @@ impl<S: Alter> Keep for SqlKeep<S> {
         told!(self, has_category(&mut self.conn, category))
     }
 
-    #[tactic(auto, unfolding(store_lists::specs::Tables::tables_in))]
+    #[tactic(auto, unfolding(store_rows::specs::Tables::tables_in))]
     fn category_named(&mut self, name: &str) -> Result<Option<Category>, KeepFault> {
         self.serves()?;
         told!(self, category_named(&mut self.conn, name))
     }
 
-    #[tactic(auto, using(store_items::proofs::Small::no_item), unfolding(store_lists::specs::Tables::tables_in))]
+    #[tactic(auto, using(store_items::proofs::Small::no_item), unfolding(store_rows::specs::Tables::tables_in))]
     fn item(&mut self, item: u64) -> Result<Option<Item>, KeepFault> {
         self.serves()?;
         let Ok(item) = u32::try_from(item) else {
@@ -173,7 +175,7 @@ impl<S: Alter> Keep for SqlKeep<S> {
         told!(self, item_at(&mut self.conn, &self.settings.bands, item))
     }
 
-    #[tactic(auto, using(store_items::proofs::Small::no_item), unfolding(store_lists::specs::Tables::tables_in))]
+    #[tactic(auto, using(store_items::proofs::Small::no_item), unfolding(store_rows::specs::Tables::tables_in))]
     fn terms(&mut self, item: u64) -> Result<Option<Terms>, KeepFault> {
         self.serves()?;
         let Ok(item) = u32::try_from(item) else {
@@ -182,7 +184,7 @@ impl<S: Alter> Keep for SqlKeep<S> {
         told!(self, terms_at(&mut self.conn, &self.settings.bands, item))
     }
 
-    #[tactic(auto, using(crate::proofs::Sound::sound_number, store_answers::proofs::Sound::items_fit, crate::proofs::Absent::no_lot), unfolding(store_lists::specs::Tables::tables_in))]
+    #[tactic(auto, using(crate::proofs::Sound::sound_number, store_rows::proofs::Sound::items_fit, crate::proofs::Absent::no_lot), unfolding(store_rows::specs::Tables::tables_in))]
     fn item_of(&mut self, seller: u64, lot: &str) -> Result<Option<u32>, KeepFault> {
         self.serves()?;
         let Ok(seller) = u32::try_from(seller) else {
@@ -199,7 +201,7 @@ impl<S: Alter> Keep for SqlKeep<S> {
         }
     }
 
-    #[tactic(auto, using(store_items::proofs::Small::no_item), unfolding(store_lists::specs::Tables::tables_in))]
+    #[tactic(auto, using(store_items::proofs::Small::no_item), unfolding(store_rows::specs::Tables::tables_in))]
     fn standing(&mut self, item: u64) -> Result<Option<Standing>, KeepFault> {
         self.serves()?;
         let Ok(item) = u32::try_from(item) else {
@@ -223,7 +225,7 @@ impl<S: Alter> Keep for SqlKeep<S> {
         told!(self, own_best(self.alloc, &mut self.conn, item, member))
     }
 
-    #[tactic(auto, using(crate::proofs::Absent::no_watcher, crate::proofs::Absent::no_watched), unfolding(store_lists::specs::Tables::tables_in))]
+    #[tactic(auto, using(crate::proofs::Absent::no_watcher, crate::proofs::Absent::no_watched), unfolding(store_rows::specs::Tables::tables_in))]
     fn watched(&mut self, member: u64, item: u64) -> Result<bool, KeepFault> {
         self.serves()?;
         let Ok(member) = u32::try_from(member) else {
@@ -244,7 +246,7 @@ impl<S: Alter> Keep for SqlKeep<S> {
         told!(self, watch_count(self.alloc, &mut self.conn, member))
     }
 
-    #[tactic(auto, using(crate::proofs::Absent::no_asked_on, crate::proofs::Absent::no_asked_by), unfolding(store_lists::specs::Tables::tables_in))]
+    #[tactic(auto, using(crate::proofs::Absent::no_asked_on, crate::proofs::Absent::no_asked_by), unfolding(store_rows::specs::Tables::tables_in))]
     fn ask_count(&mut self, item: u64, asker: u64) -> Result<u64, KeepFault> {
         self.serves()?;
         let Ok(item) = u32::try_from(item) else {
@@ -256,7 +258,7 @@ impl<S: Alter> Keep for SqlKeep<S> {
         told!(self, ask_count(&mut self.conn, item, asker))
     }
 
-    #[tactic(auto, using(store_answers::proofs::Sound::questions_fit, crate::proofs::Absent::no_question_on, crate::proofs::Absent::no_question_by, crate::proofs::Absent::no_question_numbered), unfolding(store_lists::specs::Tables::tables_in))]
+    #[tactic(auto, using(store_rows::proofs::Sound::questions_fit, crate::proofs::Absent::no_question_on, crate::proofs::Absent::no_question_by, crate::proofs::Absent::no_question_numbered), unfolding(store_rows::specs::Tables::tables_in))]
     fn question(
         &mut self,
         item: u64,
@@ -276,7 +278,7 @@ impl<S: Alter> Keep for SqlKeep<S> {
         told!(self, question_at(&mut self.conn, item, asker, number))
     }
 
-    #[tactic(auto, using(crate::proofs::Absent::no_giver, crate::proofs::Absent::no_given), unfolding(store_lists::specs::Tables::tables_in))]
+    #[tactic(auto, using(crate::proofs::Absent::no_giver, crate::proofs::Absent::no_given), unfolding(store_rows::specs::Tables::tables_in))]
     fn given(&mut self, item: u64, giver: u64) -> Result<bool, KeepFault> {
         self.serves()?;
         let Ok(item) = u32::try_from(item) else {
@@ -335,7 +337,7 @@ impl<S: Alter> Keep for SqlKeep<S> {
         )
     }
 
-    #[tactic(auto, using(crate::proofs::AbsentLists::no_published, store_answers::proofs::Sound::questions_fit))]
+    #[tactic(auto, using(crate::proofs::AbsentLists::no_published, store_rows::proofs::Sound::questions_fit))]
     fn published(&mut self, item: u64, from: u64) -> Result<Vec<Question>, KeepFault> {
         self.serves()?;
         let Ok(item) = u32::try_from(item) else {
@@ -344,7 +346,7 @@ impl<S: Alter> Keep for SqlKeep<S> {
         told!(self, published_on(self.alloc, &mut self.conn, item, from))
     }
 
-    #[tactic(auto, using(crate::proofs::AbsentLists::no_own_questions, store_answers::proofs::Sound::questions_fit))]
+    #[tactic(auto, using(crate::proofs::AbsentLists::no_own_questions, store_rows::proofs::Sound::questions_fit))]
     fn questions_of(&mut self, member: u64, from: u64) -> Result<Vec<Question>, KeepFault> {
         self.serves()?;
         let Ok(member) = u32::try_from(member) else {
@@ -353,7 +355,7 @@ impl<S: Alter> Keep for SqlKeep<S> {
         told!(self, questions_of(self.alloc, &mut self.conn, member, from))
     }
 
-    #[tactic(auto, using(crate::proofs::AbsentLists::no_feedback, store_answers::proofs::Sound::feedback_fits))]
+    #[tactic(auto, using(crate::proofs::AbsentLists::no_feedback, store_rows::proofs::Sound::feedback_fits))]
     fn feedback_for(&mut self, member: u64, from: u64) -> Result<Vec<Feedback>, KeepFault> {
         self.serves()?;
         let Ok(member) = u32::try_from(member) else {
@@ -362,19 +364,19 @@ impl<S: Alter> Keep for SqlKeep<S> {
         told!(self, feedback_to(self.alloc, &mut self.conn, member, from))
     }
 
-    #[tactic(auto, unfolding(store_lists::specs::Tables::tables_in))]
+    #[tactic(auto, unfolding(store_rows::specs::Tables::tables_in))]
     fn categories(&mut self) -> Result<Vec<Category>, KeepFault> {
         self.serves()?;
         told!(self, all_categories(self.alloc, &mut self.conn))
     }
 
-    #[tactic(auto, unfolding(store_lists::specs::Tables::tables_in))]
+    #[tactic(auto, unfolding(store_rows::specs::Tables::tables_in))]
     fn members(&mut self) -> Result<Vec<Member>, KeepFault> {
         self.serves()?;
         told!(self, all_members(self.alloc, &mut self.conn))
     }
 
-    #[tactic(auto, unfolding(store_lists::specs::Tables::tables_in))]
+    #[tactic(auto, unfolding(store_rows::specs::Tables::tables_in))]
     fn items(&mut self) -> Result<Vec<Item>, KeepFault> {
         self.serves()?;
         told!(
@@ -383,13 +385,13 @@ impl<S: Alter> Keep for SqlKeep<S> {
         )
     }
 
-    #[tactic(auto, using(store_answers::proofs::Sound::questions_fit), unfolding(store_lists::specs::Tables::tables_in))]
+    #[tactic(auto, using(store_rows::proofs::Sound::questions_fit), unfolding(store_rows::specs::Tables::tables_in))]
     fn all_published(&mut self) -> Result<Vec<Question>, KeepFault> {
         self.serves()?;
         told!(self, all_published(self.alloc, &mut self.conn))
     }
 
-    #[tactic(auto, using(store_answers::proofs::Sound::feedback_fits), unfolding(store_lists::specs::Tables::tables_in))]
+    #[tactic(auto, using(store_rows::proofs::Sound::feedback_fits), unfolding(store_rows::specs::Tables::tables_in))]
     fn all_feedback(&mut self) -> Result<Vec<Feedback>, KeepFault> {
         self.serves()?;
         told!(self, all_feedback(self.alloc, &mut self.conn))

@@ -6,16 +6,19 @@ ghost use Rattle.house_rows.specs.Asks.{ChangeFits, IsFree};
 ghost use Rattle.house_rows.specs.Found.{counts_of};
 ghost use Rattle.house_rows.specs.Keeping.{AreSound};
 ghost use Rattle.house_rows.specs.declared.fault.KeepFault.TheVariants.{Damaged};
-ghost use Rattle.store_lists.specs.Tables.{Rests, tables_in};
-ghost use Rattle.store_lists.specs.Commits.{Commits};
+ghost use Rattle.store_rows.specs.Tables.{Rests, tables_in};
+ghost use Rattle.store_rows.specs.Commits.{Commits};
 ghost use Rattle.store.specs.After.{counts_after};
 
 use house_rows::{Change, Counts, KeepFault};
 use sqlite::{Alter, Connection};
 use std::alloc::Global;
 use steps::Bands;
-use store_entries::{add_category, answer, ask, give_feedback, list, register, unwatch, watch};
-use store_sales::{bid, buy, close, settle};
+use store_bids::bid;
+use store_items::{buy, close, list, settle};
+use store_people::{add_category, register};
+use store_talk::{answer, ask, give_feedback};
+use store_watches::{unwatch, watch};
 
 /// Makes a change. The counts are those after it.
 pub(crate) fn make_change<S: Alter>(

@@ -5,7 +5,7 @@ ghost use Rattle.house_rows.specs.Tables.{Tables, tables_of};
 ghost use Rattle.house_rows.specs.Text.{is_plain};
 ghost use Rattle.house_rows.specs.declared.fault.KeepFault.TheVariants.{Damaged};
 ghost use Rattle.store_rows.specs.Schema.{no_schema};
-ghost use Rattle.store_lists.specs.Tables.{tables_in};
+ghost use Rattle.store_rows.specs.Tables.{tables_in};
 ghost use Rattle.store_open.specs.Opening.{IsSoundHouse, Leaves, LeavesMade, LeavesStore};
 ghost use Rattle.store.specs.Kept.{IsHonest, MayLeave, content};
 
@@ -13,7 +13,7 @@ use crate::keep::SqlKeep;
 use house_rows::{Counts, KeepFault, Settings};
 use sqlite::{Alter, Connection};
 use std::alloc::Global;
-use store_open::{make_house, opened};
+use store_open::{make_house, open_house};
 
 // The version of the tables.
 const VERSION: u32 = 1;
@@ -70,7 +70,7 @@ impl<S: Alter + Drop> SqlKeep<S> {
         ensures damaged { IsErrOf result Damaged
             → Leaves S.Store conn (¬ (IsSoundHouse (state S.Store conn).committed)) }
     {
-        let house = opened(alloc, conn)?;
+        let house = open_house(alloc, conn)?;
         Ok(SqlKeep {
             alloc,
             conn: house.conn,

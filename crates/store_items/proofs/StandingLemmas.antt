@@ -18,7 +18,7 @@ use Rattle.store_rows.specs.Rows.{maybe_number_in, number_in}
 use Rattle.store_rows.specs.ItemRows.{item_row_in, items_in, kept_columns, kept_from}
 use Rattle.store_rows.specs.House.{IsHouse}
 use Rattle.store_rows.specs.Plain.{passes, shown_by}
-use Rattle.store_rows.proofs.ItemColumns.{weaker}
+use Rattle.store_items.proofs.ItemColumns.{weaker}
 use Rattle.store_rows.proofs.Select.{by_rowid, equals, in_order, listed}
 use Rattle.store_items.specs.Columns.{AreStanding}
 use Rattle.store_items.proofs.ItemMeaning.{standing_at_is, standing_at_text, standing_shown}

@@ -15,7 +15,7 @@ use sqlite::{Alter, Transaction, params};
 use store_rows::run;
 
 // An amount as a parameter.
-fn stored(amount: Cents) -> u32
+fn stored_cents(amount: Cents) -> u32
     ensures value { result ≡ amount }
     ensures small { amount < 2 ^ 32 }
 {
@@ -23,12 +23,12 @@ fn stored(amount: Cents) -> u32
 }
 
 // An amount that may be missing.
-fn stored_maybe(amount: Option<Cents>) -> Option<u32>
+fn stored_maybe_cents(amount: Option<Cents>) -> Option<u32>
     ensures value { result ≡ amount }
     ensures small { IfSome amount (λ n. n < 2 ^ 32) }
 {
     match amount {
-        Some(amount) => Some(stored(amount)),
+        Some(amount) => Some(stored_cents(amount)),
         None => None,
     }
 }
@@ -57,7 +57,7 @@ fn stored_text(text: &str) -> &str
 }
 
 /// Adds an item with a number and an end, open and with no bid, within a transaction.
-pub fn put_item<S: Alter>(
+pub(crate) fn put_item<S: Alter>(
     tx: &mut Transaction<'_, S>,
     number: u32,
     item: &NewItem<'_>,
@@ -78,8 +78,8 @@ pub fn put_item<S: Alter>(
     let lot = stored_text(item.lot);
     let title = stored_text(item.title);
     let text = stored_text(item.text);
-    let start = stored(item.start);
-    let buy_now = stored_maybe(item.buy_now);
+    let start = stored_cents(item.start);
+    let buy_now = stored_maybe_cents(item.buy_now);
     let end = stored_number(end);
     run(
         tx,
@@ -105,10 +105,10 @@ pub fn set_standing<S: Alter>(
     ensures write { WritesOnce (state S.Store tx.old.conn.now)
         (state S.Store tx.new.conn.now) result }
 {
-    let price = stored(standing.price());
+    let price = stored_cents(standing.price());
     let leader = stored_maybe_number(standing.leader());
-    let top = stored_maybe(standing.top());
-    let second = stored_maybe(standing.second());
+    let top = stored_maybe_cents(standing.top());
+    let second = stored_maybe_cents(standing.second());
     let count = stored_number(standing.count());
     run(
         tx,
@@ -119,7 +119,7 @@ pub fn set_standing<S: Alter>(
 
 /// Sells an item at once, within a transaction. The moment is in seconds since
 /// 1970-01-01T00:00:00Z.
-pub fn set_bought<S: Alter>(
+pub(crate) fn set_bought<S: Alter>(
     tx: &mut Transaction<'_, S>,
     item: u32,
     buyer: u32,
@@ -135,7 +135,7 @@ pub fn set_bought<S: Alter>(
     ensures write { WritesOnce (state S.Store tx.old.conn.now)
         (state S.Store tx.new.conn.now) result }
 {
-    let price = stored(price);
+    let price = stored_cents(price);
     run(
         tx,
         "UPDATE item SET state = 1, closed = ?2, price = ?3, leader = ?4 WHERE id = ?1",
@@ -151,7 +151,7 @@ fn closed_state(is_sold: bool) -> u32
 }
 
 /// Closes an item at its end within a transaction, as sold or unsold.
-pub fn set_closed<S: Alter>(
+pub(crate) fn set_closed<S: Alter>(
     tx: &mut Transaction<'_, S>,
     item: u32,
     is_sold: bool,
@@ -174,7 +174,7 @@ pub fn set_closed<S: Alter>(
 }
 
 /// Settles the sale of an item within a transaction.
-pub fn set_settled<S: Alter>(tx: &mut Transaction<'_, S>, item: u32) -> Result<(), KeepFault>
+pub(crate) fn set_settled<S: Alter>(tx: &mut Transaction<'_, S>, item: u32) -> Result<(), KeepFault>
     requires { IsBegun (state S.Store tx.old.conn.now) }
     ensures same_reference { tx.new.conn.ghost_name ≡ tx.old.conn.ghost_name }
     ensures ok { HasCleanDisk (state S.Store tx.new.conn.now)

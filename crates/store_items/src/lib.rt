@@ -1,21 +1,39 @@
-//! The table of items in SQLite: one function for each statement, over typed rows.
+//! Items in SQLite, and their sales.
 //!
-//! Promised: a look-up finds exactly the item of the typed table, each column in its range, and a
-//! write leaves the typed table as its record says, wherever the disk was honest; a failure leaves
-//! what was committed. Read `store_rows/specs/ItemRows.antt` first, which says what item a stored row is, then
-//! `specs/Items.antt`, which says what each write makes.
+//! Promised: each look-up and list answers what the house's definitions find in the tables that the
+//! database holds, an item that is handed out stands, and a listing, a purchase, a close and a
+//! settlement are made whole, each in one transaction that commits before the call answers Ok, or not
+//! at all. Read `specs/Items.antt` first, then `settling`, the plainest of the changes.
 //!
-//! A look-up that is `Damaged` has met an item that does not fit.
-//!
-//! Not here: lists by seller, leader or end (`store_finds`), and those with a limit (`store_pages`).
+//! What a write asks of the stored row is looked up before the transaction, and where it isn't so
+//! the answer is Damaged.
 #![tactic(auto)]
 
+mod buying;
+mod closing;
+mod counts;
+mod due_items;
 mod fits;
 mod item;
 mod item_reads;
+mod listing;
+mod looking;
+mod pages;
 mod reads;
+mod sales;
+mod settling;
 mod standing;
+mod terms;
 
-pub use item::{put_item, set_bought, set_closed, set_settled, set_standing};
+pub use buying::buy;
+pub use closing::close;
+pub use counts::count_items;
+pub use due_items::due;
+pub use item::set_standing;
 pub use item_reads::{all_items, item_at, item_with_lot, standing_at, terms_at};
-pub use reads::{item_list, terms_list};
+pub use listing::list;
+pub use looking::terms_there;
+pub use pages::items_in;
+pub use sales::sales_to;
+pub use settling::settle;
+pub use terms::terms_of_seller;

@@ -146,7 +146,11 @@ fn add_terms(bands: &Bands, row: &Row, all: &mut Vec<Terms>) -> Result<(), KeepF
 }
 
 /// The terms that rows tell.
-pub fn terms_list(alloc: Global, bands: &Bands, rows: &[Row]) -> Result<Vec<Terms>, KeepFault>
+pub(crate) fn terms_list(
+    alloc: Global,
+    bands: &Bands,
+    rows: &[Row],
+) -> Result<Vec<Terms>, KeepFault>
     ensures value { IfOk result (λ all. all.items ≡ map terms_of rows.now) }
     ensures fits { IfOk result (λ all. AllByRecursion TermsFit all.items) }
     ensures stands { IfOk result (λ all. AllByRecursion (λ it. Stands bands.now it) all.items) }
@@ -173,7 +177,7 @@ fn add_item(bands: &Bands, row: &Row, all: &mut Vec<Item>) -> Result<(), KeepFau
 }
 
 /// The items that rows tell.
-pub fn item_list(alloc: Global, bands: &Bands, rows: &[Row]) -> Result<Vec<Item>, KeepFault>
+pub(crate) fn item_list(alloc: Global, bands: &Bands, rows: &[Row]) -> Result<Vec<Item>, KeepFault>
     ensures value { IfOk result (λ all. all.items ≡ map item_of rows.now) }
     ensures fits { IfOk result (λ all. AllByRecursion ItemFits all.items) }
     ensures stands { IfOk result (λ all. AllByRecursion

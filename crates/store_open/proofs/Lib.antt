@@ -1,8 +1,8 @@
-pub mod NumberLemmas
-pub mod PutMeaning
-pub mod PutLemmas
 pub mod NewHouse
-pub mod OpenLemmas
+pub mod NumberLemmas
 pub mod NumbersMeaning
 pub mod NumbersLemmas
+pub mod OpenLemmas
+pub mod PutMeaning
+pub mod PutLemmas
 pub mod ReadLemmas

@@ -24,8 +24,8 @@ use Rattle.house_rows.specs.Bids.{bid_key}
 use Rattle.house_rows.specs.Changed.{question_key}
 use Rattle.house_rows.specs.Ratings.{feedback_key}
 use Rattle.house_rows.specs.Watches.{watch_key}
-use Rattle.store_lists.specs.Sorted.{sorted_by}
-use Rattle.store_lists.specs.Tables.{house_row_in, settings_in, tables_in}
+use Rattle.store_rows.specs.Sorted.{sorted_by}
+use Rattle.store_rows.specs.Tables.{house_row_in, settings_in, tables_in}
 use Rattle.store_open.specs.Opening.{IsSoundHouse}
 use Rattle.store_open.specs.Putting.{AddsBand, AddsHouse, IsBanded, IsStarted, band_row, new_house}
 

@@ -19,7 +19,7 @@ use Rattle.store_rows.specs.Fitting.{BandRowFits, HouseRowFits}
 use Rattle.store_rows.specs.House.{IsHouse}
 use Rattle.store_rows.specs.ItemRows.{items_in}
 use Rattle.store_rows.specs.Rows.{bands_in, categories_in, houses_in, members_in}
-use Rattle.store_lists.specs.Tables.{IsAtRest, IsNumbered, house_row_in, settings_in, tables_in}
+use Rattle.store_rows.specs.Tables.{IsAtRest, IsNumbered, house_row_in, settings_in, tables_in}
 use Rattle.store_open.specs.Opening.{AreNumbered, HasSettings, HaveNumbers}
 
 abbrev pairs : List BandRow → List (ℕ × ℕ)

@@ -1,3 +1,3 @@
-pub mod Putting
 pub mod Opening
 pub mod Plain
+pub mod Putting

@@ -16,8 +16,8 @@ use Rattle.store_rows.specs.Fitting.{HouseRowFits}
 use Rattle.store_rows.specs.House.{IsHouse}
 use Rattle.store_rows.specs.ItemRows.{items_in}
 use Rattle.store_rows.specs.Rows.{bands_in, categories_in, houses_in, members_in}
-use Rattle.store_lists.specs.Commits.{IsBack}
-use Rattle.store_lists.specs.Tables.{house_row_in, settings_in, tables_in}
+use Rattle.store_rows.specs.Commits.{IsBack}
+use Rattle.store_rows.specs.Tables.{house_row_in, settings_in, tables_in}
 
 -- members, categories and items have numbers from 1 to how many there are, which has 32 bits
 pub record AreNumbered (db : Trees) : Type 0 where

@@ -10,7 +10,7 @@ use Rattle.store_rows.specs.declared.house.HouseRow.{HouseRow}
 use Rattle.store_rows.specs.House.{IsHouse, KeepsOthers}
 use Rattle.store_rows.specs.Rows.{bands_in, houses_in}
 use Rattle.store_rows.specs.Schema.{house_schema}
-use Rattle.store_lists.specs.Tables.{IsNumbered, tables_in}
+use Rattle.store_rows.specs.Tables.{IsNumbered, tables_in}
 use Rattle.store_open.specs.Opening.{IsSoundHouse}
 
 -- the row of a new house

@@ -1,4 +1,5 @@
 //! What an opening hands out.
+
 use house_rows::{Counts, Settings};
 use sqlite::{Alter, Connection};
 

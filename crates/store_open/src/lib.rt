@@ -2,7 +2,7 @@
 //!
 //! Promised: `make_house` leaves the tables of a house with no history, and nothing else is ever
 //! found by a crash; it is `Damaged` exactly where something is listed already or a transaction is
-//! open. `opened` takes any connection, and hands out one that holds a house of version 1, with what
+//! open. `open_house` takes any connection, and hands out one that holds a house of version 1, with what
 //! its settings, its counts and its clock are; it is never `Damaged` of a sound house, which
 //! `specs/Opening.antt` defines. Read `open.rt` first, then `make.rt`.
 //!
@@ -21,5 +21,5 @@ mod same;
 
 pub use house::Opened;
 pub use make::make_house;
-pub use open::opened;
+pub use open::open_house;
 pub use put::{put_band, put_house};

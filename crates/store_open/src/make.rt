@@ -10,8 +10,8 @@ ghost use Rattle.house_rows.specs.declared.fault.KeepFault.TheVariants.{Damaged}
 ghost use Rattle.steps.specs.Table.{IsBandTable};
 ghost use Rattle.store_rows.specs.Making.{IsBlank, IsEmptyHouse};
 ghost use Rattle.store_rows.specs.Schema.{no_schema};
-ghost use Rattle.store_lists.specs.Commits.{IsBack};
-ghost use Rattle.store_lists.specs.Tables.{IsAtRest, tables_in};
+ghost use Rattle.store_rows.specs.Commits.{IsBack};
+ghost use Rattle.store_rows.specs.Tables.{IsAtRest, tables_in};
 ghost use Rattle.store_open.specs.Opening.{IsSoundHouse, NewHouse};
 ghost use Rattle.store_open.specs.Putting.{IsBanded, IsStarted};
 ghost use Rattle.store_rows.specs.Frames.{OnlyReads, WritesMany};

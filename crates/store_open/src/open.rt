@@ -8,7 +8,7 @@ ghost use Rattle.house_rows.specs.Found.{counts_of};
 ghost use Rattle.house_rows.specs.declared.fault.KeepFault.TheVariants.{Damaged};
 ghost use Rattle.steps.specs.Table.{IsBandTable};
 ghost use Rattle.store_rows.specs.House.{Serves};
-ghost use Rattle.store_lists.specs.Tables.{IsAtRest, house_row_in, settings_in, tables_in};
+ghost use Rattle.store_rows.specs.Tables.{IsAtRest, house_row_in, settings_in, tables_in};
 ghost use Rattle.store_open.specs.Opening.{AreNumbered, HasSettings, IsSetUp, IsSoundHouse, Leaves, LeavesStore};
 ghost use Rattle.store_rows.specs.Frames.{OnlyReads};
 
@@ -96,7 +96,10 @@ fn read_settings<S: Alter>(
 /// `Damaged` where it holds no house of version 1: other tables than those of a house, a row of the
 /// house or bands that don't fit, or a member, a category or an item with a number that is 0 or over
 /// how many there are.
-pub fn opened<S: Alter + Drop>(alloc: Global, conn: Connection<S>) -> Result<Opened<S>, KeepFault>
+pub fn open_house<S: Alter + Drop>(
+    alloc: Global,
+    conn: Connection<S>,
+) -> Result<Opened<S>, KeepFault>
     ensures rests { IfOk result (λ o. HasCleanDisk (state S.Store o.conn)
         → IsAtRest (state S.Store o.conn)) }
     ensures settings { IfOk result (λ o. HasCleanDisk (state S.Store o.conn)

@@ -1,5 +1,5 @@
--- What a count of a table's rows answers.
-use Rattle.std.proofs.Common.{◌≡◌, ℕ, min, List, [], ◌∷◌, map, filter, length, Option, Some, refl, sym, ap, subst, ◌∙◌, arith, IsPermutation}
+-- What a query that counts answers.
+use Rattle.std.proofs.Common.{◌≡◌, ℕ, List, [], ◌∷◌, map, filter, length, Option, Some, refl, sym, ap, subst, ◌∙◌, arith, IsPermutation}
 use Rattle.std.specs.List.{AllZip}
 use Rattle.std.proofs.lemmas.List.Sorted.{length_permutation}
 use Rattle.sqlite_value.specs.declared.value.Value.TheVariants.{Null}
@@ -7,21 +7,15 @@ use Rattle.sqlite_value.specs.Order.{Row}
 use Rattle.sqlite_sql.specs.Term.{Term, Env}
 use Rattle.sqlite_sql.specs.Group.{IsSummary, value_over}
 use Rattle.sqlite_sql.specs.Aggregate.{count}
-use Rattle.sqlite_sql.specs.Program.{overlay}
 use Rattle.sqlite_sql.specs.Query.{IsAnswer, Output, output, matches, inner, end}
 use Rattle.sqlite_trees.specs.Tree.{Trees}
 use Rattle.sqlite_keyed.proofs.ListLemmas.{filter_all, all_of}
-use Rattle.sqlite.specs.State.{State, Shown}
-use Rattle.sqlite.proofs.Callers.{reads_as, one_permutation}
+use Rattle.sqlite.proofs.Callers.{one_permutation}
 use Rattle.store_rows.specs.Plain.{passes}
-use Rattle.store_rows.specs.Rows.{member_in, members_in, category_in, categories_in}
-use Rattle.store_rows.specs.Counts.{first_number}
-use Rattle.store_rows.specs.Schema.{house_schema}
-use Rattle.store_rows.specs.House.{IsHouse}
 use Rattle.store_rows.proofs.Select.{kept_each}
-use Rattle.store_rows.proofs.CountMeaning.{count_query, count_rows, count_members_text, count_members_is, count_categories_text, count_categories_is, count_items_text, count_items_is}
+use Rattle.store_rows.proofs.CountMeaning.{count_query, count_rows}
 
-length_map : {X Y : Type 0} (f : X → Y) (xs : List X) → length (map f xs) ≡ length xs
+pub length_map : {X Y : Type 0} (f : X → Y) (xs : List X) → length (map f xs) ≡ length xs
 length_map f [] = refl
 length_map f (x ∷ xs) = omega (arith, length_map f xs)
 
@@ -54,26 +48,8 @@ counted t test db params rows a =
     let kept : a.kept ≡ ([], row) ∷ [] = a.distinct ∙ ap (map (output q)) staged in
     a.shown ∙ ap (map (λ (o : Output). o.1)) (one_permutation ([], row) a.ordered (subst (λ k. IsPermutation k a.ordered) kept a.same))
 
-every : (params : Row) (rows : List Row) → length (filter (passes [] params) rows) ≡ length rows
+pub every : (params : Row) (rows : List Row) → length (filter (passes [] params) rows) ≡ length rows
 every params rows = ap length (filter_all (passes [] params) rows (all_of _ (λ r. refl) rows))
-
-module _ (old new : State) (answer : List Row) (house : IsHouse old.now) where
-  pub members_counted : Shown count_members_text [] old new answer → first_number answer ≡ Some (min (length (members_in old.now.trees)) 9223372036854775807)
-  members_counted h =
-      let read = reads_as count_members_text [] old new house_schema house.schema _ count_members_is.0 count_members_is.2 count_members_is.1 answer h in
-      ap first_number (counted 2 [] (overlay old.now.trees []) [] answer (read.answer Null))
-      ∙ ap (λ n. Some (min n 9223372036854775807)) (every [] (old.now.trees 2) ∙ sym (length_map member_in (old.now.trees 2)))
-
-  pub categories_counted : Shown count_categories_text [] old new answer → first_number answer ≡ Some (min (length (categories_in old.now.trees)) 9223372036854775807)
-  categories_counted h =
-      let read = reads_as count_categories_text [] old new house_schema house.schema _ count_categories_is.0 count_categories_is.2 count_categories_is.1 answer h in
-      ap first_number (counted 4 [] (overlay old.now.trees []) [] answer (read.answer Null))
-      ∙ ap (λ n. Some (min n 9223372036854775807)) (every [] (old.now.trees 4) ∙ sym (length_map category_in (old.now.trees 4)))
-
-  pub items_counted : Shown count_items_text [] old new answer → first_number answer ≡ Some (min (length (old.now.trees 6)) 9223372036854775807)
-  items_counted h =
-      let read = reads_as count_items_text [] old new house_schema house.schema _ count_items_is.0 count_items_is.2 count_items_is.1 answer h in
-      ap first_number (counted 6 [] (overlay old.now.trees []) [] answer (read.answer Null)) ∙ ap (λ n. Some (min n 9223372036854775807)) (every [] (old.now.trees 6))
 
 pub same_some : (a b : ℕ) → ◌≡◌ {A = Option ℕ} (Some a) (Some b) → a ≡ b
 same_some a b e = cc

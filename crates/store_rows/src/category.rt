@@ -1,22 +1,14 @@
-//! The table of categories.
-ghost use Rattle.std.specs.Prelude.{◌≡◌, ◌==◌, find, IfOk, OnOk, IfSome, IsErrOf};
-ghost use Rattle.std.specs.List.{AllByRecursion};
-ghost use Rattle.sqlite.specs.State.{HasCleanDisk};
-ghost use Rattle.sqlite.specs.Held.{state};
+//! Rows of the table of categories.
+ghost use Rattle.std.specs.Prelude.{◌≡◌, IfOk, IsErrOf};
 ghost use Rattle.house_rows.specs.Fits.{CategoryFits};
-ghost use Rattle.house_rows.specs.Text.{same_text};
 ghost use Rattle.house_rows.specs.declared.fault.KeepFault.TheVariants.{Damaged};
-ghost use Rattle.store_rows.specs.House.{IsBegun, Serves, AddsCategory};
-ghost use Rattle.store_rows.specs.Rows.{category_of, categories_in};
-ghost use Rattle.store_rows.specs.Frames.{WritesOnce, OnlyReads};
+ghost use Rattle.store_rows.specs.Rows.{category_of};
 
 use crate::columns::{number_at, text_at};
 use crate::fits::category_fits;
-use crate::statement::{rows_shown, run};
-use crate::stored::{Stored, all_of, first_of};
+use crate::stored::Stored;
 use house_rows::{Category, KeepFault};
-use sqlite::{Alter, Connection, Row, Transaction, params};
-use std::alloc::Global;
+use sqlite::Row;
 
 // The columns as they stand.
 fn told_category(row: &Row) -> Result<Category, KeepFault>
@@ -41,91 +33,4 @@ impl Stored for Category {
             Err(KeepFault::Damaged)
         }
     }
-}
-
-/// Adds a category within a transaction.
-pub fn put_category<S: Alter>(
-    tx: &mut Transaction<'_, S>,
-    number: u32,
-    name: &str,
-) -> Result<(), KeepFault>
-    requires { IsBegun (state S.Store tx.old.conn.now) }
-    ensures same_reference { tx.new.conn.ghost_name ≡ tx.old.conn.ghost_name }
-    ensures ok { HasCleanDisk (state S.Store tx.new.conn.now)
-        → OnOk result (AddsCategory number name.now (state S.Store tx.old.conn.now).now
-        (state S.Store tx.new.conn.now).now) }
-    ensures sound { ¬ (IsErrOf result Damaged) }
-    ensures write { WritesOnce (state S.Store tx.old.conn.now)
-        (state S.Store tx.new.conn.now) result }
-{
-    run(
-        tx,
-        "INSERT INTO category (id, name) VALUES (?1, ?2)",
-        params![number, name],
-    )
-}
-
-/// The category with a number.
-pub fn category_at<S: Alter>(
-    conn: &mut Connection<S>,
-    number: u32,
-) -> Result<Option<Category>, KeepFault>
-    requires { Serves (state S.Store conn.old) }
-    ensures found { HasCleanDisk (state S.Store conn.new)
-        → IfOk result (λ found. found ≡ find (λ m. m.category == number)
-        (categories_in (state S.Store conn.old).now.trees)) }
-    ensures fits { IfOk result (λ found. IfSome found CategoryFits) }
-    ensures damaged { HasCleanDisk (state S.Store conn.new)
-        → AllByRecursion CategoryFits (categories_in (state S.Store conn.old).now.trees)
-        → ¬ (IsErrOf result Damaged) }
-    ensures read { OnlyReads (state S.Store conn.old) (state S.Store conn.new) result }
-{
-    let rows = rows_shown(
-        conn,
-        "SELECT id, name FROM category WHERE id = ?1 ORDER BY id",
-        params![number],
-    )?;
-    first_of(&rows)
-}
-
-/// The category with a name.
-pub fn category_named<S: Alter>(
-    conn: &mut Connection<S>,
-    name: &str,
-) -> Result<Option<Category>, KeepFault>
-    requires { Serves (state S.Store conn.old) }
-    ensures found { HasCleanDisk (state S.Store conn.new)
-        → IfOk result (λ found. found ≡ find (λ m. same_text m.name name.now)
-        (categories_in (state S.Store conn.old).now.trees)) }
-    ensures fits { IfOk result (λ found. IfSome found CategoryFits) }
-    ensures damaged { HasCleanDisk (state S.Store conn.new)
-        → AllByRecursion CategoryFits (categories_in (state S.Store conn.old).now.trees)
-        → ¬ (IsErrOf result Damaged) }
-    ensures read { OnlyReads (state S.Store conn.old) (state S.Store conn.new) result }
-{
-    let rows = rows_shown(
-        conn,
-        "SELECT id, name FROM category WHERE name = ?1 ORDER BY id",
-        params![name],
-    )?;
-    first_of(&rows)
-}
-
-/// All categories, by number.
-pub fn all_categories<S: Alter>(
-    alloc: Global,
-    conn: &mut Connection<S>,
-) -> Result<Vec<Category>, KeepFault>
-    requires { Serves (state S.Store conn.old) }
-    ensures categories { HasCleanDisk (state S.Store conn.new)
-        → IfOk result (λ categories. categories.items ≡ categories_in
-        (state S.Store conn.old).now.trees) }
-    ensures fits { IfOk result (λ all. AllByRecursion CategoryFits all.items) }
-    ensures damaged { HasCleanDisk (state S.Store conn.new)
-        → AllByRecursion CategoryFits (categories_in (state S.Store conn.old).now.trees)
-        → ¬ (IsErrOf result Damaged) }
-    ensures read { OnlyReads (state S.Store conn.old) (state S.Store conn.new) result }
-{
-    let rows = rows_shown(conn, "SELECT id, name FROM category ORDER BY id", &[])?;
-    all_of(alloc, &rows)
 }

@@ -12,7 +12,7 @@ use sqlite::types::FromSql;
 use sqlite::{Error, ErrorCode, Row};
 
 /// The value of a column.
-pub fn value_at<T: FromSql>(row: &Row, at: usize) -> Result<T, KeepFault>
+pub(crate) fn value_at<T: FromSql>(row: &Row, at: usize) -> Result<T, KeepFault>
     ensures value { IfOk result (λ x. T.FromSql.reads_as (column row.now at) x) }
     ensures damaged { at < length row.now
         → T.FromSql.is_readable (column row.now at)
@@ -34,7 +34,7 @@ pub fn number_at(row: &Row, at: usize) -> Result<u32, KeepFault>
 }
 
 /// A count.
-pub fn count_at(row: &Row, at: usize) -> Result<u64, KeepFault>
+pub(crate) fn count_at(row: &Row, at: usize) -> Result<u64, KeepFault>
     ensures value { IfOk result (λ n. n ≡ count_in (column row.now at)) }
     ensures damaged { count_in (column row.now at) < 2 ^ 64 → ¬ (IsErrOf result Damaged) }
 {
@@ -80,7 +80,7 @@ pub fn maybe_cents_at(row: &Row, at: usize) -> Result<Option<Cents>, KeepFault>
 }
 
 /// A text.
-pub fn text_at(row: &Row, at: usize) -> Result<Text, KeepFault>
+pub(crate) fn text_at(row: &Row, at: usize) -> Result<Text, KeepFault>
     ensures value { IfOk result (λ t. t ≡ text_in (column row.now at)) }
     ensures damaged { text_in (column row.now at) ≢ no_text → ¬ (IsErrOf result Damaged) }
 {
@@ -89,7 +89,7 @@ pub fn text_at(row: &Row, at: usize) -> Result<Text, KeepFault>
 }
 
 /// A text that may be missing.
-pub fn maybe_text_at(row: &Row, at: usize) -> Result<Option<Text>, KeepFault>
+pub(crate) fn maybe_text_at(row: &Row, at: usize) -> Result<Option<Text>, KeepFault>
     ensures value { IfOk result (λ t. t ≡ maybe_text_in (column row.now at)) }
     ensures damaged { at < length row.now
         → IfSome (maybe_text_in (column row.now at)) (λ t. t ≢ no_text)

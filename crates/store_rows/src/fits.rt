@@ -16,28 +16,28 @@ use settle::LAST_MOMENT;
 // The version of the tables.
 const VERSION: u32 = 1;
 
-// Whether a number is within a range.
+/// Whether a number is within a range.
 pub(crate) fn is_within(least: u32, most: u32, number: u32) -> bool
     ensures { IsTrue result ↔ IsWithin least most number }
 {
     least <= number && number <= most
 }
 
-// Whether a text has so many bytes and no control characters.
+/// Whether a text has so many bytes and no control characters.
 pub(crate) fn is_text(least: usize, most: usize, text: &Text) -> bool
     ensures { result ≡ is_text least most text.now }
 {
     has_length(least, most, text) && text.is_plain()
 }
 
-// Whether it has so many bytes.
+/// Whether it has so many bytes.
 pub(crate) fn has_length(least: usize, most: usize, text: &Text) -> bool
     ensures { result ≡ has_length least most text.now }
 {
     least <= text.len() && text.len() <= most
 }
 
-// Whether the numbers of a question and its texts fit.
+/// Whether the numbers of a question and its texts fit.
 pub(crate) fn question_fits(question: &Question) -> bool
     ensures { IsTrue result ↔ QuestionFits question.now }
 {
@@ -58,7 +58,7 @@ fn answer_fits(question: &Question) -> bool
     }
 }
 
-// Whether the numbers of a feedback and its text fit.
+/// Whether the numbers of a feedback and its text fit.
 pub(crate) fn feedback_fits(feedback: &Feedback) -> bool
     ensures { IsTrue result ↔ FeedbackFits feedback.now }
 {
@@ -68,21 +68,21 @@ pub(crate) fn feedback_fits(feedback: &Feedback) -> bool
         && is_text(0, 200, &feedback.text)
 }
 
-// Whether a member's number and name fit.
+/// Whether a member's number and name fit.
 pub(crate) fn member_fits(member: &Member) -> bool
     ensures { IsTrue result ↔ MemberFits member.now }
 {
     is_within(1, MOST_MEMBERS, member.member) && is_text(1, 40, &member.name)
 }
 
-// Whether a category's number and name fit.
+/// Whether a category's number and name fit.
 pub(crate) fn category_fits(category: &Category) -> bool
     ensures { IsTrue result ↔ CategoryFits category.now }
 {
     is_within(1, MOST_CATEGORIES, category.category) && is_text(1, 40, &category.name)
 }
 
-// Whether the numbers of a bid fit.
+/// Whether the numbers of a bid fit.
 pub(crate) fn bid_fits(bid: &Bid) -> bool
     ensures { IsTrue result ↔ BidFits bid.now }
 {
@@ -91,7 +91,7 @@ pub(crate) fn bid_fits(bid: &Bid) -> bool
         && bid.maximum.value() <= LIMIT
 }
 
-// Whether the row of the house is the only one, of this version, and its clock, rate and zone fit.
+/// Whether the row of the house is the only one, of this version, and its clock, rate and zone fit.
 pub(crate) fn house_fits(house: &HouseRow) -> bool
     ensures { IsTrue result ↔ HouseRowFits house.now }
 {

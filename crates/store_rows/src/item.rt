@@ -29,7 +29,7 @@ fn state_at(row: &Row, at: usize) -> Result<State, KeepFault>
 }
 
 // A number that may be missing, wider.
-fn widened(number: Option<u32>) -> Option<u64>
+fn widen_number(number: Option<u32>) -> Option<u64>
     ensures { result ≡ number }
 {
     match number {
@@ -51,7 +51,7 @@ fn told_terms(row: &Row) -> Result<Terms, KeepFault>
         buy_now: maybe_cents_at(row, 4)?,
         end: u64::from(number_at(row, 5)?),
         state: state_at(row, 6)?,
-        closed: widened(maybe_number_at(row, 7)?),
+        closed: widen_number(maybe_number_at(row, 7)?),
         price: cents_at(row, 8)?,
         leader: maybe_number_at(row, 9)?,
         count: number_at(row, 10)?,

@@ -1,22 +1,14 @@
-//! The table of members.
-ghost use Rattle.std.specs.Prelude.{◌≡◌, ◌==◌, find, IfOk, OnOk, IfSome, IsErrOf};
-ghost use Rattle.std.specs.List.{AllByRecursion};
-ghost use Rattle.sqlite.specs.State.{HasCleanDisk};
-ghost use Rattle.sqlite.specs.Held.{state};
+//! Rows of the table of members.
+ghost use Rattle.std.specs.Prelude.{◌≡◌, IfOk, IsErrOf};
 ghost use Rattle.house_rows.specs.Fits.{MemberFits};
-ghost use Rattle.house_rows.specs.Text.{same_text};
 ghost use Rattle.house_rows.specs.declared.fault.KeepFault.TheVariants.{Damaged};
-ghost use Rattle.store_rows.specs.House.{IsBegun, Serves, AddsMember};
-ghost use Rattle.store_rows.specs.Rows.{member_of, members_in};
-ghost use Rattle.store_rows.specs.Frames.{WritesOnce, OnlyReads};
+ghost use Rattle.store_rows.specs.Rows.{member_of};
 
 use crate::columns::{number_at, text_at};
 use crate::fits::member_fits;
-use crate::statement::{rows_shown, run};
-use crate::stored::{Stored, all_of, first_of};
+use crate::stored::Stored;
 use house_rows::{KeepFault, Member};
-use sqlite::{Alter, Connection, Row, Transaction, params};
-use std::alloc::Global;
+use sqlite::Row;
 
 // The columns as they stand.
 fn told_member(row: &Row) -> Result<Member, KeepFault>
@@ -41,90 +33,4 @@ impl Stored for Member {
             Err(KeepFault::Damaged)
         }
     }
-}
-
-/// Adds a member within a transaction.
-pub fn put_member<S: Alter>(
-    tx: &mut Transaction<'_, S>,
-    number: u32,
-    name: &str,
-) -> Result<(), KeepFault>
-    requires { IsBegun (state S.Store tx.old.conn.now) }
-    ensures same_reference { tx.new.conn.ghost_name ≡ tx.old.conn.ghost_name }
-    ensures ok { HasCleanDisk (state S.Store tx.new.conn.now)
-        → OnOk result (AddsMember number name.now (state S.Store tx.old.conn.now).now
-        (state S.Store tx.new.conn.now).now) }
-    ensures sound { ¬ (IsErrOf result Damaged) }
-    ensures write { WritesOnce (state S.Store tx.old.conn.now)
-        (state S.Store tx.new.conn.now) result }
-{
-    run(
-        tx,
-        "INSERT INTO member (id, name) VALUES (?1, ?2)",
-        params![number, name],
-    )
-}
-
-/// The member with a number.
-pub fn member_at<S: Alter>(
-    conn: &mut Connection<S>,
-    number: u32,
-) -> Result<Option<Member>, KeepFault>
-    requires { Serves (state S.Store conn.old) }
-    ensures found { HasCleanDisk (state S.Store conn.new)
-        → IfOk result (λ found. found ≡ find (λ m. m.member == number)
-        (members_in (state S.Store conn.old).now.trees)) }
-    ensures fits { IfOk result (λ found. IfSome found MemberFits) }
-    ensures damaged { HasCleanDisk (state S.Store conn.new)
-        → AllByRecursion MemberFits (members_in (state S.Store conn.old).now.trees)
-        → ¬ (IsErrOf result Damaged) }
-    ensures read { OnlyReads (state S.Store conn.old) (state S.Store conn.new) result }
-{
-    let rows = rows_shown(
-        conn,
-        "SELECT id, name FROM member WHERE id = ?1 ORDER BY id",
-        params![number],
-    )?;
-    first_of(&rows)
-}
-
-/// The member with a name.
-pub fn member_named<S: Alter>(
-    conn: &mut Connection<S>,
-    name: &str,
-) -> Result<Option<Member>, KeepFault>
-    requires { Serves (state S.Store conn.old) }
-    ensures found { HasCleanDisk (state S.Store conn.new)
-        → IfOk result (λ found. found ≡ find (λ m. same_text m.name name.now)
-        (members_in (state S.Store conn.old).now.trees)) }
-    ensures fits { IfOk result (λ found. IfSome found MemberFits) }
-    ensures damaged { HasCleanDisk (state S.Store conn.new)
-        → AllByRecursion MemberFits (members_in (state S.Store conn.old).now.trees)
-        → ¬ (IsErrOf result Damaged) }
-    ensures read { OnlyReads (state S.Store conn.old) (state S.Store conn.new) result }
-{
-    let rows = rows_shown(
-        conn,
-        "SELECT id, name FROM member WHERE name = ?1 ORDER BY id",
-        params![name],
-    )?;
-    first_of(&rows)
-}
-
-/// All members, by number.
-pub fn all_members<S: Alter>(
-    alloc: Global,
-    conn: &mut Connection<S>,
-) -> Result<Vec<Member>, KeepFault>
-    requires { Serves (state S.Store conn.old) }
-    ensures members { HasCleanDisk (state S.Store conn.new)
-        → IfOk result (λ members. members.items ≡ members_in (state S.Store conn.old).now.trees) }
-    ensures fits { IfOk result (λ all. AllByRecursion MemberFits all.items) }
-    ensures damaged { HasCleanDisk (state S.Store conn.new)
-        → AllByRecursion MemberFits (members_in (state S.Store conn.old).now.trees)
-        → ¬ (IsErrOf result Damaged) }
-    ensures read { OnlyReads (state S.Store conn.old) (state S.Store conn.new) result }
-{
-    let rows = rows_shown(conn, "SELECT id, name FROM member ORDER BY id", &[])?;
-    all_of(alloc, &rows)
 }

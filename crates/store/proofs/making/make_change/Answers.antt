@@ -3,7 +3,7 @@ use Rattle.std.proofs.Common.{ap, sym, ◌∙◌}
 use Rattle.sqlite.specs.Held.{state}
 use Rattle.house_rows.specs.Found.{counts_of}
 use Rattle.house_rows.specs.declared.people.Counts.{Counts}
-use Rattle.store_lists.specs.Tables.{tables_in}
+use Rattle.store_rows.specs.Tables.{tables_in}
 use Rattle.store.specs.After.{counts_after}
 use Rattle.store.proofs.making.make_change.Goals as goal
 

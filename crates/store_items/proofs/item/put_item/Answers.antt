@@ -15,8 +15,8 @@ returns-clause-ok g c clean bands =
       number_low = omega (arith, c.ranges.number);
       seller_low = c.stored_number-seller.ensures.small;
       category_low = c.stored_number-category.ensures.small;
-      start_low = c.stored-start.ensures.small;
-      buy_now_low = c.stored_maybe-buy_now.ensures.small;
+      start_low = c.stored_cents-start.ensures.small;
+      buy_now_low = c.stored_maybe_cents-buy_now.ensures.small;
       end_low = c.stored_number-end.ensures.small;
     } in
     ok_then c.run.result (rw (
@@ -35,8 +35,8 @@ returns-clause-ok g c clean bands =
       c.stored_number-seller.ensures.value,
       c.stored_number-category.ensures.value,
       c.stored_number-end.ensures.value,
-      c.stored-start.ensures.value,
-      c.stored_maybe-buy_now.ensures.value,
+      c.stored_cents-start.ensures.value,
+      c.stored_maybe_cents-buy_now.ensures.value,
       bound_maybe c.args.item.now.buy_now,
     ) at (c.run.ensures.ran clean))
     (λ _ ran. adds_item _ _ c.args.number item ran.0 bands low lot title text house ran.1)

@@ -10,10 +10,10 @@ returns-clause-ok g c clean =
     let k = c.args.standing.now in
     let low : c.args.item < 2 ^ 32 = omega (arith, c.ranges.item) in
     let kept : IsSmallKept k = record {
-      price_low = subst (λ n. n < 2 ^ 32) c.price.ensures c.stored-price.ensures.small;
+      price_low = subst (λ n. n < 2 ^ 32) c.price.ensures c.stored_cents-price.ensures.small;
       leader_low = subst IsSmall c.leader.ensures c.stored_maybe_number-leader.ensures.small;
-      top_low = subst IsSmall c.top.ensures c.stored_maybe-top.ensures.small;
-      second_low = subst IsSmall c.second.ensures c.stored_maybe-second.ensures.small;
+      top_low = subst IsSmall c.top.ensures c.stored_maybe_cents-top.ensures.small;
+      second_low = subst IsSmall c.second.ensures c.stored_maybe_cents-second.ensures.small;
       count_low = subst (λ n. n < 2 ^ 32) c.count.ensures c.stored_number-count.ensures.small;
     } in
     ok_then c.run.result (rw (
@@ -23,13 +23,13 @@ returns-clause-ok g c clean =
       c.params-to_sql-4.ensures,
       c.params-to_sql-5.ensures,
       c.params-to_sql-6.ensures,
-      c.stored-price.ensures.value,
+      c.stored_cents-price.ensures.value,
       c.price.ensures,
       c.stored_maybe_number-leader.ensures.value,
       c.leader.ensures,
-      c.stored_maybe-top.ensures.value,
+      c.stored_maybe_cents-top.ensures.value,
       c.top.ensures,
-      c.stored_maybe-second.ensures.value,
+      c.stored_maybe_cents-second.ensures.value,
       c.second.ensures,
       c.stored_number-count.ensures.value,
       c.count.ensures,

@@ -2,7 +2,7 @@ use Rattle.std.proofs.Common.{ap, arith}
 use Rattle.std.specs.Prelude.{Err}
 use Rattle.sqlite.specs.Held.{state}
 use Rattle.sqlite.specs.State.{HasCleanDisk}
-use Rattle.store_lists.specs.Tables.{tables_in}
+use Rattle.store_rows.specs.Tables.{tables_in}
 use Rattle.store.proofs.Known.{known_bands, known_sound, told_sound, works}
 use Rattle.store.proofs.keep.SqlKeepKeep.due.Goals as goal
 

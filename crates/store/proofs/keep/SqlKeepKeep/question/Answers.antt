@@ -2,7 +2,7 @@
 use Rattle.std.proofs.Common.{◌≡◌, sym, ◌∙◌, arith, rules}
 use Rattle.sqlite.specs.Held.{state}
 use Rattle.sqlite.specs.State.{HasCleanDisk}
-use Rattle.store_lists.specs.Tables.{tables_in}
+use Rattle.store_rows.specs.Tables.{tables_in}
 use Rattle.store.proofs.Known.{works}
 use Rattle.store.proofs.Sound.{question_found}
 use Rattle.store.proofs.keep.SqlKeepKeep.question.Goals as goal

@@ -1,4 +1,0 @@
-pub mod Joined
-pub mod OwnBids
-pub mod Rising
-pub mod Standing

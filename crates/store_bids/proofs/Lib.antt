@@ -1,0 +1,13 @@
+pub mod SortedBids
+pub mod Added
+pub mod Begins
+pub mod Best
+pub mod FindMeaning
+pub mod BidFinds
+pub mod BidMeaning
+pub mod BidLemmas
+pub mod BidLists
+pub mod BidStanding
+pub mod OwnBidItems
+pub mod OwnBids
+pub mod Written

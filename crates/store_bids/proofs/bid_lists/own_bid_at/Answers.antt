@@ -1,0 +1,30 @@
+use Rattle.std.proofs.Common.{◌∙◌, ap, rules}
+use Rattle.sqlite.specs.Effect.{Database}
+use Rattle.sqlite.specs.Held.{state}
+use Rattle.house_rows.specs.Found.{best_of}
+use Rattle.store_rows.specs.Tables.{tables_in}
+use Rattle.store_bids.proofs.OwnBidItems.{bid_found}
+use Rattle.store_rows.proofs.Sound.{rows_fit}
+use Rattle.store_bids.proofs.BidStanding.{bid_stands}
+use Rattle.store_items.proofs.RowsStanding.{terms_in}
+use Rattle.store_rows.proofs.Steps.{clean_before}
+use Rattle.store_bids.proofs.bid_lists.own_bid_at.Goals as goal
+
+pub returns-in_err-terms-clause-damaged : goal.returns-in_err-terms-clause-damaged
+returns-in_err-terms-clause-damaged g c clean sound is = c.in_err-terms.ensures.damaged clean (rows_fit (state g.S.Store c.args.conn.now).now.trees c.args.bands.now sound) (search rules)
+
+pub returns-clause-value : goal.returns-clause-value
+returns-clause-value g c clean =
+    let old = state g.S.Store c.args.conn.now in
+    let mid = state g.S.Store c.terms_at.new.conn in
+    let before = clean_before mid (state g.S.Store c.own_best.new.conn) c.own_best.ensures.read.crash clean in
+    let same = (c.in_ok-terms.ensures.read.same before).0.now_is in
+    let best = c.in_ok-best.ensures.value clean ∙ ap (λ (db : Database). best_of (tables_in db.trees) c.args.member c.args.item) same in
+    c.own_bid.ensures.value ∙ bid_found old.now.trees c.args.member c.args.item c.in_ok-terms.terms c.in_ok-best.best (c.in_ok-terms.ensures.found before) best
+
+pub returns-clause-stands : goal.returns-clause-stands
+returns-clause-stands g c clean =
+    let db = (state g.S.Store c.args.conn.now).now.trees in
+    let before = clean_before (state g.S.Store c.terms_at.new.conn) (state g.S.Store c.own_best.new.conn) c.own_best.ensures.read.crash clean in
+    let here = terms_in c.args.bands.now db c.args.item c.in_ok-terms.terms (c.in_ok-terms.ensures.found before) c.in_ok-terms.ensures.stands in
+    bid_stands c.args.bands.now db c.args.member c.args.item c.own_bid.result (returns-clause-value g c clean) here

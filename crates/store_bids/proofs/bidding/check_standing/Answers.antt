@@ -1,0 +1,18 @@
+use Rattle.std.proofs.Common.{◌<◌, ◌^◌, arith, sym, ◌∙◌, true≢false}
+use Rattle.sqlite.specs.Held.{state}
+use Rattle.store_bids.proofs.Begins.{bid_begins, bid_stands}
+use Rattle.store_items.proofs.Rows.{standing_checked}
+use Rattle.store_bids.proofs.bidding.check_standing.Goals as goal
+
+pub returns-then-begins_at-clause-start : goal.returns-then-begins_at-clause-start
+returns-then-begins_at-clause-start g c clean =
+    let before = c.requires (omega (arith, c.terms_there.ensures.read.crash.clean)) in
+    let low : c.args.item < 2 ^ 32 = omega (arith, c.ranges.item) in
+    standing_checked (state g.S.Store c.args.conn.now).now before.1 c.args.item low c.in_ok-terms.terms c.args.standing.now.start (c.in_ok-terms.ensures.found clean) c.in_ok-terms.ensures.fits (c.begins_at.ensures.begins c.if-begins_at.true)
+
+pub returns-else-begins_at-clause-damaged : goal.returns-else-begins_at-clause-damaged
+returns-else-begins_at-clause-damaged g c clean sound bands moment placed fits _ =
+    let db = (state g.S.Store c.args.conn.now).now.trees in
+    let start = bid_begins db moment c.args.item placed c.args.standing.now c.in_ok-terms.terms fits (c.in_ok-terms.ensures.found clean) in
+    let stands = bid_stands db c.args.bands.now moment c.args.item placed c.args.standing.now bands fits in
+    true≢false (sym (c.begins_at.ensures.all start stands) ∙ c.if-begins_at.false)

@@ -1,0 +1,185 @@
+//! A bid.
+ghost use Rattle.std.specs.Prelude.{◌≡◌, ◌==◌, ◌&&◌, ℕ, true, false, is_some, OnOk, IsErrOf, IsTrue};
+ghost use Rattle.std.specs.List.{list_any};
+ghost use Rattle.sqlite.specs.State.{HasCleanDisk};
+ghost use Rattle.sqlite.specs.Held.{state};
+ghost use Rattle.proxy.specs.Rows.{is_standing};
+ghost use Rattle.proxy.specs.declared.bid.Bid.{Bid as TheBid};
+ghost use Rattle.house_rows.specs.Asks.{BidFits, ChangeFits, IsFree};
+ghost use Rattle.house_rows.specs.Keeping.{AreSound};
+ghost use Rattle.house_rows.specs.declared.change.Change.TheVariants as change;
+ghost use Rattle.house_rows.specs.declared.fault.KeepFault.TheVariants.{Damaged};
+ghost use Rattle.store_rows.specs.House.{IsBegun, Serves};
+ghost use Rattle.store_items.specs.Items.{OfItem};
+ghost use Rattle.store_rows.specs.Tables.{Changes, IsNumbered, Rests, settings_in, tables_in};
+ghost use Rattle.store_items.specs.Sales.{StartsAt};
+ghost use Rattle.store_rows.specs.Frames.{OnlyReads, WritesMany};
+ghost use Rattle.store_rows.specs.Commits.{Commits};
+
+use crate::look_ups::has_bid;
+use crate::rows::put_bid;
+use cents::Cents;
+use house_rows::KeepFault;
+use proxy::{Bid, Standing};
+use sqlite::{Alter, Connection, Transaction};
+use steps::Bands;
+use store_items::{set_standing, terms_there};
+use store_rows::{commit, set_clock, stored_moment};
+
+// Whether a standing's values fit together, from that start on.
+fn begins_at(standing: &Standing, bands: &Bands, start: Cents) -> bool
+    ensures begins { IsTrue result → standing.now.start ≡ start }
+    ensures led { IsTrue result → is_some standing.now.top ≡ is_some standing.now.leader }
+    ensures all { standing.now.start ≡ start
+        → is_standing bands.now standing.now ≡ true
+        → IsTrue result }
+{
+    let told = Standing::of_row(
+        start,
+        bands,
+        standing.price(),
+        standing.leader(),
+        standing.top(),
+        standing.second(),
+        standing.count(),
+    );
+    // Only of_row tells the start that a standing has.
+    told == Some(*standing)
+}
+
+// Whether a standing begins where the item's bids do; Damaged where it doesn't.
+fn check_standing<S: Alter>(
+    conn: &mut Connection<S>,
+    bands: &Bands,
+    item: u32,
+    standing: &Standing,
+) -> Result<(), KeepFault>
+    requires { Serves (state S.Store conn.old) }
+    ensures start { HasCleanDisk (state S.Store conn.new)
+        → OnOk result (OfItem item (StartsAt standing.now.start) (state S.Store conn.old).now) }
+    ensures led { OnOk result (is_some standing.now.top ≡ is_some standing.now.leader) }
+    ensures damaged { HasCleanDisk (state S.Store conn.new)
+        → AreSound (tables_in (state S.Store conn.old).now.trees)
+        → bands.now ≡ (settings_in (state S.Store conn.old).now.trees).bands
+        → (moment : ℕ) (placed : TheBid)
+        → BidFits (tables_in (state S.Store conn.old).now.trees) moment item placed standing.now
+        → ¬ (IsErrOf result Damaged) }
+    ensures read { OnlyReads (state S.Store conn.old) (state S.Store conn.new) result }
+{
+    let terms = terms_there(conn, bands, item)?;
+    if begins_at(standing, bands, terms.start) {
+        Ok(())
+    } else {
+        Err(KeepFault::Damaged)
+    }
+}
+
+// Whether an item's next number is free; Damaged where it is taken.
+fn check_free<S: Alter>(conn: &mut Connection<S>, item: u32, number: u32) -> Result<(), KeepFault>
+    requires { Serves (state S.Store conn.old) }
+    ensures free { HasCleanDisk (state S.Store conn.new)
+        → OnOk result (list_any (λ b. (b.item == item) && (b.bid.no == number))
+        (tables_in (state S.Store conn.old).now.trees).bids ≡ false) }
+    ensures damaged { HasCleanDisk (state S.Store conn.new)
+        → list_any (λ b. (b.item == item) && (b.bid.no == number))
+        (tables_in (state S.Store conn.old).now.trees).bids ≡ false
+        → ¬ (IsErrOf result Damaged) }
+    ensures read { OnlyReads (state S.Store conn.old) (state S.Store conn.new) result }
+{
+    if has_bid(conn, item, number)? {
+        Err(KeepFault::Damaged)
+    } else {
+        Ok(())
+    }
+}
+
+// Whether a bid's number is free and its standing begins where the item's bids do.
+fn check_bid<S: Alter>(
+    conn: &mut Connection<S>,
+    bands: &Bands,
+    item: u32,
+    number: u32,
+    standing: &Standing,
+) -> Result<(), KeepFault>
+    requires { Serves (state S.Store conn.old) }
+    ensures start { HasCleanDisk (state S.Store conn.new)
+        → OnOk result (OfItem item (StartsAt standing.now.start) (state S.Store conn.old).now) }
+    ensures led { OnOk result (is_some standing.now.top ≡ is_some standing.now.leader) }
+    ensures free { HasCleanDisk (state S.Store conn.new)
+        → OnOk result (list_any (λ b. (b.item == item) && (b.bid.no == number))
+        (tables_in (state S.Store conn.old).now.trees).bids ≡ false) }
+    ensures damaged { HasCleanDisk (state S.Store conn.new)
+        → AreSound (tables_in (state S.Store conn.old).now.trees)
+        → bands.now ≡ (settings_in (state S.Store conn.old).now.trees).bands
+        → (moment : ℕ) (placed : TheBid)
+        → BidFits (tables_in (state S.Store conn.old).now.trees) moment item placed standing.now
+        → list_any (λ b. (b.item == item) && (b.bid.no == number))
+        (tables_in (state S.Store conn.old).now.trees).bids ≡ false
+        → ¬ (IsErrOf result Damaged) }
+    ensures read { OnlyReads (state S.Store conn.old) (state S.Store conn.new) result }
+{
+    check_standing(conn, bands, item, standing)?;
+    check_free(conn, item, number)
+}
+
+// Adds the bid, sets the item's standing and the clock, within a transaction.
+fn write_bid<S: Alter>(
+    tx: &mut Transaction<'_, S>,
+    moment: u32,
+    item: u32,
+    placed: Bid,
+    standing: &Standing,
+) -> Result<(), KeepFault>
+    requires begun { IsBegun (state S.Store tx.old.conn.now) }
+    requires numbered { HasCleanDisk (state S.Store tx.old.conn.now)
+        → IsNumbered (state S.Store tx.old.conn.now).now.trees }
+    requires fits { HasCleanDisk (state S.Store tx.old.conn.now)
+        → OfItem item (StartsAt standing.now.start) (state S.Store tx.old.conn.now).now }
+    requires led { is_some standing.now.top ≡ is_some standing.now.leader }
+    ensures same_reference { tx.new.conn.ghost_name ≡ tx.old.conn.ghost_name }
+    ensures ok { HasCleanDisk (state S.Store tx.new.conn.now)
+        → OnOk result (Changes (change.Bid moment item placed standing.now)
+        (state S.Store tx.old.conn.now).now (state S.Store tx.new.conn.now).now) }
+    ensures sound { ¬ (IsErrOf result Damaged) }
+    ensures write { WritesMany (state S.Store tx.old.conn.now)
+        (state S.Store tx.new.conn.now) result }
+{
+    put_bid(tx, item, placed)?;
+    set_standing(tx, item, standing)?;
+    set_clock(tx, moment)
+}
+
+/// Places a bid on an item, which then stands as told. The moment is in seconds since
+/// 1970-01-01T00:00:00Z, the bands are those of the house. Damaged where the bid's number is taken,
+/// where there is no such item, or where its row, the standing or the moment doesn't fit.
+pub fn bid<S: Alter>(
+    conn: &mut Connection<S>,
+    bands: &Bands,
+    moment: u64,
+    item: u32,
+    placed: Bid,
+    standing: &Standing,
+) -> Result<(), KeepFault>
+    requires rests { Rests (state S.Store conn.old) }
+    requires mode { conn.old.in_transaction ≡ false }
+    requires bands { HasCleanDisk (state S.Store conn.old)
+        → bands.now ≡ (settings_in (state S.Store conn.old).now.trees).bands }
+    ensures commit { Commits (change.Bid moment item placed standing.now) (state S.Store conn.old)
+        (state S.Store conn.new) result }
+    ensures taken { HasCleanDisk (state S.Store conn.new)
+        → OnOk result (IsFree (tables_in (state S.Store conn.old).now.trees)
+        (change.Bid moment item placed standing.now)) }
+    ensures damaged { HasCleanDisk (state S.Store conn.new)
+        → AreSound (tables_in (state S.Store conn.old).now.trees)
+        → ChangeFits (tables_in (state S.Store conn.old).now.trees)
+        (change.Bid moment item placed standing.now)
+        → IsFree (tables_in (state S.Store conn.old).now.trees)
+        (change.Bid moment item placed standing.now)
+        → ¬ (IsErrOf result Damaged) }
+{
+    let moment = stored_moment(moment)?;
+    check_bid(conn, bands, item, placed.no, standing)?;
+    let mut tx = conn.transaction();
+    write_bid(&mut tx, moment, item, placed, standing)?;
+    commit(tx)
+}

@@ -1,0 +1,162 @@
+-- What look-ups tell of the rows of an item.
+use Rattle.std.proofs.Common.{◌≡◌, ◌≤◌, ◌<◌, ◌^◌, ℕ, Bool, true, not, ◌&&◌, cond, List, [], ◌∷◌, map, filter, find, length, slice_get, option_map, Option, Some, None, eqb, refl, sym, ap, subst, ◌∙◌, arith, IsTrue, IfSome, true≢false}
+use Rattle.std.specs.Prelude.{◌==◌, All, is_some}
+use Rattle.std.specs.List.{AllByRecursion}
+use Rattle.std.proofs.lemmas.Bool.Decides.{nat_tests}
+use Rattle.std.proofs.lemmas.List.{length-map}
+use Rattle.std.proofs.lemmas.List.Elements.{All-from_recursion}
+use Rattle.sqlite_value.specs.Order.{Row, column}
+use Rattle.sqlite_trees.specs.Tree.{Trees, rowid}
+use Rattle.sqlite_trees.specs.View.{is_int}
+use Rattle.sqlite_keyed.proofs.ListLemmas.{all_kept, filter-map, slice_get-filter}
+use Rattle.sqlite_keyed.proofs.RuleLemmas.{first_of_both, second_of_both}
+use Rattle.sqlite.specs.Effect.{Database}
+use Rattle.proxy.specs.Bids.{standing_of}
+use Rattle.proxy.specs.Kept.{Kept}
+use Rattle.proxy.specs.declared.bid.Bid.{Bid}
+use Rattle.proxy.proofs.Placed.{standing-none}
+use Rattle.house_rows.specs.Asks.{PurchaseFits}
+use Rattle.house_rows.specs.Changed.{is_item}
+use Rattle.house_rows.specs.declared.item.Terms.{Terms}
+use Rattle.house_rows.specs.Fits.{TermsFit}
+use Rattle.house_rows.specs.Found.{row_at}
+use Rattle.house_rows.specs.Keeping.{AreSound, ItemRowFits}
+use Rattle.house_rows.specs.Limits.{most_cents}
+use Rattle.house_rows.specs.Tables.{ItemRow}
+use Rattle.house_rows.proofs.ChangedRows.{there_fits}
+use Rattle.house_rows.proofs.Every.{found_has}
+use Rattle.store_rows.specs.House.{IsHouse}
+use Rattle.store_rows.specs.ItemRows.{is_state, item_row_in, items_in}
+use Rattle.store_rows.specs.Rows.{maybe_number_in, number_in}
+use Rattle.store_rows.proofs.RowLemmas.{filter_same_on, one_row}
+use Rattle.store_items.specs.Items.{OfItem}
+use Rattle.store_rows.specs.Tables.{settings_in, tables_in}
+use Rattle.store_items.specs.Sales.{IsUnbid, StartFits, StartsAt}
+use Rattle.store_items.proofs.ItemLemmas.{fits_state, kept_start}
+
+-- one row at most has a number
+pub one_item : (db : Database) → IsHouse db → (n : ℕ) → n < 2 ^ 32 → length (filter (is_item n) (items_in db.trees)) ≤ 1
+one_item db house n low =
+    let shaped = house.shaped.1.1.1.1.0 in
+    let same : filter (λ r. is_item n (item_row_in r)) (db.trees 6) ≡ filter (λ r. is_int (rowid r) && eqb (number_in (rowid r)) n) (db.trees 6) =
+    filter_same_on (λ r. IsTrue (is_int (rowid r))) (λ r. is_item n (item_row_in r)) (λ r. is_int (rowid r) && eqb (number_in (rowid r)) n) (λ r int. rw int refl) (db.trees 6) shaped.1 in
+    rw (filter-map (is_item n) item_row_in (db.trees 6), length-map (filter (λ r. is_item n (item_row_in r)) (db.trees 6)) item_row_in, same) (one_row (db.trees 6) n shaped (omega arith))
+
+all_of_few : {X : Type 0} (P : X → Type 0) (xs : List X) → length xs ≤ 1 → IfSome (slice_get xs 0) P → AllByRecursion P xs
+all_of_few P [] few first = tt
+all_of_few P (x ∷ []) few first = (first, tt)
+all_of_few P (x ∷ y ∷ xs) few first = absurd (omega (arith, few))
+
+-- what is so of the row that is found is so of each with its number
+pub found_all : {X : Type 0} (P : X → Type 0) (p : X → Bool) (xs : List X) → length (filter p xs) ≤ 1 → IfSome (find p xs) P → All (λ x. p x ≡ true → P x) xs
+found_all P p xs few found =
+    All-from_recursion (λ x. p x ≡ true → P x) xs (all_kept P p xs (all_of_few P (filter p xs) few (subst (λ o. IfSome o P) (sym (slice_get-filter p xs)) found)))
+
+pub of_found : (P : ItemRow → Type 0) (db : Database) → IsHouse db → (n : ℕ) → n < 2 ^ 32 → (row : ItemRow) → find (is_item n) (items_in db.trees) ≡ Some row → P row → OfItem n P db
+of_found P db house n low row found p = found_all P (is_item n) (items_in db.trees) (one_item db house n low) (subst (λ o. IfSome o P) (sym found) p)
+
+-- what has a part is there
+pub whole : {X Y : Type 0} (f : X → Y) (o : Option X) (y : Y) → option_map f o ≡ Some y → (x : X) × (o ≡ Some x) × (f x ≡ y)
+whole f None y e = absurd cc
+whole f (Some x) y e = (x, refl, let e : f x ≡ y = cc in e)
+
+pub none_whole : {X Y : Type 0} (f : X → Y) (o : Option X) (x : X) → o ≡ Some x → None ≡ option_map f o → ⊥
+none_whole f None x is none = absurd cc
+none_whole f (Some y) x is none = absurd cc
+
+-- terms that fit have a start that fits
+pub start_checked : (db : Database) → IsHouse db → (n : ℕ) → n < 2 ^ 32 → (t : Terms) → option_map (λ (row : ItemRow). row.item.terms) (find (is_item n) (items_in db.trees)) ≡ Some t → TermsFit t → OfItem n StartFits db
+start_checked db house n low t found fits =
+    let row = whole (λ (row : ItemRow). row.item.terms) (find (is_item n) (items_in db.trees)) t found in
+    of_found StartFits db house n low row.0 row.1 (subst (λ (terms : Terms). terms.start ≤ most_cents) (sym row.2) fits.start.1)
+
+-- ---- the start of a standing
+
+-- the bids begin at the start
+abbrev Begins : ItemRow → Type 0
+Begins row = row.item.terms.start ≤ most_cents → row.standing.start ≡ row.item.terms.start
+
+row_begins : (r : Row) → Begins (item_row_in r)
+row_begins r fits =
+    let is = fits_state (is_state (column r 10)) (number_in (column r 7)) fits in
+    kept_start (number_in (column r 7)) (number_in (column r 12)) (maybe_number_in (column r 13)) (maybe_number_in (column r 14)) (maybe_number_in (column r 15)) (number_in (column r 16))
+    ∙ sym (ap (λ b. cond b (number_in (column r 7)) (2 ^ 64)) is)
+
+rows_begin : (rows : List Row) → AllByRecursion Begins (map item_row_in rows)
+rows_begin [] = tt
+rows_begin (r ∷ rows) = (row_begins r, rows_begin rows)
+
+begins : (db : Database) (n : ℕ) (row : ItemRow) → find (is_item n) (items_in db.trees) ≡ Some row → Begins row
+begins db n row found = found_has Begins (is_item n) (items_in db.trees) row (rows_begin (db.trees 6)) found
+
+pub standing_checked : (db : Database) → IsHouse db → (n : ℕ) → n < 2 ^ 32 → (t : Terms) (start : ℕ) → option_map (λ (row : ItemRow). row.item.terms) (find (is_item n) (items_in db.trees)) ≡ Some t → TermsFit t → start ≡ t.start
+    → OfItem n (StartsAt start) db
+standing_checked db house n low t start found fits same =
+    let row = whole (λ (row : ItemRow). row.item.terms) (find (is_item n) (items_in db.trees)) t found in
+    let within = subst (λ (terms : Terms). terms.start ≤ most_cents) (sym row.2) fits.start.1 in
+    of_found (StartsAt start) db house n low row.0 row.1 (begins db n row.0 row.1 within ∙ ap (λ (terms : Terms). terms.start) row.2 ∙ sym same)
+
+-- ---- an item on which nobody has bid
+
+abbrev pub is_unbid : ℕ → Kept → Bool
+is_unbid start s = (s.price == start) && not (is_some s.leader) && not (is_some s.top)
+
+no_one : (o : Option ℕ) → not (is_some o) ≡ true → o ≡ None
+no_one None h = refl
+no_one (Some n) h = absurd (true≢false (sym h))
+
+unbid_is : (start : ℕ) (s : Kept) → is_unbid start s ≡ true → (s.price ≡ start) × (s.leader ≡ None) × (s.top ≡ None)
+unbid_is start s is =
+    let two = first_of_both ((s.price == start) && not (is_some s.leader)) (not (is_some s.top)) is in
+    let one = first_of_both (s.price == start) (not (is_some s.leader)) two in
+    (grind (arith, nat_tests, one), no_one s.leader (second_of_both (s.price == start) (not (is_some s.leader)) two), no_one s.top (second_of_both ((s.price == start) && not (is_some s.leader)) (not (is_some s.top)) is))
+
+pub unbid_checked : (db : Database) → IsHouse db → (n : ℕ) → n < 2 ^ 32 → (t : Terms) (s : Kept) → option_map (λ (row : ItemRow). row.item.terms) (find (is_item n) (items_in db.trees)) ≡ Some t → TermsFit t
+    → option_map (λ (row : ItemRow). row.standing) (find (is_item n) (items_in db.trees)) ≡ Some s → is_unbid t.start s ≡ true → OfItem n IsUnbid db
+unbid_checked db house n low t s found fits stands is =
+    let row = whole (λ (row : ItemRow). row.item.terms) (find (is_item n) (items_in db.trees)) t found in
+    let also = whole (λ (row : ItemRow). row.standing) (find (is_item n) (items_in db.trees)) s stands in
+    let one : Some row.0 ≡ Some also.0 = sym row.1 ∙ also.1 in
+    let same : row.0 ≡ also.0 = cc in
+    let standing : row.0.standing ≡ s = ap (λ (r : ItemRow). r.standing) same ∙ also.2 in
+    let within = subst (λ (terms : Terms). terms.start ≤ most_cents) (sym row.2) fits.start.1 in
+    let told = unbid_is t.start s is in
+    of_found IsUnbid db house n low row.0 row.1 (
+      within,
+      ap (λ (k : Kept). k.price) standing ∙ told.0 ∙ sym (ap (λ (terms : Terms). terms.start) row.2) ∙ sym (begins db n row.0 row.1 within),
+      ap (λ (k : Kept). k.leader) standing ∙ told.1,
+      ap (λ (k : Kept). k.top) standing ∙ told.2,
+    )
+
+-- ---- sound tables
+
+-- the items of sound tables fit, by the bands of the house
+pub items_sound : (db : Trees) (bands : List (ℕ × ℕ)) → AreSound (tables_in db) → bands ≡ (settings_in db).bands → AllByRecursion (ItemRowFits bands) (items_in db)
+unfolding tables_in
+items_sound db bands sound same = rw same sound.items
+
+pub item_there : (db : Trees) (item : ℕ) (row : ItemRow) → row_at (tables_in db) item ≡ Some row → find (is_item item) (items_in db) ≡ Some row
+unfolding tables_in
+item_there db item row there = there
+
+-- of an item that may be bought the row tells so
+pub purchase_unbid : (db : Trees) (moment item buyer price : ℕ) (t : Terms) (s : Kept) → AreSound (tables_in db) → PurchaseFits (tables_in db) moment item buyer price
+    → option_map (λ (row : ItemRow). row.item.terms) (find (is_item item) (items_in db)) ≡ Some t → option_map (λ (row : ItemRow). row.standing) (find (is_item item) (items_in db)) ≡ Some s → is_unbid t.start s ≡ true
+purchase_unbid db moment item buyer price t s sound p found stands =
+    let there = item_there db item p.row p.row_there in
+    let terms : Some p.row.item.terms ≡ Some t = ap (option_map (λ (row : ItemRow). row.item.terms)) (sym there) ∙ found in
+    let standing : Some p.row.standing ≡ Some s = ap (option_map (λ (row : ItemRow). row.standing)) (sym there) ∙ stands in
+    let fits = there_fits (tables_in db) item p.row sound p.row_there in
+    let none : length fits.bids ≡ 0 = sym fits.count ∙ p.no_bid in
+    let told : s ≡ record { start = p.row.item.terms.start; price = p.row.item.terms.start; leader = None; top = None; second = None; count = 0 } =
+    (let e : s ≡ p.row.standing = cc in e) ∙ fits.stands ∙ ap (standing_of (tables_in db).settings.bands p.row.item.terms.start) (no_bids fits.bids none) ∙ standing-none (tables_in db).settings.bands p.row.item.terms.start in
+    let start : t.start ≡ p.row.item.terms.start = (let e : t ≡ p.row.item.terms = cc in ap (λ (x : Terms). x.start) e) in
+    rw (told, start) (let e : (p.row.item.terms.start == p.row.item.terms.start) ≡ true = grind (arith, nat_tests) in rw e refl)
+  where
+    no_bids : (bids : List Bid) → length bids ≡ 0 → bids ≡ []
+    no_bids [] e = refl
+    no_bids (b ∷ bids) e = absurd (omega (arith, e))
+
+pub same_items : (old new : Database) (item : ℕ) (s : Kept) → new ≡ old → option_map (λ (row : ItemRow). row.standing) (find (is_item item) (items_in new.trees)) ≡ Some s
+    → option_map (λ (row : ItemRow). row.standing) (find (is_item item) (items_in old.trees)) ≡ Some s
+same_items old new item s same found = subst (λ (db : Database). option_map (λ (row : ItemRow). row.standing) (find (is_item item) (items_in db.trees)) ≡ Some s) same found

@@ -1,0 +1,83 @@
+-- What is handed out is of items whose rows stand.
+use Rattle.std.proofs.Common.{◌≡◌, ◌≤◌, ◌⊎◌, ℕ, Bool, true, false, not, List, [], ◌∷◌, map, filter, find, option_map, Option, Result, Ok, Err, inl, inr}
+use Rattle.std.specs.Prelude.{◌==◌, IfSome, OnOk}
+use Rattle.std.specs.List.{AllByRecursion, list_any}
+use Rattle.sqlite_trees.specs.Tree.{Trees}
+use Rattle.sqlite_keyed.proofs.ListLemmas.{all_both, all_unmap, all-filter}
+use Rattle.proxy.specs.Bids.{is_leader}
+use Rattle.settle.specs.Statement.{is_party}
+use Rattle.house_rows.specs.Changed.{is_item}
+use Rattle.house_rows.specs.Found.{sells}
+use Rattle.house_rows.specs.Keeping.{Stands}
+use Rattle.house_rows.specs.Pages.{sale_of}
+use Rattle.house_rows.specs.Tables.{ItemRow}
+use Rattle.house_rows.specs.Verdict.{was_sold}
+use Rattle.house_rows.specs.declared.item.Item.{Item}
+use Rattle.house_rows.specs.declared.item.Terms.{Terms}
+use Rattle.house_rows.proofs.Put.{by_test}
+use Rattle.store_rows.specs.ItemRows.{items_in}
+use Rattle.store_rows.specs.Tables.{tables_in}
+use Rattle.store_items.specs.RowsStanding.{RowsStand, StandsIn}
+use Rattle.store_items.proofs.PartySales.{all_kept, buyer_is}
+
+pub ok_so : {A E : Type 0} {P : Type 0} (r : Result A E) → P → OnOk r P
+ok_so (Ok a) so = so
+ok_so (Err e) so = tt
+
+-- ---- the rows that pass a test
+
+passed : {A : Type 0} (P : A → Type 0) (p : A → Bool) (xs : List A) → AllByRecursion (λ x. p x ≡ true → P x) xs → AllByRecursion P (filter p xs)
+passed P p [] told = tt
+passed P p (x ∷ xs) told =
+    let rest = passed P p xs told.1 in
+    elim (by_test (p x)) [ inl is ↦ rw is (told.0 is, rest) | inr not ↦ rw not rest ]
+
+module _ (bands : List (ℕ × ℕ)) (db : Trees) where
+  abbrev StandsRow : ItemRow → Type 0
+  StandsRow row = Stands bands row.item.terms
+
+  pub terms_stand : (test : ItemRow → Bool) (found : List Terms) → found ≡ map (λ (row : ItemRow). row.item.terms) (filter test (items_in db)) → AllByRecursion (Stands bands) found → RowsStand bands test db
+  terms_stand test found are stand = all_unmap (Stands bands) (λ (row : ItemRow). row.item.terms) (filter test (items_in db)) (rw are at stand)
+
+  pub items_stand : (test : ItemRow → Bool) (items : List Item) → items ≡ map (λ (row : ItemRow). row.item) (items_in db) → AllByRecursion (λ (it : Item). Stands bands it.terms) items → RowsStand bands test db
+  items_stand test items are stand =
+      all-filter StandsRow test (items_in db) (all_unmap (λ (it : Item). Stands bands it.terms) (λ (row : ItemRow). row.item) (items_in db) (rw are at stand))
+
+  -- those that pass the test by which items were found
+  pub found_stand : (test : ItemRow → Bool) (found : List Terms) → found ≡ map (λ (row : ItemRow). row.item.terms) (filter test (items_in db)) → AllByRecursion (Stands bands) found
+      → AllByRecursion (λ row. test row ≡ true → StandsRow row) (items_in db)
+  found_stand test found are stand = all_kept StandsRow test (items_in db) (terms_stand test found are stand)
+
+  -- ---- sales
+
+  -- who is a party to the sale of an item sells or leads it
+  party_known : (member : ℕ) (t : Terms) → 1 ≤ member → list_any (is_party member) (sale_of t) ≡ true → ((t.seller == member) ≡ true) ⊎ (is_leader t.leader member ≡ true)
+  party_known member t some is =
+      elim (by_test (was_sold t.state)) [
+        | inl sold ↦ elim (by_test (t.seller == member)) [
+          | inl mine ↦ inl mine
+          | inr other ↦ elim (by_test (is_leader t.leader member)) [
+            | inl leads ↦ inr leads
+            | inr nor ↦ absurd (let e : false ≡ true = rw (sold, other, buyer_is t.leader member some, nor) at is in cc)
+          ]
+        ]
+        | inr not ↦ absurd (let e : false ≡ true = rw not at is in cc)
+      ]
+
+  pub sales_stand : (member : ℕ) (sold led : List Terms) → 1 ≤ member → sold ≡ map (λ (row : ItemRow). row.item.terms) (filter (λ row. row.item.terms.seller == member) (items_in db))
+      → led ≡ map (λ (row : ItemRow). row.item.terms) (filter (λ row. is_leader row.item.terms.leader member) (items_in db)) → AllByRecursion (Stands bands) sold → AllByRecursion (Stands bands) led
+      → RowsStand bands (λ row. list_any (is_party member) (sale_of row.item.terms)) db
+  sales_stand member sold led some sold_is led_is one other =
+      let mine : ItemRow → Bool = λ row. row.item.terms.seller == member in
+      let leads : ItemRow → Bool = λ row. is_leader row.item.terms.leader member in
+      let party : ItemRow → Bool = λ row. list_any (is_party member) (sale_of row.item.terms) in
+      passed StandsRow party (items_in db)
+      (all_both (λ row. mine row ≡ true → StandsRow row) (λ row. leads row ≡ true → StandsRow row) (λ row. party row ≡ true → StandsRow row)
+      (λ row by_seller by_leader is. elim (party_known member row.item.terms some is) [ inl sells' ↦ by_seller sells' | inr leads' ↦ by_leader leads' ])
+      (items_in db) (found_stand mine sold sold_is one) (found_stand leads led led_is other))
+
+  -- ---- what a member has bid
+
+  pub terms_in : (item : ℕ) (terms : Option Terms) → terms ≡ option_map (λ (row : ItemRow). row.item.terms) (find (is_item item) (items_in db)) → IfSome terms (Stands bands) → StandsIn bands db item
+  unfolding tables_in
+  terms_in item terms are stand = rw are at stand

@@ -1,0 +1,113 @@
+-- What the lists of items without their texts find.
+use Rattle.std.proofs.Common.{◌≡◌, ◌==◌, ◌<◌, ◌^◌, ◌&&◌, ℕ, pos, Bool, true, List, [], ◌∷◌, map, filter, drop, Some, eqb, refl, ap, subst, ◌∙◌, inl, inr, arith, nat_le}
+use Rattle.std.specs.List.{AllByRecursion}
+use Rattle.sqlite_value.specs.declared.value.Value.{Value}
+use Rattle.sqlite_value.specs.declared.value.Value.TheVariants.{Null, Int}
+use Rattle.sqlite_value.specs.declared.keys.Collation.TheVariants.{Binary}
+use Rattle.sqlite_value.specs.Order.{Row, column}
+use Rattle.sqlite_schema.specs.Rules.{are_present, are_typed, has_computed, is_of}
+use Rattle.sqlite_schema.specs.declared.schema.Constraint.TheVariants.{Datatype, NotNull}
+use Rattle.sqlite_schema.specs.declared.schema.Kind.TheVariants as kind
+use Rattle.sqlite_catalog.specs.Listing.{IsSound}
+use Rattle.sqlite_sql.specs.declared.ops.BinaryOp.TheVariants.{Compare}
+use Rattle.sqlite_sql.specs.declared.ops.CompareOp.TheVariants.{Ge, Le}
+use Rattle.sqlite_sql.specs.Ops.{binary, is_true}
+use Rattle.sqlite_sql.specs.Program.{overlay}
+use Rattle.sqlite_sql.specs.Term.{Term}
+use Rattle.sqlite_trees.specs.View.{is_int}
+use Rattle.sqlite_keyed.proofs.ListLemmas.{all_both}
+use Rattle.sqlite_keyed.proofs.RuleLemmas.{first_of_both}
+use Rattle.sqlite.specs.Effect.{Database}
+use Rattle.sqlite.specs.State.{State, Shown}
+use Rattle.sqlite.proofs.Callers.{reads_as}
+use Rattle.proxy.specs.Bids.{is_leader}
+use Rattle.house_rows.specs.Keeping.{ItemRowFits}
+use Rattle.house_rows.specs.Items.{is_due, is_open}
+use Rattle.house_rows.specs.Tables.{ItemRow}
+use Rattle.house_rows.proofs.Put.{by_test}
+use Rattle.store_rows.specs.Schema.{house_schema, item_table}
+use Rattle.store_rows.specs.House.{IsHouse}
+use Rattle.store_rows.specs.ItemRows.{item_row_in, items_in, state_in, terms_of}
+use Rattle.store_rows.specs.Plain.{passes}
+use Rattle.store_rows.specs.Rows.{number_in}
+use Rattle.store_rows.proofs.ColumnLemmas.{holds_all}
+use Rattle.store_rows.proofs.RowLemmas.{int_if, equals_number, alone}
+use Rattle.store_rows.proofs.Select.{by_rowid, equals, in_order, listed, typed_part}
+use Rattle.store_rows.proofs.Update.{IsStrict}
+use Rattle.store_items.specs.Standing.{TermsHold}
+use Rattle.store_items.proofs.Holding.{rows_hold, terms_row}
+use Rattle.store_items.proofs.ItemMeaning.{terms_shown}
+use Rattle.store_rows.proofs.ColumnKinds.{kinds_of}
+use Rattle.store_rows.proofs.Ordered.{equals_maybe, within}
+use Rattle.store_items.proofs.TermMeaning.{AsksTerms, ended_by}
+
+-- the columns by which rows are found
+pub record IsRow (r : Row) : Type 0 where
+  pub seller : is_int (column r 2) ≡ true
+  pub ending : is_int (column r 9) ≡ true
+  pub state : is_int (column r 10) ≡ true
+  pub leader : is_of kind.Integer (column r 13) ≡ true
+
+all_strict : AllByRecursion IsStrict item_table.columns
+all_strict = ((refl, tt), ((refl, tt), ((refl, tt), ((refl, tt), ((refl, tt), ((refl, tt), ((refl, tt), ((refl, tt), ((refl, tt), ((refl, tt), ((refl, tt), ((refl, tt), ((refl, tt), ((refl, tt), ((refl, tt), ((refl, tt), tt))))))))))))))))
+
+are_rows : (db : Database) → IsHouse db → AllByRecursion IsRow (db.trees 6)
+are_rows db house =
+    let sound = subst (λ h. IsSound h db.trees) house.schema house.sound in
+    all_both _ _ IsRow one (db.trees 6) (sound.obeys.rules Datatype).1.1.1.1.0 (sound.obeys.rules NotNull).1.1.1.1.0
+  where
+    one : (r : Row) → (are_typed (Some 0) 0 item_table.columns (drop 1 r) && has_computed item_table r) ≡ true → are_present (Some 0) 0 item_table.columns r ≡ true → IsRow r
+    one r t p =
+        let typed = first_of_both (are_typed (Some 0) 0 item_table.columns (drop 1 r)) (has_computed item_table r) t in
+        let h = holds_all (Some 0) item_table.columns r all_strict typed p in
+        let kinds = kinds_of (Some 0) item_table.columns r all_strict typed in
+        let seller = h.1.0 refl refl in
+        let rest = h.1.1.1.1.1.1.1.1 in
+        let ending = rest.0 refl refl in
+        let state = rest.1.0 refl refl in
+        record {
+          seller = int_if (column r 2) seller.0 seller.1;
+          ending = int_if (column r 9) ending.0 ending.1;
+          state = int_if (column r 10) state.0 state.1;
+          leader = kinds.1.1.1.1.1.1.1.1.1.1.1.1.0 refl;
+        }
+
+module _ (sql : List ℕ) (test : List Term) (is : AsksTerms sql test) (params : Row) (old new : State) (answer : List Row) (house : IsHouse old.now) (h : Shown sql params old new answer) where
+  -- a query that keeps some of the items
+  pub terms_found : (keep : ItemRow → Bool) → ((r : Row) → IsRow r → passes test params r ≡ keep (item_row_in r))
+      → map terms_of answer ≡ map (λ (row : ItemRow). row.item.terms) (filter keep (items_in old.now.trees))
+  terms_found keep tests =
+      let rows = old.now.trees 6 in
+      let read = reads_as sql params old new house_schema house.schema _ is.0 is.2 is.1 answer h in
+      let order = in_order test terms_shown params rows answer house.shaped.1.1.1.1.0.0 (listed 6 test terms_shown by_rowid (overlay old.now.trees []) params answer (read.answer Null)) in
+      typed_part terms_of item_row_in (λ (row : ItemRow). row.item.terms) keep IsRow test terms_shown params rows answer (λ r. refl) tests (are_rows old.now house) order
+
+  pub terms_held : (bands : List (ℕ × ℕ)) → AllByRecursion (ItemRowFits bands) (items_in old.now.trees) → AllByRecursion (TermsHold bands) answer
+  terms_held bands fit =
+      let read = reads_as sql params old new house_schema house.schema _ is.0 is.2 is.1 answer h in
+      let order = in_order test terms_shown params (old.now.trees 6) answer house.shaped.1.1.1.1.0.0 (listed 6 test terms_shown by_rowid (overlay old.now.trees []) params answer (read.answer Null)) in
+      rows_hold bands (TermsHold bands) terms_shown test params (old.now.trees 6) answer (terms_row bands params) order fit
+
+-- ---- the tests
+
+pub seller_test : (seller : ℕ) → seller < 2 ^ 32 → (r : Row) → IsRow r → passes (equals 2 ∷ []) (Int (pos seller) ∷ []) r ≡ ((item_row_in r).item.terms.seller == seller)
+seller_test seller low r is = rw (equals_number (column r 2) seller is.seller low) (alone _)
+
+pub leader_test : (member : ℕ) → member < 2 ^ 32 → (r : Row) → IsRow r → passes (equals 13 ∷ []) (Int (pos member) ∷ []) r ≡ is_leader (item_row_in r).item.terms.leader member
+leader_test member low r is = rw (equals_maybe (column r 13) member is.leader low) (alone _)
+
+open_state : (v : Value) → eqb (number_in v) 0 ≡ is_open (state_in v)
+open_state v =
+    elim (by_test (number_in v == 0)) [
+      | inl is ↦ rw is refl
+      | inr not ↦ rw not (elim (by_test (number_in v == 1)) [
+        | inl one ↦ rw one refl
+        | inr other ↦ rw other (elim (by_test (number_in v == 2)) [ inl two ↦ rw two refl | inr more ↦ rw more refl ])
+      ])
+    ]
+
+pub due_test : (moment : ℕ) → moment < 2 ^ 32 → (r : Row) → IsRow r → passes ended_by (Int (pos moment) ∷ []) r ≡ is_due moment (item_row_in r).item.terms
+due_test moment low r is =
+    rw (equals_number (column r 10) 0 is.state (omega arith))
+    (ap (λ b. eqb (number_in (column r 10)) 0 && b) (ap (λ b. is_true (binary (Compare Ge Binary) (column r 9) (Int (pos 0))) && b) (alone (is_true (binary (Compare Le Binary) (column r 9) (Int (pos moment))))) ∙ within (column r 9) moment is.ending low)
+    ∙ ap (λ b. b && nat_le (number_in (column r 9)) moment) (open_state (column r 10)))

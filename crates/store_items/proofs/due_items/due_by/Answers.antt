@@ -1,0 +1,23 @@
+use Rattle.std.proofs.Common.{◌≡◌, ◌∙◌, ap, not, rules}
+use Rattle.sqlite.specs.Held.{state}
+use Rattle.house_rows.specs.History.{counted}
+use Rattle.house_rows.specs.Items.{close_sells, is_due}
+use Rattle.store_items.proofs.Counted.{due_terms_are}
+use Rattle.store_rows.proofs.Sound.{rows_fit}
+use Rattle.store_items.proofs.RowsStanding.{terms_stand}
+use Rattle.store_items.proofs.due_items.due_by.Goals as goal
+
+pub returns-in_err-due-clause-damaged : goal.returns-in_err-due-clause-damaged
+returns-in_err-due-clause-damaged g c clean sound is = c.in_err-due.ensures.damaged clean (rows_fit (state g.S.Store c.args.conn.now).now.trees c.args.bands.now sound) (search rules)
+
+pub returns-clause-value : goal.returns-clause-value
+returns-clause-value g c clean =
+    let due = c.in_ok-due.due.items in
+    let same : c.deref.result.now ≡ due = search rules in
+    due_terms_are (state g.S.Store c.args.conn.now).now.trees c.args.moment due (c.in_ok-due.ensures.terms clean) c.counts_of.result
+    (c.counts_of.ensures.sold ∙ ap (counted (λ t. close_sells t.leader)) same)
+    (c.counts_of.ensures.unsold ∙ ap (counted (λ t. not (close_sells t.leader))) same)
+
+pub returns-clause-stands : goal.returns-clause-stands
+returns-clause-stands g c clean =
+    terms_stand c.args.bands.now (state g.S.Store c.args.conn.now).now.trees (λ row. is_due c.args.moment row.item.terms) c.in_ok-due.due.items (c.in_ok-due.ensures.terms clean) c.in_ok-due.ensures.stands

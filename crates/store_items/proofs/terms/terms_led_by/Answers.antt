@@ -1,0 +1,33 @@
+use Rattle.std.proofs.Common.{◌≡◌, ◌<◌, ◌^◌, ◌∙◌, [], ◌∷◌, pos, ap, sym, subst, arith, rules, map}
+use Rattle.std.specs.List.{AllByRecursion}
+use Rattle.sqlite_value.specs.declared.value.Value.TheVariants.{Int}
+use Rattle.sqlite.specs.Held.{state}
+use Rattle.proxy.specs.Bids.{is_leader}
+use Rattle.store_rows.proofs.Select.{equals}
+use Rattle.store_rows.specs.ItemRows.{terms_of}
+use Rattle.store_rows.proofs.StateLemmas.{ok_then}
+use Rattle.store_items.specs.Standing.{TermsHold}
+use Rattle.store_items.proofs.TermMeaning.{terms_led_by_is, terms_led_by_text}
+use Rattle.store_items.proofs.TermFinds.{leader_test, terms_found, terms_held}
+use Rattle.store_items.proofs.terms.terms_led_by.Goals as goal
+
+pub rows_shown-requires-clause-plain : goal.rows_shown-requires-clause-plain
+rows_shown-requires-clause-plain g c = terms_led_by_is.2
+
+pub returns-clause-terms : goal.returns-clause-terms
+returns-clause-terms g c clean =
+    let low : c.args.member < 2 ^ 32 = omega (arith, c.ranges.member) in
+    let items = c.in_ok-rows.rows.items in
+    let same : c.deref.result.now ≡ items = search rules in
+    let shown = rw c.params-to_sql.ensures at (c.in_ok-rows.ensures.rows clean) in
+    ok_then c.terms_list.result c.terms_list.ensures.value (λ _ e. e ∙ ap (map terms_of) same
+    ∙ terms_found terms_led_by_text (equals 13 ∷ []) terms_led_by_is (Int (pos c.args.member) ∷ []) (state g.S.Store c.args.conn.now) (state g.S.Store c.rows_shown.new.conn) items (c.rows_shown.ensures.house clean) shown (λ row. is_leader row.item.terms.leader c.args.member) (leader_test c.args.member low))
+
+pub returns-clause-damaged : goal.returns-clause-damaged
+returns-clause-damaged g c clean fits =
+    let low : c.args.member < 2 ^ 32 = omega (arith, c.ranges.member) in
+    let items = c.in_ok-rows.rows.items in
+    let same : c.deref.result.now ≡ items = search rules in
+    let shown = rw c.params-to_sql.ensures at (c.in_ok-rows.ensures.rows clean) in
+    c.terms_list.ensures.damaged (subst (AllByRecursion (TermsHold c.args.bands.now)) (sym same)
+    (terms_held terms_led_by_text (equals 13 ∷ []) terms_led_by_is (Int (pos c.args.member) ∷ []) (state g.S.Store c.args.conn.now) (state g.S.Store c.rows_shown.new.conn) items (c.rows_shown.ensures.house clean) shown c.args.bands.now fits))

@@ -1,0 +1,112 @@
+//! A purchase at once.
+ghost use Rattle.std.specs.Prelude.{◌≡◌, ◌==◌, ◌&&◌, ℕ, false, is_some, not, OnOk, IsErrOf};
+ghost use Rattle.sqlite.specs.State.{HasCleanDisk};
+ghost use Rattle.sqlite.specs.Held.{state};
+ghost use Rattle.house_rows.specs.Asks.{ChangeFits, IsFree, PurchaseFits};
+ghost use Rattle.house_rows.specs.Keeping.{AreSound};
+ghost use Rattle.house_rows.specs.declared.change.Change.TheVariants.{Buy};
+ghost use Rattle.house_rows.specs.declared.fault.KeepFault.TheVariants.{Damaged};
+ghost use Rattle.store_rows.specs.House.{IsBegun, Serves};
+ghost use Rattle.store_items.specs.Items.{OfItem};
+ghost use Rattle.store_rows.specs.Tables.{Changes, IsNumbered, Rests, settings_in, tables_in};
+ghost use Rattle.store_items.specs.Sales.{IsUnbid};
+ghost use Rattle.store_rows.specs.Frames.{OnlyReads, WritesMany};
+ghost use Rattle.store_rows.specs.Commits.{Commits};
+
+use crate::item::set_bought;
+use crate::looking::{standing_there, terms_there};
+use cents::Cents;
+use house_rows::{KeepFault, Terms};
+use proxy::Standing;
+use sqlite::{Alter, Connection, Transaction};
+use steps::Bands;
+use store_rows::{commit, set_clock, stored_moment};
+
+// Whether nobody has bid. Of an item that was bought the standing is that of no bids, too.
+fn is_unbid(terms: &Terms, standing: &Standing) -> bool
+    ensures { result ≡ ((standing.now.price == terms.now.start)
+        && not (is_some standing.now.leader) && not (is_some standing.now.top)) }
+{
+    standing.price() == terms.start && standing.leader().is_none() && standing.top().is_none()
+}
+
+// Whether nobody has bid on an item; Damaged where somebody has.
+fn check_unbid<S: Alter>(
+    conn: &mut Connection<S>,
+    bands: &Bands,
+    item: u32,
+) -> Result<(), KeepFault>
+    requires { Serves (state S.Store conn.old) }
+    ensures unbid { HasCleanDisk (state S.Store conn.new)
+        → OnOk result (OfItem item IsUnbid (state S.Store conn.old).now) }
+    ensures damaged { HasCleanDisk (state S.Store conn.new)
+        → AreSound (tables_in (state S.Store conn.old).now.trees)
+        → bands.now ≡ (settings_in (state S.Store conn.old).now.trees).bands
+        → (moment buyer price : ℕ)
+        → PurchaseFits (tables_in (state S.Store conn.old).now.trees) moment item buyer price
+        → ¬ (IsErrOf result Damaged) }
+    ensures read { OnlyReads (state S.Store conn.old) (state S.Store conn.new) result }
+{
+    let terms = terms_there(conn, bands, item)?;
+    let standing = standing_there(conn, bands, item)?;
+    if is_unbid(&terms, &standing) {
+        Ok(())
+    } else {
+        Err(KeepFault::Damaged)
+    }
+}
+
+// Sells the item at once and sets the clock, within a transaction.
+fn write_purchase<S: Alter>(
+    tx: &mut Transaction<'_, S>,
+    moment: u32,
+    item: u32,
+    buyer: u32,
+    price: Cents,
+) -> Result<(), KeepFault>
+    requires begun { IsBegun (state S.Store tx.old.conn.now) }
+    requires numbered { HasCleanDisk (state S.Store tx.old.conn.now)
+        → IsNumbered (state S.Store tx.old.conn.now).now.trees }
+    requires fits { HasCleanDisk (state S.Store tx.old.conn.now)
+        → OfItem item (IsUnbid) (state S.Store tx.old.conn.now).now }
+    ensures same_reference { tx.new.conn.ghost_name ≡ tx.old.conn.ghost_name }
+    ensures ok { HasCleanDisk (state S.Store tx.new.conn.now)
+        → OnOk result (Changes (Buy moment item buyer price) (state S.Store tx.old.conn.now).now
+        (state S.Store tx.new.conn.now).now) }
+    ensures sound { ¬ (IsErrOf result Damaged) }
+    ensures write { WritesMany (state S.Store tx.old.conn.now)
+        (state S.Store tx.new.conn.now) result }
+{
+    set_bought(tx, item, buyer, price, moment)?;
+    set_clock(tx, moment)
+}
+
+/// Sells an item at once for its buy-now price. The moment is in seconds since
+/// 1970-01-01T00:00:00Z, the bands are those of the house. Damaged where there is no such item,
+/// where somebody has bid on it, or where its row or the moment doesn't fit.
+pub fn buy<S: Alter>(
+    conn: &mut Connection<S>,
+    bands: &Bands,
+    moment: u64,
+    item: u32,
+    buyer: u32,
+    price: Cents,
+) -> Result<(), KeepFault>
+    requires rests { Rests (state S.Store conn.old) }
+    requires mode { conn.old.in_transaction ≡ false }
+    requires bands { HasCleanDisk (state S.Store conn.old)
+        → bands.now ≡ (settings_in (state S.Store conn.old).now.trees).bands }
+    ensures commit { Commits (Buy moment item buyer price) (state S.Store conn.old)
+        (state S.Store conn.new) result }
+    ensures damaged { HasCleanDisk (state S.Store conn.new)
+        → AreSound (tables_in (state S.Store conn.old).now.trees)
+        → ChangeFits (tables_in (state S.Store conn.old).now.trees) (Buy moment item buyer price)
+        → IsFree (tables_in (state S.Store conn.old).now.trees) (Buy moment item buyer price)
+        → ¬ (IsErrOf result Damaged) }
+{
+    let moment = stored_moment(moment)?;
+    check_unbid(conn, bands, item)?;
+    let mut tx = conn.transaction();
+    write_purchase(&mut tx, moment, item, buyer, price)?;
+    commit(tx)
+}

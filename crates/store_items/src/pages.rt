@@ -1,0 +1,80 @@
+//! Lists of items.
+ghost use Rattle.std.specs.Prelude.{◌≡◌, ◌==◌, ◌&&◌, filter, map, nat_le, take, IfOk, IsErrOf};
+ghost use Rattle.std.specs.List.{AllByRecursion};
+ghost use Rattle.house_rows.specs.Fits.{ItemFits};
+ghost use Rattle.house_rows.specs.Found.{items_in};
+ghost use Rattle.house_rows.specs.Keeping.{ItemRowFits, Stands};
+ghost use Rattle.house_rows.specs.Limits.{most_shown};
+ghost use Rattle.house_rows.specs.Tables.{ItemRow};
+ghost use Rattle.house_rows.specs.declared.fault.KeepFault.TheVariants.{Damaged};
+ghost use Rattle.sqlite.specs.State.{HasCleanDisk};
+ghost use Rattle.sqlite.specs.Held.{state};
+ghost use Rattle.store_rows.specs.House.{Serves};
+ghost use Rattle.store_rows.specs.ItemRows as stored;
+ghost use Rattle.store_rows.specs.Tables.{tables_in};
+ghost use Rattle.store_rows.specs.Frames.{OnlyReads};
+
+use crate::reads::item_list;
+use house_rows::{Item, KeepFault};
+use sqlite::{Alter, Connection, params};
+use std::alloc::Global;
+use steps::Bands;
+use store_rows::{bound_of, page_rows};
+
+// The items of a category, from a number on; at most fifty.
+fn items_from<S: Alter>(
+    alloc: Global,
+    conn: &mut Connection<S>,
+    bands: &Bands,
+    category: u32,
+    from: u32,
+) -> Result<Vec<Item>, KeepFault>
+    requires { Serves (state S.Store conn.old) }
+    ensures items { HasCleanDisk (state S.Store conn.new)
+        → IfOk result (λ items. items.items ≡ take most_shown
+        (filter (λ it. (it.terms.category == category) && nat_le from it.terms.item)
+        (map (λ (row : ItemRow). row.item) (stored.items_in
+        (state S.Store conn.old).now.trees)))) }
+    ensures fits { IfOk result (λ items. AllByRecursion ItemFits items.items) }
+    ensures stands { IfOk result (λ items. AllByRecursion
+        (λ it. Stands bands.now it.terms) items.items) }
+    ensures damaged { HasCleanDisk (state S.Store conn.new)
+        → AllByRecursion (ItemRowFits bands.now)
+        (stored.items_in (state S.Store conn.old).now.trees)
+        → ¬ (IsErrOf result Damaged) }
+    ensures read { OnlyReads (state S.Store conn.old) (state S.Store conn.new) result }
+{
+    let rows = page_rows(
+        alloc,
+        conn,
+        "SELECT id FROM item WHERE category = ?1 AND id < 0 ORDER BY id",
+        params![category],
+        "SELECT id, seller, category, start, buy_now, ending, state, closed, price, leader, count, lot, title, body, top, second FROM item WHERE category = ?1 AND id >= ?2 ORDER BY id",
+        params![category, from],
+    )?;
+    item_list(alloc, bands, &rows)
+}
+
+/// The items of a category, from a number on; at most fifty.
+pub fn items_in<S: Alter>(
+    alloc: Global,
+    conn: &mut Connection<S>,
+    bands: &Bands,
+    category: u32,
+    from: u64,
+) -> Result<Vec<Item>, KeepFault>
+    requires { Serves (state S.Store conn.old) }
+    ensures items { HasCleanDisk (state S.Store conn.new)
+        → IfOk result (λ items. items.items ≡ items_in
+        (tables_in (state S.Store conn.old).now.trees) category from) }
+    ensures fits { IfOk result (λ items. AllByRecursion ItemFits items.items) }
+    ensures stands { IfOk result (λ items. AllByRecursion
+        (λ it. Stands bands.now it.terms) items.items) }
+    ensures damaged { HasCleanDisk (state S.Store conn.new)
+        → AllByRecursion (ItemRowFits bands.now)
+        (stored.items_in (state S.Store conn.old).now.trees)
+        → ¬ (IsErrOf result Damaged) }
+    ensures read { OnlyReads (state S.Store conn.old) (state S.Store conn.new) result }
+{
+    items_from(alloc, conn, bands, category, bound_of(from))
+}

@@ -1,0 +1,104 @@
+//! Items without their texts, by number.
+ghost use Rattle.std.specs.Prelude.{◌≡◌, ◌==◌, filter, map, IfOk, IsErrOf};
+ghost use Rattle.std.specs.List.{AllByRecursion};
+ghost use Rattle.sqlite.specs.State.{HasCleanDisk};
+ghost use Rattle.sqlite.specs.Held.{state};
+ghost use Rattle.proxy.specs.Bids.{is_leader};
+ghost use Rattle.house_rows.specs.Fits.{TermsFit};
+ghost use Rattle.house_rows.specs.Items.{is_due};
+ghost use Rattle.house_rows.specs.Keeping.{ItemRowFits, Stands};
+ghost use Rattle.house_rows.specs.Tables.{ItemRow};
+ghost use Rattle.house_rows.specs.declared.fault.KeepFault.TheVariants.{Damaged};
+ghost use Rattle.store_rows.specs.House.{Serves};
+ghost use Rattle.store_rows.specs.ItemRows.{items_in};
+ghost use Rattle.store_rows.specs.Frames.{OnlyReads};
+
+use crate::reads::terms_list;
+use house_rows::{KeepFault, Terms};
+use sqlite::{Alter, Connection, params};
+use std::alloc::Global;
+use steps::Bands;
+use store_rows::rows_shown;
+
+/// The items that a member sells, without their texts.
+pub fn terms_of_seller<S: Alter>(
+    alloc: Global,
+    conn: &mut Connection<S>,
+    bands: &Bands,
+    seller: u32,
+) -> Result<Vec<Terms>, KeepFault>
+    requires { Serves (state S.Store conn.old) }
+    ensures terms { HasCleanDisk (state S.Store conn.new)
+        → IfOk result (λ terms. terms.items ≡ map (λ (row : ItemRow). row.item.terms)
+        (filter (λ row. row.item.terms.seller == seller)
+        (items_in (state S.Store conn.old).now.trees))) }
+    ensures fits { IfOk result (λ terms. AllByRecursion TermsFit terms.items) }
+    ensures stands { IfOk result (λ terms. AllByRecursion (Stands bands.now) terms.items) }
+    ensures damaged { HasCleanDisk (state S.Store conn.new)
+        → AllByRecursion (ItemRowFits bands.now) (items_in (state S.Store conn.old).now.trees)
+        → ¬ (IsErrOf result Damaged) }
+    ensures read { OnlyReads (state S.Store conn.old) (state S.Store conn.new) result }
+{
+    let rows = rows_shown(
+        conn,
+        "SELECT id, seller, category, start, buy_now, ending, state, closed, price, leader, count, top, second FROM item WHERE seller = ?1 ORDER BY id",
+        params![seller],
+    )?;
+    terms_list(alloc, bands, &rows)
+}
+
+/// The items that a member leads, or has bought, without their texts.
+pub(crate) fn terms_led_by<S: Alter>(
+    alloc: Global,
+    conn: &mut Connection<S>,
+    bands: &Bands,
+    member: u32,
+) -> Result<Vec<Terms>, KeepFault>
+    requires { Serves (state S.Store conn.old) }
+    ensures terms { HasCleanDisk (state S.Store conn.new)
+        → IfOk result (λ terms. terms.items ≡ map (λ (row : ItemRow). row.item.terms)
+        (filter (λ row. is_leader row.item.terms.leader member)
+        (items_in (state S.Store conn.old).now.trees))) }
+    ensures fits { IfOk result (λ terms. AllByRecursion TermsFit terms.items) }
+    ensures stands { IfOk result (λ terms. AllByRecursion (Stands bands.now) terms.items) }
+    ensures damaged { HasCleanDisk (state S.Store conn.new)
+        → AllByRecursion (ItemRowFits bands.now) (items_in (state S.Store conn.old).now.trees)
+        → ¬ (IsErrOf result Damaged) }
+    ensures read { OnlyReads (state S.Store conn.old) (state S.Store conn.new) result }
+{
+    let rows = rows_shown(
+        conn,
+        "SELECT id, seller, category, start, buy_now, ending, state, closed, price, leader, count, top, second FROM item WHERE leader = ?1 ORDER BY id",
+        params![member],
+    )?;
+    terms_list(alloc, bands, &rows)
+}
+
+/// The open items whose end is at or before a moment, without their texts. The moment is in seconds
+/// since 1970-01-01T00:00:00Z.
+pub(crate) fn due_terms<S: Alter>(
+    alloc: Global,
+    conn: &mut Connection<S>,
+    bands: &Bands,
+    moment: u32,
+) -> Result<Vec<Terms>, KeepFault>
+    requires { Serves (state S.Store conn.old) }
+    ensures terms { HasCleanDisk (state S.Store conn.new)
+        → IfOk result (λ terms. terms.items ≡ map (λ (row : ItemRow). row.item.terms)
+        (filter (λ row. is_due moment row.item.terms)
+        (items_in (state S.Store conn.old).now.trees))) }
+    ensures fits { IfOk result (λ terms. AllByRecursion TermsFit terms.items) }
+    ensures stands { IfOk result (λ terms. AllByRecursion (Stands bands.now) terms.items) }
+    ensures damaged { HasCleanDisk (state S.Store conn.new)
+        → AllByRecursion (ItemRowFits bands.now) (items_in (state S.Store conn.old).now.trees)
+        → ¬ (IsErrOf result Damaged) }
+    ensures read { OnlyReads (state S.Store conn.old) (state S.Store conn.new) result }
+{
+    // An end below 0 is none of ours, so it never comes.
+    let rows = rows_shown(
+        conn,
+        "SELECT id, seller, category, start, buy_now, ending, state, closed, price, leader, count, top, second FROM item WHERE state = 0 AND ending >= 0 AND ending <= ?1 ORDER BY id",
+        params![moment],
+    )?;
+    terms_list(alloc, bands, &rows)
+}

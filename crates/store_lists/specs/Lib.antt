@@ -1,3 +1,0 @@
-pub mod Sorted
-pub mod Tables
-pub mod Commits

@@ -1,0 +1,9 @@
+pub mod CategoryMeaning
+pub mod CategoryLemmas
+pub mod CountMeaning
+pub mod CountLemmas
+pub mod FindMeaning
+pub mod MemberMeaning
+pub mod MemberLemmas
+pub mod PeopleFinds
+pub mod Written

@@ -1,0 +1,54 @@
+-- What a new clock leaves of a numbered house.
+use Rattle.std.proofs.Common.{◌≡◌, ℕ, true, List, [], ◌∷◌, map, find, Option, Some, None, refl, ap, ◌∙◌, inl, inr, arith}
+use Rattle.std.specs.Prelude.{◌==◌, is_some, option_map, unwrap_or}
+use Rattle.sqlite.specs.Effect.{Database}
+use Rattle.house_rows.specs.Tables.{Tables}
+use Rattle.house_rows.proofs.Put.{by_test}
+use Rattle.store_rows.specs.House.{SetsClock, with_clock}
+use Rattle.store_rows.specs.Rows.{houses_in}
+use Rattle.store_rows.specs.declared.house.HouseRow.{HouseRow}
+use Rattle.store_rows.specs.Tables.{IsNumbered, house_row_in, settings_in, tables_in}
+
+-- a numbered house with these tables
+pub record Holds (t : Tables) (db : Database) : Type 0 where
+  pub tables : tables_in db.trees ≡ t
+  pub numbered : IsNumbered db.trees
+
+abbrev at_moment : ℕ → HouseRow → HouseRow
+at_moment moment h = record h { clock = moment }
+
+-- the row of the house is found with the new clock
+found_with_clock : (moment : ℕ) (rows : List HouseRow) → find (λ h. h.id == 1) (map (with_clock moment) rows) ≡ option_map (at_moment moment) (find (λ h. h.id == 1) rows)
+found_with_clock moment [] = refl
+found_with_clock moment (h ∷ rows) = elim (by_test (h.id == 1)) [ inl is ↦ rw (is, is) refl | inr not ↦ rw (not, not) (found_with_clock moment rows) ]
+
+unwrapped : (moment : ℕ) (found : Option HouseRow) (none : HouseRow) → is_some found ≡ true → unwrap_or (option_map (at_moment moment) found) none ≡ record (unwrap_or found none) { clock = moment }
+unwrapped moment None none h = absurd cc
+unwrapped moment (Some row) none h = refl
+
+still_some : (moment : ℕ) (found : Option HouseRow) → is_some found ≡ true → is_some (option_map (at_moment moment) found) ≡ true
+still_some moment None h = h
+still_some moment (Some row) h = h
+
+pub clock_set : (moment : ℕ) (old new : Database) → IsNumbered old.trees → SetsClock moment old new → Holds (record (tables_in old.trees) { clock = moment }) new
+unfolding house_row_in settings_in tables_in
+clock_set moment old new was w =
+    let found = ap (find (λ h. h.id == 1)) w.houses ∙ found_with_clock moment (houses_in old.trees) in
+    let row = ap (λ o. unwrap_or o (record { id = 0; version = 0; clock = 0; rate = 0; zone = [] })) found ∙ unwrapped moment (find (λ h. h.id == 1) (houses_in old.trees)) _ was.house in
+    let b : new.trees 1 ≡ old.trees 1 = w.others.1.0 (λ e. omega (arith, e)) in
+    let m : new.trees 2 ≡ old.trees 2 = w.others.1.1.0 (λ e. omega (arith, e)) in
+    let k : new.trees 4 ≡ old.trees 4 = w.others.1.1.1.0 (λ e. omega (arith, e)) in
+    let i : new.trees 6 ≡ old.trees 6 = w.others.1.1.1.1.0 (λ e. omega (arith, e)) in
+    let d : new.trees 8 ≡ old.trees 8 = w.others.1.1.1.1.1.0 (λ e. omega (arith, e)) in
+    let v : new.trees 10 ≡ old.trees 10 = w.others.1.1.1.1.1.1.0 (λ e. omega (arith, e)) in
+    let q : new.trees 12 ≡ old.trees 12 = w.others.1.1.1.1.1.1.1.0 (λ e. omega (arith, e)) in
+    let f : new.trees 14 ≡ old.trees 14 = w.others.1.1.1.1.1.1.1.1.0 (λ e. omega (arith, e)) in
+    record {
+      tables = rw (b, m, k, i, d, v, q, f, row) refl;
+      numbered = record {
+        house = ap is_some found ∙ still_some moment (find (λ h. h.id == 1) (houses_in old.trees)) was.house;
+        members = rw m was.members;
+        categories = rw k was.categories;
+        items = rw i was.items;
+      };
+    }

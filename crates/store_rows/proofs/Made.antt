@@ -1,0 +1,66 @@
+-- What a write makes of the tables in the order of their keys, and that the house stays numbered.
+use Rattle.std.proofs.Common.{◌≡◌, ◌≤◌, ◌<◌, ◌+◌, ℕ, eqb, false, List, [], ◌∷◌, ◌++◌, length, refl, ap, ◌∙◌, arith, length-append}
+use Rattle.std.specs.Prelude.{All}
+use Rattle.std.proofs.lemmas.List.Elements.{All-push, All-weaker}
+use Rattle.sqlite.specs.Effect.{Database}
+use Rattle.house_rows.specs.Tables.{Tables}
+use Rattle.store_rows.specs.House.{IsHouse, KeepsOthers, SetsClock}
+use Rattle.store_rows.specs.Tables.{IsNumbered, house_row_in, settings_in, tables_in}
+use Rattle.store_rows.specs.Sorted.{sorted_bids, sorted_feedback, sorted_questions, sorted_watches}
+use Rattle.store_rows.proofs.Clock.{clock_set}
+
+-- the house that a write leaves, and its tables
+pub record Makes (make : Tables → Tables) (old new : Database) : Type 0 where
+  pub house : IsHouse new
+  pub numbered : IsNumbered new.trees
+  pub tables : tables_in new.trees ≡ make (tables_in old.trees)
+
+-- one write after another
+pub makes_both : (f g : Tables → Tables) (old mid new : Database) → Makes f old mid → Makes g mid new → Makes (λ t. g (f t)) old new
+makes_both f g old mid new one two = record {
+  house = two.house;
+  numbered = two.numbered;
+  tables = two.tables ∙ ap g one.tables;
+}
+
+pub other : (a b : ℕ) → eqb a b ≡ false → a ≡ b → ⊥
+other a b h e = absurd (grind arith)
+
+-- ---- rows in number
+
+-- rows with the next number
+module _ {A : Type 0} (number : A → ℕ) (xs : List A) (x : A) (next : number x ≡ length xs + 1) (all : All (λ a. number a ≤ length xs) xs) where
+  pub all_below : All (λ a. number a < number x) xs
+  all_below = All-weaker (λ a. number a ≤ length xs) (λ a. number a < number x) (λ a h. omega arith) xs all
+
+  pub still_numbered : All (λ a. number a ≤ length (xs ++ x ∷ [])) (xs ++ x ∷ [])
+  still_numbered =
+      let more = length-append xs (x ∷ []) in
+      let old = All-weaker (λ a. number a ≤ length xs) (λ a. number a ≤ length (xs ++ x ∷ [])) (λ a h. omega arith) xs all in
+      All-push (λ a. number a ≤ length (xs ++ x ∷ [])) xs x old (omega arith)
+
+-- ---- the clock
+
+pub sets_clock : (moment : ℕ) (old new : Database) → IsNumbered old.trees → SetsClock moment old new → Makes (λ t. record t { clock = moment }) old new
+sets_clock moment old new was w = let it = clock_set moment old new was w in record { house = w.house; numbered = it.numbered; tables = it.tables }
+
+-- ---- the tables of what members do, which no number counts
+
+module _ (tree : ℕ) (old new : Database) (over : 6 < tree) (was : IsNumbered old.trees) (others : KeepsOthers tree old new) where
+  pub stays_numbered : IsNumbered new.trees
+  stays_numbered =
+      let h = others.0 (λ e. absurd (omega arith)) in
+      let m = others.1.1.0 (λ e. absurd (omega arith)) in
+      let k = others.1.1.1.0 (λ e. absurd (omega arith)) in
+      let i = others.1.1.1.1.0 (λ e. absurd (omega arith)) in
+      record { house = rw h was.house; members = rw m was.members; categories = rw k was.categories; items = rw i was.items }
+
+  pub same_people : tables_in new.trees ≡ record (tables_in old.trees) { bids = sorted_bids new.trees; watches = sorted_watches new.trees; questions = sorted_questions new.trees; feedback = sorted_feedback new.trees }
+  unfolding house_row_in settings_in tables_in
+  same_people =
+      let h = others.0 (λ e. absurd (omega arith)) in
+      let b = others.1.0 (λ e. absurd (omega arith)) in
+      let m = others.1.1.0 (λ e. absurd (omega arith)) in
+      let k = others.1.1.1.0 (λ e. absurd (omega arith)) in
+      let i = others.1.1.1.1.0 (λ e. absurd (omega arith)) in
+      rw (h, b, m, k, i) refl

@@ -1,4 +1,0 @@
-pub mod Written
-pub mod Rows
-pub mod Sold
-pub mod Closed

@@ -1,0 +1,17 @@
+pub mod TalkMeaning
+pub mod TalkReads
+pub mod AnswerLemmas
+pub mod Counted
+pub mod FindMeaning
+pub mod FeedbackFinds
+pub mod FeedbackLists
+pub mod FeedbackPages
+pub mod QuestionFinds
+pub mod QuestionMeaning
+pub mod QuestionLists
+pub mod QuestionPages
+pub mod SortedTalk
+pub mod TalkLemmas
+pub mod WaitingItems
+pub mod WaitingStanding
+pub mod Written

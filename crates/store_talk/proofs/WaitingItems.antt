@@ -1,0 +1,55 @@
+-- The questions on a member's own items are those that wait for its answer.
+use Rattle.std.proofs.Common.{◌≡◌, ◌<◌, ◌^◌, ℕ, Bool, true, false, not, ◌&&◌, List, [], ◌∷◌, map, filter, flat_map, find, refl, ap, sym, ◌∙◌, arith, Option, Some, None}
+use Rattle.std.specs.Prelude.{◌==◌, is_some}
+use Rattle.std.specs.List.{AllByRecursion, list_any}
+use Rattle.sqlite_keyed.proofs.ListLemmas.{all_weaker, all_unmap, ascending-filter, filter_same, flat_map-map, map-map}
+use Rattle.sqlite.specs.Effect.{Database}
+use Rattle.house_rows.specs.Changed.{is_item}
+use Rattle.house_rows.specs.Fits.{TermsFit}
+use Rattle.house_rows.specs.Found.{sells, waiting_for}
+use Rattle.house_rows.specs.Tables.{ItemRow}
+use Rattle.house_rows.specs.declared.item.Terms.{Terms}
+use Rattle.house_rows.specs.declared.talk.Question.{Question}
+use Rattle.store_rows.specs.House.{IsHouse}
+use Rattle.store_rows.specs.ItemRows.{items_in}
+use Rattle.store_rows.specs.Sorted.{sorted_questions}
+use Rattle.store_rows.specs.Tables.{tables_in}
+use Rattle.store_talk.proofs.SortedTalk.{waiting_grouped}
+use Rattle.store_rows.specs.Joined.{found_of}
+use Rattle.store_talk.specs.Waiting.{waiting_in}
+use Rattle.store_items.proofs.ItemRising.{items_rise, number_of}
+use Rattle.store_rows.proofs.Joined.{IsBelow, first_passes, numbers_rise}
+
+-- whether a row that was found is sold by a member
+found_sells : (member : ℕ) (found : Option ItemRow) → list_any (λ row. row.item.terms.seller == member) (found_of found) ≡ sells found member
+found_sells member None = refl
+found_sells member (Some row) = either (row.item.terms.seller == member)
+  where
+    either : (b : Bool) → list_any (λ x. x) (b ∷ []) ≡ b
+    either true = refl
+    either false = refl
+
+both_turned : (a b d : Bool) → a ≡ d → (a && b) ≡ (b && d)
+both_turned true true d e = e
+both_turned true false d e = refl
+both_turned false true d e = e
+both_turned false false d e = refl
+
+pub waiting_found : (db : Database) (member : ℕ) (own : List Terms) → IsHouse db → own ≡ map (λ (row : ItemRow). row.item.terms) (filter (λ row. row.item.terms.seller == member) (items_in db.trees)) → AllByRecursion TermsFit own
+    → flat_map (λ (t : Terms). waiting_in db.trees t.item) own ≡ waiting_for (tables_in db.trees) member
+unfolding tables_in
+waiting_found db member own house are fits =
+    let rows = items_in db.trees in
+    let mine : ItemRow → Bool = λ row. row.item.terms.seller == member in
+    let part = λ (row : ItemRow). row.item.terms in
+    let number = λ (t : Terms). t.item in
+    let numbers : List ℕ = map number_of (filter mine rows) in
+    let rise = items_rise db house in
+    let low = all_weaker (λ row. TermsFit (part row)) (λ row. number_of row < 2 ^ 64) (λ row fit. omega (arith, fit.item.1)) (filter mine rows) (all_unmap TermsFit part (filter mine rows) (rw are at fits)) in
+    let told : map number own ≡ numbers = ap (map number) are ∙ map-map number part (filter mine rows) in
+    let same = λ (q : Question). both_turned (list_any (λ n. q.item == n) numbers) (not (is_some q.answer)) (sells (find (is_item q.item) rows) member)
+    (first_passes number_of mine q.item rows rise low ∙ found_sells member (find (is_item q.item) rows)) in
+    sym (flat_map-map (waiting_in db.trees) number own)
+    ∙ ap (flat_map (waiting_in db.trees)) told
+    ∙ waiting_grouped db.trees numbers (numbers_rise number_of (filter mine rows) (ascending-filter (IsBelow number_of) mine rows rise) low)
+    ∙ filter_same (λ q. list_any (λ n. q.item == n) numbers && not (is_some q.answer)) (λ q. not (is_some q.answer) && sells (find (is_item q.item) rows) member) same (sorted_questions db.trees)

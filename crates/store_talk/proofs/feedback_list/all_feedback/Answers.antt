@@ -1,0 +1,27 @@
+use Rattle.std.proofs.Common.{◌≡◌, ◌∙◌, ap, sym, subst, rules, map, true, refl, []}
+use Rattle.std.specs.List.{AllByRecursion}
+use Rattle.sqlite.specs.Held.{state}
+use Rattle.house_rows.specs.Fits.{FeedbackFits}
+use Rattle.store_rows.specs.Rows.{feedback_of}
+use Rattle.store_rows.proofs.Both.{ok_both}
+use Rattle.store_talk.proofs.FeedbackLists.{all_feedback_is, all_feedback_text, everything_passes, feedback_fit, feedback_shown}
+use Rattle.store_talk.proofs.feedback_list.all_feedback.Goals as goal
+
+pub rows_shown-requires-clause-plain : goal.rows_shown-requires-clause-plain
+rows_shown-requires-clause-plain g c = all_feedback_is.2
+
+pub returns-clause-given : goal.returns-clause-given
+returns-clause-given g c clean =
+    let items = c.in_ok-rows.rows.items in
+    let same : c.deref.result.now ≡ items = search rules in
+    ok_both c.all_of.result c.all_of.ensures.value c.all_of.ensures.fits (λ all e fits.
+    let told = e ∙ ap (map feedback_of) same in
+    told ∙ feedback_shown [] [] all_feedback_text all_feedback_is (state g.S.Store c.args.conn.now) (state g.S.Store c.rows_shown.new.conn) items (c.rows_shown.ensures.house clean) (c.in_ok-rows.ensures.rows clean)
+    (λ f. true) (λ r is. refl) (subst (AllByRecursion FeedbackFits) told fits) ∙ everything_passes _)
+
+pub returns-clause-damaged : goal.returns-clause-damaged
+returns-clause-damaged g c clean fits =
+    let items = c.in_ok-rows.rows.items in
+    let same : c.deref.result.now ≡ items = search rules in
+    c.all_of.ensures.damaged (subst (AllByRecursion FeedbackFits) (sym (ap (map feedback_of) same))
+    (feedback_fit [] [] all_feedback_text all_feedback_is (state g.S.Store c.args.conn.now) (state g.S.Store c.rows_shown.new.conn) items (c.rows_shown.ensures.house clean) (c.in_ok-rows.ensures.rows clean) fits))

@@ -1,0 +1,16 @@
+use Rattle.std.proofs.Common.{◌==◌, ◌&&◌, ◌∙◌, ap, filter, subst, take}
+use Rattle.std.specs.Prelude.{nat_le}
+use Rattle.std.specs.List.{AllByRecursion}
+use Rattle.sqlite.specs.Held.{state}
+use Rattle.house_rows.specs.Fits.{QuestionFits}
+use Rattle.store_rows.specs.Sorted.{sorted_questions}
+use Rattle.store_rows.proofs.Both.{ok_both}
+use Rattle.store_talk.proofs.QuestionPages.{questions_found}
+use Rattle.store_talk.proofs.question_pages.questions_of.Goals as goal
+
+pub returns-clause-asked : goal.returns-clause-asked
+returns-clause-asked g c clean =
+    let db = (state g.S.Store c.args.conn.now).now.trees in
+    ok_both c.questions_from.result (c.questions_from.ensures.asked clean) c.questions_from.ensures.fits (λ asked e fits.
+    let bounded = e ∙ ap (λ b. take 50 (filter (λ q. (q.asker == c.args.member) && nat_le b q.item) (sorted_questions db))) c.bound_of.ensures in
+    bounded ∙ questions_found c.args.member c.args.from db (subst (AllByRecursion QuestionFits) bounded fits))

@@ -1,0 +1,69 @@
+//! Lists of feedback.
+ghost use Rattle.std.specs.Prelude.{◌≡◌, ◌==◌, ◌&&◌, filter, nat_le, take, IfOk, IsErrOf};
+ghost use Rattle.std.specs.List.{AllByRecursion};
+ghost use Rattle.house_rows.specs.Fits.{FeedbackFits};
+ghost use Rattle.house_rows.specs.Found.{feedback_to};
+ghost use Rattle.house_rows.specs.Limits.{most_shown};
+ghost use Rattle.house_rows.specs.declared.fault.KeepFault.TheVariants.{Damaged};
+ghost use Rattle.sqlite.specs.State.{HasCleanDisk};
+ghost use Rattle.sqlite.specs.Held.{state};
+ghost use Rattle.store_rows.specs.House.{Serves};
+ghost use Rattle.store_rows.specs.Rows.{feedback_in};
+ghost use Rattle.store_rows.specs.Sorted.{sorted_feedback};
+ghost use Rattle.store_rows.specs.Tables.{tables_in};
+ghost use Rattle.store_rows.specs.Frames.{OnlyReads};
+
+use house_rows::{Feedback, KeepFault};
+use sqlite::{Alter, Connection, params};
+use std::alloc::Global;
+use store_rows::{all_of, bound_of, page_rows};
+
+// The feedback to a member, from an item on; at most fifty. A row whose rating is none belongs to no
+// item, and so comes behind all others: for it the rows of the items before are looked through.
+fn given_from<S: Alter>(
+    alloc: Global,
+    conn: &mut Connection<S>,
+    member: u32,
+    from: u32,
+) -> Result<Vec<Feedback>, KeepFault>
+    requires { Serves (state S.Store conn.old) }
+    ensures given { HasCleanDisk (state S.Store conn.new)
+        → IfOk result (λ given. given.items ≡ take most_shown
+        (filter (λ f. (f.to == member) && nat_le from f.item)
+        (sorted_feedback (state S.Store conn.old).now.trees))) }
+    ensures fits { IfOk result (λ given. AllByRecursion FeedbackFits given.items) }
+    ensures damaged { HasCleanDisk (state S.Store conn.new)
+        → AllByRecursion FeedbackFits (feedback_in (state S.Store conn.old).now.trees)
+        → ¬ (IsErrOf result Damaged) }
+    ensures read { OnlyReads (state S.Store conn.old) (state S.Store conn.new) result }
+{
+    let rows = page_rows(
+        alloc,
+        conn,
+        "SELECT item FROM feedback WHERE receiver = ?1 AND item < ?2 AND (item < 0 OR rating < -1 OR rating > 1) ORDER BY item, giver",
+        params![member, from],
+        "SELECT item, giver, receiver, rating, body FROM feedback WHERE receiver = ?1 AND item >= ?2 ORDER BY item, giver",
+        params![member, from],
+    )?;
+    all_of(alloc, &rows)
+}
+
+/// The feedback to a member, from an item on; at most fifty.
+pub fn feedback_to<S: Alter>(
+    alloc: Global,
+    conn: &mut Connection<S>,
+    member: u32,
+    from: u64,
+) -> Result<Vec<Feedback>, KeepFault>
+    requires { Serves (state S.Store conn.old) }
+    ensures given { HasCleanDisk (state S.Store conn.new)
+        → IfOk result (λ given. given.items ≡ feedback_to
+        (tables_in (state S.Store conn.old).now.trees) member from) }
+    ensures fits { IfOk result (λ given. AllByRecursion FeedbackFits given.items) }
+    ensures damaged { HasCleanDisk (state S.Store conn.new)
+        → AllByRecursion FeedbackFits (feedback_in (state S.Store conn.old).now.trees)
+        → ¬ (IsErrOf result Damaged) }
+    ensures read { OnlyReads (state S.Store conn.old) (state S.Store conn.new) result }
+{
+    given_from(alloc, conn, member, bound_of(from))
+}

@@ -1,0 +1,55 @@
+//! How members were rated.
+ghost use Rattle.std.specs.Prelude.{◌≡◌, IfOk, IsErrOf};
+ghost use Rattle.sqlite.specs.State.{HasCleanDisk};
+ghost use Rattle.sqlite.specs.Held.{state};
+ghost use Rattle.house_rows.specs.History.{counted};
+ghost use Rattle.house_rows.specs.Keeping.{AreSound};
+ghost use Rattle.house_rows.specs.Pages.{ratings_of};
+ghost use Rattle.house_rows.specs.Ratings.{is_minus, is_plus, is_zero};
+ghost use Rattle.house_rows.specs.declared.fault.KeepFault.TheVariants.{Damaged};
+ghost use Rattle.store_rows.specs.House.{Serves};
+ghost use Rattle.store_rows.specs.Tables.{tables_in};
+ghost use Rattle.store_rows.specs.Frames.{OnlyReads};
+
+use crate::feedback::feedback_rows;
+use house_rows::{Feedback, KeepFault, Rating, Ratings};
+use sqlite::{Alter, Connection};
+use std::alloc::Global;
+
+// How often each rating comes.
+fn counts_of(given: &[Feedback]) -> Ratings
+    ensures plus { result.plus ≡ counted (λ f. is_plus f.rating) given.now }
+    ensures zero { result.zero ≡ counted (λ f. is_zero f.rating) given.now }
+    ensures minus { result.minus ≡ counted (λ f. is_minus f.rating) given.now }
+{
+    let mut plus = 0;
+    let mut zero = 0;
+    let mut minus = 0;
+    for feedback in given {
+        match feedback.rating {
+            Rating::Plus => plus += 1,
+            Rating::Zero => zero += 1,
+            Rating::Minus => minus += 1,
+        }
+    }
+    Ratings { plus, zero, minus }
+}
+
+/// How often a member was rated with each rating.
+pub fn ratings<S: Alter>(
+    alloc: Global,
+    conn: &mut Connection<S>,
+    member: u32,
+) -> Result<Ratings, KeepFault>
+    requires { Serves (state S.Store conn.old) }
+    ensures value { HasCleanDisk (state S.Store conn.new)
+        → IfOk result (λ counts. counts ≡ ratings_of
+        (tables_in (state S.Store conn.old).now.trees).feedback member) }
+    ensures damaged { HasCleanDisk (state S.Store conn.new)
+        → AreSound (tables_in (state S.Store conn.old).now.trees)
+        → ¬ (IsErrOf result Damaged) }
+    ensures read { OnlyReads (state S.Store conn.old) (state S.Store conn.new) result }
+{
+    let given = feedback_rows(alloc, conn, member)?;
+    Ok(counts_of(&given))
+}

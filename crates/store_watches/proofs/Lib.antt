@@ -1,0 +1,9 @@
+pub mod Counted
+pub mod FindMeaning
+pub mod SortedWatches
+pub mod WatchMeaning
+pub mod WatchLemmas
+pub mod WatchFinds
+pub mod WatchLists
+pub mod WatchedItems
+pub mod Written

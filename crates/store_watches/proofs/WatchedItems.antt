@@ -1,0 +1,56 @@
+-- The items of a member's watches, found by their numbers.
+use Rattle.std.proofs.Common.{◌≡◌, ◌<◌, ◌^◌, ℕ, suc, true, false, List, [], ◌∷◌, get_or, map, filter, flat_map, refl, ap, sym, ◌∙◌, arith, inl, inr}
+use Rattle.std.specs.Prelude.{◌==◌, AllPairs}
+use Rattle.std.specs.List.{AllByRecursion, list_any}
+use Rattle.std.proofs.lemmas.Bool.Decides.{nat_tests}
+use Rattle.std.proofs.lemmas.List.Elements.{All-from_get_or, recursion_from_All}
+use Rattle.sqlite_trees.specs.Tree.{IsAscending}
+use Rattle.sqlite_keyed.proofs.ListLemmas.{filter-map, filter_same}
+use Rattle.sqlite.specs.Effect.{Database}
+use Rattle.house_rows.specs.Found.{items_watched}
+use Rattle.house_rows.specs.Tables.{ItemRow}
+use Rattle.house_rows.specs.Watches.{WatchRow, is_watch}
+use Rattle.house_rows.specs.declared.item.Item.{Item}
+use Rattle.house_rows.proofs.Put.{by_test}
+use Rattle.store_rows.specs.House.{IsHouse}
+use Rattle.store_rows.specs.ItemRows.{items_in}
+use Rattle.store_rows.specs.Sorted.{sorted_watches}
+use Rattle.store_rows.specs.Tables.{tables_in}
+use Rattle.store_watches.specs.Watched.{item_found}
+use Rattle.store_items.proofs.ItemRising.{items_rise, number_of}
+use Rattle.store_rows.proofs.Joined.{among, joined}
+
+pub ascending_pairs : (xs : List ℕ) → AllPairs (λ m n. m < n) xs → IsAscending (λ m n. m < n) xs
+ascending_pairs [] pairs = tt
+ascending_pairs (x ∷ xs) pairs = (
+  recursion_from_All (λ n. x < n) xs (All-from_get_or (λ n. x < n) xs 0 (λ i low. pairs 0 (suc i) 0 (omega arith) (omega (arith, low)))),
+  ascending_pairs xs (λ i j d less low. pairs (suc i) (suc j) d (omega (arith, less)) (omega (arith, low))),
+)
+
+pub all_small : (xs : List ℕ) → ((i : ℕ) → get_or xs i 0 < 2 ^ 64) → AllByRecursion (λ n. n < 2 ^ 64) xs
+all_small xs each = recursion_from_All (λ n. n < 2 ^ 64) xs (All-from_get_or (λ n. n < 2 ^ 64) xs 0 (λ i low. each i))
+
+-- an item is watched where its number is among those of the watches
+watched_among : (member n : ℕ) (rows : List WatchRow) → list_any (λ m. n == m) (map (λ (w : WatchRow). w.item) (filter (λ w. w.member == member) rows)) ≡ list_any (is_watch member n) rows
+watched_among member n [] = refl
+watched_among member n (w ∷ rows) =
+    let rest = watched_among member n rows in
+    elim (by_test (w.member == member)) [
+      | inl is ↦ elim (by_test (w.item == n)) [
+        | inl here ↦ (let there : (n == w.item) ≡ true = grind (arith, nat_tests, here) in rw (is, here, there) refl)
+        | inr other ↦ (let there : (n == w.item) ≡ false = grind (arith, nat_tests, other) in rw (is, other, there) rest)
+      ]
+      | inr not ↦ rw not rest
+    ]
+
+pub watched_found : (db : Database) (member : ℕ) (numbers : List ℕ) → IsHouse db → numbers ≡ map (λ (w : WatchRow). w.item) (filter (λ w. w.member == member) (sorted_watches db.trees))
+    → AllPairs (λ m n. m < n) numbers → AllByRecursion (λ n. n < 2 ^ 64) numbers → flat_map (item_found db.trees) numbers ≡ items_watched (tables_in db.trees) member
+unfolding tables_in
+watched_found db member numbers house are rise low =
+    let rows = items_in db.trees in
+    let watches = sorted_watches db.trees in
+    let part = λ (row : ItemRow). row.item in
+    let same = λ (row : ItemRow). ap (list_any (λ n. number_of row == n)) are ∙ watched_among member (number_of row) watches in
+    joined number_of part numbers rows (ascending_pairs numbers rise) low (items_rise db house)
+    ∙ ap (map part) (filter_same (among number_of numbers) (λ row. list_any (is_watch member (number_of row)) watches) same rows)
+    ∙ sym (filter-map (λ (it : Item). list_any (is_watch member it.terms.item) watches) part rows)

@@ -1,0 +1,31 @@
+use Rattle.std.proofs.Common.{◌≡◌, ◌++◌, arith, get_or, subst}
+use Rattle.sqlite.specs.Effect.{Database}
+use Rattle.sqlite.specs.Held.{state}
+use Rattle.store_watches.specs.Watched.{item_found}
+use Rattle.store_rows.proofs.Steps.{both_same, both_survive, clean_before, found_more}
+use Rattle.store_watches.proofs.WatchedItems.{all_small}
+use Rattle.store_watches.proofs.watched_items.items_at.Goals as goal
+
+pub loop-number-preserved : goal.loop-number-preserved
+loop-number-preserved g c =
+    let old = state g.S.Store c.args.conn.now in
+    let mid = state g.S.Store c.loop-number.conn in
+    let new = state g.S.Store c.add_item.new.conn in
+    let held = c.loop-number.invariant in
+    let crash = c.add_item.ensures.read.crash in
+    record {
+      survives = both_survive old mid new held.survives crash;
+      same = λ clean. both_same old mid new (held.same (clean_before mid new crash clean)) (c.in_ok-add_item.ensures.read.same clean);
+      mode = λ out. c.add_item.ensures.read.mode (held.mode out);
+      found = λ clean. (let before = clean_before mid new crash clean in
+          found_more (item_found old.now.trees) c.args.numbers.now c.loop-number.number-index 0 c.loop-number.items.items c.add_item.new.items.items _ c.loop-number-test.true (held.found before)
+          (subst (λ (db : Database). c.add_item.new.items.items ≡ c.loop-number.items.items ++ item_found db.trees (get_or c.args.numbers.now c.loop-number.number-index 0)) (held.same before).0.now_is (c.in_ok-add_item.ensures.items clean)));
+      fits = c.in_ok-add_item.ensures.fits held.fits;
+      stands = c.in_ok-add_item.ensures.stands held.stands;
+    }
+
+pub returns-clause-small : goal.returns-clause-small
+returns-clause-small g c = all_small c.args.numbers.now (λ i. omega (arith, c.type_inv.numbers i))
+
+pub returns-in_err-add_item-clause-small : goal.returns-in_err-add_item-clause-small
+returns-in_err-add_item-clause-small g c = all_small c.args.numbers.now (λ i. omega (arith, c.type_inv.numbers i))

@@ -1,0 +1,16 @@
+//! What members watch, in SQLite.
+//!
+//! Promised: each look-up and list answers what the house's definitions find in the tables that the
+//! database holds, and a watch is put or cut whole, in one transaction that commits before the call
+//! answers Ok, or not at all. Read `watching` first.
+#![tactic(auto)]
+
+mod list;
+mod look_up;
+mod rows;
+mod watched_items;
+mod watching;
+
+pub use look_up::is_watched;
+pub use watched_items::{items_watched, watch_count};
+pub use watching::{unwatch, watch};
