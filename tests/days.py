@@ -1,7 +1,8 @@
 #!/usr/bin/env python3
 """Civil days as the C library gives them, for the script of crates/settle_tests: `days.py asked|told`.
 
-The lines that it writes end that crate's `stdin`, with the word `asked`, or `stdout`, with `told`.
+The lines that it writes end that crate's `stdin`, with the word `asked`, or `stdout`, with `told`: there each has
+its answer behind it.
 
 For each of six zone rules 200 moments: the seconds round the first midnights and the last ones,
 round the changes of daylight saving time of three years and the midnights of those days, and
@@ -13,6 +14,8 @@ import os
 import random
 import sys
 import time
+
+from transcript import MARK
 
 LAST = 4_102_444_800
 COUNT = 200
@@ -87,11 +90,11 @@ def main():
         os.environ["TZ"] = rule
         time.tzset()
         rows = [(moment, day_of(moment)) for moment in moments(draw)]
-        if sys.argv[1] == "asked":
-            lines = [f"zone {rule}"] + [f"at {moment}" for moment, _ in rows]
-        else:
-            lines = ["ok"] + [str(day) if day >= 0 else "-" for _, day in rows]
-        print("\n".join(lines))
+        lines = [(f"zone {rule}", "ok"), *((f"at {moment}", str(day) if day >= 0 else "-") for moment, day in rows)]
+        for line, answer in lines:
+            print(f"{MARK}{line}")
+            if sys.argv[1] == "told":
+                print(answer)
 
 
 if __name__ == "__main__":

@@ -1,8 +1,9 @@
 //! Plays a script on sources and sinks: in memory, and over readers and writers of std.
 //!
 //! The stored run is a test of what no clause says: that calls succeed, what comes of readers and writers that
-//! fail, and how often a writer is called. `stdin` has the script, `stdout` what has to be answered, worked out
-//! by hand. Read `script` first, which says what a line may be.
+//! fail, and how often a writer is called. `stdin` has the script, `stdout` its transcript, in which what has to be
+//! answered stands behind each line, worked out by hand. Read `script` first, which says what a line may be, behind
+//! the mark of `transcript`.
 #![tactic(auto)]
 
 mod readers;
@@ -14,12 +15,14 @@ use script::{Fault, Stage};
 use std::alloc::Global;
 use std::io;
 use std::process::ExitCode;
+use transcript::echoed;
 
 // Plays the lines of the script, and prints what is answered.
 fn play(rt: &(impl Input + Print), alloc: Global) -> Result<(), Fault> {
     let script = io::read_to_string(alloc, rt.reader()).map_err(|_| Fault::Script)?;
     let mut stage = Stage::new(alloc)?;
     for line in script.as_str().lines() {
+        let line = echoed(rt, line).map_err(|_| Fault::Output)?;
         if let Some(answer) = script::play(alloc, &mut stage, line)? {
             println!(rt; "{answer}").map_err(|_| Fault::Output)?;
         }

@@ -1,7 +1,8 @@
 //! Plays a script on houses that are made and opened, in memory.
 //!
 //! The stored run is a test that an opening refuses what is no house of ours, and nothing else: `stdin` has the
-//! script, `stdout` what has to be answered, written by hand. Read `script` first, which says what a line may be.
+//! script, `stdout` its transcript, in which what has to be answered stands behind each line, written by hand. Read
+//! `script` first, which says what a line may be, behind the mark of `transcript`.
 #![tactic(auto)]
 
 mod script;
@@ -10,11 +11,13 @@ use script::Fault;
 use std::alloc::Global;
 use std::io;
 use std::process::ExitCode;
+use transcript::echoed;
 
 // Plays the lines of the script, and prints what is answered.
 fn play(rt: &(impl Input + Print), alloc: Global) -> Result<(), Fault> {
     let script = io::read_to_string(alloc, rt.reader()).map_err(|_| Fault::Script)?;
     for line in script.as_str().lines() {
+        let line = echoed(rt, line).map_err(|_| Fault::Output)?;
         if let Some(answer) = script::play(alloc, line)? {
             println!(rt; "{answer}").map_err(|_| Fault::Output)?;
         }

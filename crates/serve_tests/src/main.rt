@@ -1,8 +1,9 @@
 //! Plays a script of streams over new houses in memory, in pieces, cut off and over devices that fail.
 //!
 //! The stored run is a test of what no clause says: that calls succeed, and that a stream is answered
-//! alike however it comes. `stdin` has the script, `stdout` what has to be told, written by hand. Read
-//! `script` first, which says what a line may be.
+//! alike however it comes. `stdin` has the script, `stdout` its transcript, in which what has to be told
+//! stands behind each line, written by hand. Read `script` first, which says what a line may be, behind the mark of
+//! `transcript`.
 #![tactic(auto)]
 
 mod answers;
@@ -16,12 +17,14 @@ use script::{Fault, Stage};
 use std::alloc::Global;
 use std::io;
 use std::process::ExitCode;
+use transcript::echoed;
 
 // Plays the lines of the script, and prints what is told.
 fn play(rt: &(impl Input + Print), alloc: Global) -> Result<(), Fault> {
     let script = io::read_to_string(alloc, rt.reader()).map_err(|_| Fault::Script)?;
     let mut stage = Stage::new(alloc);
     for line in script.as_str().lines() {
+        let line = echoed(rt, line).map_err(|_| Fault::Output)?;
         if let Some(told) = script::play(alloc, &mut stage, line)? {
             println!(rt; "{told}").map_err(|_| Fault::Output)?;
         }

@@ -1,8 +1,9 @@
 //! Plays a script on amounts, days, zones, fees and statements.
 //!
 //! The stored run is a test that the clauses mean the days, amounts and texts that people write: `stdin` has
-//! the script, `stdout` what has to be answered, written by hand, but for the days of moments, which are the C
-//! library's. Read `script` first, which says what a line may be.
+//! the script, `stdout` its transcript, in which what has to be answered stands behind each line, written by hand,
+//! but for the days of moments, which are the C library's. Read `script` first, which says what a line may be,
+//! behind the mark of `transcript`.
 #![tactic(auto)]
 
 mod amounts;
@@ -15,12 +16,14 @@ use script::{Fault, Stage};
 use std::alloc::Global;
 use std::io;
 use std::process::ExitCode;
+use transcript::echoed;
 
 // Plays the lines of the script, and prints what is answered.
 fn play(rt: &(impl Input + Print), alloc: Global) -> Result<(), Fault> {
     let script = io::read_to_string(alloc, rt.reader()).map_err(|_| Fault::Script)?;
     let mut stage = Stage::new(alloc)?;
     for line in script.as_str().lines() {
+        let line = echoed(rt, line).map_err(|_| Fault::Output)?;
         if let Some(answer) = script::play(alloc, &mut stage, line)? {
             println!(rt; "{answer}").map_err(|_| Fault::Output)?;
         }

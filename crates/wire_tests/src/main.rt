@@ -2,8 +2,8 @@
 //!
 //! The stored run is a test of what no clause says: that calls succeed, and that the clauses mean what
 //! RFC 9110 and RFC 9112 say and what real clients send (`tests/clients` has how those were captured).
-//! `stdin` has the script, `stdout` what has to be answered, written by hand from the standards. Read
-//! `script` first, which says what a line may be.
+//! `stdin` has the script, `stdout` its transcript, in which what has to be answered stands behind each line, written
+//! by hand from the standards. Read `script` first, which says what a line may be, behind the mark of `transcript`.
 #![tactic(auto)]
 
 mod answers;
@@ -17,12 +17,14 @@ use script::{Fault, Stage};
 use std::alloc::Global;
 use std::io;
 use std::process::ExitCode;
+use transcript::echoed;
 
 // Plays the lines of the script, and prints what is answered.
 fn play(rt: &(impl Input + Print), alloc: Global) -> Result<(), Fault> {
     let script = io::read_to_string(alloc, rt.reader()).map_err(|_| Fault::Script)?;
     let mut stage = Stage::new(alloc)?;
     for line in script.as_str().lines() {
+        let line = echoed(rt, line).map_err(|_| Fault::Output)?;
         if let Some(answer) = script::play(alloc, &mut stage, line)? {
             println!(rt; "{answer}").map_err(|_| Fault::Output)?;
         }
