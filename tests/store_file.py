@@ -1,9 +1,9 @@
 #!/usr/bin/env python3
 """Plays a script on a house in a file, and looks at the file: `store_file.py PROGRAM`.
 
-The program is that of the crate `store_tests`, and the script the part of its `stdin` before `fill`. A first
+The program is that of the crate `store_tests`, and the script the part of its `stdout` before `fill`. A first
 run makes the house in a new file and is given the commands; a second opens the file and is asked; each
-answer has to be that of `stdout`. Then Python's sqlite3, and SQLite's shell where it is there, look for damage
+answer has to be the one that stands there. Then Python's sqlite3, and SQLite's shell where it is there, look for damage
 and for keys that lead nowhere, and read the tables, which have to be those of the script's commands. A house
 isn't made in a file that has one. A file that is no house, or a damaged one, answers nothing and stays as it
 is: an empty one, one cut short, one with a page overwritten, and one with other tables or another version. One
@@ -22,8 +22,9 @@ import subprocess
 import sys
 import tempfile
 
+from transcript import pairs
+
 CRATE = pathlib.Path(__file__).resolve().parent.parent / "crates" / "store_tests"
-SILENT = {"record", "new"}
 # A question that any house answers once it is open, and its answer by the script.
 CLOCK, MOMENT = "? clock", "7001"
 # By the script's commands. Items are open (0), sold (1), unsold (2) or settled (3).
@@ -164,19 +165,16 @@ def readers(number):
 
 
 def answered():
-    """The lines of the script, each with its answer or None for a line that has none."""
-    answers = iter((CRATE / "stdout").read_text().splitlines())
-    for line in (CRATE / "stdin").read_text().splitlines():
-        silent = not line or line.startswith("--") or line in SILENT
-        yield line, None if silent else next(answers)
+    """The lines of the script that have an answer, each with it."""
+    return [(line, *answer) for line, answer in pairs((CRATE / "stdout").read_text()) if answer]
 
 
 def parts():
     """The script before `fill`, and the questions after it up to the next command."""
-    lines = [pair for pair in answered() if pair[0] not in SILENT]
+    lines = answered()
     place = [line for line, _ in lines].index("fill")
     asked = lines[place + 1:]
-    end = next(number for number, (line, answer) in enumerate(asked) if answer and not line.startswith("?"))
+    end = next(number for number, (line, _) in enumerate(asked) if not line.startswith("?"))
     return lines[:place], asked[:end]
 
 
@@ -189,7 +187,7 @@ def played(program, word, path, lines):
 
 def told(lines):
     """How it has to end."""
-    return 0, [answer for _, answer in lines if answer is not None]
+    return 0, [answer for _, answer in lines]
 
 
 def spoiled(whole, folder):

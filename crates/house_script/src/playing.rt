@@ -8,6 +8,7 @@ use house_rows::Keep;
 use std::alloc::Global;
 use std::io;
 use std::time::CpuClock;
+use transcript::echoed;
 
 // Tells the processor time used so far, in nanoseconds: measurements have such a line between others.
 fn tell_time(rt: &(impl Print + CpuClock)) -> Result<(), Fault> {
@@ -17,7 +18,7 @@ fn tell_time(rt: &(impl Print + CpuClock)) -> Result<(), Fault> {
 }
 
 /// Plays the lines of the script on standard input, on houses whose keeps are made so, and prints what is
-/// answered.
+/// answered, and before it those lines that `echoed` of `transcript` prints.
 pub fn play<K: Keep + Drop, M: Makes<K>>(
     rt: &(impl Input + Print + CpuClock),
     alloc: Global,
@@ -26,6 +27,7 @@ pub fn play<K: Keep + Drop, M: Makes<K>>(
     let script = io::read_to_string(alloc, rt.reader()).map_err(|_| Fault::Unread)?;
     let mut house: House<K> = House::new(alloc, makes)?;
     for line in script.as_str().lines() {
+        let line = echoed(rt, line).map_err(|_| Fault::Output)?;
         if line == "time" {
             tell_time(rt)?;
             continue;
@@ -40,8 +42,8 @@ pub fn play<K: Keep + Drop, M: Makes<K>>(
     Ok(())
 }
 
-/// Asks a keep the questions of the script on standard input, and prints what is answered. The script has no
-/// commands: of the tables of a keep that was opened it isn't known that they are those of accepted ones.
+/// Asks a keep the questions of the script on standard input, and prints the same. The script has no commands: of
+/// the tables of a keep that was opened it isn't known that they are those of accepted ones.
 pub fn ask<K: Keep + Drop>(
     rt: &(impl Input + Print + CpuClock),
     alloc: Global,
@@ -49,6 +51,7 @@ pub fn ask<K: Keep + Drop>(
 ) -> Result<(), Fault> {
     let script = io::read_to_string(alloc, rt.reader()).map_err(|_| Fault::Unread)?;
     for line in script.as_str().lines() {
+        let line = echoed(rt, line).map_err(|_| Fault::Output)?;
         if line == "time" {
             tell_time(rt)?;
             continue;

@@ -7,6 +7,7 @@
 //!
 //! `new` begins with an empty house. So does `record`, and from then on `fill` goes on with a house that is
 //! filled with the changes so far; its answer is `ok`. An empty line, and one that begins with `--`, has no answer.
+//! Behind the mark `> `, with which `transcript` prints it before its answer, a line is played as without it.
 use crate::fault::Fault;
 use crate::makes::Makes;
 use crate::order::Order;

@@ -1,7 +1,8 @@
 //! Plays a script on a house in memory: one command or one question a line, and one line of answer.
 //!
-//! The stored run is a test of the house's decisions: `stdin` has the script, `stdout` what the house has
-//! to answer, written by hand from its rules. `house_script` says what a line may be.
+//! The stored run is a test of the house's decisions: `stdin` has the script, `stdout` its transcript, in
+//! which what the house has to answer stands behind each line, written by hand from its rules. `house_script` says
+//! what a line may be.
 #![tactic(auto)]
 
 use house_rows::{KeepFault, Settings};

@@ -2,8 +2,8 @@
 //!
 //! `store_tests` plays it on houses in memory. `store_tests make FILE` plays it on a house in a new file, and
 //! `store_tests ask FILE` asks the house that is there. The stored run is a test of the keep in SQLite: `stdin`
-//! has the script, `stdout` what the house has to answer, which is what a house in memory answers.
-//! `house_script` says what a line may be.
+//! has the script, `stdout` its transcript, in which what the house has to answer stands behind each line, which is
+//! what a house in memory answers. `house_script` says what a line may be.
 #![tactic(auto)]
 
 mod database;
