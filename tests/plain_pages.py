@@ -1,13 +1,14 @@
 #!/usr/bin/env python3
 """What a script of houses and reads has to show, by the plain site: `plain_pages.py < SCRIPT`.
 
-It makes crates/pages_tests/stdout from the stdin there; crates/pages_tests/src/script.rt says what a
-line may be. Nothing of ours is asked: the rules are those of plain_house.py, the pages plain_site.py's.
+It makes crates/pages_tests/stdout from the stdin there, a transcript; crates/pages_tests/src/script.rt says what
+a line may be. Nothing of ours is asked: the rules are those of plain_house.py, the pages plain_site.py's.
 """
 import sys
 
 from plain_site import Site
 from sent import command, compact, read
+from transcript import is_printed, lines, played
 
 
 def ordered(line):
@@ -30,11 +31,13 @@ def requests(word, rest):
     return []
 
 
-def shown(lines):
-    """What each line shows, for those that show anything."""
+def shown(script):
+    """The lines that are printed, and behind each what it shows, if it shows anything."""
     site = Site()
-    for line in lines:
-        word, _, rest = line.partition(" ")
+    for line in lines(script):
+        if is_printed(line):
+            yield line.encode()
+        word, _, rest = played(line).partition(" ")
         if word == "house":
             site = Site(zone=rest)
             continue
@@ -50,8 +53,8 @@ def shown(lines):
 
 
 def main():
-    for page in shown(sys.stdin.buffer.read().decode().split("\n")):
-        sys.stdout.buffer.write(page + b"\n")
+    for line in shown(sys.stdin.buffer.read().decode()):
+        sys.stdout.buffer.write(line + b"\n")
 
 
 if __name__ == "__main__":

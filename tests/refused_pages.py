@@ -11,8 +11,8 @@ import sys
 
 from refusal import built_library, ended, refused_runs, run, told
 
+# Each page, and the record.
 SCRIPT = """\
--- Each page, and the record.
 house UTC0
 post 0 1000 /members {"name":"Ana"}
 post 0 1000 /members {"name":"\\"Ben\\""}

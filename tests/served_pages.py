@@ -12,6 +12,7 @@ import tempfile
 from plain_pages import requests
 from sent import answers_in
 from served import CHECKS, Program, check, served
+from transcript import pairs
 
 CRATE = pathlib.Path(__file__).resolve().parent.parent / "crates" / "pages_tests"
 BANDS = CRATE.parent.parent / "examples" / "bands.csv"
@@ -27,17 +28,18 @@ class House:
 
 
 def houses():
-    found, shown = [], iter((CRATE / "stdout").read_bytes().split(b"\n"))
-    for line in (CRATE / "stdin").read_bytes().decode().split("\n"):
+    found = []
+    for line, answer in pairs((CRATE / "stdout").read_bytes().decode()):
+        shown = [page.encode() for page in answer]
         word, _, rest = line.partition(" ")
         if word == "house":
             found.append(House(rest))
         elif word == "record":
-            found[-1].record = next(shown)
-        elif word not in ("", "--"):
+            found[-1].record, = shown
+        else:
             found[-1].record = b""
             found[-1].messages += requests(word, rest)
-            found[-1].pages += [next(shown)] if word == "get" else []
+            found[-1].pages += shown
     return found
 
 

@@ -1,8 +1,9 @@
 //! Plays a script of houses and reads, and shows each page as text, which has to be its tree's too.
 //!
 //! The stored run is a test that both bodies of the pages succeed, and that they mean what the formats
-//! say: `stdin` has the script, and `stdout` what `tests/plain_pages.py` makes of it, which knows the
-//! rules and the formats alone. Read `script` first, which says what a line may be.
+//! say: `stdin` has the script, and `stdout` its transcript, in which each page stands behind its line, made by
+//! `tests/plain_pages.py`, which knows the rules and the formats alone. Read `script` first, which says what a line
+//! may be, behind the mark of `transcript`.
 #![tactic(auto)]
 
 mod bodies;
@@ -13,12 +14,11 @@ mod reader;
 mod script;
 
 use fault::Fault;
-use reader::Reader;
-use settle::Zone;
+use script::Stage;
 use std::alloc::Global;
 use std::io;
 use std::process::ExitCode;
-use store_list::ListKeep;
+use transcript::echoed;
 
 // Prints what is shown.
 fn print(rt: &impl Print, shown: &[u8]) -> Result<(), Fault> {
@@ -28,42 +28,15 @@ fn print(rt: &impl Print, shown: &[u8]) -> Result<(), Fault> {
     }
 }
 
-// Plays the lines of a house.
-fn play_lines(
-    rt: &impl Print,
-    alloc: Global,
-    reader: &mut Reader,
-    keep: &mut ListKeep,
-    zone: &Zone,
-    lines: &str,
-) -> Result<(), Fault> {
-    for line in lines.lines() {
-        if let Some(shown) = script::play(alloc, reader, keep, zone, line)? {
-            print(rt, &shown)?;
-        }
-    }
-    Ok(())
-}
-
-// Plays a house: its zone, and its lines behind that.
-fn play_house(
-    rt: &impl Print,
-    alloc: Global,
-    reader: &mut Reader,
-    text: &str,
-) -> Result<(), Fault> {
-    let (name, lines) = text.split_once('\n').unwrap_or((text, ""));
-    let zone = playing::zone(name)?;
-    let mut keep = playing::empty(alloc, name)?;
-    play_lines(rt, alloc, reader, &mut keep, &zone, lines)
-}
-
-// Plays the houses of the script.
+// Plays the lines of the script, and prints what is shown.
 fn play(rt: &(impl Input + Print), alloc: Global) -> Result<(), Fault> {
     let script = io::read_to_string(alloc, rt.reader()).map_err(|_| Fault::Unread)?;
-    let mut reader = Reader::new(alloc)?;
-    for text in script.as_str().split("\nhouse ").skip(1) {
-        play_house(rt, alloc, &mut reader, text)?;
+    let mut stage = Stage::new(alloc)?;
+    for line in script.as_str().lines() {
+        let line = echoed(rt, line).map_err(|_| Fault::Output)?;
+        if let Some(shown) = script::play(alloc, &mut stage, line)? {
+            print(rt, &shown)?;
+        }
     }
     Ok(())
 }
