@@ -1,13 +1,14 @@
 """Lists of messages with what each has to be answered, written by hand from the rules of the house and its formats.
 
 Where a body is given it is the one that the rules give; the head, and each body that is left out, is the one of
-tests/plain_site.py. `stored()` is the script of crates/run_tests and what has to be told of it.
+tests/plain_site.py. `stored()` is the script of crates/run_tests and the transcript that it has to be.
 """
 import dataclasses
 
 from plain_site import READS, Site, setup
 from routes import answered, asked, bid, listed, rated
 from sent import Answer, Request, command, compact, lengthened, read
+from transcript import MARK
 
 ATLAS = ('{"buy_now":null,"category":1,"closed":%s,"count":%d,"end":5000,"floor":%s,"item":1,"leader":%s,"lot":"A1",'
          '"price":%d,"seller":1,"start":500,"state":"%s","text":"","title":"Atlas"}')
@@ -262,17 +263,22 @@ def line_text(given):
     return given.text()
 
 
+def script_of(case):
+    """The lines of a list in a script, each with what has to be told of it."""
+    site, pairs = steps(case)
+    yield f"house 1000 {case.zone}\n".encode(), b""
+    yield from ((line(given), b"") for given, _ in pairs)
+    yield b"all\n", told(site, [answer for _, answer in pairs])
+    for devices in DEVICES if case.is_streamed else ():
+        yield "serve {} {} {}".format(*devices).removesuffix("  0").encode() + b"\n", streamed(case, *devices)
+
+
 def stored():
-    """The script and what has to be told."""
+    """The script, and what has to be printed: its lines, but for the texts that follow them, and what is told of each."""
     script, output = [], []
     for case in cases():
-        site, pairs = steps(case)
-        script.append(f"-- {case.name}.\nhouse 1000 {case.zone}\n".encode())
-        script += [line(given) for given, _ in pairs]
-        script.append(b"all\n")
-        output.append(told(site, [answer for _, answer in pairs]))
-        if case.is_streamed:
-            script += ["serve {} {} {}".format(*devices).removesuffix("  0").encode() + b"\n" for devices in DEVICES]
-            output += [streamed(case, *devices) for devices in DEVICES]
-        script.append(b"\n")
+        for text, answer in [(f"-- {case.name}.\n".encode(), b""), *script_of(case), (b"\n", b"")]:
+            marked = text if text.startswith((b"--", b"\n")) else MARK.encode() + text
+            script.append(marked)
+            output += [marked[:marked.index(b"\n") + 1], answer]
     return b"".join(script), b"".join(output)

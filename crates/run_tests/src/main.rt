@@ -1,8 +1,9 @@
 //! Plays lists of messages over new houses in memory and in databases, one by one and as one list.
 //!
 //! The stored run is a test of what no clause says: that calls succeed, over both keeps, and that a run
-//! answers as its messages one by one. `stdin` has the script, `stdout` what has to be told, which is what
-//! the formats say. Read `script` first, which says what a line may be, and then `playing`.
+//! answers as its messages one by one. `stdin` has the script, `stdout` its transcript, in which what has to
+//! be told stands behind each line, which is what the formats say. Read `script` first, which says what a line may
+//! be, behind the mark of `transcript`, and then `playing`.
 #![tactic(auto)]
 
 mod houses;
@@ -15,6 +16,7 @@ use std::alloc::Global;
 use std::io;
 use std::io::{Read, Write};
 use std::process::ExitCode;
+use transcript::echoed;
 
 // Plays the script, and writes what is told.
 fn play(rt: &(impl Input + Print), alloc: Global) -> Result<(), Fault> {
@@ -29,6 +31,7 @@ fn play(rt: &(impl Input + Print), alloc: Global) -> Result<(), Fault> {
         let Some(line) = script.line()? else {
             return Ok(());
         };
+        let line = echoed(rt, line).map_err(|_| Fault::Output)?;
         let told = script::play(alloc, &mut stage, &mut script, line)?;
         output.write_all(&told).map_err(|_| Fault::Output)?;
     }

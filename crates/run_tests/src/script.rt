@@ -2,7 +2,8 @@
 //!
 //! `house RATE ZONE` begins a list of messages to new houses of a rate and a zone, by the example table;
 //! `band AT STEP` adds a band of a table of their own. `post MEMBER MOMENT TARGET BODY` and
-//! `get MEMBER TARGET` add a message, and `text N` the N bytes that follow, and a line end behind them.
+//! `get MEMBER TARGET` add a message, and `text N` the N bytes that follow, and a line end behind them, which
+//! aren't printed.
 //!
 //! Each other line plays the list over new houses, and tells the replies, a line end behind each, and the
 //! record. `answers lists` and `answers database` give each message by itself, `run lists` and `run database`
