@@ -4,7 +4,7 @@ use Rattle.std.specs.Prelude.{◌||◌, ◌==◌, ◌-◌, IsTrue}
 use Rattle.std.specs.List.{list_all}
 use Rattle.std.specs.Str.{bytes_eq}
 use Rattle.std.proofs.lemmas.Slice.Eq.{bytes_eq-Decides}
-use Rattle.std.proofs.lemmas.List.{at_drop_more, at_drop_all, length-take, take-take, take_at, drop_at, length-append, set_split}
+use Rattle.std.proofs.lemmas.List.{at_drop_more, at_drop_all, length-take, take-take, take_all, take_at, drop_at, length-append, set_split}
 use Rattle.std.proofs.lemmas.Bool.{and_parts, or_parts, not-true, eqb-false, ltb-false}
 use Rattle.json.specs.Token as token
 use Rattle.json.specs.Print.{escape, print, print_from, quoted}
@@ -195,6 +195,15 @@ one_member key d old is =
 
 pub string_printed : (s : List ℕ) → print (token.string s ∷ []) ≡ quoted s
 string_printed s = print-outline (string s)
+
+-- a text that has no escapes, between quotes
+pub plain_quoted : (s old : List ℕ) (n : ℕ) → length s ≤ n → escape (take n s) ≡ take n s
+    → ((old ++ 34 ∷ []) ++ s) ++ 34 ∷ [] ≡ old ++ quoted s
+plain_quoted s old n all plain =
+    let whole = take_all n s all in
+    let same : escape s ≡ s = ap escape (sym whole) ∙ plain ∙ whole in
+    append_assoc (old ++ 34 ∷ []) s (34 ∷ []) ∙ append_assoc old (34 ∷ []) (s ++ 34 ∷ [])
+    ∙ ap (λ t. old ++ 34 ∷ (t ++ 34 ∷ [])) (sym same)
 
 pub nothing_printed : print [] ≡ []
 unfolding print_from

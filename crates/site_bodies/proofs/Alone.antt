@@ -72,16 +72,6 @@ pub plain_is : {bytes : List ℕ} (o : Option (Bor (List ℕ))) → escape bytes
 plain_is None own told = tt
 plain_is (Some s) own told = record { same = told.0; plain = own; utf8 = told.1 }
 
--- one byte more that stands for itself
-pub plain_step : (bytes : List ℕ) (i : ℕ) → i < length bytes → escape (take i bytes) ≡ take i bytes
-    → (32 ≤ get_or bytes i 0) × (get_or bytes i 0 ≢ 34) × (get_or bytes i 0 ≢ 92)
-    → escape (take (i + 1) bytes) ≡ take (i + 1) bytes
-plain_step bytes i inside before is =
-    let here = escape_byte_plain (get_or bytes i 0) is.1 is.2 is.0 in
-    let more = take_more bytes i 0 inside in
-    ap escape more ∙ flat_map-append escape_byte (take i bytes) (get_or bytes i 0 ∷ [])
-    ∙ (λ k. before k ++ (here k ++ [])) ∙ sym more
-
 -- ---- what is alone is the field
 
 pub whole_lone : (name : List ℕ) (n : ℕ) → whole_at name (put name (number (unsigned n)) no_members) ≡ Some n

@@ -13,9 +13,10 @@ ghost use Rattle.site_bodies.specs.Passes.{IsMember, IsSize, IsValue, Passes};
 ghost use Rattle.site_bodies.specs.Slots.{data_of, put_all};
 ghost use Rattle.site_bodies.specs.Values.{integer_in, maybe_whole_in, text_in, whole_in};
 
-use crate::lone::{behind, is_plain, text_of};
+use crate::lone::{behind, text_of};
 use crate::numeral::signed;
 use crate::slots::{EMPTY, Flat, MOST, Plain, Slot};
+use json_plain::plain_length;
 
 fn is_space(byte: u8) -> bool
     ensures { IsTrue result → byte ≡ 32 }
@@ -32,20 +33,6 @@ fn behind_spaces(bytes: &[u8]) -> &[u8]
         end += 1;
     }
     &bytes[end..]
-}
-
-// How many bytes in front stand for themselves in a string. Inlined, its loop would carry along each place
-// that is reckoned from its end, an instruction more a byte for each.
-#[inline(never)]
-fn plain_length(bytes: &[u8]) -> usize
-    ensures plain { escape (take result bytes.now) ≡ take result bytes.now }
-    ensures within { result ≤ length bytes.now }
-{
-    let mut end = 0;
-    while end < bytes.len() && is_plain(bytes[end]) {
-        end += 1;
-    }
-    end
 }
 
 // The text between quotes in front, if it is written without escapes, and what stands behind.

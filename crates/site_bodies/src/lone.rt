@@ -6,6 +6,8 @@ ghost use Rattle.site_bodies.specs.LoneNumber.{IsLone};
 ghost use Rattle.site_bodies.specs.LoneString.{IsLoneText, IsPlain};
 ghost use Rattle.site_bodies.specs.Passes.{Passes};
 
+use json_plain::is_plain;
+
 // A text of fewer bytes `simdutf8` hands on to std.
 const SHORT: usize = 64;
 
@@ -52,14 +54,6 @@ fn before_quote(bytes: &[u8]) -> Option<&[u8]>
         [rest @ .., b'"', b'}'] => Some(rest),
         _ => None,
     }
-}
-
-// Whether a byte stands for itself in a string of JSON.
-#[inline(always)]
-pub(crate) fn is_plain(byte: u8) -> bool
-    ensures { IsTrue result → (32 ≤ byte) × (byte ≢ 34) × (byte ≢ 92) }
-{
-    byte >= 0x20 && byte != b'"' && byte != b'\\'
 }
 
 // The text that bytes are, if they are UTF-8. A short one, as most are, goes to std without a detour.

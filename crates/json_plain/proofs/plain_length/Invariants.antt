@@ -1,7 +1,7 @@
 -- each byte so far stands for itself
 use Rattle.std.proofs.Common.{◌-◌, ◌≡◌, ◌≤◌, length, take}
 use Rattle.json.specs.Print.{escape}
-use Rattle.site_bodies.proofs.flat.plain_length.Given as goal
+use Rattle.json_plain.proofs.plain_length.Given as goal
 
 abbrev pub invariant-loop-end : goal.invariant-loop-end
 invariant-loop-end l = (escape (take l.end l.bytes) ≡ take l.end l.bytes) × (l.end ≤ length l.bytes)
