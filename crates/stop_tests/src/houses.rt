@@ -3,15 +3,19 @@ use crate::fault::Fault;
 use crate::order::Order;
 use house::decide;
 use house_rows::{Keep, KeepFault, Rate, Refusal, Settings, Text};
-use sqlite::{Connection, FileStore, Options};
+use sqlite::{Alter, Connection, FileStore, Options};
 use std::alloc::Global;
 use std::fmt::Write;
 use steps::Bands;
 use stop_files::{Pair, Stopping};
 use store::SqlKeep;
 
-/// The keep of a house on two files.
-pub(crate) type FileKeep<'p> = SqlKeep<FileStore<Stopping<'p>>>;
+/// What connects with a database. What works on a house there is over any store: the prover takes long over a
+/// keep whose store is named in full.
+pub(crate) trait Connects<S: Alter> {
+    /// A connection.
+    fn connection(&self) -> Result<Connection<S>, KeepFault>;
+}
 
 // What the salts of the logs are drawn from.
 const SEED: u64 = 2026;
@@ -35,36 +39,47 @@ pub(crate) struct Room {
     pub(crate) logged: usize,
 }
 
-// The connection with the database on two files, if it can be opened.
-fn connected(
-    alloc: Global,
-    pair: &Pair,
-    room: Room,
-) -> Result<Connection<FileStore<Stopping<'_>>>, KeepFault> {
-    let files = pair.files();
-    if !files.may_be_used() {
-        return Err(KeepFault::Store);
-    }
-    let options = Options {
-        cache_pages: room.read,
-        spill_pages: room.written,
-        checkpoint_frames: room.logged,
-        seed: SEED,
-    };
-    match Connection::open_files(alloc, files, options) {
-        Ok(conn) => Ok(conn),
-        Err(_) => Err(KeepFault::Store),
+/// Connects with the database on two files.
+#[derive(Drop)]
+pub(crate) struct Place<'p> {
+    pub(crate) alloc: Global,
+    pub(crate) pair: &'p Pair,
+    pub(crate) room: Room,
+}
+
+impl<'p> Connects<FileStore<Stopping<'p>>> for Place<'p> {
+    fn connection(&self) -> Result<Connection<FileStore<Stopping<'p>>>, KeepFault> {
+        let files = self.pair.files();
+        if !files.may_be_used() {
+            return Err(KeepFault::Store);
+        }
+        let options = Options {
+            cache_pages: self.room.read,
+            spill_pages: self.room.written,
+            checkpoint_frames: self.room.logged,
+            seed: SEED,
+        };
+        match Connection::open_files(self.alloc, files, options) {
+            Ok(conn) => Ok(conn),
+            Err(_) => Err(KeepFault::Store),
+        }
     }
 }
 
 /// The keep of a new house.
-pub(crate) fn created(alloc: Global, pair: &Pair, room: Room) -> Result<FileKeep<'_>, KeepFault> {
-    SqlKeep::create(alloc, connected(alloc, pair, room)?, settings(alloc)?)
+pub(crate) fn created<S: Alter + Drop, C: Connects<S>>(
+    alloc: Global,
+    place: &C,
+) -> Result<SqlKeep<S>, KeepFault> {
+    SqlKeep::create(alloc, place.connection()?, settings(alloc)?)
 }
 
 /// The keep of the house that is there.
-pub(crate) fn opened(alloc: Global, pair: &Pair, room: Room) -> Result<FileKeep<'_>, KeepFault> {
-    SqlKeep::open(alloc, connected(alloc, pair, room)?)
+pub(crate) fn opened<S: Alter + Drop, C: Connects<S>>(
+    alloc: Global,
+    place: &C,
+) -> Result<SqlKeep<S>, KeepFault> {
+    SqlKeep::open(alloc, place.connection()?)
 }
 
 /// Gives a command, and tells why it is refused, if it is.
