@@ -103,6 +103,19 @@ fn init_file(rt: &HostRuntime, alloc: Global, path: &str, words: &HouseWords<'_>
     }
 }
 
+// A listener beside what is served. It is over anything, and not over the site of a file alone, which the
+// prover takes long to drop.
+fn with_listener<T: Drop>(
+    rt: &HostRuntime,
+    served: T,
+    port: u16,
+) -> Result<(T, TcpListener), Fault> {
+    match TcpListener::bind(rt, (Ipv4Addr::LOCALHOST, port)) {
+        Ok(listener) => Ok((served, listener)),
+        Err(_) => Err(Fault::Socket),
+    }
+}
+
 // The site of the house in a file, and then a listener. A fault of the file is told before one of
 // the socket.
 fn open_file(
@@ -111,11 +124,7 @@ fn open_file(
     path: &str,
     port: u16,
 ) -> Result<(Site<FileKeep>, TcpListener), Fault> {
-    let site = open_site(rt, alloc, path)?;
-    match TcpListener::bind(rt, (Ipv4Addr::LOCALHOST, port)) {
-        Ok(listener) => Ok((site, listener)),
-        Err(_) => Err(Fault::Socket),
-    }
+    with_listener(rt, open_site(rt, alloc, path)?, port)
 }
 
 // Answers connections over the house in a file, and gives its keep back.
