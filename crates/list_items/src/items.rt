@@ -174,7 +174,8 @@ impl Items {
         ensures value { IfOk result (λ v. v.items ≡ map (λ (row : ItemRow). row.item) self.now) }
         ensures memory { IfErr result (λ e. e ≡ fault.Memory) }
     {
-        let mut found = Vec::new(alloc);
+        let count = self.rows.len();
+        let mut found = Vec::with_capacity(alloc, count)?;
         for row in &self.rows {
             push_copy(alloc, &mut found, &row.item)?;
         }
@@ -199,7 +200,8 @@ impl Items {
     {
         // For the proof alone: it then sees that the numbers of the rows run in turn.
         let _ = &self.rows;
-        let mut found = Vec::new(alloc);
+        let count = numbers.len().min(most);
+        let mut found = Vec::with_capacity(alloc, count)?;
         for number in numbers {
             if found.len() >= most {
                 return Ok(found);
