@@ -1,5 +1,5 @@
 //! A bid.
-ghost use Rattle.std.specs.Prelude.{◌≡◌, ◌==◌, ◌&&◌, ℕ, true, false, is_some, OnOk, IsErrOf, IsTrue};
+ghost use Rattle.std.specs.Prelude.{◌≡◌, ◌<◌, ◌^◌, ◌==◌, ◌&&◌, ℕ, true, false, is_some, OnOk, IsErrOf, IsTrue};
 ghost use Rattle.std.specs.List.{list_any};
 ghost use Rattle.sqlite.specs.State.{HasCleanDisk};
 ghost use Rattle.sqlite.specs.Held.{state};
@@ -12,6 +12,7 @@ ghost use Rattle.house_rows.specs.declared.fault.KeepFault.TheVariants.{Damaged}
 ghost use Rattle.store_rows.specs.House.{IsBegun, Serves};
 ghost use Rattle.store_items.specs.Items.{OfItem};
 ghost use Rattle.store_rows.specs.Tables.{Changes, IsNumbered, Rests, settings_in, tables_in};
+ghost use Rattle.store_items.specs.RowsStanding.{HasStandingItem};
 ghost use Rattle.store_items.specs.Sales.{StartsAt};
 ghost use Rattle.store_rows.specs.Frames.{OnlyReads, WritesMany};
 ghost use Rattle.store_rows.specs.Commits.{Commits};
@@ -30,6 +31,7 @@ use store_rows::{commit, set_clock, stored_moment};
 fn begins_at(standing: &Standing, bands: &Bands, start: Cents) -> bool
     ensures begins { IsTrue result → standing.now.start ≡ start }
     ensures led { IsTrue result → is_some standing.now.top ≡ is_some standing.now.leader }
+    ensures stands { IsTrue result → is_standing bands.now standing.now ≡ true }
     ensures all { standing.now.start ≡ start
         → is_standing bands.now standing.now ≡ true
         → IsTrue result }
@@ -55,9 +57,12 @@ fn check_standing<S: Alter>(
     standing: &Standing,
 ) -> Result<(), KeepFault>
     requires { Serves (state S.Store conn.old) }
+    ensures there { HasCleanDisk (state S.Store conn.new)
+        → OnOk result (HasStandingItem bands.now (state S.Store conn.old).now.trees item) }
     ensures start { HasCleanDisk (state S.Store conn.new)
         → OnOk result (OfItem item (StartsAt standing.now.start) (state S.Store conn.old).now) }
     ensures led { OnOk result (is_some standing.now.top ≡ is_some standing.now.leader) }
+    ensures stands { OnOk result (is_standing bands.now standing.now ≡ true) }
     ensures damaged { HasCleanDisk (state S.Store conn.new)
         → AreSound (tables_in (state S.Store conn.old).now.trees)
         → bands.now ≡ (settings_in (state S.Store conn.old).now.trees).bands
@@ -102,9 +107,12 @@ fn check_bid<S: Alter>(
     standing: &Standing,
 ) -> Result<(), KeepFault>
     requires { Serves (state S.Store conn.old) }
+    ensures there { HasCleanDisk (state S.Store conn.new)
+        → OnOk result (HasStandingItem bands.now (state S.Store conn.old).now.trees item) }
     ensures start { HasCleanDisk (state S.Store conn.new)
         → OnOk result (OfItem item (StartsAt standing.now.start) (state S.Store conn.old).now) }
     ensures led { OnOk result (is_some standing.now.top ≡ is_some standing.now.leader) }
+    ensures stands { OnOk result (is_standing bands.now standing.now ≡ true) }
     ensures free { HasCleanDisk (state S.Store conn.new)
         → OnOk result (list_any (λ b. (b.item == item) && (b.bid.no == number))
         (tables_in (state S.Store conn.old).now.trees).bids ≡ false) }
@@ -151,7 +159,8 @@ fn write_bid<S: Alter>(
 
 /// Places a bid on an item, which then stands as told. The moment is in seconds since
 /// 1970-01-01T00:00:00Z, the bands are those of the house. Damaged where the bid's number is taken,
-/// where there is no such item, or where its row, the standing or the moment doesn't fit.
+/// where there is no such item, where its row or the standing doesn't fit, or where the moment has
+/// more than 32 bits.
 pub fn bid<S: Alter>(
     conn: &mut Connection<S>,
     bands: &Bands,
@@ -166,6 +175,12 @@ pub fn bid<S: Alter>(
         → bands.now ≡ (settings_in (state S.Store conn.old).now.trees).bands }
     ensures commit { Commits (change.Bid moment item placed standing.now) (state S.Store conn.old)
         (state S.Store conn.new) result }
+    ensures there { HasCleanDisk (state S.Store conn.new)
+        → OnOk result (HasStandingItem bands.now (state S.Store conn.old).now.trees item) }
+    ensures start { HasCleanDisk (state S.Store conn.new)
+        → OnOk result (OfItem item (StartsAt standing.now.start) (state S.Store conn.old).now) }
+    ensures stands { OnOk result (is_standing bands.now standing.now ≡ true) }
+    ensures moment { OnOk result (moment < 2 ^ 32) }
     ensures taken { HasCleanDisk (state S.Store conn.new)
         → OnOk result (IsFree (tables_in (state S.Store conn.old).now.trees)
         (change.Bid moment item placed standing.now)) }

@@ -1,5 +1,5 @@
 -- What the count of items answers.
-use Rattle.std.proofs.Common.{◌≡◌, ℕ, min, List, [], length, Some, ap, ◌∙◌}
+use Rattle.std.proofs.Common.{◌≡◌, min, List, [], length, Some, ap, ◌∙◌}
 use Rattle.sqlite_value.specs.declared.value.Value.TheVariants.{Null}
 use Rattle.sqlite_value.specs.Order.{Row}
 use Rattle.sqlite_sql.specs.Program.{overlay}

@@ -1,13 +1,13 @@
 -- What is handed out is of items whose rows stand.
-use Rattle.std.proofs.Common.{◌≡◌, ◌≤◌, ◌⊎◌, ℕ, Bool, true, false, not, List, [], ◌∷◌, map, filter, find, option_map, Option, Result, Ok, Err, inl, inr}
-use Rattle.std.specs.Prelude.{◌==◌, IfSome, OnOk}
+use Rattle.std.proofs.Common.{◌≡◌, ◌≤◌, ◌⊎◌, ℕ, Bool, true, false, not, List, [], ◌∷◌, map, filter, find, option_map, Option, Some, Result, Ok, Err, inl, inr, sym, subst}
+use Rattle.std.specs.Prelude.{◌==◌, IfOk, IfSome, OnOk}
 use Rattle.std.specs.List.{AllByRecursion, list_any}
 use Rattle.sqlite_trees.specs.Tree.{Trees}
 use Rattle.sqlite_keyed.proofs.ListLemmas.{all_both, all_unmap, all-filter}
 use Rattle.proxy.specs.Bids.{is_leader}
 use Rattle.settle.specs.Statement.{is_party}
 use Rattle.house_rows.specs.Changed.{is_item}
-use Rattle.house_rows.specs.Found.{sells}
+use Rattle.house_rows.specs.Fits.{TermsFit}
 use Rattle.house_rows.specs.Keeping.{Stands}
 use Rattle.house_rows.specs.Pages.{sale_of}
 use Rattle.house_rows.specs.Tables.{ItemRow}
@@ -17,12 +17,17 @@ use Rattle.house_rows.specs.declared.item.Terms.{Terms}
 use Rattle.house_rows.proofs.Put.{by_test}
 use Rattle.store_rows.specs.ItemRows.{items_in}
 use Rattle.store_rows.specs.Tables.{tables_in}
-use Rattle.store_items.specs.RowsStanding.{RowsStand, StandsIn}
+use Rattle.store_items.specs.RowsStanding.{HasStandingItem, RowsFit, RowsStand, StandsIn}
 use Rattle.store_items.proofs.PartySales.{all_kept, buyer_is}
+use Rattle.store_items.proofs.Rows.{whole}
 
 pub ok_so : {A E : Type 0} {P : Type 0} (r : Result A E) → P → OnOk r P
 ok_so (Ok a) so = so
 ok_so (Err e) so = tt
+
+pub ok_both : {A E : Type 0} {P Q : A → Type 0} {R : Type 0} (r : Result A E) → IfOk r P → IfOk r Q → ((a : A) → P a → Q a → R) → OnOk r R
+ok_both (Ok a) p q so = so a p q
+ok_both (Err e) p q so = tt
 
 -- ---- the rows that pass a test
 
@@ -31,6 +36,9 @@ passed P p [] told = tt
 passed P p (x ∷ xs) told =
     let rest = passed P p xs told.1 in
     elim (by_test (p x)) [ inl is ↦ rw is (told.0 is, rest) | inr not ↦ rw not rest ]
+
+pub terms_fit : (db : Trees) (test : ItemRow → Bool) (found : List Terms) → found ≡ map (λ (row : ItemRow). row.item.terms) (filter test (items_in db)) → AllByRecursion TermsFit found → RowsFit test db
+terms_fit db test found are fit = all_unmap TermsFit (λ (row : ItemRow). row.item.terms) (filter test (items_in db)) (rw are at fit)
 
 module _ (bands : List (ℕ × ℕ)) (db : Trees) where
   abbrev StandsRow : ItemRow → Type 0
@@ -81,3 +89,11 @@ module _ (bands : List (ℕ × ℕ)) (db : Trees) where
   pub terms_in : (item : ℕ) (terms : Option Terms) → terms ≡ option_map (λ (row : ItemRow). row.item.terms) (find (is_item item) (items_in db)) → IfSome terms (Stands bands) → StandsIn bands db item
   unfolding tables_in
   terms_in item terms are stand = rw are at stand
+
+  -- ---- an item that is looked up
+
+  pub has_standing_item : (item : ℕ) (t : Terms) → option_map (λ (row : ItemRow). row.item.terms) (find (is_item item) (items_in db)) ≡ Some t → TermsFit t → Stands bands t → HasStandingItem bands db item
+  unfolding tables_in
+  has_standing_item item t found fits stands =
+      let row = whole (λ (row : ItemRow). row.item.terms) (find (is_item item) (items_in db)) t found in
+      record { row = row.0; row_there = row.1; fits = subst TermsFit (sym row.2) fits; stands = subst (Stands bands) (sym row.2) stands }

@@ -1,5 +1,5 @@
 //! A purchase at once.
-ghost use Rattle.std.specs.Prelude.{◌≡◌, ◌==◌, ◌&&◌, ℕ, false, is_some, not, OnOk, IsErrOf};
+ghost use Rattle.std.specs.Prelude.{◌≡◌, ◌<◌, ◌^◌, ◌==◌, ◌&&◌, ℕ, false, is_some, not, OnOk, IsErrOf};
 ghost use Rattle.sqlite.specs.State.{HasCleanDisk};
 ghost use Rattle.sqlite.specs.Held.{state};
 ghost use Rattle.house_rows.specs.Asks.{ChangeFits, IsFree, PurchaseFits};
@@ -9,6 +9,7 @@ ghost use Rattle.house_rows.specs.declared.fault.KeepFault.TheVariants.{Damaged}
 ghost use Rattle.store_rows.specs.House.{IsBegun, Serves};
 ghost use Rattle.store_items.specs.Items.{OfItem};
 ghost use Rattle.store_rows.specs.Tables.{Changes, IsNumbered, Rests, settings_in, tables_in};
+ghost use Rattle.store_items.specs.RowsStanding.{HasStandingItem};
 ghost use Rattle.store_items.specs.Sales.{IsUnbid};
 ghost use Rattle.store_rows.specs.Frames.{OnlyReads, WritesMany};
 ghost use Rattle.store_rows.specs.Commits.{Commits};
@@ -37,6 +38,8 @@ fn check_unbid<S: Alter>(
     item: u32,
 ) -> Result<(), KeepFault>
     requires { Serves (state S.Store conn.old) }
+    ensures there { HasCleanDisk (state S.Store conn.new)
+        → OnOk result (HasStandingItem bands.now (state S.Store conn.old).now.trees item) }
     ensures unbid { HasCleanDisk (state S.Store conn.new)
         → OnOk result (OfItem item IsUnbid (state S.Store conn.old).now) }
     ensures damaged { HasCleanDisk (state S.Store conn.new)
@@ -83,7 +86,8 @@ fn write_purchase<S: Alter>(
 
 /// Sells an item at once for its buy-now price. The moment is in seconds since
 /// 1970-01-01T00:00:00Z, the bands are those of the house. Damaged where there is no such item,
-/// where somebody has bid on it, or where its row or the moment doesn't fit.
+/// where somebody has bid on it, where its row doesn't fit, or where the moment has more than 32
+/// bits.
 pub fn buy<S: Alter>(
     conn: &mut Connection<S>,
     bands: &Bands,
@@ -98,6 +102,11 @@ pub fn buy<S: Alter>(
         → bands.now ≡ (settings_in (state S.Store conn.old).now.trees).bands }
     ensures commit { Commits (Buy moment item buyer price) (state S.Store conn.old)
         (state S.Store conn.new) result }
+    ensures there { HasCleanDisk (state S.Store conn.new)
+        → OnOk result (HasStandingItem bands.now (state S.Store conn.old).now.trees item) }
+    ensures unbid { HasCleanDisk (state S.Store conn.new)
+        → OnOk result (OfItem item IsUnbid (state S.Store conn.old).now) }
+    ensures moment { OnOk result (moment < 2 ^ 32) }
     ensures damaged { HasCleanDisk (state S.Store conn.new)
         → AreSound (tables_in (state S.Store conn.old).now.trees)
         → ChangeFits (tables_in (state S.Store conn.old).now.trees) (Buy moment item buyer price)

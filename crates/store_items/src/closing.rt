@@ -1,13 +1,15 @@
 //! The close of every item that is due.
-ghost use Rattle.std.specs.Prelude.{◌≡◌, false, IfOk, OnOk, IsErrOf};
+ghost use Rattle.std.specs.Prelude.{◌≡◌, ◌<◌, ◌^◌, false, IfOk, OnOk, IsErrOf};
 ghost use Rattle.sqlite.specs.State.{HasCleanDisk};
 ghost use Rattle.sqlite.specs.Held.{state};
 ghost use Rattle.house_rows.specs.Asks.{ChangeFits, IsFree};
+ghost use Rattle.house_rows.specs.Items.{is_due};
 ghost use Rattle.house_rows.specs.Keeping.{AreSound};
 ghost use Rattle.house_rows.specs.declared.change.Change.TheVariants.{Close};
 ghost use Rattle.house_rows.specs.declared.fault.KeepFault.TheVariants.{Damaged};
 ghost use Rattle.store_rows.specs.House.{IsBegun, Serves};
 ghost use Rattle.store_rows.specs.Tables.{Changes, IsNumbered, Rests, settings_in, tables_in};
+ghost use Rattle.store_items.specs.RowsStanding.{RowsFit, RowsStand};
 ghost use Rattle.store_items.specs.Sales.{IsDue, SetsItems, StartsFit, with_ends};
 ghost use Rattle.store_rows.specs.Frames.{OnlyReads, WritesMany};
 ghost use Rattle.store_rows.specs.Commits.{Commits};
@@ -20,7 +22,7 @@ use std::alloc::Global;
 use steps::Bands;
 use store_rows::{commit, set_clock, stored_moment};
 
-// The items that are due, whose rows fit.
+// The items that are due, whose rows fit and stand.
 fn find_due<S: Alter>(
     alloc: Global,
     conn: &mut Connection<S>,
@@ -30,6 +32,12 @@ fn find_due<S: Alter>(
     requires { Serves (state S.Store conn.old) }
     ensures due { HasCleanDisk (state S.Store conn.new)
         → IfOk result (λ due. IsDue moment due.items (state S.Store conn.old).now) }
+    ensures fits { HasCleanDisk (state S.Store conn.new)
+        → OnOk result (RowsFit (λ row. is_due moment row.item.terms)
+        (state S.Store conn.old).now.trees) }
+    ensures stands { HasCleanDisk (state S.Store conn.new)
+        → OnOk result (RowsStand bands.now (λ row. is_due moment row.item.terms)
+        (state S.Store conn.old).now.trees) }
     ensures damaged { HasCleanDisk (state S.Store conn.new)
         → AreSound (tables_in (state S.Store conn.old).now.trees)
         → bands.now ≡ (settings_in (state S.Store conn.old).now.trees).bands
@@ -82,8 +90,9 @@ fn write_close<S: Alter>(
 }
 
 /// Closes every open item whose end is at or before the moment: sold where somebody leads, else
-/// unsold. The moment is in seconds since 1970-01-01T00:00:00Z. Damaged where the row of an item
-/// that is due, or the moment, doesn't fit.
+/// unsold. The moment is in seconds since 1970-01-01T00:00:00Z, the bands are those of the house.
+/// Damaged where the row of an item that is due doesn't fit, or where the moment has more than 32
+/// bits.
 pub fn close<S: Alter>(
     conn: &mut Connection<S>,
     bands: &Bands,
@@ -96,6 +105,13 @@ pub fn close<S: Alter>(
         → bands.now ≡ (settings_in (state S.Store conn.old).now.trees).bands }
     ensures commit { Commits (Close moment) (state S.Store conn.old)
         (state S.Store conn.new) result }
+    ensures fits { HasCleanDisk (state S.Store conn.new)
+        → OnOk result (RowsFit (λ row. is_due moment row.item.terms)
+        (state S.Store conn.old).now.trees) }
+    ensures stands { HasCleanDisk (state S.Store conn.new)
+        → OnOk result (RowsStand bands.now (λ row. is_due moment row.item.terms)
+        (state S.Store conn.old).now.trees) }
+    ensures moment { OnOk result (moment < 2 ^ 32) }
     ensures damaged { HasCleanDisk (state S.Store conn.new)
         → AreSound (tables_in (state S.Store conn.old).now.trees)
         → ChangeFits (tables_in (state S.Store conn.old).now.trees) (Close moment)

@@ -1,7 +1,8 @@
 //! Look-ups in the table of items.
-ghost use Rattle.std.specs.Prelude.{◌≡◌, ◌==◌, ◌&&◌, find, map, option_map, IfOk, IfSome, IsErrOf};
+ghost use Rattle.std.specs.Prelude.{◌≡◌, ◌==◌, ◌&&◌, true, find, map, option_map, IfOk, IfSome, IsErrOf};
 ghost use Rattle.sqlite.specs.State.{HasCleanDisk};
 ghost use Rattle.sqlite.specs.Held.{state};
+ghost use Rattle.proxy.specs.Rows.{is_standing};
 ghost use Rattle.house_rows.specs.Changed.{is_item};
 ghost use Rattle.house_rows.specs.Tables.{ItemRow};
 ghost use Rattle.house_rows.specs.Text.{same_text};
@@ -84,6 +85,7 @@ pub fn standing_at<S: Alter>(
         → IfOk result (λ found. found ≡ option_map (λ (row : ItemRow). row.standing)
         (find (is_item number) (items_in (state S.Store conn.old).now.trees))) }
     ensures fits { IfOk result (λ found. IfSome found StandingFits) }
+    ensures stands { IfOk result (λ found. IfSome found (λ s. is_standing bands.now s ≡ true)) }
     ensures damaged { HasCleanDisk (state S.Store conn.new)
         → AllByRecursion (ItemRowFits bands.now) (items_in (state S.Store conn.old).now.trees)
         → ¬ (IsErrOf result Damaged) }

@@ -1,5 +1,5 @@
 //! New items.
-ghost use Rattle.std.specs.Prelude.{◌≡◌, ◌+◌, false, length, OnOk, IsErrOf};
+ghost use Rattle.std.specs.Prelude.{◌≡◌, ◌<◌, ◌+◌, ◌^◌, false, length, OnOk, IsErrOf};
 ghost use Rattle.sqlite.specs.State.{HasCleanDisk};
 ghost use Rattle.sqlite.specs.Held.{state};
 ghost use Rattle.house_rows.specs.Asks.{ChangeFits, IsFree};
@@ -69,7 +69,8 @@ fn commit_list<S: Alter>(
 }
 
 /// Lists an item with the next number. The moment is in seconds since 1970-01-01T00:00:00Z. Where the
-/// seller has an item with the lot, it is `Damaged`.
+/// seller has an item with the lot, it is `Damaged`, and so is a moment or an end of more than 32
+/// bits.
 pub fn list<S: Alter>(
     conn: &mut Connection<S>,
     number: u32,
@@ -85,6 +86,8 @@ pub fn list<S: Alter>(
     ensures taken { HasCleanDisk (state S.Store conn.new)
         → OnOk result (IsFree (tables_in (state S.Store conn.old).now.trees)
         (List moment item.now)) }
+    ensures moment { OnOk result (moment < 2 ^ 32) }
+    ensures end { OnOk result (item.now.end < 2 ^ 32) }
     ensures damaged { HasCleanDisk (state S.Store conn.new)
         → AreSound (tables_in (state S.Store conn.old).now.trees)
         → ChangeFits (tables_in (state S.Store conn.old).now.trees) (List moment item.now)

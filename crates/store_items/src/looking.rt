@@ -5,7 +5,7 @@ ghost use Rattle.sqlite.specs.Held.{state};
 ghost use Rattle.house_rows.specs.Asks.{HasItem};
 ghost use Rattle.house_rows.specs.Changed.{is_item};
 ghost use Rattle.house_rows.specs.Fits.{TermsFit};
-ghost use Rattle.house_rows.specs.Keeping.{AreSound};
+ghost use Rattle.house_rows.specs.Keeping.{AreSound, Stands};
 ghost use Rattle.house_rows.specs.Tables.{ItemRow};
 ghost use Rattle.house_rows.specs.declared.fault.KeepFault.TheVariants.{Damaged};
 ghost use Rattle.store_rows.specs.House.{Serves};
@@ -19,7 +19,8 @@ use proxy::Standing;
 use sqlite::{Alter, Connection};
 use steps::Bands;
 
-/// An item without its texts; Damaged where there is none.
+/// An item without its texts; Damaged where there is none, or where its row doesn't stand by these
+/// bands.
 pub fn terms_there<S: Alter>(
     conn: &mut Connection<S>,
     bands: &Bands,
@@ -30,6 +31,7 @@ pub fn terms_there<S: Alter>(
         → IfOk result (λ t. option_map (λ (row : ItemRow). row.item.terms)
         (find (is_item item) (items_in (state S.Store conn.old).now.trees)) ≡ Some t) }
     ensures fits { IfOk result TermsFit }
+    ensures stands { IfOk result (Stands bands.now) }
     ensures damaged { HasCleanDisk (state S.Store conn.new)
         → AreSound (tables_in (state S.Store conn.old).now.trees)
         → bands.now ≡ (settings_in (state S.Store conn.old).now.trees).bands

@@ -1,5 +1,5 @@
 //! A settlement.
-ghost use Rattle.std.specs.Prelude.{◌≡◌, false, OnOk, IsErrOf};
+ghost use Rattle.std.specs.Prelude.{◌≡◌, ◌<◌, ◌^◌, false, OnOk, IsErrOf};
 ghost use Rattle.sqlite.specs.State.{HasCleanDisk};
 ghost use Rattle.sqlite.specs.Held.{state};
 ghost use Rattle.house_rows.specs.Asks.{ChangeFits, HasItem, IsFree};
@@ -9,6 +9,7 @@ ghost use Rattle.house_rows.specs.declared.fault.KeepFault.TheVariants.{Damaged}
 ghost use Rattle.store_rows.specs.House.{IsBegun, Serves};
 ghost use Rattle.store_items.specs.Items.{OfItem};
 ghost use Rattle.store_rows.specs.Tables.{Changes, IsNumbered, Rests, settings_in, tables_in};
+ghost use Rattle.store_items.specs.RowsStanding.{HasStandingItem};
 ghost use Rattle.store_items.specs.Sales.{StartFits};
 ghost use Rattle.store_rows.specs.Frames.{OnlyReads, WritesMany};
 ghost use Rattle.store_rows.specs.Commits.{Commits};
@@ -27,6 +28,8 @@ fn check_terms<S: Alter>(
     item: u32,
 ) -> Result<(), KeepFault>
     requires { Serves (state S.Store conn.old) }
+    ensures there { HasCleanDisk (state S.Store conn.new)
+        → OnOk result (HasStandingItem bands.now (state S.Store conn.old).now.trees item) }
     ensures fits { HasCleanDisk (state S.Store conn.new)
         → OnOk result (OfItem item StartFits (state S.Store conn.old).now) }
     ensures damaged { HasCleanDisk (state S.Store conn.new)
@@ -63,8 +66,9 @@ fn write_settlement<S: Alter>(
     set_clock(tx, moment)
 }
 
-/// Settles the sale of an item. The moment is in seconds since 1970-01-01T00:00:00Z. Damaged where
-/// there is no such item, or its row or the moment doesn't fit.
+/// Settles the sale of an item. The moment is in seconds since 1970-01-01T00:00:00Z, the bands are
+/// those of the house. Damaged where there is no such item, where its row doesn't fit, or where the
+/// moment has more than 32 bits.
 pub fn settle<S: Alter>(
     conn: &mut Connection<S>,
     bands: &Bands,
@@ -77,6 +81,9 @@ pub fn settle<S: Alter>(
         → bands.now ≡ (settings_in (state S.Store conn.old).now.trees).bands }
     ensures commit { Commits (Settle moment item) (state S.Store conn.old)
         (state S.Store conn.new) result }
+    ensures there { HasCleanDisk (state S.Store conn.new)
+        → OnOk result (HasStandingItem bands.now (state S.Store conn.old).now.trees item) }
+    ensures moment { OnOk result (moment < 2 ^ 32) }
     ensures damaged { HasCleanDisk (state S.Store conn.new)
         → AreSound (tables_in (state S.Store conn.old).now.trees)
         → ChangeFits (tables_in (state S.Store conn.old).now.trees) (Settle moment item)

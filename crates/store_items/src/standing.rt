@@ -1,5 +1,5 @@
 //! The standing of an item's bids as its columns tell it.
-ghost use Rattle.std.specs.Prelude.{◌≡◌, ◌==◌, ◌&&◌, None, is_none, is_some, IfOk, IfSome, IsErrOf, option_map, slice_get};
+ghost use Rattle.std.specs.Prelude.{◌≡◌, ◌==◌, ◌&&◌, true, None, is_none, is_some, IfOk, IfSome, IsErrOf, option_map, slice_get};
 ghost use Rattle.proxy.specs.Rows.{is_standing};
 ghost use Rattle.house_rows.specs.Fits.{StandingFits};
 ghost use Rattle.house_rows.specs.declared.fault.KeepFault.TheVariants.{Damaged};
@@ -59,6 +59,7 @@ fn standing_from(
 // The standing that the columns tell.
 fn told_standing(bands: &Bands, row: &Row) -> Result<Standing, KeepFault>
     ensures value { IfOk result (λ s. s ≡ kept_of row.now) }
+    ensures stands { IfOk result (λ s. is_standing bands.now s ≡ true) }
     ensures damaged { AreStanding bands.now row.now → ¬ (IsErrOf result Damaged) }
 {
     let start = cents_at(row, 0)?;
@@ -76,6 +77,7 @@ fn told_standing(bands: &Bands, row: &Row) -> Result<Standing, KeepFault>
 // A standing, which fits.
 fn read_standing(bands: &Bands, row: &Row) -> Result<Standing, KeepFault>
     ensures value { IfOk result (λ s. s ≡ kept_of row.now) }
+    ensures stands { IfOk result (λ s. is_standing bands.now s ≡ true) }
     ensures fits { IfOk result StandingFits }
     ensures damaged { AreStanding bands.now row.now → ¬ (IsErrOf result Damaged) }
 {
@@ -90,6 +92,7 @@ fn read_standing(bands: &Bands, row: &Row) -> Result<Standing, KeepFault>
 /// The standing that the first of the rows tells.
 pub(crate) fn first_standing(bands: &Bands, rows: &[Row]) -> Result<Option<Standing>, KeepFault>
     ensures value { IfOk result (λ found. found ≡ option_map kept_of (slice_get rows.now 0)) }
+    ensures stands { IfOk result (λ found. IfSome found (λ s. is_standing bands.now s ≡ true)) }
     ensures fits { IfOk result (λ found. IfSome found StandingFits) }
     ensures damaged { IfSome (slice_get rows.now 0) (AreStanding bands.now)
         → ¬ (IsErrOf result Damaged) }

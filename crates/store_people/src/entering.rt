@@ -1,5 +1,5 @@
 //! New members and categories.
-ghost use Rattle.std.specs.Prelude.{◌≡◌, ◌+◌, false, length, OnOk, IsErrOf};
+ghost use Rattle.std.specs.Prelude.{◌≡◌, ◌<◌, ◌+◌, ◌^◌, false, length, OnOk, IsErrOf};
 ghost use Rattle.sqlite.specs.State.{HasCleanDisk};
 ghost use Rattle.sqlite.specs.Held.{state};
 ghost use Rattle.house_rows.specs.Asks.{ChangeFits, IsFree};
@@ -66,7 +66,7 @@ fn commit_register<S: Alter>(
 }
 
 /// Registers a member with the next number. The moment is in seconds since 1970-01-01T00:00:00Z. A
-/// name that is taken is `Damaged`.
+/// name that is taken is `Damaged`, and so is a moment of more than 32 bits.
 pub fn register<S: Alter>(
     conn: &mut Connection<S>,
     number: u32,
@@ -82,6 +82,7 @@ pub fn register<S: Alter>(
     ensures taken { HasCleanDisk (state S.Store conn.new)
         → OnOk result (IsFree (tables_in (state S.Store conn.old).now.trees)
         (Register moment name.entry)) }
+    ensures moment { OnOk result (moment < 2 ^ 32) }
     ensures damaged { HasCleanDisk (state S.Store conn.new)
         → AreSound (tables_in (state S.Store conn.old).now.trees)
         → ChangeFits (tables_in (state S.Store conn.old).now.trees) (Register moment name.entry)
@@ -143,7 +144,7 @@ fn commit_add_category<S: Alter>(
 }
 
 /// Adds a category with the next number. The moment is in seconds since 1970-01-01T00:00:00Z. A name
-/// that is taken is `Damaged`.
+/// that is taken is `Damaged`, and so is a moment of more than 32 bits.
 pub fn add_category<S: Alter>(
     conn: &mut Connection<S>,
     number: u32,
@@ -159,6 +160,7 @@ pub fn add_category<S: Alter>(
     ensures taken { HasCleanDisk (state S.Store conn.new)
         → OnOk result (IsFree (tables_in (state S.Store conn.old).now.trees)
         (AddCategory moment name.entry)) }
+    ensures moment { OnOk result (moment < 2 ^ 32) }
     ensures damaged { HasCleanDisk (state S.Store conn.new)
         → AreSound (tables_in (state S.Store conn.old).now.trees)
         → ChangeFits (tables_in (state S.Store conn.old).now.trees) (AddCategory moment name.entry)

@@ -2,6 +2,7 @@ use Rattle.std.proofs.Common.{◌<◌, ◌^◌, arith, sym, ◌∙◌, true≢fa
 use Rattle.sqlite.specs.Held.{state}
 use Rattle.store_bids.proofs.Begins.{bid_begins, bid_stands}
 use Rattle.store_items.proofs.Rows.{standing_checked}
+use Rattle.store_items.proofs.RowsStanding.{has_standing_item}
 use Rattle.store_bids.proofs.bidding.check_standing.Goals as goal
 
 pub returns-then-begins_at-clause-start : goal.returns-then-begins_at-clause-start
@@ -16,3 +17,7 @@ returns-else-begins_at-clause-damaged g c clean sound bands moment placed fits _
     let start = bid_begins db moment c.args.item placed c.args.standing.now c.in_ok-terms.terms fits (c.in_ok-terms.ensures.found clean) in
     let stands = bid_stands db c.args.bands.now moment c.args.item placed c.args.standing.now bands fits in
     true≢false (sym (c.begins_at.ensures.all start stands) ∙ c.if-begins_at.false)
+
+pub returns-then-begins_at-clause-there : goal.returns-then-begins_at-clause-there
+returns-then-begins_at-clause-there g c clean =
+    has_standing_item c.args.bands.now (state g.S.Store c.args.conn.now).now.trees c.args.item c.in_ok-terms.terms (c.in_ok-terms.ensures.found clean) c.in_ok-terms.ensures.fits c.in_ok-terms.ensures.stands

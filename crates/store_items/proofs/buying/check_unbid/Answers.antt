@@ -2,6 +2,7 @@ use Rattle.std.proofs.Common.{◌<◌, ◌^◌, arith, sym, ◌∙◌, true≢fa
 use Rattle.sqlite.specs.Held.{state}
 use Rattle.sqlite.specs.State.{HasCleanDisk}
 use Rattle.store_items.proofs.Rows.{purchase_unbid, same_items, unbid_checked}
+use Rattle.store_items.proofs.RowsStanding.{has_standing_item}
 use Rattle.store_items.proofs.buying.check_unbid.Goals as goal
 
 pub returns-then-is_unbid-clause-unbid : goal.returns-then-is_unbid-clause-unbid
@@ -20,3 +21,8 @@ returns-else-is_unbid-clause-damaged g c clean sound bands moment buyer price fi
     let is = purchase_unbid (state g.S.Store c.args.conn.now).now.trees moment c.args.item buyer price c.in_ok-terms.terms c.in_ok-standing.standing sound fits (c.in_ok-terms.ensures.found mid)
     (same_items (state g.S.Store c.args.conn.now).now (state g.S.Store c.terms_there.new.conn).now c.args.item c.in_ok-standing.standing same (c.in_ok-standing.ensures.found clean)) in
     true≢false (sym is ∙ sym c.is_unbid.ensures ∙ c.if-is_unbid.false)
+
+pub returns-then-is_unbid-clause-there : goal.returns-then-is_unbid-clause-there
+returns-then-is_unbid-clause-there g c clean =
+    let mid : HasCleanDisk (state g.S.Store c.terms_there.new.conn) = omega (arith, c.standing_there.ensures.read.crash.clean) in
+    has_standing_item c.args.bands.now (state g.S.Store c.args.conn.now).now.trees c.args.item c.in_ok-terms.terms (c.in_ok-terms.ensures.found mid) c.in_ok-terms.ensures.fits c.in_ok-terms.ensures.stands

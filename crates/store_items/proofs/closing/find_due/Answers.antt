@@ -1,6 +1,17 @@
 use Rattle.sqlite.specs.Held.{state}
+use Rattle.house_rows.specs.Items.{is_due}
 use Rattle.store_items.proofs.Rows.{items_sound}
+use Rattle.store_items.proofs.RowsStanding.{ok_both, terms_fit, terms_stand}
 use Rattle.store_items.proofs.closing.find_due.Goals as goal
 
 pub returns-clause-damaged : goal.returns-clause-damaged
 returns-clause-damaged g c clean sound bands = c.due_terms.ensures.damaged clean (items_sound (state g.S.Store c.args.conn.now).now.trees c.args.bands.now sound bands)
+
+pub returns-clause-fits : goal.returns-clause-fits
+returns-clause-fits g c clean =
+    ok_both c.due_terms.result (c.due_terms.ensures.terms clean) c.due_terms.ensures.fits (λ due are fit. terms_fit (state g.S.Store c.args.conn.now).now.trees (λ row. is_due c.args.moment row.item.terms) due.items are fit)
+
+pub returns-clause-stands : goal.returns-clause-stands
+returns-clause-stands g c clean =
+    ok_both c.due_terms.result (c.due_terms.ensures.terms clean) c.due_terms.ensures.stands
+    (λ due are stand. terms_stand c.args.bands.now (state g.S.Store c.args.conn.now).now.trees (λ row. is_due c.args.moment row.item.terms) due.items are stand)
