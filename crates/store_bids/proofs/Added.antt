@@ -1,5 +1,5 @@
 -- What the tables of a house are after a new bid.
-use Rattle.std.proofs.Common.{◌≡◌, ℕ, refl, arith}
+use Rattle.std.proofs.Common.{◌≡◌, refl, arith}
 use Rattle.sqlite.specs.Effect.{Database}
 use Rattle.house_rows.specs.Bids.{BidRow, bid_key}
 use Rattle.house_rows.specs.History.{put_by}
