@@ -42,7 +42,7 @@ pub(crate) fn own_bids(
     Ok(found)
 }
 
-/// The numbers of the items of a member's tallies, which has all those on which it has bid.
+/// Numbers of items; those on which a member has bid are among them.
 pub(crate) fn bid_on(alloc: Global, bids: &Bids, member: u64) -> Result<Vec<u32>, KeepFault>
     ensures value { (t : Tables) (item : ℕ)
         → t.bids ≡ bids.now
