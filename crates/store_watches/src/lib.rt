@@ -2,7 +2,9 @@
 //!
 //! Promised: each look-up and list answers what the house's definitions find in the tables that the
 //! database holds, and a watch is put or cut whole, in one transaction that commits before the call
-//! answers Ok, or not at all. Read `watching` first.
+//! answers Ok, or not at all; neither is ever `Damaged`. Read `watching` first.
+//!
+//! Not promised: when an error is `Memory` or `Store`.
 #![tactic(auto)]
 
 mod list;

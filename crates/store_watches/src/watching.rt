@@ -2,12 +2,10 @@
 ghost use Rattle.std.specs.Prelude.{◌≡◌, false, OnOk, IsErrOf};
 ghost use Rattle.sqlite.specs.State.{HasCleanDisk};
 ghost use Rattle.sqlite.specs.Held.{state};
-ghost use Rattle.house_rows.specs.Asks.{ChangeFits, IsFree};
-ghost use Rattle.house_rows.specs.Keeping.{AreSound};
 ghost use Rattle.house_rows.specs.declared.change.Change.TheVariants.{Unwatch, Watch};
 ghost use Rattle.house_rows.specs.declared.fault.KeepFault.TheVariants.{Damaged};
 ghost use Rattle.store_rows.specs.House.{IsBegun};
-ghost use Rattle.store_rows.specs.Tables.{Changes, IsNumbered, Rests, tables_in};
+ghost use Rattle.store_rows.specs.Tables.{Changes, IsNumbered, Rests};
 ghost use Rattle.store_rows.specs.Frames.{WritesMany};
 ghost use Rattle.store_rows.specs.Commits.{Commits};
 
@@ -42,11 +40,7 @@ pub fn unwatch<S: Alter>(conn: &mut Connection<S>, member: u32, item: u32) -> Re
     requires mode { conn.old.in_transaction ≡ false }
     ensures commit { Commits (Unwatch member item) (state S.Store conn.old)
         (state S.Store conn.new) result }
-    ensures damaged { HasCleanDisk (state S.Store conn.new)
-        → AreSound (tables_in (state S.Store conn.old).now.trees)
-        → ChangeFits (tables_in (state S.Store conn.old).now.trees) (Unwatch member item)
-        → IsFree (tables_in (state S.Store conn.old).now.trees) (Unwatch member item)
-        → ¬ (IsErrOf result Damaged) }
+    ensures sound { ¬ (IsErrOf result Damaged) }
 {
     let mut tx = conn.transaction();
     unwatch_within(&mut tx, member, item)?;
@@ -83,11 +77,7 @@ pub fn watch<S: Alter>(conn: &mut Connection<S>, member: u32, item: u32) -> Resu
     requires mode { conn.old.in_transaction ≡ false }
     ensures commit { Commits (Watch member item) (state S.Store conn.old)
         (state S.Store conn.new) result }
-    ensures damaged { HasCleanDisk (state S.Store conn.new)
-        → AreSound (tables_in (state S.Store conn.old).now.trees)
-        → ChangeFits (tables_in (state S.Store conn.old).now.trees) (Watch member item)
-        → IsFree (tables_in (state S.Store conn.old).now.trees) (Watch member item)
-        → ¬ (IsErrOf result Damaged) }
+    ensures sound { ¬ (IsErrOf result Damaged) }
 {
     let mut tx = conn.transaction();
     watch_within(&mut tx, member, item)?;
