@@ -1,13 +1,12 @@
 //! Answers to questions.
-ghost use Rattle.std.specs.Prelude.{◌≡◌, false, OnOk, IsErrOf};
+ghost use Rattle.std.specs.Prelude.{◌≡◌, ◌<◌, ◌^◌, false, OnOk, IsErrOf};
 ghost use Rattle.sqlite.specs.State.{HasCleanDisk};
 ghost use Rattle.sqlite.specs.Held.{state};
-ghost use Rattle.house_rows.specs.Asks.{ChangeFits, IsFree};
-ghost use Rattle.house_rows.specs.Keeping.{AreSound};
+ghost use Rattle.house_rows.specs.Fits.{IsMoment};
 ghost use Rattle.house_rows.specs.declared.change.Change.TheVariants.{Answer};
 ghost use Rattle.house_rows.specs.declared.fault.KeepFault.TheVariants.{Damaged};
 ghost use Rattle.store_rows.specs.House.{IsBegun};
-ghost use Rattle.store_rows.specs.Tables.{Changes, IsNumbered, Rests, tables_in};
+ghost use Rattle.store_rows.specs.Tables.{Changes, IsNumbered, Rests};
 ghost use Rattle.store_rows.specs.Frames.{WritesMany};
 ghost use Rattle.store_rows.specs.Commits.{Commits};
 
@@ -64,7 +63,7 @@ fn commit_answer<S: Alter>(
 }
 
 /// Answers the question of a key, if there is one. The moment is in seconds since
-/// 1970-01-01T00:00:00Z.
+/// 1970-01-01T00:00:00Z; one of more than 32 bits is `Damaged`.
 pub fn answer<S: Alter>(
     conn: &mut Connection<S>,
     moment: u64,
@@ -77,13 +76,8 @@ pub fn answer<S: Alter>(
     requires mode { conn.old.in_transaction ≡ false }
     ensures commit { Commits (Answer moment item asker number text.entry) (state S.Store conn.old)
         (state S.Store conn.new) result }
-    ensures damaged { HasCleanDisk (state S.Store conn.new)
-        → AreSound (tables_in (state S.Store conn.old).now.trees)
-        → ChangeFits (tables_in (state S.Store conn.old).now.trees)
-        (Answer moment item asker number text.entry)
-        → IsFree (tables_in (state S.Store conn.old).now.trees)
-        (Answer moment item asker number text.entry)
-        → ¬ (IsErrOf result Damaged) }
+    ensures moment { OnOk result (moment < 2 ^ 32) }
+    ensures damaged { IsMoment moment → ¬ (IsErrOf result Damaged) }
 {
     let moment = stored_moment(moment)?;
     commit_answer(conn, moment, item, asker, number, text)

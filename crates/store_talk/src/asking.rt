@@ -2,7 +2,7 @@
 ghost use Rattle.std.specs.Prelude.{◌≡◌, false, OnOk, IsErrOf};
 ghost use Rattle.sqlite.specs.State.{HasCleanDisk};
 ghost use Rattle.sqlite.specs.Held.{state};
-ghost use Rattle.house_rows.specs.Asks.{ChangeFits, IsFree};
+ghost use Rattle.house_rows.specs.Asks.{IsFree};
 ghost use Rattle.house_rows.specs.Keeping.{AreSound};
 ghost use Rattle.house_rows.specs.declared.change.Change.TheVariants.{Ask};
 ghost use Rattle.house_rows.specs.declared.fault.KeepFault.TheVariants.{Damaged};
@@ -77,8 +77,6 @@ pub fn ask<S: Alter>(
         (Ask item asker number text.entry)) }
     ensures damaged { HasCleanDisk (state S.Store conn.new)
         → AreSound (tables_in (state S.Store conn.old).now.trees)
-        → ChangeFits (tables_in (state S.Store conn.old).now.trees)
-        (Ask item asker number text.entry)
         → IsFree (tables_in (state S.Store conn.old).now.trees) (Ask item asker number text.entry)
         → ¬ (IsErrOf result Damaged) }
 {

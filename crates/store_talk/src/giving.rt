@@ -1,9 +1,9 @@
 //! Feedback between the parties of a sale.
-ghost use Rattle.std.specs.Prelude.{◌≡◌, false, OnOk, IsErrOf};
+ghost use Rattle.std.specs.Prelude.{◌≡◌, ◌<◌, ◌^◌, false, OnOk, IsErrOf};
 ghost use Rattle.sqlite.specs.State.{HasCleanDisk};
 ghost use Rattle.sqlite.specs.Held.{state};
-ghost use Rattle.house_rows.specs.Asks.{ChangeFits, IsFree};
-ghost use Rattle.house_rows.specs.Keeping.{AreSound};
+ghost use Rattle.house_rows.specs.Asks.{IsFree};
+ghost use Rattle.house_rows.specs.Fits.{IsMoment};
 ghost use Rattle.house_rows.specs.declared.change.Change.TheVariants.{Feedback};
 ghost use Rattle.house_rows.specs.declared.fault.KeepFault.TheVariants.{Damaged};
 ghost use Rattle.store_rows.specs.House.{IsBegun};
@@ -67,7 +67,7 @@ fn commit_feedback<S: Alter>(
 }
 
 /// Gives a member feedback on an item. The moment is in seconds since 1970-01-01T00:00:00Z. Where
-/// this giver has given some on the item, it is `Damaged`.
+/// this giver has given some on the item, it is `Damaged`, and so is a moment of more than 32 bits.
 pub fn give_feedback<S: Alter>(
     conn: &mut Connection<S>,
     moment: u64,
@@ -84,10 +84,9 @@ pub fn give_feedback<S: Alter>(
     ensures taken { HasCleanDisk (state S.Store conn.new)
         → OnOk result (IsFree (tables_in (state S.Store conn.old).now.trees)
         (Feedback moment item from to rating text.entry)) }
+    ensures moment { OnOk result (moment < 2 ^ 32) }
     ensures damaged { HasCleanDisk (state S.Store conn.new)
-        → AreSound (tables_in (state S.Store conn.old).now.trees)
-        → ChangeFits (tables_in (state S.Store conn.old).now.trees)
-        (Feedback moment item from to rating text.entry)
+        → IsMoment moment
         → IsFree (tables_in (state S.Store conn.old).now.trees)
         (Feedback moment item from to rating text.entry)
         → ¬ (IsErrOf result Damaged) }

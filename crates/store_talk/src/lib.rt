@@ -3,6 +3,8 @@
 //! Promised: each look-up and list answers what the house's definitions find in the tables that the
 //! database holds, and a question, an answer and feedback are made whole, each in one transaction that
 //! commits before the call answers Ok, or not at all. Read `questions` first, then `asking`.
+//!
+//! Not promised: when an error is `Memory` or `Store`, either of which may come in place of `Damaged`.
 #![tactic(auto)]
 
 mod answering;

@@ -155,8 +155,8 @@ fn first_on_each<S: Alter>(
 /// The first of the questions that wait for a member's answer, by item, asker and number; at most
 /// fifty.
 ///
-/// It reads the terms of all items that the member sells, and of their questions no row behind the
-/// fiftieth.
+/// It reads the terms of all items that the member sells, and of each item's questions no row behind
+/// the fiftieth.
 pub fn first_waiting<S: Alter>(
     alloc: Global,
     conn: &mut Connection<S>,

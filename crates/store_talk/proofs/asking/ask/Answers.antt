@@ -12,12 +12,12 @@ use Rattle.store_talk.proofs.asking.ask.Goals as goal
 
 pub returns-in_err-question_at-clause-damaged : goal.returns-in_err-question_at-clause-damaged
 unfolding tables_in
-returns-in_err-question_at-clause-damaged g c clean sound fits free is =
+returns-in_err-question_at-clause-damaged g c clean sound free is =
     c.in_err-question_at.ensures.damaged clean (every_stored question_key QuestionFits _ sound.questions) (search rules)
 
 pub returns-then-is_some-clause-damaged : goal.returns-then-is_some-clause-damaged
 unfolding tables_in
-returns-then-is_some-clause-damaged g c clean sound fits free is =
+returns-then-is_some-clause-damaged g c clean sound free is =
     let there : is_some c.in_ok-question_at.field-0 ≡ true = search rules in
     let house = (c.requires.rests (omega (arith, c.in_ok-question_at.ensures.read.crash.clean))).house in
     let same = found_sorted (state g.S.Store c.args.conn.now).now house c.args.item c.args.asker c.args.number (omega (arith, c.ranges.item)) (omega (arith, c.ranges.asker)) (omega (arith, c.ranges.number)) in

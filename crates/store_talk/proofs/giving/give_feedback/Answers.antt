@@ -10,7 +10,7 @@ use Rattle.store_talk.proofs.giving.give_feedback.Goals as goal
 
 pub returns-then-given-clause-damaged : goal.returns-then-given-clause-damaged
 unfolding tables_in
-returns-then-given-clause-damaged g c clean sound fits free is =
+returns-then-given-clause-damaged g c clean fits free is =
     true≢false (sym c.if-given.true ∙ c.in_ok-given.ensures.found clean ∙ free)
 
 pub returns-clause-taken : goal.returns-clause-taken
