@@ -42,7 +42,7 @@ has_settings db house rows s found fits read bands rate zone =
     let was : Settings = settings_in db in
     record {
       house = subst (λ (o : Option HouseRow). is_some o ≡ true) found refl;
-      version = ap (λ (h : HouseRow). h.version) row ∙ fits.version;
+      row = subst HouseRowFits (sym row) fits;
       settings_are = ap (λ (bs : List (ℕ × ℕ)). record was { bands = bs }) b
           ∙ ap (λ (n : ℕ). record was { bands = s.bands; rate = n }) r
           ∙ ap (λ (t : List ℕ). record { bands = s.bands; rate = s.rate; zone = t }) z;
@@ -81,7 +81,7 @@ pub record WasRead (was is : State) (s : Settings) (clock : ℕ) (counts : Count
   pub settings_are : settings_in is.now.trees ≡ s
   pub counts_are : counts_of (tables_in is.now.trees) ≡ counts
   pub clock_is : (tables_in is.now.trees).clock ≡ clock
-  pub version : (house_row_in is.now.trees).version ≡ 1
+  pub row : HouseRowFits (house_row_in is.now.trees)
   pub numbered : AreNumbered is.now.trees
   pub same : is.now ≡ was.now
   pub committed : is.committed ≡ is.now
@@ -98,7 +98,7 @@ was_read was middle is s clock counts house settled first second set have =
       settings_are = set_now.settings_are;
       counts_are = counts_are is.now.trees counts have_now;
       clock_is = clock_of is.now.trees ∙ set_now.clock_is;
-      version = set_now.version;
+      row = set_now.row;
       numbered = have_now.numbered;
       same = now;
       committed = committed ∙ sym settled ∙ sym now;

@@ -35,10 +35,10 @@ pub record HaveNumbers (db : Trees) (counts : Counts) : Type 0 where
   pub items : length (items_in db) ≡ counts.items
   pub numbered : AreNumbered db
 
--- the house has its row, of version 1, and is set up like this
+-- the house has its row, which fits, and is set up like this
 pub record HasSettings (db : Trees) (settings : Settings) (clock : ℕ) : Type 0 where
   pub house : is_some (find (λ h. h.id == 1) (houses_in db)) ≡ true
-  pub version : (house_row_in db).version ≡ 1
+  pub row : HouseRowFits (house_row_in db)
   pub settings_are : settings_in db ≡ settings
   pub clock_is : (house_row_in db).clock ≡ clock
 

@@ -1,10 +1,10 @@
 //! The house in a file, made and opened.
 //!
-//! Promised: `make_house` leaves the tables of a house with no history, and nothing else is ever
-//! found by a crash; it is `Damaged` exactly where something is listed already or a transaction is
-//! open. `open_house` takes any connection, and hands out one that holds a house of version 1, with what
-//! its settings, its counts and its clock are; it is never `Damaged` of a sound house, which
-//! `specs/Opening.antt` defines. Read `open.rt` first, then `make.rt`.
+//! Promised: `make_house` leaves the tables of a house with no history, and a crash finds these or
+//! what it could find before; it is `Damaged` exactly where something is listed already or a
+//! transaction is open. `open_house` takes any connection, and hands out one that holds a house of
+//! version 1 whose row fits, with what its settings, its counts and its clock are; it is never
+//! `Damaged` of a sound house, which `specs/Opening.antt` defines. Read `open.rt` first, then `make.rt`.
 //!
 //! Everything is said wherever the disk was honest, also of an opening that hands out no connection.
 //! Not promised: when an error is `Memory` or `Store`, and that rows of other tables than the house
@@ -22,4 +22,3 @@ mod same;
 pub use house::Opened;
 pub use make::make_house;
 pub use open::open_house;
-pub use put::{put_band, put_house};

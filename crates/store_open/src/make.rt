@@ -119,10 +119,12 @@ fn serve_still<S: Alter>(conn: &mut Connection<S>) -> Result<(), KeepFault>
     }
 }
 
-/// Makes a house in a database that lists nothing. After an error the database is as it was. An opening
-/// takes the house, if its zone has no control characters.
+/// Makes a house in a database that lists nothing. An opening takes the house, if its zone has no
+/// control characters.
 ///
-/// `Damaged` where a table, an index or a view is listed already, and where a transaction is open, which goes on.
+/// `Damaged` where a table, an index or a view is listed already, and where a transaction is open,
+/// which goes on. After an error the database is as it was, or holds the new house where the disk
+/// failed.
 pub fn make_house<S: Alter>(conn: &mut Connection<S>, settings: &Settings) -> Result<(), KeepFault>
     ensures ok { HasCleanDisk (state S.Store conn.new)
         → OnOk result (IsAtRest (state S.Store conn.new)

@@ -176,7 +176,7 @@ fn items_numbered<S: Alter>(conn: &mut Connection<S>) -> Result<u32, KeepFault>
 }
 
 /// How many of each there are. `Damaged` where a number is 0 or over the count of its table.
-pub fn read_counts<S: Alter>(conn: &mut Connection<S>) -> Result<Counts, KeepFault>
+pub(crate) fn read_counts<S: Alter>(conn: &mut Connection<S>) -> Result<Counts, KeepFault>
     requires { Serves (state S.Store conn.old) }
     ensures counts { HasCleanDisk (state S.Store conn.new)
         → IfOk result (HaveNumbers (state S.Store conn.old).now.trees) }

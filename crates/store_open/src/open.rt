@@ -7,6 +7,7 @@ ghost use Rattle.house_rows.specs.Fits.{IsMoment};
 ghost use Rattle.house_rows.specs.Found.{counts_of};
 ghost use Rattle.house_rows.specs.declared.fault.KeepFault.TheVariants.{Damaged};
 ghost use Rattle.steps.specs.Table.{IsBandTable};
+ghost use Rattle.store_rows.specs.Fitting.{HouseRowFits};
 ghost use Rattle.store_rows.specs.House.{Serves};
 ghost use Rattle.store_rows.specs.Tables.{IsAtRest, house_row_in, settings_in, tables_in};
 ghost use Rattle.store_open.specs.Opening.{AreNumbered, HasSettings, IsSetUp, IsSoundHouse, Leaves, LeavesStore};
@@ -111,8 +112,8 @@ pub fn open_house<S: Alter + Drop>(
     ensures clock { IfOk result (λ o. HasCleanDisk (state S.Store o.conn)
         → (tables_in (state S.Store o.conn).now.trees).clock ≡ o.clock) }
     ensures moment { IfOk result (λ o. IsMoment o.clock) }
-    ensures version { IfOk result (λ o. HasCleanDisk (state S.Store o.conn)
-        → (house_row_in (state S.Store o.conn).now.trees).version ≡ 1) }
+    ensures row { IfOk result (λ o. HasCleanDisk (state S.Store o.conn)
+        → HouseRowFits (house_row_in (state S.Store o.conn).now.trees)) }
     ensures only { IfOk result (λ o. HasCleanDisk (state S.Store o.conn) → (db : Trees)
         → (state S.Store o.conn).may_leave db → db ≡ (state S.Store o.conn).now.trees) }
     ensures mode { IfOk result (λ o. o.conn.in_transaction ≡ false) }

@@ -13,7 +13,7 @@ use store_rows::run;
 
 /// Writes the row of the house within a transaction: number 1, version 1 and clock 0. The rate is in
 /// ten-thousandths.
-pub fn put_house<S: Alter>(
+pub(crate) fn put_house<S: Alter>(
     tx: &mut Transaction<'_, S>,
     rate: u32,
     zone: &Text,
@@ -35,7 +35,7 @@ pub fn put_house<S: Alter>(
 }
 
 /// Adds a band within a transaction, in cents.
-pub fn put_band<S: Alter>(
+pub(crate) fn put_band<S: Alter>(
     tx: &mut Transaction<'_, S>,
     from: u32,
     step: u32,
