@@ -30,6 +30,7 @@ pub fn show<K: Keep>(
         → IfOk result (λ told. IsTold zone.now settings.rate
         (page_of settings h caller query.now) told out.old.items out.new.items) }
     ensures err { OnErr result (out.new.items ≡ out.old.items) }
+    ensures refused { IfOk result (λ told. OnErr told (out.new.items ≡ out.old.items)) }
     ensures faults { Faults result (K.is_honest keep.new) (K.is_failed keep.new) (K.content keep.old) }
     ensures read { IsRead K.content K.is_failed K.is_honest K.may_leave keep.old keep.new }
 {
@@ -49,6 +50,7 @@ fn show_tables<K: Keep>(
         IsTold zone.now (K.content keep.old).settings.rate
         (page_by (K.content keep.old) caller query.now) told out.old.items out.new.items) }
     ensures err { OnErr result (out.new.items ≡ out.old.items) }
+    ensures refused { IfOk result (λ told. OnErr told (out.new.items ≡ out.old.items)) }
     ensures faults { Faults result (K.is_honest keep.new) (K.is_failed keep.new) (K.content keep.old) }
     ensures read { IsRead K.content K.is_failed K.is_honest K.may_leave keep.old keep.new }
 {
