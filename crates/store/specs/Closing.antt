@@ -8,7 +8,7 @@ use Rattle.sqlite_wal.specs.Reads.{AreClean}
 use Rattle.sqlite_trees.specs.Tree.{Trees}
 use Rattle.sqlite_store.specs.declared.store.FileStore.{FileStore}
 use Rattle.sqlite.specs.Closing.{HoldsAlone}
-use Rattle.sqlite.specs.Files.{image_of, over_files}
+use Rattle.sqlite.specs.Files.{IsClosed, image_of, over_files}
 use Rattle.house_rows.specs.Tables.{Tables}
 use Rattle.store_rows.specs.Tables.{tables_in}
 use Rattle.store.specs.Kept.{House, content}
@@ -32,3 +32,9 @@ pub record IsEnded {D : Type 0} (g : Ghosts D) (keep : House (FileStore D g)) : 
   pub file : IsTrue (g.is_usable files.db)
   pub house : AreClean g files.log files.db → keep.failed ≡ false
       → HoldHouse g files (content over_files keep)
+
+-- A keep was not ended: a crash finds nothing in the store that it has left which it could not have found before. Which store
+-- it is isn't said, where it was closed and handed to nobody.
+pub record IsLeft {D : Type 0} {g : Ghosts D} (keep : House (FileStore D g)) : Type 0 where
+  pub store : FileStore D g
+  pub closed : IsClosed keep.conn store

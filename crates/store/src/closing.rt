@@ -1,9 +1,9 @@
 //! How a keep in a file ends.
-ghost use Rattle.std.specs.Prelude.{◌≡◌, ◌≢◌, false, IfErr, IfOk, IsErrOf, IsTrue, OnOk};
+ghost use Rattle.std.specs.Prelude.{◌≡◌, ◌≢◌, false, IfErr, IfOk, IsErrOf, IsTrue, OnErr, OnOk};
 ghost use Rattle.house_rows.specs.declared.fault.KeepFault.TheVariants.{Damaged};
 ghost use Rattle.sqlite.specs.Files.{IsClosed, file_state};
 ghost use Rattle.sqlite_wal.specs.Reads.{AreClean};
-ghost use Rattle.store.specs.Closing.{HoldHouse, IsEnded};
+ghost use Rattle.store.specs.Closing.{HoldHouse, IsEnded, IsLeft};
 ghost use Rattle.store_rows.specs.Tables.{tables_in};
 
 use crate::keep::SqlKeep;
@@ -42,9 +42,10 @@ impl<D: Disk + Drop> SqlKeep<FileStore<D>> {
     }
 
     /// As `close_files`, and the files are closed. It gives nothing back that a clause could name: so
-    /// after Ok there are such files, and a clause doesn't say which.
+    /// after Ok there are such files, after an `Err` such a store, and a clause doesn't say which.
     pub fn close(self) -> Result<(), KeepFault>
         ensures ended { OnOk result (IsEnded D.Disk self) }
+        ensures left { OnErr result (IsLeft self) }
         ensures sound { ¬ (IsErrOf result Damaged) }
     {
         match self.close_files() {

@@ -4,9 +4,10 @@ ghost use Rattle.sqlite.specs.Held.{state};
 ghost use Rattle.house_rows.specs.Tables.{Tables, tables_of};
 ghost use Rattle.house_rows.specs.Text.{is_plain};
 ghost use Rattle.house_rows.specs.declared.fault.KeepFault.TheVariants.{Damaged};
+ghost use Rattle.store_rows.specs.Fitting.{HouseRowFits};
 ghost use Rattle.store_rows.specs.Schema.{no_schema};
-ghost use Rattle.store_rows.specs.Tables.{tables_in};
-ghost use Rattle.store_open.specs.Opening.{IsSoundHouse, Leaves, LeavesMade, LeavesStore};
+ghost use Rattle.store_rows.specs.Tables.{house_row_in, tables_in};
+ghost use Rattle.store_open.specs.Opening.{AreNumbered, IsSoundHouse, Leaves, LeavesMade, LeavesStore};
 ghost use Rattle.store.specs.Kept.{IsHonest, MayLeave, content};
 
 use crate::keep::SqlKeep;
@@ -66,6 +67,10 @@ impl<S: Alter + Drop> SqlKeep<S> {
         ensures only { IfOk result (λ k. IsHonest S.Store k → (tables : Tables)
             → MayLeave S.Store k tables → tables ≡ content S.Store k) }
         ensures works { IfOk result (λ k. k.failed ≡ false) }
+        ensures row { IfOk result (λ k. IsHonest S.Store k
+            → HouseRowFits (house_row_in (state S.Store k.conn).now.trees)) }
+        ensures numbered { IfOk result (λ k. IsHonest S.Store k
+            → AreNumbered (state S.Store k.conn).now.trees) }
         ensures left { OnErr result (LeavesStore S.Store conn) }
         ensures damaged { IsErrOf result Damaged
             → Leaves S.Store conn (¬ (IsSoundHouse (state S.Store conn).committed)) }

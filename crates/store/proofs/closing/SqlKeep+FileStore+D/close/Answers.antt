@@ -7,3 +7,9 @@ returns-in-Ok-clause-ended g c = record {
   file = c.in-Ok.ensures.usable.1;
   house = c.in-Ok.ensures.house;
 }
+
+pub returns-clause-left : goal.returns-clause-left
+returns-clause-left g c = record {
+  store = c.in-Err.store;
+  closed = c.in-Err.ensures.left;
+}
