@@ -1,5 +1,6 @@
 -- What plain bytes write.
-use Rattle.std.proofs.Common.{◌≡◌, ℕ, ◌<◌, ◌+◌, List, [], ◌∷◌, ◌++◌, length, take, get_or, sym, ap, ◌∙◌}
+use Rattle.std.proofs.Common.{◌≡◌, ◌↔◌, ℕ, ◌<◌, ◌+◌, Bool, true, false, IsTrue, List, [], ◌∷◌, ◌++◌, length, take, get_or, sym, ap, refl, arith, true≢false, ◌∙◌}
+use Rattle.std.specs.Prelude.{◌&&◌}
 use Rattle.std.proofs.lemmas.List.{take_more}
 use Rattle.std.proofs.lemmas.List.Concat.{flat_map-append}
 use Rattle.json.specs.Print.{escape, escape_byte}
@@ -14,3 +15,23 @@ plain_step bytes i inside before is =
     let more = take_more bytes i 0 inside in
     ap escape more ∙ flat_map-append escape_byte (take i bytes) (get_or bytes i 0 ∷ [])
     ∙ (λ k. before k ++ (here k ++ [])) ∙ sym more
+
+-- of the bytes so far all stand for themselves, or one doesn't
+pub record AreSeen (bytes : List ℕ) (i : ℕ) (plain : Bool) : Type 0 where
+  pub all : IsTrue plain → escape (take i bytes) ≡ take i bytes
+  pub other : plain ≡ false → (place : ℕ) × (place < i) × ¬ (IsPlainByte (get_or bytes place 0))
+
+pub none_seen : (bytes : List ℕ) → AreSeen bytes 0 true
+none_seen bytes = record { all = λ _. refl; other = λ is. absurd (true≢false is) }
+
+-- one byte more
+pub one_seen : (bytes : List ℕ) (i : ℕ) (is plain : Bool) → i < length bytes → (IsTrue is ↔ IsPlainByte (get_or bytes i 0))
+    → AreSeen bytes i plain → AreSeen bytes (i + 1) (is && plain)
+one_seen bytes i true plain inside told seen = record {
+  all = λ plain. plain_step bytes i inside (seen.all plain) (told.0 refl);
+  other = λ not. let one = seen.other not in (one.0, omega (arith, one.1), one.2);
+}
+one_seen bytes i false plain inside told seen = record {
+  all = λ no. absurd (true≢false (sym no));
+  other = λ _. (i, omega arith, λ is. true≢false (sym (told.1 is)));
+}

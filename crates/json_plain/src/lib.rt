@@ -1,10 +1,10 @@
 //! Bytes that stand for themselves in a string of JSON (RFC 8259, section 7).
 //!
-//! Promised: which bytes these are, and how many of them stand in front; together they are written as
-//! they are. Read `specs/Plain.antt` first.
+//! Promised: which bytes these are, how many of them stand in front, and whether all are such; together they
+//! are written as they are. Read `specs/Plain.antt` first.
 #![tactic(auto)]
 
-ghost use Rattle.std.specs.Prelude.{◌≡◌, ◌↔◌, ◌<◌, ◌≤◌, get_or, length, take, IsTrue};
+ghost use Rattle.std.specs.Prelude.{◌≡◌, ◌↔◌, ◌<◌, ◌≤◌, ℕ, false, get_or, length, take, IsTrue};
 ghost use Rattle.json.specs.Print.{escape};
 ghost use Rattle.json_plain.specs.Plain.{IsPlainByte};
 
@@ -30,4 +30,18 @@ pub fn plain_length(bytes: &[u8]) -> usize
         end += 1;
     }
     end
+}
+
+/// Whether all stand for themselves in a string.
+// Each is looked at, whatever came before, so that many are looked at in one step.
+pub fn are_plain(bytes: &[u8]) -> bool
+    ensures plain { IsTrue result → escape bytes.now ≡ bytes.now }
+    ensures other { result ≡ false → (place : ℕ) × (place < length bytes.now)
+        × ¬ (IsPlainByte (get_or bytes.now place 0)) }
+{
+    let mut plain = true;
+    for byte in bytes {
+        plain = is_plain(*byte) & plain;
+    }
+    plain
 }

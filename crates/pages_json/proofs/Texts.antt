@@ -197,13 +197,10 @@ pub string_printed : (s : List ℕ) → print (token.string s ∷ []) ≡ quoted
 string_printed s = print-outline (string s)
 
 -- a text that has no escapes, between quotes
-pub plain_quoted : (s old : List ℕ) (n : ℕ) → length s ≤ n → escape (take n s) ≡ take n s
-    → ((old ++ 34 ∷ []) ++ s) ++ 34 ∷ [] ≡ old ++ quoted s
-plain_quoted s old n all plain =
-    let whole = take_all n s all in
-    let same : escape s ≡ s = ap escape (sym whole) ∙ plain ∙ whole in
+pub plain_quoted : (s old : List ℕ) → escape s ≡ s → ((old ++ 34 ∷ []) ++ s) ++ 34 ∷ [] ≡ old ++ quoted s
+plain_quoted s old plain =
     append_assoc (old ++ 34 ∷ []) s (34 ∷ []) ∙ append_assoc old (34 ∷ []) (s ++ 34 ∷ [])
-    ∙ ap (λ t. old ++ 34 ∷ (t ++ 34 ∷ [])) (sym same)
+    ∙ ap (λ t. old ++ 34 ∷ (t ++ 34 ∷ [])) (sym plain)
 
 pub nothing_printed : print [] ≡ []
 unfolding print_from

@@ -7,7 +7,7 @@ ghost use Rattle.pages_json.specs.Fields.{field_tree};
 
 use itoa::{Buffer, Integer};
 use json::Writer;
-use json_plain::plain_length;
+use json_plain::are_plain;
 use std::alloc::{AllocError, Global};
 use std::mem::replace;
 
@@ -57,7 +57,7 @@ fn put_text(alloc: Global, out: &mut Vec<u8>, text: &str) -> Result<(), AllocErr
     ensures text { OnOk result (out.new.items ≡ out.old.items ++ quoted text.now) }
     ensures front { StartsWith out.new.items out.old.items }
 {
-    if plain_length(text.as_bytes()) < text.len() {
+    if !are_plain(text.as_bytes()) {
         return put_escaped(alloc, out, text);
     }
     out.push(b'"')?;
