@@ -1,5 +1,6 @@
 pub mod Audited
 pub mod Faults
+pub mod Houses
 pub mod Lines
 pub mod Listed
 pub mod Printed

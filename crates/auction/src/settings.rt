@@ -1,6 +1,8 @@
 //! What a house is set up with, as the words name it.
-ghost use Rattle.std.specs.Prelude.{◌≡◌, None, IfOk};
+ghost use Rattle.std.specs.Prelude.{◌≡◌, ◌↔◌, ◌⊎◌, None, IfErr, IfOk, IsErrOf};
+ghost use Rattle.site.specs.Answers.{IsReadable};
 ghost use Rattle.steps.specs.Example.{example_table};
+ghost use Rattle.auction.specs.Houses.{IsSetBy, IsUnset};
 
 use crate::command_line::HouseWords;
 use crate::fault::Fault;
@@ -26,14 +28,28 @@ fn table<R: Files>(rt: &R, alloc: Global, path: Option<&str>) -> Result<Bands, B
     }
 }
 
+// A copy of a text.
+fn copy_of(alloc: Global, text: &str) -> Result<Text, Fault>
+    ensures same { IfOk result (λ copy. copy ≡ text.now) }
+    ensures memory { IfErr result (λ fault. fault ≡ Fault.Memory) }
+{
+    match Text::copy_of(alloc, text) {
+        Ok(copy) => Ok(copy),
+        Err(_) => Err(Fault::Memory),
+    }
+}
+
 // The rule of a zone.
 fn zone(alloc: Global, rule: &str) -> Result<Text, Fault>
-    ensures { IfOk result (λ text. text ≡ rule.now) }
+    ensures text { IfOk result (λ text. text ≡ rule.now) }
+    ensures readable { IfOk result IsReadable }
+    ensures unreadable { IsErrOf result Fault.Zone ↔ ¬ (IsReadable rule.now) }
+    ensures fault { IfErr result (λ fault. (fault ≡ Fault.Memory) ⊎ (fault ≡ Fault.Zone)) }
 {
-    if Zone::read(rule).is_err() {
-        return Err(Fault::Zone);
+    match Zone::read(rule) {
+        Ok(_) => copy_of(alloc, rule),
+        Err(_) => Err(Fault::Zone),
     }
-    Text::copy_of(alloc, rule).map_err(|_| Fault::Memory)
 }
 
 // The same table once more.
@@ -53,17 +69,19 @@ pub fn copied(alloc: Global, settings: &Settings) -> Result<Settings, Fault>
     Ok(Settings {
         bands: same_bands(alloc, &settings.bands)?,
         rate: settings.rate,
-        zone: Text::copy_of(alloc, settings.zone.as_str()).map_err(|_| Fault::Memory)?,
+        zone: copy_of(alloc, settings.zone.as_str())?,
     })
 }
 
 /// What a house is set up with. A fault of the band table is told before one of the zone.
 pub fn settings<R: Files>(rt: &R, alloc: Global, words: &HouseWords<'_>) -> Result<Settings, Fault>
-    ensures bands { words.now.bands ≡ None → IfOk result (λ s. s.bands ≡ example_table) }
-    ensures rate { IfOk result (λ s. s.rate ≡ words.now.rate) }
-    ensures zone { IfOk result (λ s. s.zone ≡ words.now.zone.now) }
+    ensures set { IfOk result (IsSetBy words.now) }
+    ensures fault { IfErr result (IsUnset words.now) }
 {
-    let bands = table(rt, alloc, words.bands).map_err(Fault::Bands)?;
+    let bands = match table(rt, alloc, words.bands) {
+        Ok(bands) => bands,
+        Err(fault) => return Err(Fault::Bands(fault)),
+    };
     Ok(Settings {
         bands,
         rate: words.rate,
