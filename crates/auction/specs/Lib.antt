@@ -1,6 +1,7 @@
 pub mod Audited
 pub mod Faults
 pub mod Houses
+pub mod Inquired
 pub mod Lines
 pub mod Listed
 pub mod Printed

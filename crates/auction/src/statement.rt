@@ -1,7 +1,8 @@
 //! `statement`: what a member sold and bought in a period.
-ghost use Rattle.std.specs.Prelude.{◌≡◌, ◌≤◌, IfOk, OnOk};
+ghost use Rattle.std.specs.Prelude.{◌≡◌, ◌≤◌, IfErr, IfOk, OnOk};
 ghost use Rattle.std.specs.Io.KnownBytes.{Appends};
 ghost use Rattle.settle.specs.Calendar.{day_text};
+ghost use Rattle.auction.specs.Inquired.{IsUnasked};
 ghost use Rattle.auction.specs.Stated.{HasRead, HasStated, account_text};
 ghost use Rattle.store.specs.Kept.{IsHonest, MayLeave, content, is_failed};
 
@@ -40,6 +41,7 @@ impl Inquiry {
         ensures to { IfOk result (λ i. words.now.to.now ≡ day_text i.to) }
         ensures order { IfOk result (λ i. i.from ≤ i.to) }
         ensures csv { IfOk result (λ i. i.csv ≡ words.now.csv) }
+        ensures fault { IfErr result (IsUnasked words.now) }
     {
         let from = Day::read(words.from)?;
         let to = Day::read(words.to)?;
