@@ -1,5 +1,5 @@
 //! `audit`: two runs of messages, compared as one member sees them.
-ghost use Rattle.std.specs.Prelude.{◌≡◌, ◌≤◌, true, IfErr, IfOk, OnOk, map};
+ghost use Rattle.std.specs.Prelude.{◌≡◌, ◌≤◌, ◌↔◌, true, Ok, IfErr, IfOk, OnOk, map};
 ghost use Rattle.std.specs.Io.KnownBytes.{Appends};
 ghost use Rattle.auction.specs.Audited.{HasAudited, HasMessages, HasTold, IsTold, IsUncompared, IsUnread, IsUntold};
 ghost use Rattle.auction.specs.Faults.{fault_of_messages};
@@ -137,6 +137,19 @@ pub fn tell_compared<L: Source + Drop, R: Source + Drop, W: Write, K: Keep + Dro
     tell(output, &verdict)
 }
 
+// The exit status for what was found: 0 where the runs are equal, and else 1. A fault is told in
+// its line.
+fn status<E: Write>(errors: &mut E, equal: Result<bool, Fault>) -> u8
+    ensures equal { (result ≡ 0) ↔ (equal ≡ Ok true) }
+    ensures within { result ≤ 1 }
+{
+    match equal {
+        Ok(true) => 0,
+        Ok(false) => 1,
+        Err(fault) => ended(errors, Err(fault)),
+    }
+}
+
 /// The same as an exit status: 0 where the runs are equal, and else 1. A fault is told in its line
 /// on `errors`.
 pub fn audit_run<L: Source + Drop, R: Source + Drop, W: Write, E: Write, K: Keep + Drop>(
@@ -152,9 +165,5 @@ pub fn audit_run<L: Source + Drop, R: Source + Drop, W: Write, E: Write, K: Keep
         (W.contents output.old) (W.contents output.new) true }
     ensures within { result ≤ 1 }
 {
-    match tell_compared(alloc, left, right, caller, output) {
-        Ok(true) => 0,
-        Ok(false) => 1,
-        Err(fault) => ended(errors, Err(fault)),
-    }
+    status(errors, tell_compared(alloc, left, right, caller, output))
 }
