@@ -1,5 +1,5 @@
 -- Which fault of the program stands for a fault of a layer below it.
-use Rattle.std.specs.Prelude.{◌≡◌}
+use Rattle.std.specs.Prelude.{◌≡◌, ◌⊎◌}
 use Rattle.auction.specs.declared.fault.Fault.{Fault}
 use Rattle.auction.specs.declared.fault.Fault.TheVariants.{Memory as NoMemory, Store as FailedStore, Damaged as DamagedFile, Read as FailedInput, Write as FailedOutput}
 use Rattle.auction.specs.declared.fault.Fault.TheVariants as told
@@ -28,6 +28,10 @@ fault_of_keep Damaged = DamagedFile
 -- a fault that a keep told
 abbrev pub IsOfKeep : Fault → Type 0
 IsOfKeep fault = (kept : KeepFault) × (fault ≡ fault_of_keep kept)
+
+-- a fault of a file that is read: memory was refused, or it can't be opened
+abbrev pub IsOfInput : Fault → Type 0
+IsOfInput fault = (fault ≡ NoMemory) ⊎ (fault ≡ FailedInput)
 
 -- what stands for a fault of serving
 abbrev pub fault_of_serving : ServeFault → Fault

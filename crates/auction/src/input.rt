@@ -1,4 +1,7 @@
 //! Files that are read.
+ghost use Rattle.std.specs.Prelude.{IfErr};
+ghost use Rattle.auction.specs.Faults.{IsOfInput};
+
 use crate::fault::Fault;
 use device::Reading;
 use std::fs::File;
@@ -6,7 +9,9 @@ use std::io;
 use std::rt::Files;
 
 /// A file, to be read from its beginning.
-pub fn open_input<R: Files>(rt: &R, path: &str) -> Result<R::File, Fault> {
+pub fn open_input<R: Files>(rt: &R, path: &str) -> Result<R::File, Fault>
+    ensures { IfErr result IsOfInput }
+{
     match File::open(rt, path) {
         Ok(file) => Ok(file),
         Err(error) if error.kind() == io::ErrorKind::OutOfMemory => Err(Fault::Memory),
@@ -15,7 +20,9 @@ pub fn open_input<R: Files>(rt: &R, path: &str) -> Result<R::File, Fault> {
 }
 
 /// A file, as a source.
-pub fn open_source<R: Files>(rt: &R, path: &str) -> Result<Reading<R::File>, Fault> {
+pub fn open_source<R: Files>(rt: &R, path: &str) -> Result<Reading<R::File>, Fault>
+    ensures { IfErr result IsOfInput }
+{
     match open_input(rt, path) {
         Ok(file) => Ok(Reading::new(file)),
         Err(fault) => Err(fault),
