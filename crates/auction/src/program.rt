@@ -1,5 +1,9 @@
 //! The program's run: words in, an exit status out.
-ghost use Rattle.std.specs.Prelude.{◌≡◌, ◌≤◌};
+ghost use Rattle.std.specs.Prelude.{◌≡◌, ◌≤◌, ◌⊎◌, IfErr, IfOk};
+ghost use Rattle.sqlite.specs.Files.{over_files};
+ghost use Rattle.store.specs.Kept.{IsHonest, content};
+ghost use Rattle.auction.specs.Faults.{IsOfKeep};
+ghost use Rattle.auction.specs.Houses.{IsNew, IsUnset};
 
 use crate::audit::{Run, audit_run};
 use crate::command_line::{
@@ -87,9 +91,13 @@ fn new_file(
     alloc: Global,
     path: &str,
     words: &HouseWords<'_>,
-) -> Result<FileKeep, Fault> {
+) -> Result<FileKeep, Fault>
+    ensures new { IfOk result (λ keep. IsHonest over_files keep
+        → IsNew words.now (content over_files keep)) }
+    ensures fault { IfErr result (λ fault. IsUnset words.now fault ⊎ IsOfKeep fault) }
+{
     let settings = settings(rt, alloc, words)?;
-    create_house(rt, alloc, path, settings)
+    Ok(create_house(rt, alloc, path, settings)?)
 }
 
 // Makes a new house in a file.
@@ -103,19 +111,6 @@ fn init_file(rt: &HostRuntime, alloc: Global, path: &str, words: &HouseWords<'_>
     }
 }
 
-// A listener beside what is served. It is over anything, and not over the site of a file alone, which the
-// prover takes long to drop.
-fn with_listener<T: Drop>(
-    rt: &HostRuntime,
-    served: T,
-    port: u16,
-) -> Result<(T, TcpListener), Fault> {
-    match TcpListener::bind(rt, (Ipv4Addr::LOCALHOST, port)) {
-        Ok(listener) => Ok((served, listener)),
-        Err(_) => Err(Fault::Socket),
-    }
-}
-
 // The site of the house in a file, and then a listener. A fault of the file is told before one of
 // the socket.
 fn open_file(
@@ -123,8 +118,14 @@ fn open_file(
     alloc: Global,
     path: &str,
     port: u16,
-) -> Result<(Site<FileKeep>, TcpListener), Fault> {
-    with_listener(rt, open_site(rt, alloc, path)?, port)
+) -> Result<(Site<FileKeep>, TcpListener), Fault>
+    ensures { IfErr result (λ fault. (fault ≡ Fault.Socket) ⊎ IsOfKeep fault) }
+{
+    let site = open_site(rt, alloc, path)?;
+    match TcpListener::bind(rt, (Ipv4Addr::LOCALHOST, port)) {
+        Ok(listener) => Ok((site, listener)),
+        Err(_) => Err(Fault::Socket),
+    }
 }
 
 // Answers connections over the house in a file, and gives its keep back.
@@ -147,7 +148,10 @@ fn serve_file(rt: &HostRuntime, alloc: Global, path: &str, asked: Serve) -> u8
 }
 
 // A new house in memory.
-fn new_house(rt: &HostRuntime, alloc: Global, words: &HouseWords<'_>) -> Result<ListKeep, Fault> {
+fn new_house(rt: &HostRuntime, alloc: Global, words: &HouseWords<'_>) -> Result<ListKeep, Fault>
+    ensures new { IfOk result (IsNew words.now) }
+    ensures fault { IfErr result (IsUnset words.now) }
+{
     let settings = settings(rt, alloc, words)?;
     Ok(ListKeep::create(alloc, settings)?)
 }
@@ -180,7 +184,7 @@ fn import_file(rt: &HostRuntime, alloc: Global, path: &str, asked: ImportWords<'
             let lots = open_input(rt, asked.lots);
             import_house(alloc, keep, lots, asked.by, &mut output, &mut errors)
         }
-        Err(fault) => ended(&mut errors, Err(fault)),
+        Err(fault) => ended(&mut errors, Err(Fault::from(fault))),
     }
 }
 
@@ -216,7 +220,10 @@ fn new_houses(
     rt: &HostRuntime,
     alloc: Global,
     words: &HouseWords<'_>,
-) -> Result<(ListKeep, ListKeep), Fault> {
+) -> Result<(ListKeep, ListKeep), Fault>
+    ensures new { IfOk result (λ keeps. IsNew words.now keeps.0) }
+    ensures same { IfOk result (λ keeps. keeps.1 ≡ keeps.0) }
+{
     let settings = settings(rt, alloc, words)?;
     let same = copied(alloc, &settings)?;
     let left = ListKeep::create(alloc, settings)?;
