@@ -8,3 +8,4 @@ pub mod Printed
 pub mod Replayed
 pub mod Setup
 pub mod Stated
+pub mod Tasks

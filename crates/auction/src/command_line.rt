@@ -1,8 +1,13 @@
 //! The words that the program takes.
-use crate::commands::command;
+ghost use Rattle.std.specs.Prelude.{IfOk, IfSome};
+ghost use Rattle.std.specs.Int.{IsInRange};
+ghost use Rattle.auction.specs.Tasks.{IsMember, IsWithin};
+
+use crate::commands::{MEMBERS, MOST_CONNECTIONS, command};
 use clap::{ArgMatches, Error};
 use house_rows::Rate;
 use office::Lister;
+use settle::LAST_MOMENT;
 use std::alloc::Global;
 
 /// What a house is set up with, as the words name it.
@@ -84,6 +89,26 @@ pub enum Task<'a> {
     Audit(HouseWords<'a>, AuditWords<'a>),
 }
 
+// A number of the words, if it is in a range. `clap` has refused the others, and says so of the top
+// command alone: so they are looked for here once more.
+fn number(words: &ArgMatches<'_>, name: &str, least: u64, most: u64) -> Option<u64>
+    ensures { IfSome result (IsInRange least most) }
+{
+    let number = words.get_one(name)?;
+    if least <= number && number <= most {
+        Some(number)
+    } else {
+        None
+    }
+}
+
+// The number of a member.
+fn member(words: &ArgMatches<'_>) -> Option<u64>
+    ensures { IfSome result IsMember }
+{
+    number(words, "member", 1, MEMBERS)
+}
+
 // What the words of a subcommand say of the house. None is answered for no words that were taken.
 fn house_words<'a>(words: &ArgMatches<'a>) -> Option<HouseWords<'a>> {
     Some(HouseWords {
@@ -94,7 +119,9 @@ fn house_words<'a>(words: &ArgMatches<'a>) -> Option<HouseWords<'a>> {
 }
 
 // What the words of `init` ask for.
-fn init_task<'a>(words: &ArgMatches<'a>) -> Option<Task<'a>> {
+fn init_task<'a>(words: &ArgMatches<'a>) -> Option<Task<'a>>
+    ensures { IfSome result IsWithin }
+{
     let file = words.get_str("file")?;
     match house_words(words) {
         Some(house) => Some(Task::Init(file, house)),
@@ -103,15 +130,19 @@ fn init_task<'a>(words: &ArgMatches<'a>) -> Option<Task<'a>> {
 }
 
 // What the words of `serve` ask for.
-fn serve_task<'a>(words: &ArgMatches<'a>) -> Option<Task<'a>> {
+fn serve_task<'a>(words: &ArgMatches<'a>) -> Option<Task<'a>>
+    ensures { IfSome result IsWithin }
+{
     let file = words.get_str("file")?;
-    let port = words.get_one("port")?;
-    let count = words.get_one("count")?;
+    let port = number(words, "port", 1, 65_535)? as u16;
+    let count = number(words, "count", 1, MOST_CONNECTIONS)?;
     Some(Task::Serve(file, Serve { port, count }))
 }
 
 // What the words of `replay` ask for.
-fn replay_task<'a>(words: &ArgMatches<'a>) -> Option<Task<'a>> {
+fn replay_task<'a>(words: &ArgMatches<'a>) -> Option<Task<'a>>
+    ensures { IfSome result IsWithin }
+{
     let asked = Replay {
         preset: words.get_flag("preset"),
         record: words.get_flag("record"),
@@ -123,20 +154,25 @@ fn replay_task<'a>(words: &ArgMatches<'a>) -> Option<Task<'a>> {
 }
 
 // What the words of `import` ask for.
-fn import_task<'a>(words: &ArgMatches<'a>) -> Option<Task<'a>> {
+fn import_task<'a>(words: &ArgMatches<'a>) -> Option<Task<'a>>
+    ensures { IfSome result IsWithin }
+{
     let file = words.get_str("file")?;
     let lots = words.get_str("lots")?;
-    let member = words.get_one("member")?;
-    let moment = words.get_one("moment")?;
-    let by = Lister { member, moment };
+    let by = Lister {
+        member: member(words)?,
+        moment: number(words, "moment", 0, LAST_MOMENT)?,
+    };
     Some(Task::Import(file, ImportWords { lots, by }))
 }
 
 // What the words of `statement` ask for.
-fn statement_task<'a>(words: &ArgMatches<'a>) -> Option<Task<'a>> {
+fn statement_task<'a>(words: &ArgMatches<'a>) -> Option<Task<'a>>
+    ensures { IfSome result IsWithin }
+{
     let file = words.get_str("file")?;
     let asked = StatementWords {
-        member: words.get_one("member")?,
+        member: member(words)?,
         from: words.get_str("from")?,
         to: words.get_str("to")?,
         csv: words.get_flag("csv"),
@@ -145,11 +181,13 @@ fn statement_task<'a>(words: &ArgMatches<'a>) -> Option<Task<'a>> {
 }
 
 // What the words of `audit` ask for.
-fn audit_task<'a>(words: &ArgMatches<'a>) -> Option<Task<'a>> {
+fn audit_task<'a>(words: &ArgMatches<'a>) -> Option<Task<'a>>
+    ensures { IfSome result IsWithin }
+{
     let asked = AuditWords {
         left: words.get_str("left")?,
         right: words.get_str("right")?,
-        member: words.get_one("member")?,
+        member: member(words)?,
     };
     match house_words(words) {
         Some(house) => Some(Task::Audit(house, asked)),
@@ -158,7 +196,9 @@ fn audit_task<'a>(words: &ArgMatches<'a>) -> Option<Task<'a>> {
 }
 
 // What the words of a subcommand ask for.
-fn task_of<'a>(name: &str, words: &ArgMatches<'a>) -> Option<Task<'a>> {
+fn task_of<'a>(name: &str, words: &ArgMatches<'a>) -> Option<Task<'a>>
+    ensures { IfSome result IsWithin }
+{
     match name {
         "init" => init_task(words),
         "serve" => serve_task(words),
@@ -172,7 +212,9 @@ fn task_of<'a>(name: &str, words: &ArgMatches<'a>) -> Option<Task<'a>> {
 
 /// What words ask for, the first of them the program's own name. An error is for words that are
 /// refused, for those that ask for help, and for want of memory.
-pub fn read<'a>(alloc: Global, words: &'a [String]) -> Result<Option<Task<'a>>, Error> {
+pub fn read<'a>(alloc: Global, words: &'a [String]) -> Result<Option<Task<'a>>, Error>
+    ensures { IfOk result (λ task. IfSome task IsWithin) }
+{
     let matches = command(alloc)?.try_get_matches_from(words)?;
     Ok(match matches.subcommand() {
         Some((name, words)) => task_of(name, words),

@@ -1,7 +1,14 @@
 //! The subcommands, as `clap` reads and explains them.
 use clap::builder::ValueParser;
 use clap::{Arg, ArgAction, Command, value_parser};
+use settle::LAST_MOMENT;
 use std::alloc::{AllocError, Global};
+
+/// The greatest number that a member may have.
+pub const MEMBERS: u64 = 100_000;
+
+/// The most connections that may be asked for.
+pub const MOST_CONNECTIONS: u64 = 1_000_000;
 
 const EXAMPLES: &str = "Examples:\n  \
 auction replay --preset --record < messages.http > answers.http\n  \
@@ -87,7 +94,12 @@ fn number<'a>(alloc: Global, name: &'a str, values: ValueParser<'a>, help: &'a s
 
 // The number of a member, which has to be given.
 fn member<'a>(alloc: Global, help: &'a str) -> Arg<'a> {
-    number(alloc, "member", value_parser!(u64).range(1..=100_000), help)
+    number(
+        alloc,
+        "member",
+        value_parser!(u64).range(1..=MEMBERS as i64),
+        help,
+    )
 }
 
 // A day that has to be given.
@@ -136,7 +148,7 @@ fn serve_command<'a>(alloc: Global) -> Result<Command<'a>, AllocError> {
         .arg(number(
             alloc,
             "count",
-            value_parser!(u64).range(1..=1_000_000),
+            value_parser!(u64).range(1..=MOST_CONNECTIONS as i64),
             "How many connections are answered, 1 to 1000000",
         ))
 }
@@ -179,7 +191,7 @@ fn import_command<'a>(alloc: Global) -> Result<Command<'a>, AllocError> {
         .arg(number(
             alloc,
             "moment",
-            value_parser!(u64).range(0..=4_102_444_800),
+            value_parser!(u64).range(0..=LAST_MOMENT as i64),
             "The moment of each listing, in seconds after the beginning of 1970, 0 to 4102444800",
         ))
 }
