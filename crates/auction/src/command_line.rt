@@ -3,9 +3,9 @@ ghost use Rattle.std.specs.Prelude.{IfOk, IfSome};
 ghost use Rattle.std.specs.Int.{IsInRange};
 ghost use Rattle.auction.specs.Tasks.{IsMember, IsWithin};
 
-use crate::commands::{MEMBERS, MOST_CONNECTIONS, command};
+use crate::commands::{MOST_CONNECTIONS, command};
 use clap::{ArgMatches, Error};
-use house_rows::Rate;
+use house_rows::{MOST_MEMBERS, Rate};
 use office::Lister;
 use settle::LAST_MOMENT;
 use std::alloc::Global;
@@ -106,7 +106,7 @@ fn number(words: &ArgMatches<'_>, name: &str, least: u64, most: u64) -> Option<u
 fn member(words: &ArgMatches<'_>) -> Option<u64>
     ensures { IfSome result IsMember }
 {
-    number(words, "member", 1, MEMBERS)
+    number(words, "member", 1, MOST_MEMBERS as u64)
 }
 
 // What the words of a subcommand say of the house. None is answered for no words that were taken.

@@ -1,11 +1,9 @@
 //! The subcommands, as `clap` reads and explains them.
 use clap::builder::ValueParser;
 use clap::{Arg, ArgAction, Command, value_parser};
+use house_rows::MOST_MEMBERS;
 use settle::LAST_MOMENT;
 use std::alloc::{AllocError, Global};
-
-/// The greatest number that a member may have.
-pub const MEMBERS: u64 = 100_000;
 
 /// The most connections that may be asked for.
 pub const MOST_CONNECTIONS: u64 = 1_000_000;
@@ -97,7 +95,7 @@ fn member<'a>(alloc: Global, help: &'a str) -> Arg<'a> {
     number(
         alloc,
         "member",
-        value_parser!(u64).range(1..=MEMBERS as i64),
+        value_parser!(u64).range(1..=MOST_MEMBERS as i64),
         help,
     )
 }
