@@ -2,11 +2,12 @@
 
 # Conformance cases that lie beside the checkout, and the suites of today.
 CASES ?= ../shared/conformance
-SUITES = site office audit
+SUITES = site office audit surplus
 
 # How many messages the fuzz sends at least, how many answers spoiled ones have to get, how many pairs of lists are audited
 # that are equal and that are apart, how often a server is killed, how many rows a lot file has, and the seed that chooses
-# them; and that each EVERYth call on files stops, or has a power cut behind it.
+# them; that each EVERYth call on files stops, or has a power cut behind it; and the crates whose wrong bodies make wrong
+# tries, all where there are none.
 MESSAGES ?= 5000
 MUTATED ?= 100000
 KILLS ?= 200
@@ -14,41 +15,85 @@ EVERY ?= 1
 ROWS ?= 20000
 PAIRS ?= 1000
 SEED ?= 2026
+CRATES ?=
 
 .PHONY: help demo session test auction program cases rows fuzz mutated twins memory statement random file office kills \
-	stops cuts stalls wrong
+	stops cuts stalls wrong documents
 
 help:
-	@echo "make demo      answers examples/first-bid.http, without waiting for the proofs"
-	@echo "make test      proves everything from nothing, runs all tests and wrong bodies (rt ci)"
-	@echo "make auction   proves and builds the program, as bin/auction"
-	@echo "make session   plays the README's sessions on bin/auction: a first bid, and a house in a file with curl"
-	@echo "make program   runs the program that make test has left on words, tables, streams, files and clients (needs cc)"
-	@echo "make cases     runs the conformance cases on the program that make test has left"
-	@echo "make rows      plays those cases and random lists of messages message by message and as runs, in memory and in databases"
-	@echo "make fuzz      sends MESSAGES random ones to that program, some over TCP, and compares answers with plain lists and in"
-	@echo "               twin runs"
-	@echo "make mutated   sends streams of spoiled messages, until MUTATED are answered, and what was accepted plainly"
-	@echo "make twins     audits PAIRS random pairs of lists that differ in what others sealed, and PAIRS that are apart"
-	@echo "make memory    refuses each allocation of that program and of the crates below it (needs cc)"
-	@echo "make statement compares statements with those that Python makes"
-	@echo "make random    compares houses with plain lists, on random commands and on long lists, and with one another"
-	@echo "make file      makes houses in files, opens, copies and damages them, kills who serves them, and reads them with sqlite3"
-	@echo "make office    imports lot files, one of ROWS rows, and reads statements"
-	@echo "make kills     kills who serves a house KILLS times at random moments, and looks what is in its file"
-	@echo "make stops     stops that program at each call on its files, or each EVERYth, and opens what is left (needs cc)"
-	@echo "make cuts      cuts the power behind each such call, as a model, and opens all that may be left (needs cc)"
-	@echo "make stalls    has clients that send or read nothing hold up one that asks, for up to two minutes"
-	@echo "make wrong     tries the wrong bodies that make test leaves out"
+	@echo "For a newcomer"
+	@echo "  make demo      answers examples/first-bid.http, without waiting for the proofs, in three to four minutes"
+	@echo "  make auction   proves and builds the program, as bin/auction, and says how far it is"
+	@echo "  make session   plays the README's sessions on bin/auction: a house in a file with curl"
+	@echo
+	@echo "The gate"
+	@echo "  make test      proves everything, runs the crates' tests and the wrong bodies in must-fail/ (rt ci), and says how far"
+	@echo "                 it is; out/ has all lines, and the minutes by crate and step"
+	@echo "  make wrong     tries the wrong bodies that make test leaves out, of the crates CRATES=\"a b\" or of all"
+	@echo "  make documents reads the documents, and plays what they show on the program"
+	@echo
+	@echo "Tests of the program that make test or make auction has left"
+	@echo "  make program   on words, tables, streams, files and clients (needs cc)"
+	@echo "  make cases     on the conformance cases in CASES"
+	@echo "  make fuzz      on MESSAGES random messages, some over TCP, beside plain lists and in twin runs"
+	@echo "  make mutated   on streams of spoiled messages, until MUTATED are answered, and what was accepted plainly"
+	@echo "  make twins     audits PAIRS random pairs of lists that differ in what others sealed, and PAIRS that are apart, and"
+	@echo "                 raises a bid in PAIRS random lists"
+	@echo "  make file      makes houses in files, opens, copies and damages them, kills who serves, and reads them with sqlite3"
+	@echo "  make office    imports lot files, one of ROWS rows, and reads statements"
+	@echo "  make kills     kills who serves a house KILLS times at random moments, and looks what is in its file"
+	@echo "  make stops     stops the program at each call on its files, or each EVERYth, and opens what is left (needs cc)"
+	@echo "  make cuts      cuts the power after each such call, as a model, and opens all that may be left (needs cc)"
+	@echo "  make stalls    has clients that send or read nothing hold up one that asks, for up to two minutes"
+	@echo
+	@echo "Tests of the crates that make test has left"
+	@echo "  make rows      plays the cases and random lists message by message and as runs, in memory and in databases"
+	@echo "  make random    compares houses with plain lists, on random commands and on long lists, and with one another"
+	@echo "  make statement compares statements with those that Python makes"
+	@echo "  make memory    refuses each allocation of the program and of the crates below it (needs cc)"
+
+# What a target needs, named where it is missing.
+.PHONY: has-kit has-program has-bin has-cases has-cc has-curl has-tests
+
+has-kit:
+	@command -v rt > /dev/null || { echo "no rt: README.md says what the kit is"; exit 1; }
+
+has-program:
+	@test -x crates/auction/out/auction || { echo "no bin/auction: run make auction first"; exit 1; }
+
+has-bin:
+	@test -x bin/auction || { echo "no bin/auction: run make auction first"; exit 1; }
+
+has-cases:
+	@test -d "$(CASES)" || { echo "no folder $(CASES): name that of the conformance cases by CASES=.."; exit 1; }
+
+has-cc:
+	@command -v cc > /dev/null || { echo "no cc: install a C compiler"; exit 1; }
+
+has-curl:
+	@command -v curl > /dev/null || { echo "no curl: install it"; exit 1; }
+
+has-tests:
+	@test -x crates/store_tests/out/store_tests || { echo "no crates/store_tests/out: run make test first"; exit 1; }
+
+demo test auction wrong: has-kit
+session: has-bin has-curl
+program cases fuzz mutated twins memory file office kills stops cuts stalls documents: has-program
+rows random file statement memory: has-tests
+cases rows: has-cases
+memory stops cuts: has-cc
+documents: has-curl
 
 demo:
-	@cd crates/auction && rt try -- replay --preset < ../../examples/first-bid.http
+	@echo "This builds the program without proofs, so its last line has proved=no. It takes three to four minutes."
+	@bash -o pipefail -c "cd crates/auction && rt try -- replay --preset < ../../examples/first-bid.http \
+		| sed 's/}HTTP/}\n\nHTTP/; \$$ s/\$$/\n/'"
 
 test:
-	rt ci
+	python3 tests/progress.py rt ci
 
 auction:
-	cd crates/auction && rt run -- replay --preset < /dev/null
+	cd crates/auction && python3 ../../tests/progress.py rt run -- replay --preset < /dev/null
 	mkdir -p bin
 	cp crates/auction/out/auction bin/auction
 
@@ -83,31 +128,32 @@ mutated:
 
 twins:
 	python3 tests/twins.py crates/auction/out/auction $(PAIRS) $(PAIRS) $(SEED)
+	python3 tests/raised.py crates/auction/out/auction $(PAIRS) $(SEED)
 
 memory:
 	python3 tests/refused_memory.py crates/auction/out/auction
 	python3 tests/refused_routes.py crates/auction/out/auction 1 200 50
 	python3 tests/refused_office.py crates/auction/out/auction 400 100 100
 	python3 tests/refused_statement.py crates/settle_bench/out/settle_bench
-	python3 tests/refused_asks.py crates/site_tests/out/site_tests
+	python3 tests/refused_asks.py crates/test_messages/out/test_messages
 	python3 tests/refused_inbox.py crates/wire_bench/out/wire_bench
-	python3 tests/refused_house.py crates/house_tests/out/house_tests
+	python3 tests/refused_house.py crates/store_tests/out/store_tests 1 memory
 	python3 tests/refused_house.py crates/store_tests/out/store_tests 5
 	python3 tests/refused_pages.py crates/pages_tests/out/pages_tests
 	python3 tests/refused_store.py crates/store_tests/out/store_tests 11
 	python3 tests/refused_rows.py crates/run_tests/out/run_tests 7
-	python3 tests/refused_device.py crates/device_tests/out/device_tests
-	python3 tests/refused_bands.py crates/proxy_tests/out/proxy_tests
+	python3 tests/refused_device.py crates/test_values/out/test_values
+	python3 tests/refused_bands.py crates/test_values/out/test_values
 
 statement:
 	python3 tests/compared_statements.py crates/settle_bench/out/settle_bench
 
 random:
-	python3 tests/random_house.py crates/house_tests/out/house_tests
-	python3 tests/long_lists.py crates/house_tests/out/house_tests
+	python3 tests/random_house.py crates/store_tests/out/store_tests memory
+	python3 tests/long_lists.py crates/store_tests/out/store_tests memory
 	python3 tests/random_house.py crates/store_tests/out/store_tests
 	python3 tests/long_lists.py crates/store_tests/out/store_tests
-	crates/house_tests/out/house_tests < crates/store_tests/stdin | cmp - crates/store_tests/stdout
+	crates/store_tests/out/store_tests memory < crates/store_tests/stdin | cmp - crates/store_tests/stdout
 
 file:
 	python3 tests/store_file.py crates/store_tests/out/store_tests
@@ -131,5 +177,10 @@ cuts:
 stalls:
 	python3 tests/stalls.py crates/auction/out/auction
 
+documents:
+	python3 tests/documents.py
+	python3 tests/http_doc.py crates/auction/out/auction
+	python3 tests/running_doc.py crates/auction/out/auction
+
 wrong:
-	python3 tests/wrong.py
+	python3 tests/wrong.py $(CRATES)

@@ -1,6 +1,6 @@
 """How long the house in memory takes for a command, a look-up and a list at several sizes, and its memory.
 
-`house.py PROGRAM` plays scripts by the program `house_tests`. A house of so many items is made, with as
+`house.py PROGRAM` plays scripts by the program `store_tests memory`. A house of so many items is made, with as
 many members, up to the most that there may be; then come many lines of one kind, and the program tells
 its processor time before and after. Shown are nanoseconds a line at each size, the least of a few runs that take
 the sizes in turn, less those of `? clock`, which any line takes to be read and answered; then the time at the greatest size
@@ -216,7 +216,7 @@ KINDS = {**ASKED, **GIVEN}
 def played(program, lines):
     """What the program answers to a script, line by line."""
     script = "\n".join(lines) + "\n"
-    ran = subprocess.run([program], input=script, text=True, check=True, capture_output=True)
+    ran = subprocess.run([program, "memory"], input=script, text=True, check=True, capture_output=True)
     return ran.stdout.splitlines()
 
 
@@ -243,7 +243,7 @@ def most_held(program, lines):
     `time` starts it: what a process of Python starts counts the memory of that process as its own.
     """
     script = "\n".join(lines) + "\n"
-    ran = subprocess.run(["/usr/bin/time", "-f", "%M", program], input=script, text=True, check=True,
+    ran = subprocess.run(["/usr/bin/time", "-f", "%M", program, "memory"], input=script, text=True, check=True,
                          stdout=subprocess.DEVNULL, stderr=subprocess.PIPE)
     return int(ran.stderr.split()[-1]) * 1024
 

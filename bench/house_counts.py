@@ -70,7 +70,7 @@ def show(runs, sizes):
 
 
 def main(program, sizes):
-    show([counted([program], script(items), house.KINDS, items) for items in sizes], sizes)
+    show([counted([program, "memory"], script(items), house.KINDS, items) for items in sizes], sizes)
 
 
 if __name__ == "__main__":

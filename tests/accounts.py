@@ -5,6 +5,8 @@ Sales lie round the midnights of two zones with summer time. Each member's state
 as CSV and as the page of `/me/statement`, the one of tests/plain_office.py, and Python's `csv` has to read cents from
 it that add up: what was sold to fees and net, and over all members what was bought to what was earned and the fees, and
 to the prices of the public record. HOUSES is 6 without it. The last line is 'N checks, M wrong'.
+
+There are 6 periods and 4 members of each house.
 """
 import json
 import pathlib

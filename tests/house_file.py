@@ -7,6 +7,9 @@ is killed leaves all that it acknowledged in the file with its log; and where th
 house as some of the accepted commands left it, and later ones not without the earlier. Where files may not grow, a
 command is told that the store failed, and so is all behind it, and the house holds what was accepted before. The last
 line is 'N checks, M wrong'.
+
+Four sizes are the limit for `init`, five for `serve`; a log of twelve commands is cut after each of its pages and
+within some; a copy is read after the `statement` of a house whose server was killed.
 """
 import pathlib
 import resource

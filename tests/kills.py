@@ -6,6 +6,8 @@ server is killed by SIGKILL, and the house's file with its log has to be sound f
 commands that were answered make, or one command more: the rows of a house that took as many and was never killed. Then
 the same file is served again. This shows a killed process, not a power cut: what was written is there though nobody
 had synced it. The last line is 'K kills, N commands, M of them more than answered, W wrong'.
+
+In the gate 40 servers are killed, without a number 200.
 """
 import itertools
 import pathlib

@@ -1,6 +1,6 @@
 """The house's rules over plain lists, for comparison: every look-up goes over all rows.
 
-A House takes commands and questions by the words of crates/house_tests/src/script.rt, and answers
+A House takes commands and questions by the words of crates/house_script/src/script.rt, and answers
 with the lines that the program prints.
 """
 import dataclasses
@@ -73,9 +73,9 @@ class Standing:
     floor: int
 
 
-def over(amount):
+def over(amount, bands=BANDS):
     """An amount and the step of the last band that begins at or below it."""
-    return amount + [step for at, step in BANDS if at <= amount][-1]
+    return amount + [step for at, step in bands if at <= amount][-1]
 
 
 def fits(least, most, text):
@@ -103,8 +103,8 @@ def feedback_line(f):
 
 
 class House:
-    def __init__(self):
-        self.now = 0
+    def __init__(self, bands=BANDS):
+        self.now, self.bands = 0, bands
         self.names, self.kinds, self.rows = [], [], []
         self.placed, self.watching, self.asked, self.given_rows = [], [], [], []
 
@@ -123,8 +123,8 @@ class House:
         top = max(bid.maximum for bid in bids)
         leader = next(bid.member for bid in bids if bid.maximum == top)
         second = max((bid.maximum for bid in bids if bid.member != leader), default=None)
-        price = item.start if second is None else max(item.start, min(top, over(second)))
-        return Standing(price, leader, top, second, len(bids), over(price))
+        price = item.start if second is None else max(item.start, min(top, over(second, self.bands)))
+        return Standing(price, leader, top, second, len(bids), over(price, self.bands))
 
     def leader(self, item):
         return self.stands(item).leader if item.buyer is None else item.buyer

@@ -181,8 +181,8 @@ def refused(answer):
 class Site:
     """The house and its settings, how often each command was accepted, and which refusals were told."""
 
-    def __init__(self, rate=1_000, zone="UTC0", preset=False):
-        self.house, self.rate, self.zone = House(), rate, zone
+    def __init__(self, rate=1_000, zone="UTC0", preset=False, bands=BANDS):
+        self.house, self.rate, self.zone = House(bands), rate, zone
         self.accepted, self.refusals = collections.Counter(), set()
         if preset:
             for request in setup():
@@ -297,7 +297,7 @@ class Site:
                 "members": len(house.names), "rate": self.rate, "zone": self.zone}
 
     def page_bands(self):
-        return {"bands": [{"at": at, "step": step} for at, step in BANDS]}
+        return {"bands": [{"at": at, "step": step} for at, step in self.house.bands]}
 
     def page_categories(self):
         return {"categories": [{"category": number, "name": name} for number, name in enumerate(self.house.kinds, 1)]}

@@ -12,10 +12,10 @@ def spelled(word):
     return "".join(c if c.isalnum() else f"%{ord(c):02x}" if c.isascii() else c for c in word)
 
 
-def compared(program, lines):
-    """Plays a script, and compares: `lines` are its lines, each with its answer or None for a line that has none."""
+def compared(command, lines):
+    """Plays a script by a command, and compares: `lines` are its lines, each with its answer or None for a line that has none."""
     script = "\n".join(line for line, _ in lines)
-    result = subprocess.run([str(pathlib.Path(program).resolve())], input=script.encode(), capture_output=True,
+    result = subprocess.run([str(pathlib.Path(command[0]).resolve()), *command[1:]], input=script.encode(), capture_output=True,
                             timeout=60)
     expected = [pair for pair in lines if pair[1] is not None]
     told = result.stdout.decode().splitlines()

@@ -73,6 +73,19 @@ REFUSED_WORDS = [
     ["audit", "left", "right", "more", "--member", "1"],
     ["audit", "left", "right", "--member", "1", "--rate", "2001"],
     ["audit", "left", "right", "--member", "1", "--preset"],
+    ["surplus", "--place", "7", "--maximum", "1", "--member", "1"],
+    ["surplus", "list", "--maximum", "1", "--member", "1"],
+    ["surplus", "list", "--place", "7", "--member", "1"],
+    ["surplus", "list", "--place", "7", "--maximum", "1"],
+    ["surplus", "list", "more", "--place", "7", "--maximum", "1", "--member", "1"],
+    ["surplus", "list", "--place", "0", "--maximum", "1", "--member", "1"],
+    ["surplus", "list", "--place", "1000001", "--maximum", "1", "--member", "1"],
+    ["surplus", "list", "--place", "7", "--maximum=-1", "--member", "1"],
+    ["surplus", "list", "--place", "7", "--maximum", "1000000001", "--member", "1"],
+    ["surplus", "list", "--place", "7", "--maximum", "1", "--member", "0"],
+    ["surplus", "list", "--place", "7", "--maximum", "1", "--member", "100001"],
+    ["surplus", "list", "--place", "7", "--maximum", "1", "--member", "1", "--rate", "2001"],
+    ["surplus", "list", "--place", "7", "--maximum", "1", "--member", "1", "--preset"],
 ]
 
 # The text of a band table, and how its fault is told.
@@ -130,7 +143,8 @@ def cases(folder, full):
     yield over_memory(["replay", "--record", "--bands", str(table), "--rate", "2000", "--zone", "CET-1"],
                       ended(0, EMPTY_RECORD, b""))
     for words in (["--help"], ["help"], ["replay", "--help"], ["help", "replay"], ["init", "--help"],
-                  ["serve", "--help"], ["import", "--help"], ["statement", "--help"], ["audit", "--help"]):
+                  ["serve", "--help"], ["import", "--help"], ["statement", "--help"], ["audit", "--help"],
+                  ["surplus", "--help"]):
         yield over_memory(words, helped)
     for rule in ("", "UTC", "CET-1\n", "CET-25", "Europe/Berlin"):
         yield over_memory(["replay", "--zone", rule], fault("zone"), READ)

@@ -1,7 +1,7 @@
 #!/usr/bin/env python3
-"""Compares a house with plain lists on random commands: `random_house.py PROGRAM`.
+"""Compares a house with plain lists on random commands: `random_house.py PROGRAM [WORD]`.
 
-The program is that of the crate `house_tests`. By a fixed seed it is given 2,000 commands, accepted
+The program is that of the crate `store_tests`, with `memory` for a house in memory and no word for one in SQLite. By a fixed seed it is given 2,000 commands, accepted
 or refused, and after each twentieth every look-up and list; four times it goes on with a house that
 `fill` has filled with its changes. Each answer has to be that of tests/plain_house.py. The last line
 is 'N of N answers, M wrong'.
@@ -195,7 +195,7 @@ def script_of(house):
 
 
 def main():
-    return compared(sys.argv[1], script_of(House()))
+    return compared(sys.argv[1:], script_of(House()))
 
 
 if __name__ == "__main__":

@@ -3,7 +3,8 @@
 
 A session is a block of which the first line begins with `$ `; each such line is a command, and the lines behind it are
 what it has to print. All commands of a session run in one shell, in a folder of their own that has `examples/`, with
-PROGRAM as `auction`; a command that ends with `&` has printed its line before the next begins. The last line is
+PROGRAM as `auction`. A command that ends with `&` has printed its first line before the next begins; what else it
+prints stands behind the command that waits for it, whichever of the two was the faster. The last line is
 'N commands, M wrong'.
 """
 import os
@@ -32,6 +33,8 @@ def free_port():
 
 
 class Shell:
+    """A shell that runs commands; a pipe has what the one in the background prints."""
+
     def __init__(self, folder, program):
         (folder / "bin").mkdir()
         (folder / "bin" / "auction").symlink_to(pathlib.Path(program).resolve())
@@ -39,15 +42,30 @@ class Shell:
         path = f"{folder / 'bin'}:{os.environ['PATH']}"
         self.process = subprocess.Popen(["bash"], cwd=folder, env={**os.environ, "PATH": path}, text=True,
                                         stdin=subprocess.PIPE, stdout=subprocess.PIPE, stderr=subprocess.STDOUT)
+        self.pipe, self.background = folder / "bin" / "background", None
+        os.mkfifo(self.pipe)
 
     def run(self, command):
         """What a command prints."""
-        self.process.stdin.write(f"{command}\n" if command.endswith("&") else f"{command}\necho; echo '{END}'\n")
-        self.process.stdin.flush()
         if command.endswith("&"):
-            return self.process.stdout.readline().rstrip("\n")
-        told = "".join(iter(self.process.stdout.readline, f"{END}\n"))
-        return told.rstrip("\n")
+            return self.begin(command.removesuffix("&"))
+        self.send(f"{command}\necho; echo '{END}'\n")
+        told = "".join(iter(self.process.stdout.readline, f"{END}\n")).rstrip("\n")
+        if self.background and command.endswith("wait"):
+            with self.background:
+                told = f"{told}\n{self.background.read()}".strip("\n")
+            self.background = None
+        return told
+
+    def begin(self, command):
+        """The first line that a command prints which runs in the background."""
+        self.send(f"{command} > '{self.pipe}' 2>&1 &\n")
+        self.background = self.pipe.open()
+        return self.background.readline().rstrip("\n")
+
+    def send(self, text):
+        self.process.stdin.write(text)
+        self.process.stdin.flush()
 
 
 def main():

@@ -1,8 +1,8 @@
 #!/usr/bin/env python3
 """Refuses each allocation of the reading of messages in turn: `refused_asks.py PROGRAM`.
 
-The program is that of the crate `site_tests`, and tells what each message of a script asks. A run that is refused
-memory ends with status 1 and `site_tests: memory is wanted`, and what it told before is told as ever. So it has to
+The program is that of the crate `test_messages`, and tells what each message of a script asks. A run that is refused
+memory ends with status 1 and `test_messages: memory is wanted`, and what it told before is told as ever. So it has to
 be for each message of the script: those of one field, of many, with an escape and with an object inside, a read and
 a fault. It needs a C compiler, `cc`. The last line is 'N runs, M wrong'.
 """
@@ -12,6 +12,7 @@ import sys
 from refusal import built_library, ended, refused_runs, run, told
 
 SCRIPT = r"""
+section asks
 send POST /members
 head \r\nx-member: 0\r\nx-moment: 1000
 body {"name":"Ana"}
@@ -36,8 +37,8 @@ send GET /nowhere
 body
 """.lstrip()
 MESSAGES = SCRIPT.count("\nbody")
-WANTED = b"site_tests: memory is wanted\n"
-UNREAD = b"site_tests: a line is no part of a script\n"
+WANTED = b"test_messages: memory is wanted\n"
+UNREAD = b"test_messages: a line is no part of a script\n"
 
 
 def is_right(result, whole):

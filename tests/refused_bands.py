@@ -1,8 +1,8 @@
 #!/usr/bin/env python3
 """Refuses each allocation of the making of band tables in turn: `refused_bands.py PROGRAM`.
 
-The program is that of the crate `proxy_tests`. A run that is refused memory ends before its next answer, with
-status 1 and `proxy_tests: memory is wanted`; or a table was being made, and then the answer to its line is
+The program is that of the crate `test_values`. A run that is refused memory ends before its next answer, with
+status 1 and `test_values: memory is wanted`; or a table was being made, and then the answer to its line is
 `Memory`, and every other line is answered as ever, as all are where the memory was not needed. It needs a C
 compiler, `cc`. The last line is 'N runs, M wrong'.
 """
@@ -12,6 +12,7 @@ import sys
 from refusal import built_library, ended, refused_runs, run, told
 
 SCRIPT = r"""
+section bands
 rows 0 5 100 25
 rows 0 5 100 25 500 50 1000 75
 rows 0 5 100 3
@@ -21,8 +22,8 @@ example
 """.lstrip()
 # Rows that are no table are told before memory is asked for.
 TABLES = 5
-WANTED = b"proxy_tests: memory is wanted\n"
-UNREAD = b"proxy_tests: a line is no part of a script\n"
+WANTED = b"test_values: memory is wanted\n"
+UNREAD = b"test_values: a line is no part of a script\n"
 
 
 def refused_lines(result, whole):

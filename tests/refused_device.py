@@ -1,8 +1,8 @@
 #!/usr/bin/env python3
 """Refuses each allocation of a sink in memory in turn: `refused_device.py PROGRAM`.
 
-The program is that of the crate `device_tests`. A run that is refused memory ends before its next answer, with
-status 1 and `device_tests: memory is wanted`; or a sink was to grow, and then it has failed: from that line on each
+The program is that of the crate `test_values`. A run that is refused memory ends before its next answer, with
+status 1 and `test_values: memory is wanted`; or a sink was to grow, and then it has failed: from that line on each
 call of it is `Err(Failure)`, and it has a beginning of the bytes that it was given, in order. Or all lines are
 answered as ever, where the memory was not needed. It needs a C compiler, `cc`. The last line is
 'N runs, M wrong'.
@@ -14,6 +14,7 @@ import sys
 from refusal import built_library, ended, refused_runs, run, told
 
 SCRIPT = """\
+section devices
 sink - -
 give 100
 all 99
@@ -27,8 +28,8 @@ all 5000
 flush
 bytes
 """
-WANTED = b"device_tests: memory is wanted\n"
-UNREAD = b"device_tests: a line is no part of a script\n"
+WANTED = b"test_values: memory is wanted\n"
+UNREAD = b"test_values: a line is no part of a script\n"
 
 
 def stopped(result, whole):

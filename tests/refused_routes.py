@@ -9,6 +9,8 @@ and has written nothing, or answers without a record; a house that was to be ope
 leaves a new house, or a place where one can be made. REPLAY, SERVE and INIT are how many allocations are
 passed over for each that is refused: 1, 1 and 1 without them. It needs a C compiler, `cc`. The last line is
 'N runs, M wrong'.
+
+There are 140 messages.
 """
 import collections
 import functools

@@ -3,6 +3,8 @@
 
 Each page has to be what stands in that crate's stdout, and so does the record that ends a house, which a replay shows.
 The last line is 'N checks, M wrong'.
+
+Those are 295 checks.
 """
 import dataclasses
 import pathlib

@@ -5,6 +5,9 @@ A house of the messages of tests/routes.py has one column of one row changed by 
 row of a house's. Then every page is asked by everybody, and commands name each item. What needs the row is answered
 500 `damaged`, and has not acted; what only names it may be; everything else is answered as the plain site answers it,
 on the same connection, and so it is when the house is served again. The last line is 'N answers, M wrong'.
+
+19 rows are spoiled: a standing that no bids leave, a leader who is the seller, a purchase at another price, texts with
+control characters; a close goes over it.
 """
 import dataclasses
 import pathlib
@@ -80,6 +83,8 @@ SPOILED = [
             ((3, "/me/questions/1"), (1, "/me/waiting")), ((None, "/items/1/questions/3/1/answer"),)),
     Spoiled("UPDATE question SET answer = char(10) WHERE item = 1 AND asker = 2",
             ((2, "/me/questions/1"), (None, "/items/1/questions/1")), ((None, "/items/1/questions/2/1/answer"),)),
+    Spoiled("UPDATE feedback SET rating = 5 WHERE item = 1 AND giver = 3",
+            ((None, "/members/1"), (None, "/members/1/feedback/1"), (3, "/items/1/feedback"))),
     Spoiled("UPDATE feedback SET body = char(0x1f) WHERE giver = 1", ((None, "/members/3/feedback/1"),),
             ((None, "/members/3"),)),
 ]

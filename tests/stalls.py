@@ -4,6 +4,8 @@
 Connections are served one after the other, so who sends nothing, or reads none of its answers, holds up all others
 until nothing has moved for 30 seconds; then the next is answered. What a write had taken by then counts as a move, so
 the second may hold them up for some times 30 seconds. The last line is 'N checks, M wrong'.
+
+The first took 30 seconds, the second 94.
 """
 import pathlib
 import socket

@@ -7,6 +7,9 @@ on until a run ends with no stop; or each EVERYth k. A write at which it stops w
 command is so too. The files that are left, as they are and without what was not synced, are opened again: SQLite finds a
 sound database, both it and the program find the house before the command or behind it, behind it where that was answered
 as accepted, and the program takes another command. The last lines tell what was found by command, and 'S stops, W wrong'.
+
+Seen on the proved program: 669 stops, in 50 seconds of processor time; with EVERY 12, as in the gate, 56 in 7. None
+was wrong.
 """
 import collections
 import sys

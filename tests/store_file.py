@@ -1,7 +1,7 @@
 #!/usr/bin/env python3
 """Plays a script on a house in a file, and looks at the file: `store_file.py PROGRAM`.
 
-The program is that of the crate `store_tests`, and the script the part of its `stdout` before `fill`. A first
+The program is that of the crate `store_tests`, and the script the part of its `stdout` on houses in SQLite before `fill`. A first
 run makes the house in a new file and is given the commands; a second opens the file and is asked; each
 answer has to be the one that stands there. Then Python's sqlite3, and SQLite's shell where it is there, look for damage
 and for keys that lead nowhere, and read the tables, which have to be those of the script's commands. A house
@@ -13,6 +13,8 @@ look-up and every list is asked: each is refused, or answers as before, or as if
 column is one by which rows are found. The same of items as no bids and no purchase leave them, whose readers are
 all refused; but a standing is told by its own columns alone, and a former leader has bought no such item. The last
 line is 'N checks, M wrong'.
+
+Twenty-three items are as no bids and no purchase leave them.
 """
 import contextlib
 import pathlib
@@ -93,6 +95,7 @@ SPOILED = [
     ("UPDATE question SET answer = '' WHERE n = 2", "? published 1 0"),
     ("UPDATE feedback SET rating = 2 WHERE giver = 1", "? feedback 3 0"),
     ("UPDATE feedback SET rating = -2 WHERE giver = 1", "? ratings 3"),
+    ("UPDATE feedback SET rating = 5 WHERE item = 1 AND giver = 1", "? given 1 1"),
 ]
 
 # What leaves an item as no bids and no purchase do, each column in its range; and the item.
@@ -124,7 +127,7 @@ UNSTANDING = [
 
 
 # The columns by which rows are found, beside the keys.
-FOUND_BY = {("member", "name"), ("category", "name"), ("item", "lot"), ("question", "answer"), ("feedback", "rating")}
+FOUND_BY = {("member", "name"), ("category", "name"), ("item", "lot"), ("question", "answer")}
 
 
 def numbers(table):
@@ -165,8 +168,9 @@ def readers(number):
 
 
 def answered():
-    """The lines of the script that have an answer, each with it."""
-    return [(line, *answer) for line, answer in pairs((CRATE / "stdout").read_text()) if answer]
+    """The lines of the script in SQLite that have an answer, each with it."""
+    _, script = (CRATE / "stdout").read_text().split("\n-- In SQLite.\n")
+    return [(line, *answer) for line, answer in pairs(script) if answer]
 
 
 def parts():

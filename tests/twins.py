@@ -68,29 +68,26 @@ def apart(member, left, right):
     return None
 
 
-def are_lists(left, right):
-    """Whether both are lists of messages: one may have been given a field more than it may have."""
-    return not any(map(frame_fault, [*left.requests, *right.requests]))
+def are_lists(*runs):
+    """Whether all are lists of messages: one may have been given a field more than it may have."""
+    return not any(frame_fault(request) for run in runs for request in run.requests)
 
 
-class Pairs:
-    """Pairs of lists that were audited, and which were wrong."""
+class Lists:
+    """Random lists that a program is to play, and how many were wrong."""
 
     def __init__(self, program, folder, seed):
         self.program, self.folder = str(pathlib.Path(program).resolve()), pathlib.Path(folder)
-        self.random = random.Random(seed)
-        self.equal = self.apart = self.wrong = self.replies = 0
-        # What was changed in lists that are equal, and at which part of the shorter list others are apart.
-        self.kinds, self.parts = collections.Counter(), collections.Counter()
+        self.random, self.wrong = random.Random(seed), 0
 
     def fail(self, what, expected, got):
         self.wrong += 1
         if self.wrong <= 5:
             print(f"{what}\n  expected {expected}\n  told     {got}")
 
-    def first(self):
-        """Settings, a list at random, and a member, mostly one who sends some of it."""
-        settings = {"rate": self.random.choice([0, 1_000, 2_000]), "zone": self.random.choice(list(AHEAD))}
+    def first(self, **more):
+        """Settings, some of them given, a list at random, and a member, mostly one who sends some of it."""
+        settings = {"rate": self.random.choice([0, 1_000, 2_000]), "zone": self.random.choice(list(AHEAD)), **more}
         site = Site(**settings)
         sender = Sender(site, self.random.random())
         requests = []
@@ -100,6 +97,36 @@ class Pairs:
             requests.append(request)
         senders = [number for number in map(caller, requests) if number and number <= len(site.house.names)]
         return settings, requests, self.random.choice([*senders, 1])
+
+    def words(self, settings):
+        """Settings as words of the program."""
+        words = ["--rate", str(settings["rate"]), "--zone", settings["zone"]]
+        if "bands" not in settings:
+            return words
+        table = self.folder / "bands.csv"
+        table.write_text("at,step\n" + "".join(f"{at},{step}\n" for at, step in settings["bands"]))
+        return [*words, "--bands", str(table)]
+
+    def answers(self, settings, run, member):
+        """What a replay answers to a member in a list."""
+        stream = b"".join(request.text() for request in run.requests)
+        texts, _ = answers_in(replayed(self.program, stream, *self.words(settings)))
+        return [text for request, text in zip(run.requests, texts) if caller(request) == member]
+
+    def ended(self, *words):
+        """How the program ends with these words, in the folder of the lists."""
+        ran = subprocess.run([self.program, *words], cwd=self.folder, capture_output=True, timeout=60)
+        return ran.returncode, ran.stdout, ran.stderr
+
+
+class Pairs(Lists):
+    """Pairs of lists that were audited."""
+
+    def __init__(self, program, folder, seed):
+        super().__init__(program, folder, seed)
+        self.equal = self.apart = self.replies = 0
+        # What was changed in lists that are equal, and at which part of the shorter list others are apart.
+        self.kinds, self.parts = collections.Counter(), collections.Counter()
 
     # Lists that are twins.
 
@@ -127,13 +154,6 @@ class Pairs:
         told = [self.answers(settings, run, member) for run in (left, right)]
         if told[0] != told[1] or len(told[0]) != count:
             self.fail("replies", told[0], told[1])
-
-    def answers(self, settings, run, member):
-        """What a replay answers to a member in a list."""
-        stream = b"".join(request.text() for request in run.requests)
-        words = ["--rate", str(settings["rate"]), "--zone", settings["zone"]]
-        texts, _ = answers_in(replayed(self.program, stream, *words))
-        return [text for request, text in zip(run.requests, texts) if caller(request) == member]
 
     # Lists that are not.
 
@@ -192,9 +212,9 @@ class Pairs:
     # Audits.
 
     def judge(self, settings, left, right, member, expected):
-        words = ["--member", str(member), "--rate", str(settings["rate"]), "--zone", settings["zone"]]
         got = self.audited(b"".join(request.text() for request in left.requests),
-                           b"".join(request.text() for request in right.requests), *words)
+                           b"".join(request.text() for request in right.requests),
+                           "--member", str(member), *self.words(settings))
         if got != expected:
             self.fail(f"audit for {member} of {[request.text() for request in left.requests]} and "
                       f"{[request.text() for request in right.requests]}", expected, got)
@@ -203,9 +223,7 @@ class Pairs:
         """How an audit of two texts ends."""
         (self.folder / "left").write_bytes(left)
         (self.folder / "right").write_bytes(right)
-        ran = subprocess.run([self.program, "audit", "left", "right", *words], cwd=self.folder, capture_output=True,
-                             timeout=60)
-        return ran.returncode, ran.stdout, ran.stderr
+        return self.ended("audit", "left", "right", *words)
 
     def broken(self):
         """Files that are no lists; one that asks to close is one, and goes on."""

@@ -44,8 +44,6 @@ class Case:
     steps: list
     preset: bool = True
     zone: str = "UTC0"
-    # Whether it comes as a stream too.
-    is_streamed: bool = False
 
 
 def bids():
@@ -63,7 +61,7 @@ def bids():
             (read("/me/bids/1", 2),
              '{"bids":[{"item":1,"leading":false,"maximum":1000,"mine":2,"price":1050,"state":"open"}]}')]
     yield Case("A first bid, one that is too low, and one that leads", first)
-    yield Case("A tie, raises, and a maximum that is no raise", first + more, is_streamed=True)
+    yield Case("A tie, raises, and a maximum that is no raise", first + more)
     for maximum, price, floor in ((2499, 2549, 2649), (2500, 2600, 2700)):
         yield Case("Steps on either side of a band's beginning",
                    [(listed(1, 1000, "B2", 6000, start=100), '{"item":2}'), (bid(2, 2, 1001, 9000), placed(1, 125, 2, 100)),
@@ -229,48 +227,12 @@ def line(given):
     return block(given)
 
 
-# The devices of a stream: their pieces, and which call of which fails.
-DEVICES = ((1, "", 0), (7, "", 0), (24_576, "", 0), (7, "take", 1), (7, "take", 60), (100, "take", 9), (100, "take", 14),
-           (24_576, "take", 2), (24_576, "give", 1), (24_576, "give", 8), (24_576, "give", 16))
-
-
-def streamed(case, piece, word, number):
-    """What has to be told of a list of messages that ends none, where it comes as a stream."""
-    _, pairs = steps(case)
-    texts, answered = [line_text(given) for given, _ in pairs], len(pairs)
-    acted, ending = len(pairs), f"Ok(Served {{ messages: {len(pairs)}, ending: Clean }})"
-    if word == "take":
-        # What came is answered, as far as it is whole.
-        came = piece * (number - 1)
-        answered = acted = sum(len(b"".join(texts[:at + 1])) <= came for at in range(len(texts)))
-        ending = "Err(Read)"
-    if word == "give":
-        # All came at once, and each answer is given at once: the message whose answer isn't taken has acted.
-        answered, acted, ending = number - 1, number, "Err(Write)"
-    site = Site(zone=case.zone)
-    for given, _ in pairs[:acted]:
-        site.answer(given)
-    written = b"".join(answer.text() for _, answer in pairs[:answered])
-    lines = [b"new", written, ending.encode(), b"new" if is_new(site) else b"not new", site.record()]
-    return b"".join(text + b"\n" for text in [*lines, f"{FORMS[0]}: the same".encode()])
-
-
-def line_text(given):
-    """The text of the message that a line of a script stands for."""
-    first, _, _ = line(given).partition(b" ")
-    if first == b"post" and not given.body:
-        given = given.with_field("content-length", " 0")
-    return given.text()
-
-
 def script_of(case):
     """The lines of a list in a script, each with what has to be told of it."""
     site, pairs = steps(case)
     yield f"house 1000 {case.zone}\n".encode(), b""
     yield from ((line(given), b"") for given, _ in pairs)
     yield b"all\n", told(site, [answer for _, answer in pairs])
-    for devices in DEVICES if case.is_streamed else ():
-        yield "serve {} {} {}".format(*devices).removesuffix("  0").encode() + b"\n", streamed(case, *devices)
 
 
 def stored():

@@ -1,40 +1,12 @@
 //! What a message asks, in plain Rust: the frame by the crate `httparse`, the route by a match on the path's segments, the
-//! body by `serde_json` and `derive`. The words, messages and sum are those of the crate `site_bench`.
+//! body by `serde_json` and `derive`. `asks frames N` reads the frame of the message on standard input N times, `asks asks N` also
+//! what it asks. The sums are those of `frames N` and `repeat N` of the crate `test_messages`.
 // What is read of a message isn't looked at in whole.
 #![allow(dead_code)]
 
 use serde::Deserialize;
 use std::env;
-
-const BIDS: [&[u8]; 2] = [
-    b"POST /items/1/bids HTTP/1.1\r\nhost: h\r\nx-member: 2\r\nx-moment: 1001\r\ncontent-length: 15\r\n\r\n{\"maximum\":500}",
-    b"POST /items/2/bids HTTP/1.1\r\nhost: h\r\nx-member: 3\r\nx-moment: 1002\r\ncontent-length: 15\r\n\r\n{\"maximum\":600}",
-];
-
-const SPACED: [&[u8]; 2] = [
-    b"POST /items/1/bids HTTP/1.1\r\nhost: h\r\nx-member: 2\r\nx-moment: 1001\r\ncontent-length: 17\r\n\r\n{ \"maximum\":500 }",
-    b"POST /items/2/bids HTTP/1.1\r\nhost: h\r\nx-member: 3\r\nx-moment: 1002\r\ncontent-length: 17\r\n\r\n{ \"maximum\":600 }",
-];
-
-const LISTS: [&[u8]; 2] = [
-    b"POST /items HTTP/1.1\r\nhost: h\r\nx-member: 1\r\nx-moment: 1000\r\ncontent-length: 79\r\n\r\n{\"category\":1,\"end\":5000,\"lot\":\"A1\",\"start\":500,\"text\":\"Good.\",\"title\":\"Atlas\"}",
-    b"POST /items HTTP/1.1\r\nhost: h\r\nx-member: 2\r\nx-moment: 1001\r\ncontent-length: 79\r\n\r\n{\"category\":2,\"end\":6000,\"lot\":\"B2\",\"start\":750,\"text\":\"Good.\",\"title\":\"Globe\"}",
-];
-
-const NULLS: [&[u8]; 2] = [
-    b"POST /items HTTP/1.1\r\nhost: h\r\nx-member: 1\r\nx-moment: 1000\r\ncontent-length: 94\r\n\r\n{\"buy_now\":null,\"category\":1,\"end\":5000,\"lot\":\"A1\",\"start\":500,\"text\":\"Good.\",\"title\":\"Atlas\"}",
-    b"POST /items HTTP/1.1\r\nhost: h\r\nx-member: 2\r\nx-moment: 1001\r\ncontent-length: 94\r\n\r\n{\"buy_now\":null,\"category\":2,\"end\":6000,\"lot\":\"B2\",\"start\":750,\"text\":\"Good.\",\"title\":\"Globe\"}",
-];
-
-const ESCAPES: [&[u8]; 2] = [
-    b"POST /items HTTP/1.1\r\nhost: h\r\nx-member: 1\r\nx-moment: 1000\r\ncontent-length: 85\r\n\r\n{\"category\":1,\"end\":5000,\"lot\":\"A1\",\"start\":500,\"text\":\"Good.\\nOld.\",\"title\":\"Atlas\"}",
-    b"POST /items HTTP/1.1\r\nhost: h\r\nx-member: 2\r\nx-moment: 1001\r\ncontent-length: 85\r\n\r\n{\"category\":2,\"end\":6000,\"lot\":\"B2\",\"start\":750,\"text\":\"Good.\\nOld.\",\"title\":\"Globe\"}",
-];
-
-const NAMES: [&[u8]; 2] = [
-    b"POST /members HTTP/1.1\r\nhost: h\r\nx-member: 0\r\nx-moment: 1000\r\ncontent-length: 14\r\n\r\n{\"name\":\"Ana\"}",
-    b"POST /members HTTP/1.1\r\nhost: h\r\nx-member: 0\r\nx-moment: 1001\r\ncontent-length: 14\r\n\r\n{\"name\":\"Bea\"}",
-];
+use std::io::{self, Read};
 
 const LAST_MOMENT: u64 = 4_102_444_800;
 
@@ -279,19 +251,13 @@ fn seen(message: &Message<'_>) -> u64 {
 
 fn main() {
     let words: Vec<String> = env::args().collect();
-    let texts = match words[2].as_str() {
-        "bid" => BIDS,
-        "spaced" => SPACED,
-        "null" => NULLS,
-        "escape" => ESCAPES,
-        "name" => NAMES,
-        _ => LISTS,
-    };
+    let mut text = Vec::new();
+    io::stdin().read_to_end(&mut text).expect("a message");
     let asks = words[1] == "asks";
     let mut sum = 0;
-    for round in 0..words[3].parse().unwrap_or(0) {
+    for _ in 0..words[2].parse().unwrap_or(0) {
         // Opaque, so that nothing is known of it when this is compiled.
-        let Ok(request) = whole(std::hint::black_box(texts[round % 2])) else { break };
+        let Ok(request) = whole(std::hint::black_box(text.as_slice())) else { break };
         sum += request.length as u64;
         if asks {
             if let Ok(message) = asked(&request) {

@@ -45,13 +45,43 @@ IsUnread bytes_of side (Ok source) fault = (fault ≡ Memory) ⊎ ((fault ≡ Re
     ⊎ ((fault ≡ Broken side) × IfSome (bytes_of source) IsBroken))
 IsUnread bytes_of side (Err told) fault = fault ≡ told
 
--- why two runs are not compared: a keep told so, or a side gives no messages, the left one first
+-- why two sources give no messages, the left one first
+abbrev pub AreUnread : {L R : Type 0} → (L → Option (List ℕ)) → (R → Option (List ℕ))
+    → Result L Fault → Result R Fault → Fault → Type 0
+AreUnread left_bytes right_bytes left right fault = IsUnread left_bytes Left left fault
+    ⊎ ((lefts : List (List ℕ)) × HasMessages left_bytes left lefts
+    × IsUnread right_bytes Right right fault)
+
+-- why two runs are not compared: a keep told so, or a side gives no messages
 abbrev pub IsUncompared : {K L R : Type 0} → (L → Option (List ℕ)) → (R → Option (List ℕ))
     → Run K L → Run K R → Fault → Type 0
 IsUncompared left_bytes right_bytes left right fault =
-    IsOfKeep fault ⊎ (IsUnread left_bytes Left left.source fault
-    ⊎ ((lefts : List (List ℕ)) × HasMessages left_bytes left.source lefts
-    × IsUnread right_bytes Right right.source fault))
+    IsOfKeep fault ⊎ AreUnread left_bytes right_bytes left.source right.source fault
+
+-- what an audit of two lists says, over two keeps and by a zone
+abbrev pub Finds : {K : Type 0} → (K → Tables) → (K → Bool) → (K → Type 0) → ℕ → Zone
+    → List (List ℕ) → List (List ℕ) → K → K → K → K → Verdict → Type 0
+Finds content is_failed is_honest c zone lefts rights left right left_new right_new verdict =
+    is_honest left_new → is_honest right_new
+    → (settings others : Settings) (h k : History)
+    → IsHistory settings h → IsHistory others k
+    → content left ≡ tables_of settings h → content right ≡ tables_of others k
+    → (left_heard right_heard : List Heard)
+    → AllZip IsHeard lefts left_heard → AllZip IsHeard rights right_heard
+    → IsVerdict content is_failed settings zone c left_heard right_heard
+    left right left_new right_new (Ok verdict)
+
+-- the messages of two sources were compared over two keeps, and this was found
+pub record HasFound {K L R : Type 0} (content : K → Tables) (is_failed : K → Bool)
+    (is_honest : K → Type 0) (left_bytes : L → Option (List ℕ)) (right_bytes : R → Option (List ℕ))
+    (c : ℕ) (zone : Zone) (left_source : Result L Fault) (right_source : Result R Fault)
+    (left right left_new right_new : K) (verdict : Verdict) : Type 0 where
+  pub lefts : List (List ℕ)
+  pub rights : List (List ℕ)
+  pub left_messages : HasMessages left_bytes left_source lefts
+  pub right_messages : HasMessages right_bytes right_source rights
+  pub found : Finds content is_failed is_honest c zone lefts rights left right left_new right_new
+      verdict
 
 -- the messages of two runs were compared over their houses, and this was found
 pub record HasAudited {K L R : Type 0} (content : K → Tables) (is_failed : K → Bool)
@@ -65,14 +95,8 @@ pub record HasAudited {K L R : Type 0} (content : K → Tables) (is_failed : K �
   pub kept_zone : is_honest left.keep → IsZoneOf (content left.keep).settings.zone zone
   pub left_keep : K
   pub right_keep : K
-  pub found : is_honest left_keep → is_honest right_keep
-      → (settings others : Settings) (h k : History)
-      → IsHistory settings h → IsHistory others k
-      → content left.keep ≡ tables_of settings h → content right.keep ≡ tables_of others k
-      → (left_heard right_heard : List Heard)
-      → AllZip IsHeard lefts left_heard → AllZip IsHeard rights right_heard
-      → IsVerdict content is_failed settings zone c left_heard right_heard
-      left.keep right.keep left_keep right_keep (Ok verdict)
+  pub found : Finds content is_failed is_honest c zone lefts rights left.keep right.keep
+      left_keep right_keep verdict
 
 -- a verdict was told, and whether the runs are equal
 abbrev pub IsTold : Option (List ℕ) → Option (List ℕ) → Verdict → Bool → Type 0

@@ -4,6 +4,10 @@ use Rattle.auction.specs.declared.fault.Fault.{Fault}
 use Rattle.auction.specs.declared.fault.Fault.TheVariants.{Memory as NoMemory, Store as FailedStore, Damaged as DamagedFile, Read as FailedInput, Write as FailedOutput}
 use Rattle.auction.specs.declared.fault.Fault.TheVariants as told
 use Rattle.auction.specs.declared.fault.Side.{Side}
+use Rattle.auction_words.specs.Houses.{IsUnset}
+use Rattle.auction_words.specs.declared.command_line.HouseWords.{HouseWords}
+use Rattle.auction_words.specs.declared.settings.SettingsFault.{SettingsFault}
+use Rattle.auction_words.specs.declared.settings.SettingsFault.TheVariants as unset
 use Rattle.house_rows.specs.declared.fault.KeepFault.{KeepFault}
 use Rattle.house_rows.specs.declared.fault.KeepFault.TheVariants.{Memory, Store, Damaged}
 use Rattle.office.specs.declared.account.StatementFault.{StatementFault}
@@ -28,6 +32,17 @@ fault_of_keep Damaged = DamagedFile
 -- a fault that a keep told
 abbrev pub IsOfKeep : Fault → Type 0
 IsOfKeep fault = (kept : KeepFault) × (fault ≡ fault_of_keep kept)
+
+-- what stands for a fault of the words that name settings
+abbrev pub fault_of_settings : SettingsFault → Fault
+fault_of_settings (unset.Bands fault) = told.Bands fault
+fault_of_settings unset.Zone = told.Zone
+fault_of_settings unset.Memory = told.Memory
+
+-- words name no settings, and this is told of it
+abbrev pub IsOfSettings : HouseWords → Fault → Type 0
+IsOfSettings words fault =
+    (reason : SettingsFault) × IsUnset words reason × (fault ≡ fault_of_settings reason)
 
 -- a fault of a file that is read: memory was refused, or it can't be opened
 abbrev pub IsOfInput : Fault → Type 0

@@ -2,7 +2,7 @@
 use Rattle.std.specs.Prelude.{◌≡◌, ◌≢◌, ◌⊎◌, ◌<◌, ◌≤◌, ℕ, List}
 use Rattle.settle.specs.Calendar.{day_text}
 use Rattle.settle.specs.declared.day.TheConstants.{LAST_DAY}
-use Rattle.auction.specs.declared.command_line.StatementWords.{StatementWords}
+use Rattle.auction_words.specs.declared.command_line.StatementWords.{StatementWords}
 use Rattle.auction.specs.declared.fault.Fault.{Fault}
 use Rattle.auction.specs.declared.fault.Fault.TheVariants.{Date, Order}
 

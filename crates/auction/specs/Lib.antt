@@ -1,11 +1,10 @@
 pub mod Audited
 pub mod Faults
-pub mod Houses
 pub mod Inquired
 pub mod Lines
 pub mod Listed
 pub mod Printed
+pub mod Raised
 pub mod Replayed
 pub mod Setup
 pub mod Stated
-pub mod Tasks

@@ -4,7 +4,7 @@ use Rattle.auction.specs.declared.fault.Fault.{Fault}
 use Rattle.auction.specs.declared.fault.Fault.TheVariants.{Memory, Store, Damaged, Bands, Zone, Read, Write, Socket, Date, Order, Member, Broken}
 use Rattle.auction.specs.declared.fault.Fault.TheVariants as lots
 use Rattle.auction.specs.declared.fault.Side.{Side}
-use Rattle.auction.specs.declared.fault.Side.TheVariants.{Left, Right}
+use Rattle.auction.specs.declared.fault.Side.TheVariants.{Left, Right, Only}
 use Rattle.steps.specs.Fault.{name_of, row_of}
 use Rattle.steps.specs.declared.fault.BandsFault.{BandsFault}
 use Rattle.steps.specs.declared.fault.BandsFault.TheVariants.{Csv, Head, Row, First, Order as OutOfOrder, Falls, TooMany, Device, Memory as NoMemory}
@@ -26,10 +26,11 @@ bands_line (Falls row) = named_with (name_of (Falls row)) (Some row)
 bands_line TooMany = named_with (name_of TooMany) None
 bands_line Device = named_with (name_of Device) None
 
--- the word for a side of an audit
+-- the word for a file of messages
 abbrev pub side_name : Side → List ℕ
 side_name Left = codes "LEFT"
 side_name Right = codes "RIGHT"
+side_name Only = codes "LIST"
 
 -- the line of a fault
 abbrev pub line_of : Fault → List ℕ

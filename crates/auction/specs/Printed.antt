@@ -17,6 +17,14 @@ served count = codes "served " ++ decimal count ++ 10 ∷ []
 abbrev pub equal_line : ℕ → List ℕ
 equal_line count = codes "equal, " ++ decimal count ++ codes " replies" ++ 10 ∷ []
 
+-- a surplus shows to nobody, and the member got so many replies in each run
+abbrev pub same_line : ℕ → List ℕ
+same_line count = codes "same, " ++ decimal count ++ codes " replies" ++ 10 ∷ []
+
+-- no covered bid stands there
+abbrev pub not_covered_line : List ℕ
+not_covered_line = codes "not covered" ++ 10 ∷ []
+
 -- they are apart from this place on
 abbrev pub apart_line : ℕ → List ℕ
 apart_line step = codes "apart at step " ++ decimal step ++ 10 ∷ []

@@ -12,7 +12,7 @@ use Rattle.site.specs.Answers.{IsStep}
 use Rattle.site_serve.specs.Serving.{HasServed}
 use Rattle.site_serve.specs.declared.serving.Served.{Served}
 use Rattle.auction.specs.Setup.{IsSetUp}
-use Rattle.auction.specs.declared.command_line.Replay.{Replay}
+use Rattle.auction_words.specs.declared.command_line.Replay.{Replay}
 
 -- a public record was written, and a newline: over a history whose tables the keep had, that of the
 -- history

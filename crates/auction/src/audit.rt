@@ -1,14 +1,18 @@
 //! `audit`: two runs of messages, compared as one member sees them.
-ghost use Rattle.std.specs.Prelude.{◌≡◌, ◌≤◌, ◌↔◌, true, Ok, IfErr, IfOk, OnOk, map};
+ghost use Rattle.std.specs.Prelude.{◌≡◌, ◌≤◌, ◌⊎◌, ◌↔◌, true, Ok, IfErr, IfOk, OnOk, map};
 ghost use Rattle.std.specs.Io.KnownBytes.{Appends};
-ghost use Rattle.auction.specs.Audited.{HasAudited, HasMessages, HasTold, IsTold, IsUncompared, IsUnread, IsUntold};
-ghost use Rattle.auction.specs.Faults.{fault_of_messages};
+ghost use Rattle.auction.specs.Audited.{AreUnread, HasAudited, HasFound, HasMessages, HasTold, IsTold, IsUncompared, IsUnread, IsUntold};
+ghost use Rattle.auction.specs.Faults.{IsOfKeep, fault_of_messages};
 ghost use Rattle.auction.specs.Printed.{apart_line, equal_line};
+ghost use Rattle.settle.specs.Zoned.{IsZoneOf};
+ghost use Rattle.site.specs.Answers.{zone_of};
+ghost use Rattle.site_serve.specs.Serving.{keep_of};
 
 use crate::fault::{Fault, Side, ended};
 use crate::serve::begun;
 use device::Source;
 use house_rows::Keep;
+use site::Site;
 use site_audit::{MessagesFault, Verdict, audit, read_messages};
 use std::alloc::Global;
 use std::io::Write;
@@ -33,8 +37,8 @@ fn fault_of(fault: MessagesFault, side: Side) -> Fault
     }
 }
 
-// The messages of a side.
-fn messages<S: Source + Drop>(
+/// The messages of a side.
+pub fn messages<S: Source + Drop>(
     alloc: Global,
     source: Result<S, Fault>,
     side: Side,
@@ -49,8 +53,47 @@ fn messages<S: Source + Drop>(
     }
 }
 
-// What an audit of two runs finds. What is wrong on the left is told before what is wrong on the
-// right.
+/// The sites over two keeps.
+pub fn both_begun<K: Keep + Drop>(
+    alloc: Global,
+    left: K,
+    right: K,
+) -> Result<(Site<K>, Site<K>), Fault>
+    ensures left { IfOk result (λ sites. keep_of sites.0 ≡ left) }
+    ensures right { IfOk result (λ sites. keep_of sites.1 ≡ right) }
+    ensures zone { K.is_honest left → IfOk result (λ sites.
+        IsZoneOf (K.content left).settings.zone (zone_of sites.0)) }
+    ensures fault { IfErr result IsOfKeep }
+{
+    let left_site = begun(alloc, left)?;
+    match begun(alloc, right) {
+        Ok(right_site) => Ok((left_site, right_site)),
+        Err(fault) => Err(fault),
+    }
+}
+
+// What an audit of the messages of two sources finds, over two sites. What is wrong on the left is
+// told before what is wrong on the right.
+fn compare_over<L: Source + Drop, R: Source + Drop, K: Keep + Drop>(
+    alloc: Global,
+    left: &mut Site<K>,
+    right: &mut Site<K>,
+    left_source: Result<L, Fault>,
+    right_source: Result<R, Fault>,
+    caller: u64,
+) -> Result<Verdict, Fault>
+    ensures found { IfOk result (HasFound K.content K.is_failed K.is_honest L.left R.left caller
+        (zone_of left.old) left_source right_source
+        (keep_of left.old) (keep_of right.old) (keep_of left.new) (keep_of right.new)) }
+    ensures fault { IfErr result (λ fault. IsOfKeep fault
+        ⊎ AreUnread L.left R.left left_source right_source fault) }
+{
+    let lefts = messages(alloc, left_source, Side::Left)?;
+    let rights = messages(alloc, right_source, Side::Right)?;
+    Ok(audit(alloc, left, right, &lefts, &rights, caller)?)
+}
+
+// What an audit of two runs finds.
 fn compare<L: Source + Drop, R: Source + Drop, K: Keep + Drop>(
     alloc: Global,
     left: Run<K, L>,
@@ -61,19 +104,15 @@ fn compare<L: Source + Drop, R: Source + Drop, K: Keep + Drop>(
         (HasAudited K.content K.is_failed K.is_honest L.left R.left caller left right) }
     ensures fault { IfErr result (IsUncompared L.left R.left left right) }
 {
-    let mut left_site = begun(alloc, left.keep)?;
-    let mut right_site = begun(alloc, right.keep)?;
-    let lefts = messages(alloc, left.source, Side::Left)?;
-    let rights = messages(alloc, right.source, Side::Right)?;
-    let verdict = audit(
+    let (mut left_site, mut right_site) = both_begun(alloc, left.keep, right.keep)?;
+    compare_over(
         alloc,
         &mut left_site,
         &mut right_site,
-        &lefts,
-        &rights,
+        left.source,
+        right.source,
         caller,
-    )?;
-    Ok(verdict)
+    )
 }
 
 // Tells that the runs are equal, with so many replies.
@@ -137,9 +176,9 @@ pub fn tell_compared<L: Source + Drop, R: Source + Drop, W: Write, K: Keep + Dro
     tell(output, &verdict)
 }
 
-// The exit status for what was found: 0 where the runs are equal, and else 1. A fault is told in
-// its line.
-fn status<E: Write>(errors: &mut E, equal: Result<bool, Fault>) -> u8
+/// The exit status for what was found: 0 where the runs are equal, and else 1. A fault is told in
+/// its line.
+pub fn status<E: Write>(errors: &mut E, equal: Result<bool, Fault>) -> u8
     ensures equal { (result ≡ 0) ↔ (equal ≡ Ok true) }
     ensures within { result ≤ 1 }
 {

@@ -1,8 +1,9 @@
 //! Why the program ends at a fault: the lines on standard error and the exit statuses.
 ghost use Rattle.std.specs.Prelude.{◌≡◌, ◌≤◌, ◌↔◌, Some, IsErr, IsOk};
-ghost use Rattle.auction.specs.Faults.{fault_of_audit, fault_of_import, fault_of_keep, fault_of_serving, fault_of_settling, fault_of_statement};
+ghost use Rattle.auction.specs.Faults.{fault_of_audit, fault_of_import, fault_of_keep, fault_of_serving, fault_of_settings, fault_of_settling, fault_of_statement};
 ghost use Rattle.auction.specs.Lines.{line_of, side_name};
 
+use auction_words::SettingsFault;
 use house_rows::KeepFault;
 use office::{ImportFault, StatementFault};
 use settle::SettleFault;
@@ -41,17 +42,19 @@ pub enum Fault {
     Head,
     /// A record of a lot file has another number of fields than its head.
     Csv,
-    /// The bytes of one side of an audit are no list of messages.
+    /// The bytes of a file are no list of messages.
     Broken(Side),
 }
 
-/// A side of an audit.
+/// A file of messages: one side of an audit, or the only one.
 #[derive(Clone, Copy, Debug, PartialEq, Eq)]
 pub enum Side {
     /// The first file.
     Left,
     /// The second file.
     Right,
+    /// The only file.
+    Only,
 }
 
 impl Side {
@@ -62,6 +65,7 @@ impl Side {
         match self {
             Side::Left => "LEFT",
             Side::Right => "RIGHT",
+            Side::Only => "LIST",
         }
     }
 }
@@ -100,6 +104,18 @@ impl From<KeepFault> for Fault {
             KeepFault::Memory => Fault::Memory,
             KeepFault::Store => Fault::Store,
             KeepFault::Damaged => Fault::Damaged,
+        }
+    }
+}
+
+impl From<SettingsFault> for Fault {
+    ghost from_gives = { λ fault told. told ≡ fault_of_settings fault };
+
+    fn from(fault: SettingsFault) -> Fault {
+        match fault {
+            SettingsFault::Bands(fault) => Fault::Bands(fault),
+            SettingsFault::Zone => Fault::Zone,
+            SettingsFault::Memory => Fault::Memory,
         }
     }
 }

@@ -1,18 +1,15 @@
 //! `import`: the rows of a lot file, listed in a house.
 ghost use Rattle.std.specs.Prelude.{◌≡◌, ◌≤◌, ◌↔◌, ℕ, List, Ok, Some, IfOk, IsOk, OnOk};
 ghost use Rattle.std.specs.Io.KnownBytes.{Keeps};
-ghost use Rattle.auction.specs.Listed.{HasAll, HasDealt, HasTaken};
-ghost use Rattle.store.specs.Kept.{IsHonest, MayLeave, content, is_failed};
+ghost use Rattle.auction.specs.Listed.{HasAll, HasDealt, HasTaken, IsKnown};
 
 use crate::ends::Ends;
 use crate::fault::{Fault, ended};
 use crate::serve::{begun, sound};
 use house_rows::Keep;
 use office::{ImportFault, Imported, Lister, check_member, import};
-use sqlite::Alter;
 use std::alloc::Global;
 use std::io::{Read, Write};
-use store::SqlKeep;
 
 // Hands on what was printed, and ends the keep, however the import ended. Its own fault is told
 // before theirs.
@@ -35,6 +32,16 @@ fn finish<W: Write, K: Ends>(
     Ok(told)
 }
 
+// The lot file, once its lister is known.
+fn known<R: Drop, K: Keep>(keep: &mut K, lots: Result<R, Fault>, member: u64) -> Result<R, Fault>
+    ensures known { OnOk result
+        (IsKnown K.content K.is_failed K.is_honest K.may_leave member keep.old keep.new) }
+    ensures same { IfOk result (λ reader. lots ≡ Ok reader) }
+{
+    check_member(keep, member)?;
+    lots
+}
+
 // Lists the rows.
 fn list_all<R: Read + Drop, W: Write, K: Keep + Drop + Ends>(
     alloc: Global,
@@ -52,8 +59,7 @@ fn list_all<R: Read + Drop, W: Write, K: Keep + Drop + Ends>(
         (HasTaken K.content K.is_failed K.is_honest K.may_leave K.is_ended by keep) }
 {
     let mut keep = sound(alloc, keep)?;
-    check_member(&mut keep, by.member)?;
-    let lots = lots?;
+    let lots = known(&mut keep, lots, by.member)?;
     let mut site = begun(alloc, keep)?;
     let imported = import(alloc, &mut site, by, lots, output);
     finish(output, site.end(), imported)
@@ -92,28 +98,4 @@ pub fn import_run<R: Read + Drop, W: Write, E: Write, K: Keep + Drop + Ends>(
         Ok(told) => status(told),
         Err(fault) => ended(errors, Err(fault)),
     }
-}
-
-/// The same over the house in a database.
-pub fn import_house<R: Read + Drop, W: Write, E: Write, S: Alter + Drop>(
-    alloc: Global,
-    keep: SqlKeep<S>,
-    lots: Result<R, Fault>,
-    by: Lister,
-    output: &mut W,
-    errors: &mut E,
-) -> u8
-where
-    SqlKeep<S>: Ends,
-    ensures listed { result ≡ 0 → (reader : R) → lots ≡ Ok reader → (text : List ℕ)
-        → R.remaining reader ≡ Some text
-        → HasAll (content S.Store) is_failed (IsHonest S.Store) (MayLeave S.Store)
-        ⟦<SqlKeep<S> as Ends>⟧.is_ended by text
-        (W.contents output.old) (W.contents output.new) keep }
-    ensures open { result ≡ 0 → IsOk lots }
-    ensures ended { result ≡ 0 → HasTaken (content S.Store) is_failed (IsHonest S.Store)
-        (MayLeave S.Store) ⟦<SqlKeep<S> as Ends>⟧.is_ended by keep }
-    ensures within { result ≤ 1 }
-{
-    import_run(alloc, keep, lots, by, output, errors)
 }

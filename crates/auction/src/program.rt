@@ -1,30 +1,38 @@
 //! The program's run: words in, an exit status out.
-ghost use Rattle.std.specs.Prelude.{◌≡◌, ◌≤◌, ◌⊎◌, IfErr, IfOk};
-ghost use Rattle.sqlite.specs.Files.{over_files};
-ghost use Rattle.store.specs.Kept.{IsHonest, content};
-ghost use Rattle.auction.specs.Faults.{IsOfKeep};
-ghost use Rattle.auction.specs.Houses.{IsNew, IsUnset};
+ghost use Rattle.std.specs.Prelude.{◌≡◌, ◌≤◌, ◌⊎◌, false, IfErr, IfOk};
+ghost use Rattle.settle.specs.Zoned.{IsZoneOf};
+ghost use Rattle.site.specs.Answers.{zone_of};
+ghost use Rattle.site_serve.specs.Serving.{keep_of};
+ghost use Rattle.auction.specs.Faults.{IsOfKeep, IsOfSettings};
+ghost use Rattle.auction_words.specs.Houses.{IsNew};
 
 use crate::audit::{Run, audit_run};
-use crate::command_line::{
-    self, AuditWords, HouseWords, ImportWords, Replay, Serve, StatementWords, Task,
-};
+use crate::ends::Ends;
 use crate::fault::{Fault, ended};
-use crate::files::{FileKeep, create_house, open_keep, open_site};
-use crate::import::import_house;
+use crate::files::StoreInFile;
+use crate::houses::{KeepInFile, KeepInMemory};
+use crate::import::import_run;
 use crate::init::init_run;
 use crate::input::{open_input, open_source};
 use crate::replay::replay_run;
 use crate::serve::{answer_each, serve_run};
-use crate::settings::{copied, settings};
-use crate::statement::{Inquiry, statement_house};
+use crate::statement::{Inquiry, statement_run};
+use crate::surplus::{Raise, Trial, surplus_run};
+use auction_words::{
+    AuditWords, HouseWords, ImportWords, Replay, Serve, StatementWords, SurplusWords, Task,
+    read_settings, read_task, same_settings,
+};
 use clap::Error;
 use device::{Reading, Writing};
+use house_rows::KeepFault;
+use office::Lister;
 use site::Site;
+use sqlite::{File, FileStore};
 use std::alloc::Global;
 use std::env;
 use std::io::{self, BufWriter, ErrorKind, Write};
 use std::net::{Ipv4Addr, TcpListener};
+use store::SqlKeep;
 use store_list::ListKeep;
 
 // The exit status of words that are no command line.
@@ -36,7 +44,7 @@ pub fn run(rt: &HostRuntime) -> u8
 {
     let alloc = rt.alloc();
     match words(rt, alloc) {
-        Ok(words) => start(rt, alloc, words.as_slice()),
+        Ok(words) => start::<FileStore<File>>(rt, alloc, words.as_slice()),
         Err(error) if error.kind() == ErrorKind::OutOfMemory => no_memory(rt),
         Err(_) => {
             let _ = writeln!(rt.stderr(), "auction: command line");
@@ -57,17 +65,32 @@ fn no_memory(rt: &HostRuntime) -> u8
     ended(&mut rt.stderr(), Err(Fault::Memory))
 }
 
-// Does what the words ask for.
-fn start(rt: &HostRuntime, alloc: Global, words: &[String]) -> u8
+// Does what the words ask for, with houses in the files of a store. Here alone the keeps are named,
+// and that in a file over any store: what runs over any keep can't be called of it by its full name.
+fn start<S: StoreInFile>(rt: &HostRuntime, alloc: Global, words: &[String]) -> u8
+where
+    SqlKeep<S>: Ends,
     ensures { result ≤ 2 }
 {
-    match command_line::read(alloc, words) {
-        Ok(Some(Task::Init(path, house))) => init_file(rt, alloc, path, &house),
-        Ok(Some(Task::Serve(path, asked))) => serve_file(rt, alloc, path, asked),
-        Ok(Some(Task::Replay(house, asked))) => replay_input(rt, alloc, &house, asked),
-        Ok(Some(Task::Import(path, asked))) => import_file(rt, alloc, path, asked),
-        Ok(Some(Task::Statement(path, asked))) => statement_file(rt, alloc, path, &asked),
-        Ok(Some(Task::Audit(house, asked))) => audit_files(rt, alloc, &house, asked),
+    start_over::<SqlKeep<S>, ListKeep>(rt, alloc, words)
+}
+
+// Does what the words ask for, over keeps in files and in memory.
+fn start_over<F: KeepInFile, M: KeepInMemory>(
+    rt: &HostRuntime,
+    alloc: Global,
+    words: &[String],
+) -> u8
+    ensures { result ≤ 2 }
+{
+    match read_task(alloc, words) {
+        Ok(Some(Task::Init(path, house))) => init_file::<F>(rt, alloc, path, &house),
+        Ok(Some(Task::Serve(path, asked))) => serve_file::<F>(rt, alloc, path, asked),
+        Ok(Some(Task::Replay(house, asked))) => replay_input::<M>(rt, alloc, &house, asked),
+        Ok(Some(Task::Import(path, asked))) => import_file::<F>(rt, alloc, path, asked),
+        Ok(Some(Task::Statement(path, asked))) => statement_file::<F>(rt, alloc, path, &asked),
+        Ok(Some(Task::Audit(house, asked))) => audit_files::<M>(rt, alloc, &house, asked),
+        Ok(Some(Task::Surplus(house, asked))) => surplus_file::<M>(rt, alloc, &house, asked),
         // Words that ask for nothing are refused there.
         Ok(None) => REFUSED,
         Err(error) => refuse(rt, &error),
@@ -86,42 +109,59 @@ fn refuse(rt: &HostRuntime, error: &Error) -> u8
 }
 
 // A new house in a file.
-fn new_file(
+fn new_file<K: KeepInFile>(
     rt: &HostRuntime,
     alloc: Global,
     path: &str,
     words: &HouseWords<'_>,
-) -> Result<FileKeep, Fault>
-    ensures new { IfOk result (λ keep. IsHonest over_files keep
-        → IsNew words.now (content over_files keep)) }
-    ensures fault { IfErr result (λ fault. IsUnset words.now fault ⊎ IsOfKeep fault) }
+) -> Result<K, Fault>
+    ensures new { IfOk result (λ keep. K.is_honest keep → IsNew words.now (K.content keep)) }
+    ensures fault { IfErr result (λ fault. IsOfSettings words.now fault ⊎ IsOfKeep fault) }
 {
-    let settings = settings(rt, alloc, words)?;
-    Ok(create_house(rt, alloc, path, settings)?)
+    let settings = read_settings(rt, alloc, words)?;
+    Ok(K::create(rt, alloc, path, settings)?)
 }
 
 // Makes a new house in a file.
-fn init_file(rt: &HostRuntime, alloc: Global, path: &str, words: &HouseWords<'_>) -> u8
+fn init_file<K: KeepInFile>(
+    rt: &HostRuntime,
+    alloc: Global,
+    path: &str,
+    words: &HouseWords<'_>,
+) -> u8
     ensures { result ≤ 1 }
 {
     let mut errors = rt.stderr();
-    match new_file(rt, alloc, path, words) {
+    match new_file::<K>(rt, alloc, path, words) {
         Ok(keep) => init_run(&mut rt.stdout(), &mut errors, keep),
         Err(fault) => ended(&mut errors, Err(fault)),
     }
 }
 
+// The site of the house in a file.
+fn open_site<K: KeepInFile>(
+    rt: &HostRuntime,
+    alloc: Global,
+    path: &str,
+) -> Result<Site<K>, KeepFault>
+    ensures zone { IfOk result (λ site. K.is_honest (keep_of site)
+        → IsZoneOf (K.content (keep_of site)).settings.zone (zone_of site)) }
+    ensures works { IfOk result (λ site. K.is_failed (keep_of site) ≡ false) }
+{
+    Site::new(alloc, K::open(rt, alloc, path)?)
+}
+
 // The site of the house in a file, and then a listener. A fault of the file is told before one of
 // the socket.
-fn open_file(
+fn open_file<K: KeepInFile>(
     rt: &HostRuntime,
     alloc: Global,
     path: &str,
     port: u16,
-) -> Result<(Site<FileKeep>, TcpListener), Fault>
+) -> Result<(Site<K>, TcpListener), Fault>
     ensures { IfErr result (λ fault. (fault ≡ Fault.Socket) ⊎ IsOfKeep fault) }
 {
-    let site = open_site(rt, alloc, path)?;
+    let site = open_site::<K>(rt, alloc, path)?;
     match TcpListener::bind(rt, (Ipv4Addr::LOCALHOST, port)) {
         Ok(listener) => Ok((site, listener)),
         Err(_) => Err(Fault::Socket),
@@ -129,39 +169,48 @@ fn open_file(
 }
 
 // Answers connections over the house in a file, and gives its keep back.
-fn answer_file(
+fn answer_file<K: KeepInFile>(
     rt: &HostRuntime,
     alloc: Global,
     path: &str,
     asked: Serve,
-) -> Result<FileKeep, Fault> {
-    let (site, listener) = open_file(rt, alloc, path, asked.port)?;
+) -> Result<K, Fault> {
+    let (site, listener) = open_file::<K>(rt, alloc, path, asked.port)?;
     answer_each(alloc, &listener, asked.count, &mut rt.stdout(), site)
 }
 
 // Answers connections over the house in a file, and ends it.
-fn serve_file(rt: &HostRuntime, alloc: Global, path: &str, asked: Serve) -> u8
+fn serve_file<K: KeepInFile>(rt: &HostRuntime, alloc: Global, path: &str, asked: Serve) -> u8
     ensures { result ≤ 1 }
 {
-    let answered = answer_file(rt, alloc, path, asked);
+    let answered = answer_file::<K>(rt, alloc, path, asked);
     serve_run(&mut rt.stdout(), &mut rt.stderr(), answered, asked.count)
 }
 
 // A new house in memory.
-fn new_house(rt: &HostRuntime, alloc: Global, words: &HouseWords<'_>) -> Result<ListKeep, Fault>
-    ensures new { IfOk result (IsNew words.now) }
-    ensures fault { IfErr result (IsUnset words.now) }
+fn new_house<K: KeepInMemory>(
+    rt: &HostRuntime,
+    alloc: Global,
+    words: &HouseWords<'_>,
+) -> Result<K, Fault>
+    ensures new { IfOk result (λ keep. IsNew words.now (K.content keep)) }
+    ensures fault { IfErr result (IsOfSettings words.now) }
 {
-    let settings = settings(rt, alloc, words)?;
-    Ok(ListKeep::create(alloc, settings)?)
+    let settings = read_settings(rt, alloc, words)?;
+    Ok(K::create(alloc, settings)?)
 }
 
 // Answers standard input over a new house in memory.
-fn replay_input(rt: &HostRuntime, alloc: Global, words: &HouseWords<'_>, asked: Replay) -> u8
+fn replay_input<K: KeepInMemory>(
+    rt: &HostRuntime,
+    alloc: Global,
+    words: &HouseWords<'_>,
+    asked: Replay,
+) -> u8
     ensures { result ≤ 1 }
 {
     let mut errors = rt.stderr();
-    match new_house(rt, alloc, words) {
+    match new_house::<K>(rt, alloc, words) {
         Ok(keep) => {
             let mut source = Reading::new(rt.reader());
             let mut sink = Writing::new(rt.stdout());
@@ -172,17 +221,26 @@ fn replay_input(rt: &HostRuntime, alloc: Global, words: &HouseWords<'_>, asked: 
 }
 
 // Lists the rows of a lot file in the house in a file.
-fn import_file(rt: &HostRuntime, alloc: Global, path: &str, asked: ImportWords<'_>) -> u8
+fn import_file<K: KeepInFile>(
+    rt: &HostRuntime,
+    alloc: Global,
+    path: &str,
+    asked: ImportWords<'_>,
+) -> u8
     ensures { result ≤ 1 }
 {
     let mut errors = rt.stderr();
     let Ok(mut output) = BufWriter::new(alloc, rt.stdout()) else {
         return ended(&mut errors, Err(Fault::Memory));
     };
-    match open_keep(rt, alloc, path) {
+    match K::open(rt, alloc, path) {
         Ok(keep) => {
             let lots = open_input(rt, asked.lots);
-            import_house(alloc, keep, lots, asked.by, &mut output, &mut errors)
+            let by = Lister {
+                member: asked.member,
+                moment: asked.moment,
+            };
+            import_run(alloc, keep, lots, by, &mut output, &mut errors)
         }
         Err(fault) => ended(&mut errors, Err(Fault::from(fault))),
     }
@@ -190,53 +248,63 @@ fn import_file(rt: &HostRuntime, alloc: Global, path: &str, asked: ImportWords<'
 
 // The house in a file, and what is asked of it. A fault of what is asked is told before one of the
 // file.
-fn inquired(
+fn inquired<K: KeepInFile>(
     rt: &HostRuntime,
     alloc: Global,
     path: &str,
     words: &StatementWords<'_>,
-) -> Result<(FileKeep, Inquiry), Fault> {
+) -> Result<(K, Inquiry), Fault> {
     let asked = Inquiry::read(words)?;
-    let keep = open_keep(rt, alloc, path)?;
+    let keep = K::open(rt, alloc, path)?;
     Ok((keep, asked))
 }
 
 // Prints a statement from the house in a file.
-fn statement_file(rt: &HostRuntime, alloc: Global, path: &str, words: &StatementWords<'_>) -> u8
+fn statement_file<K: KeepInFile>(
+    rt: &HostRuntime,
+    alloc: Global,
+    path: &str,
+    words: &StatementWords<'_>,
+) -> u8
     ensures { result ≤ 1 }
 {
     let mut errors = rt.stderr();
-    match inquired(rt, alloc, path, words) {
+    match inquired::<K>(rt, alloc, path, words) {
         Ok((keep, asked)) => {
             let mut sink = Writing::new(rt.stdout());
-            statement_house(alloc, keep, asked, &mut sink, &mut errors)
+            statement_run(alloc, keep, asked, &mut sink, &mut errors)
         }
         Err(fault) => ended(&mut errors, Err(fault)),
     }
 }
 
 // Two new houses in memory, set up alike.
-fn new_houses(
+fn new_houses<K: KeepInMemory>(
     rt: &HostRuntime,
     alloc: Global,
     words: &HouseWords<'_>,
-) -> Result<(ListKeep, ListKeep), Fault>
-    ensures new { IfOk result (λ keeps. IsNew words.now keeps.0) }
-    ensures same { IfOk result (λ keeps. keeps.1 ≡ keeps.0) }
+) -> Result<(K, K), Fault>
+    ensures new { IfOk result (λ keeps. IsNew words.now (K.content keeps.0)) }
+    ensures same { IfOk result (λ keeps. K.content keeps.1 ≡ K.content keeps.0) }
 {
-    let settings = settings(rt, alloc, words)?;
-    let same = copied(alloc, &settings)?;
-    let left = ListKeep::create(alloc, settings)?;
-    let right = ListKeep::create(alloc, same)?;
+    let settings = read_settings(rt, alloc, words)?;
+    let same = same_settings(alloc, &settings)?;
+    let left = K::create(alloc, settings)?;
+    let right = K::create(alloc, same)?;
     Ok((left, right))
 }
 
 // Compares the messages of two files.
-fn audit_files(rt: &HostRuntime, alloc: Global, words: &HouseWords<'_>, asked: AuditWords<'_>) -> u8
+fn audit_files<K: KeepInMemory>(
+    rt: &HostRuntime,
+    alloc: Global,
+    words: &HouseWords<'_>,
+    asked: AuditWords<'_>,
+) -> u8
     ensures { result ≤ 1 }
 {
     let mut errors = rt.stderr();
-    match new_houses(rt, alloc, words) {
+    match new_houses::<K>(rt, alloc, words) {
         Ok((left_keep, right_keep)) => {
             let left = Run {
                 keep: left_keep,
@@ -248,6 +316,34 @@ fn audit_files(rt: &HostRuntime, alloc: Global, words: &HouseWords<'_>, asked: A
             };
             let caller = asked.member;
             audit_run(alloc, left, right, caller, &mut rt.stdout(), &mut errors)
+        }
+        Err(fault) => ended(&mut errors, Err(fault)),
+    }
+}
+
+// Raises a bid of the messages of a file.
+fn surplus_file<K: KeepInMemory>(
+    rt: &HostRuntime,
+    alloc: Global,
+    words: &HouseWords<'_>,
+    asked: SurplusWords<'_>,
+) -> u8
+    ensures { result ≤ 1 }
+{
+    let mut errors = rt.stderr();
+    match new_houses::<K>(rt, alloc, words) {
+        Ok((left, right)) => {
+            let trial = Trial {
+                left,
+                right,
+                source: open_source(rt, asked.list),
+            };
+            let raise = Raise {
+                place: asked.place,
+                maximum: asked.maximum,
+                other: asked.member,
+            };
+            surplus_run(alloc, trial, raise, &mut rt.stdout(), &mut errors)
         }
         Err(fault) => ended(&mut errors, Err(fault)),
     }

@@ -2,13 +2,14 @@
 ghost use Rattle.std.specs.Prelude.{◌≡◌, ◌≤◌, IfSome, OnOk};
 ghost use Rattle.auction.specs.Replayed.{HasRecorded, HasReplayed, IsRecorded};
 ghost use Rattle.auction.specs.Setup.{IsSetUp};
+ghost use Rattle.settle.specs.Zoned.{IsZoneOf};
 ghost use Rattle.site.specs.Answers.{IsStep, zone_of};
 ghost use Rattle.site_serve.specs.Serving.{IsFlushed, keep_of};
 
-use crate::command_line::Replay;
 use crate::fault::{Fault, ended};
 use crate::serve::begun;
 use crate::setup::set_up;
+use auction_words::Replay;
 use device::{Sink, Source, give_all};
 use house_rows::Keep;
 use site::Site;
@@ -57,6 +58,26 @@ fn finish<W: Sink, K: Keep + Drop>(
     }
 }
 
+// Answers all messages of the source over a site, whose zone is that of its keep.
+fn answer_over<R: Source, W: Sink, K: Keep + Drop>(
+    alloc: Global,
+    source: &mut R,
+    sink: &mut W,
+    site: &mut Site<K>,
+    asked: Replay,
+) -> Result<(), Fault>
+    ensures replayed { (K.is_honest (keep_of site.old)
+        → IsZoneOf (K.content (keep_of site.old)).settings.zone (zone_of site.old))
+        → OnOk result (IfSome (R.left source.old) (λ stream.
+        HasReplayed K.content K.is_failed K.is_honest K.may_leave asked stream
+        (W.taken sink.old) (W.taken sink.new) (keep_of site.old))) }
+    ensures handed_on { OnOk result (IsFlushed W.handed_on W.taken sink.old sink.new) }
+{
+    prepare(site, asked)?;
+    serve(alloc, source, sink, site, u64::MAX)?;
+    finish(sink, site, asked)
+}
+
 // Answers all messages of the source.
 fn answer_all<R: Source, W: Sink, K: Keep + Drop>(
     alloc: Global,
@@ -71,9 +92,7 @@ fn answer_all<R: Source, W: Sink, K: Keep + Drop>(
     ensures handed_on { OnOk result (IsFlushed W.handed_on W.taken sink.old sink.new) }
 {
     let mut site = begun(alloc, keep)?;
-    prepare(&mut site, asked)?;
-    serve(alloc, source, sink, &mut site, u64::MAX)?;
-    finish(sink, &mut site, asked)
+    answer_over(alloc, source, sink, &mut site, asked)
 }
 
 /// Answers all messages of a source over a new house, and gives the exit status. A fault is told in

@@ -13,12 +13,10 @@ use device::{Reading, Writing};
 use house_rows::Keep;
 use site::Site;
 use site_serve::serve;
-use sqlite::Alter;
 use std::alloc::Global;
 use std::io::{Read, Write};
 use std::net::{Shutdown, TcpListener, TcpStream};
 use std::time::Duration;
-use store::SqlKeep;
 
 // How many messages of a connection are answered.
 const MOST: u64 = 10_000;
@@ -97,26 +95,43 @@ fn tell_served<W: Write>(output: &mut W, count: u64) -> Result<(), Fault>
     }
 }
 
+// Answers so many connections, one after the other.
+fn answer_connections<K: Keep + Drop>(
+    alloc: Global,
+    listener: &TcpListener,
+    count: u64,
+    site: &mut Site<K>,
+) -> Result<(), Fault> {
+    for _ in 0..count {
+        match listener.accept() {
+            Ok((stream, _)) => answer(alloc, &stream, site),
+            Err(_) => return Err(Fault::Socket),
+        }
+    }
+    Ok(())
+}
+
 /// Tells that connections are waited for, answers so many of them, one after the other, and gives
 /// the keep back.
-pub fn answer_each<W: Write, S: Alter + Drop>(
+pub fn answer_each<W: Write, K: Keep + Drop>(
     alloc: Global,
     listener: &TcpListener,
     count: u64,
     output: &mut W,
-    site: Site<SqlKeep<S>>,
-) -> Result<SqlKeep<S>, Fault>
+    site: Site<K>,
+) -> Result<K, Fault>
     ensures { OnOk result (Appends (W.contents output.old) (W.contents output.new) listening) }
 {
-    tell_listening(output)?;
     let mut site = site;
-    for _ in 0..count {
-        match listener.accept() {
-            Ok((stream, _)) => answer(alloc, &stream, &mut site),
-            Err(_) => return Err(Fault::Socket),
-        }
+    let answered = match tell_listening(output) {
+        Ok(()) => answer_connections(alloc, listener, count, &mut site),
+        Err(fault) => Err(fault),
+    };
+    let keep = site.end();
+    match answered {
+        Ok(()) => Ok(keep),
+        Err(fault) => Err(fault),
     }
-    Ok(site.end())
 }
 
 // Ends the keep, and tells how many connections were answered.

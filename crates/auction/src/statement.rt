@@ -4,20 +4,17 @@ ghost use Rattle.std.specs.Io.KnownBytes.{Appends};
 ghost use Rattle.settle.specs.Calendar.{day_text};
 ghost use Rattle.auction.specs.Inquired.{IsUnasked};
 ghost use Rattle.auction.specs.Stated.{HasRead, HasStated, account_text};
-ghost use Rattle.store.specs.Kept.{IsHonest, MayLeave, content, is_failed};
 
-use crate::command_line::StatementWords;
 use crate::ends::Ends;
 use crate::fault::{Fault, ended};
 use crate::serve::sound;
+use auction_words::StatementWords;
 use device::Sink;
 use house_rows::Keep;
 use office::statement;
 use settle::{Day, Statement};
-use sqlite::Alter;
 use std::alloc::Global;
 use std::io::Write;
-use store::SqlKeep;
 
 /// Whose statement is asked for, of which days, and in which form.
 #[derive(Clone, Copy, Debug, PartialEq, Eq)]
@@ -135,23 +132,4 @@ pub fn statement_run<W: Sink, E: Write, K: Keep + Drop + Ends>(
     ensures within { result ≤ 1 }
 {
     ended(errors, state(alloc, keep, asked, sink))
-}
-
-/// The same over the house in a database.
-pub fn statement_house<W: Sink, E: Write, S: Alter + Drop>(
-    alloc: Global,
-    keep: SqlKeep<S>,
-    asked: Inquiry,
-    sink: &mut W,
-    errors: &mut E,
-) -> u8
-where
-    SqlKeep<S>: Ends,
-    ensures stated { result ≡ 0 → HasStated (content S.Store) is_failed (IsHonest S.Store)
-        (MayLeave S.Store) ⟦<SqlKeep<S> as Ends>⟧.is_ended asked
-        (W.taken sink.old) (W.taken sink.new) keep }
-    ensures handed_on { result ≡ 0 → W.handed_on sink.new ≡ W.taken sink.new }
-    ensures within { result ≤ 1 }
-{
-    statement_run(alloc, keep, asked, sink, errors)
 }

@@ -9,3 +9,6 @@ pub mod Watching
 pub mod Bidders
 pub mod Deals
 pub mod StatementLines
+pub mod Near
+pub mod CoveredRuns
+pub mod CoveredLeads

@@ -4,6 +4,8 @@ pub mod WorkedRows
 pub mod WrongReadings
 pub mod Course
 pub mod TwinRuns
+pub mod Covered
+pub mod SurplusRuns
 pub mod EdgeRows
 pub mod Watching
 pub mod Deals

@@ -11,6 +11,7 @@ mod edges;
 mod prices;
 mod secrecy;
 mod statements;
+mod surplus;
 mod twins;
 mod worked;
 
@@ -22,5 +23,6 @@ pub use edges::{edges_of_rules, members_watch_200};
 pub use prices::{best_offer_leads, prices_depend_on_deals, prices_never_fall};
 pub use secrecy::{commands_step_equally, isolation, replies_depend_on_views, views_are_local};
 pub use statements::statements_have_each_sale_once;
+pub use surplus::{covers_show_in_the_end, surplus_is_invisible, surplus_needs_its_premises};
 pub use twins::twin_runs_may_differ;
 pub use worked::{worked_rows, wrong_readings_differ};

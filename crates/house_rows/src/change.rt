@@ -4,7 +4,7 @@ use cents::Cents;
 use proxy::{Bid, Standing};
 
 /// A new item, as its seller lists it. The end is in whole seconds since 1970-01-01T00:00:00Z.
-#[derive(Clone, Copy, Debug)]
+#[derive(Clone, Copy)]
 pub struct NewItem<'c> {
     /// The number of the member that sells it.
     pub seller: u32,
@@ -26,7 +26,7 @@ pub struct NewItem<'c> {
 
 /// What an accepted command changes, whole. Texts are those of the command. Moments are in whole
 /// seconds since 1970-01-01T00:00:00Z.
-#[derive(Clone, Copy, Debug)]
+#[derive(Clone, Copy)]
 pub enum Change<'c> {
     /// A member comes, with the next number.
     Register {

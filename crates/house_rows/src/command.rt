@@ -4,7 +4,7 @@ use crate::text::Text;
 
 /// What a caller asks the house to do. Numbers, amounts and texts are as they were asked for, in range or
 /// not; amounts are in cents, and moments in whole seconds since 1970-01-01T00:00:00Z.
-#[derive(Debug, Drop)]
+#[derive(Drop)]
 pub enum Command {
     /// The house registers a member.
     Register {

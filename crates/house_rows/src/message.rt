@@ -3,7 +3,7 @@ use crate::command::Command;
 use crate::query::Query;
 
 /// A message: a command, a read, or what is neither. The house is caller 0.
-#[derive(Debug, Drop)]
+#[derive(Drop)]
 pub enum Message<F> {
     /// The caller asks the house to do something.
     Order {

@@ -9,7 +9,7 @@ use crate::text::Text;
 use settle::{Day, Sold};
 
 /// What a read shows, or why it shows nothing.
-#[derive(Debug, Drop)]
+#[derive(Drop)]
 pub enum Page {
     /// The read is refused.
     Refused(Refusal),

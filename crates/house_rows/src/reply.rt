@@ -4,7 +4,7 @@ use crate::refusal::Refusal;
 use crate::told::Told;
 
 /// What a message is answered.
-#[derive(Debug, Drop)]
+#[derive(Drop)]
 pub enum Reply<F> {
     /// The command was accepted, and this is told of it.
     Done(Told),

@@ -3,7 +3,7 @@ use crate::rating::Rating;
 use cents::Cents;
 
 /// What an accepted command is told.
-#[derive(Clone, Copy, Debug, PartialEq, Eq)]
+#[derive(Clone, Copy, PartialEq, Eq)]
 pub enum Told {
     /// A member came.
     Registered {

@@ -1,6 +1,8 @@
 //! Why a script is not played on.
 use house_rows::KeepFault;
 use std::alloc::AllocError;
+use std::io;
+use std::num::ParseIntError;
 use thiserror::Error;
 
 /// Why a script isn't played on.
@@ -26,6 +28,19 @@ pub enum Fault {
 impl From<AllocError> for Fault {
     fn from(_: AllocError) -> Fault {
         Fault::Memory
+    }
+}
+
+impl From<ParseIntError> for Fault {
+    fn from(_: ParseIntError) -> Fault {
+        Fault::Script
+    }
+}
+
+/// Of what is printed: what is read has a fault of its own.
+impl From<io::Error> for Fault {
+    fn from(_: io::Error) -> Fault {
+        Fault::Output
     }
 }
 

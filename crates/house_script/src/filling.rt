@@ -14,7 +14,7 @@ use steps::Bands;
 use store_list::ListKeep;
 
 /// What each house is set up with: the example bands, a fee of a tenth, the zone `UTC0`.
-pub(crate) fn settings(alloc: Global) -> Result<Settings, Fault>
+pub fn settings(alloc: Global) -> Result<Settings, Fault>
     ensures { IfOk result (λ settings. settings ≡ set_up) }
 {
     let bands = Bands::example(alloc).map_err(|_| Fault::Memory)?;

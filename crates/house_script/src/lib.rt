@@ -11,11 +11,13 @@ mod order;
 mod played;
 mod playing;
 mod question;
-mod reply;
 mod script;
 mod shown;
 mod words;
 
 pub use fault::Fault;
+pub use filling::settings;
 pub use makes::Makes;
-pub use playing::{ask, play};
+pub use order::Order;
+pub use playing::{ask, play, read_script};
+pub use question::answer;

@@ -8,26 +8,33 @@ use crate::fault::Fault;
 use crate::words::Words;
 use house::decide;
 use house_rows::{Change, Command, Keep, Refusal};
+use std::alloc::Global;
 
 /// A command, when it is given and by whom.
 #[derive(Drop)]
-pub(crate) struct Order {
-    pub(crate) moment: u64,
-    pub(crate) caller: u64,
-    pub(crate) command: Command,
+pub struct Order {
+    /// In whole seconds since 1970-01-01T00:00:00Z.
+    pub moment: u64,
+    /// A member's number, or 0 for the house.
+    pub caller: u64,
+    /// What is to be done.
+    pub command: Command,
 }
 
 impl Order {
-    /// The order that words spell.
-    pub(crate) fn spelled(words: &mut Words<'_>) -> Result<Order, Fault> {
+    /// The order that a line spells.
+    pub fn of_line(alloc: Global, line: &str) -> Result<Order, Fault> {
+        let words = &mut Words::new(alloc, line);
         let (moment, caller) = (words.number()?, words.number()?);
         let command = command(words)?;
-        words.end()?;
-        Ok(Order {
-            moment,
-            caller,
-            command,
-        })
+        match words.next() {
+            None => Ok(Order {
+                moment,
+                caller,
+                command,
+            }),
+            Some(_) => Err(Fault::Script),
+        }
     }
 
     /// Decides on it, and makes its change to the keep. Where it is refused nothing is changed.
@@ -51,56 +58,50 @@ impl Order {
 }
 
 // The command that words spell.
-//
-// Names are looked for by subject, since a match of all in one is slow to prove.
 fn command(words: &mut Words<'_>) -> Result<Command, Fault> {
     let name = words.word()?;
-    if let Some(command) = on_the_house(words, name)? {
-        return Ok(command);
+    match name {
+        "register" => Ok(Command::Register {
+            name: words.text()?,
+        }),
+        "add_category" => Ok(Command::AddCategory {
+            name: words.text()?,
+        }),
+        "list" => listing(words),
+        "close" => Ok(Command::Close),
+        _ => on_an_item(words, name),
     }
-    on_an_item(words, name)?.ok_or(Fault::Script)
 }
 
-fn on_the_house(words: &mut Words<'_>, name: &str) -> Result<Option<Command>, Fault> {
-    Ok(Some(match name {
-        "register" => Command::Register {
-            name: words.text()?,
-        },
-        "add_category" => Command::AddCategory {
-            name: words.text()?,
-        },
-        "list" => listing(words)?,
-        "close" => Command::Close,
-        _ => return Ok(None),
-    }))
-}
-
-fn on_an_item(words: &mut Words<'_>, name: &str) -> Result<Option<Command>, Fault> {
-    Ok(Some(match name {
-        "bid" => Command::Bid {
-            item: words.number()?,
+// All other commands name their item first.
+fn on_an_item(words: &mut Words<'_>, name: &str) -> Result<Command, Fault> {
+    let item = words.number()?;
+    match name {
+        "bid" => Ok(Command::Bid {
+            item,
             maximum: words.number()?,
-        },
-        "buy" => Command::Buy {
-            item: words.number()?,
-        },
-        "settle" => Command::Settle {
-            item: words.number()?,
-        },
-        "watch" => Command::Watch {
-            item: words.number()?,
-        },
-        "unwatch" => Command::Unwatch {
-            item: words.number()?,
-        },
-        "ask" => Command::Ask {
-            item: words.number()?,
+        }),
+        "buy" => Ok(Command::Buy { item }),
+        "settle" => Ok(Command::Settle { item }),
+        "watch" => Ok(Command::Watch { item }),
+        "unwatch" => Ok(Command::Unwatch { item }),
+        "ask" => Ok(Command::Ask {
+            item,
             text: words.text()?,
-        },
-        "answer" => answering(words)?,
-        "feedback" => feedback(words)?,
-        _ => return Ok(None),
-    }))
+        }),
+        "answer" => Ok(Command::Answer {
+            item,
+            asker: words.number()?,
+            number: words.number()?,
+            text: words.text()?,
+        }),
+        "feedback" => Ok(Command::Feedback {
+            item,
+            rating: words.rating()?,
+            text: words.text()?,
+        }),
+        _ => Err(Fault::Script),
+    }
 }
 
 fn listing(words: &mut Words<'_>) -> Result<Command, Fault> {
@@ -112,22 +113,5 @@ fn listing(words: &mut Words<'_>) -> Result<Command, Fault> {
         start: words.number()?,
         buy_now: words.number_or_none()?,
         end: words.number()?,
-    })
-}
-
-fn answering(words: &mut Words<'_>) -> Result<Command, Fault> {
-    Ok(Command::Answer {
-        item: words.number()?,
-        asker: words.number()?,
-        number: words.number()?,
-        text: words.text()?,
-    })
-}
-
-fn feedback(words: &mut Words<'_>) -> Result<Command, Fault> {
-    Ok(Command::Feedback {
-        item: words.number()?,
-        rating: words.rating()?,
-        text: words.text()?,
     })
 }

@@ -3,8 +3,7 @@ use crate::fault::Fault;
 use crate::filling::{filled, settings};
 use crate::makes::Makes;
 use crate::order::Order;
-use crate::question::Question;
-use crate::reply::Reply;
+use crate::question::answer;
 use house_rows::{Keep, Refusal};
 use std::alloc::Global;
 use std::marker::Model;
@@ -37,34 +36,43 @@ impl<K: Keep + Drop> House<K> {
         })
     }
 
-    /// A house without members that records what it accepts.
-    pub(crate) fn recording<M: Makes<K>>(alloc: Global, makes: &M) -> Result<House<K>, Fault> {
-        let keep = makes.empty(alloc, settings(alloc)?)?;
-        Ok(House {
-            keep,
-            recorded: Some(Vec::new(alloc)),
-        })
+    /// Becomes a house without members.
+    pub(crate) fn renew<M: Makes<K>>(&mut self, alloc: Global, makes: &M) -> Result<(), Fault> {
+        self.keep = makes.empty(alloc, settings(alloc)?)?;
+        self.recorded = None;
+        Ok(())
     }
 
-    /// Asks it something.
-    pub(crate) fn ask(&mut self, question: &Question) -> Result<Reply, Fault> {
-        Ok(question.ask(&mut self.keep)?)
+    /// Becomes a house without members that records what it accepts.
+    pub(crate) fn renew_recording<M: Makes<K>>(
+        &mut self,
+        alloc: Global,
+        makes: &M,
+    ) -> Result<(), Fault> {
+        self.renew(alloc, makes)?;
+        self.recorded = Some(Vec::new(alloc));
+        Ok(())
+    }
+
+    /// The line that it answers to a question.
+    pub(crate) fn answer(&mut self, alloc: Global, question: &str) -> Result<String, Fault> {
+        answer(alloc, &mut self.keep, question)
     }
 
     /// Gives it a command, and tells why it is refused, if it is.
     pub(crate) fn order(&mut self, order: Order) -> Result<Option<Refusal>, Fault> {
+        let refusal = self.give(&order);
+        if matches!(refusal, Ok(None)) {
+            self.record(order)?;
+        }
+        refusal
+    }
+
+    // Gives a command to the keep, once there is room to record it.
+    fn give(&mut self, order: &Order) -> Result<Option<Refusal>, Fault> {
         if let Some(recorded) = &mut self.recorded {
             recorded.try_reserve(1)?;
         }
-        let refusal = self.decided(&order)?;
-        if refusal.is_none() {
-            self.record(order)?;
-        }
-        Ok(refusal)
-    }
-
-    // Gives a command to the keep.
-    fn decided(&mut self, order: &Order) -> Result<Option<Refusal>, Fault> {
         // The fault is matched, since a `?` on what holds a change isn't covered by the borrow check.
         match order.give(&mut self.keep) {
             Err(fault) => Err(fault),

@@ -12,8 +12,6 @@ use crate::fault::Fault;
 use crate::makes::Makes;
 use crate::order::Order;
 use crate::played::House;
-use crate::question::Question;
-use crate::words::Words;
 use house_rows::{Keep, Refusal};
 use std::alloc::{AllocError, Global};
 use std::fmt;
@@ -40,45 +38,41 @@ impl fmt::Display for Answer {
 }
 
 /// Plays a line, and tells what is answered to it, if anything is.
-pub(crate) fn answered<K: Keep + Drop, M: Makes<K>>(
+pub(crate) fn answer_to<K: Keep + Drop, M: Makes<K>>(
     alloc: Global,
     makes: &M,
     house: &mut House<K>,
     line: &str,
 ) -> Result<Option<Answer>, Fault> {
-    let mut words = Words::new(alloc, line);
-    match words.next() {
-        None | Some("--") => Ok(None),
-        Some("new") => {
-            *house = House::new(alloc, makes)?;
+    let (first, rest) = line.split_once(' ').unwrap_or((line, ""));
+    match first {
+        "" | "--" => Ok(None),
+        "new" => {
+            house.renew(alloc, makes)?;
             Ok(None)
         }
-        Some("record") => {
-            *house = House::recording(alloc, makes)?;
+        "record" => {
+            house.renew_recording(alloc, makes)?;
             Ok(None)
         }
-        Some("fill") => {
+        "fill" => {
             house.refill(alloc, makes)?;
             Ok(Some(Answer::Ordered(None)))
         }
-        Some("?") => {
-            let reply = house.ask(&Question::spelled(&mut words)?)?;
-            Ok(Some(Answer::Told(reply.line(alloc)?)))
-        }
-        Some("times") => Ok(Some(Answer::Ordered(repeat(alloc, house, line)?))),
-        Some(_) => Ok(Some(Answer::Ordered(order(alloc, house, line)?))),
+        "?" => Ok(Some(Answer::Told(house.answer(alloc, rest)?))),
+        "times" => Ok(Some(Answer::Ordered(repeat(alloc, house, rest)?))),
+        _ => Ok(Some(Answer::Ordered(order(alloc, house, line)?))),
     }
 }
 
-// Gives the command of a line that begins with `times`, until it is refused.
+// Gives a command so many times as stands before it, until it is refused.
 fn repeat<K: Keep + Drop>(
     alloc: Global,
     house: &mut House<K>,
-    line: &str,
+    counted: &str,
 ) -> Result<Option<Refusal>, Fault> {
-    let (_, counted) = line.split_once(' ').ok_or(Fault::Script)?;
     let (times, command) = counted.split_once(' ').ok_or(Fault::Script)?;
-    let times: u64 = times.parse().map_err(|_| Fault::Script)?;
+    let times: u64 = times.parse()?;
     for time in 1..=times {
         let command = numbered(alloc, command, time)?;
         let refusal = order(alloc, house, command.as_str())?;
@@ -108,5 +102,5 @@ fn order<K: Keep + Drop>(
     house: &mut House<K>,
     line: &str,
 ) -> Result<Option<Refusal>, Fault> {
-    house.order(Order::spelled(&mut Words::new(alloc, line))?)
+    house.order(Order::of_line(alloc, line)?)
 }

@@ -1,13 +1,59 @@
 //! How the rows of a house are printed. `-` stands for what there is none of.
+use crate::fault::Fault;
 use cents::Cents;
 use house_rows::{
-    Category, Counts, Due, Feedback, Item, Member, OwnBest, OwnBid, Question, Rating, Ratings,
-    Terms, Text,
+    Category, Counts, Due, Feedback, Item, KeepFault, Member, OwnBest, OwnBid, Question, Rating,
+    Ratings, Terms, Text,
 };
 use proxy::Standing;
 use settle::Sold;
 use std::alloc::{AllocError, Global};
 use std::fmt;
+use std::fmt::Write;
+
+/// What is printed in a line.
+pub(crate) trait Shown {
+    /// Adds it to a line.
+    fn show(&self, line: &mut String) -> Result<(), AllocError>;
+}
+
+/// The line of what a keep answers.
+pub(crate) fn line<T: Shown + Drop>(
+    alloc: Global,
+    answer: Result<T, KeepFault>,
+) -> Result<String, Fault> {
+    let answer = answer?;
+    let mut line = String::new(alloc);
+    match answer.show(&mut line) {
+        Ok(()) => Ok(line),
+        Err(_) => Err(Fault::Memory),
+    }
+}
+
+impl<T: Shown> Shown for Option<T> {
+    fn show(&self, line: &mut String) -> Result<(), AllocError> {
+        match self {
+            Some(row) => row.show(line),
+            None => line.push('-'),
+        }
+    }
+}
+
+/// Rows are parted by `; `.
+impl<T: Shown> Shown for Vec<T> {
+    fn show(&self, line: &mut String) -> Result<(), AllocError> {
+        for row in self {
+            if !line.is_empty() {
+                line.push_str("; ")?;
+            }
+            row.show(line)?;
+        }
+        if line.is_empty() {
+            line.push('-')?;
+        }
+        Ok(())
+    }
+}
 
 // What there may be none of.
 #[derive(Drop)]
@@ -22,40 +68,12 @@ impl<T: fmt::Display> fmt::Display for OrDash<T> {
     }
 }
 
-// Rows in a line, parted by `; `.
-#[derive(Drop)]
-struct Rows {
-    line: String,
-}
-
-impl Rows {
-    // No rows.
-    fn new(alloc: Global) -> Rows {
-        Rows {
-            line: String::new(alloc),
-        }
-    }
-
-    // One row more.
-    fn add(&mut self, row: &str) -> Result<(), AllocError> {
-        if !self.line.is_empty() {
-            self.line.push_str("; ")?;
-        }
-        self.line.push_str(row)
-    }
-
-    // The line.
-    fn line(mut self) -> Result<String, AllocError> {
-        if self.line.is_empty() {
-            self.line.push('-')?;
-        }
-        Ok(self.line)
-    }
-}
-
 // An amount in cents, which may be none.
 fn amount(amount: Option<Cents>) -> OrDash<u64> {
-    OrDash(amount.map(|amount| amount.value()))
+    match amount {
+        Some(amount) => OrDash(Some(amount.value())),
+        None => OrDash(None),
+    }
 }
 
 // A text, which may be empty.
@@ -66,169 +84,171 @@ fn text(text: &Text) -> OrDash<&str> {
     }
 }
 
-/// The number of a row that was looked for.
-pub(crate) fn found(alloc: Global, number: Option<u32>) -> Result<String, AllocError> {
-    let number = OrDash(number);
-    format!(in alloc; "{number}")
-}
-
-/// A name.
-pub(crate) fn name(alloc: Global, name: &Text) -> Result<String, AllocError> {
-    let name = name.as_str();
-    format!(in alloc; "{name}")
-}
-
-/// How many of each there are.
-pub(crate) fn counts(alloc: Global, counts: &Counts) -> Result<String, AllocError> {
-    let (members, categories, items) = (counts.members, counts.categories, counts.items);
-    format!(in alloc; "members {members}, categories {categories}, items {items}")
-}
-
-/// The names of members.
-pub(crate) fn members(alloc: Global, members: &[Member]) -> Result<String, AllocError> {
-    let mut rows = Rows::new(alloc);
-    for member in members {
-        rows.add(member.name.as_str())?;
+impl Shown for u64 {
+    fn show(&self, line: &mut String) -> Result<(), AllocError> {
+        write!(line, "{self}")
     }
-    rows.line()
 }
 
-/// The names of categories.
-pub(crate) fn categories(alloc: Global, categories: &[Category]) -> Result<String, AllocError> {
-    let mut rows = Rows::new(alloc);
-    for category in categories {
-        rows.add(category.name.as_str())?;
+impl Shown for u32 {
+    fn show(&self, line: &mut String) -> Result<(), AllocError> {
+        write!(line, "{self}")
     }
-    rows.line()
 }
 
-/// An item, but not how it stands.
-pub(crate) fn item(alloc: Global, item: &Item) -> Result<String, AllocError> {
-    let terms = &item.terms;
-    let buy_now = amount(terms.buy_now);
-    let (lot, title, text) = (item.lot.as_str(), item.title.as_str(), text(&item.text));
-    let (number, seller, category) = (terms.item, terms.seller, terms.category);
-    let (start, end) = (terms.start.value(), terms.end);
-    format!(in alloc;
-        "item {number}, seller {seller}, category {category}, {lot}, {title}, {text}, start {start}, buy_now {buy_now}, end {end}"
-    )
-}
-
-/// The numbers of items.
-pub(crate) fn numbers(alloc: Global, items: &[Item]) -> Result<String, AllocError> {
-    let mut rows = Rows::new(alloc);
-    for item in items {
-        let number = item.terms.item;
-        rows.add(format!(in alloc; "{number}")?.as_str())?;
+impl Shown for bool {
+    fn show(&self, line: &mut String) -> Result<(), AllocError> {
+        write!(line, "{self}")
     }
-    rows.line()
+}
+
+impl Shown for Counts {
+    fn show(&self, line: &mut String) -> Result<(), AllocError> {
+        let (members, categories, items) = (self.members, self.categories, self.items);
+        write!(
+            line,
+            "members {members}, categories {categories}, items {items}"
+        )
+    }
+}
+
+impl Shown for Member {
+    fn show(&self, line: &mut String) -> Result<(), AllocError> {
+        line.push_str(self.name.as_str())
+    }
+}
+
+impl Shown for Category {
+    fn show(&self, line: &mut String) -> Result<(), AllocError> {
+        line.push_str(self.name.as_str())
+    }
+}
+
+/// An item of a list, by its number.
+impl Shown for Item {
+    fn show(&self, line: &mut String) -> Result<(), AllocError> {
+        self.terms.item.show(line)
+    }
+}
+
+/// An item with its texts, but not how it stands.
+#[derive(Drop)]
+pub(crate) struct Listing(pub(crate) Item);
+
+impl Shown for Listing {
+    fn show(&self, line: &mut String) -> Result<(), AllocError> {
+        let item = &self.0;
+        let terms = &item.terms;
+        let buy_now = amount(terms.buy_now);
+        let (lot, title, text) = (item.lot.as_str(), item.title.as_str(), text(&item.text));
+        let (number, seller, category) = (terms.item, terms.seller, terms.category);
+        let (start, end) = (terms.start.value(), terms.end);
+        write!(
+            line,
+            "item {number}, seller {seller}, category {category}, {lot}, {title}, {text}, start {start}, buy_now {buy_now}, end {end}"
+        )
+    }
 }
 
 /// How an item stands to everybody.
-pub(crate) fn state(alloc: Global, terms: &Terms) -> Result<String, AllocError> {
-    let (state, price, count) = (terms.state.name(), terms.price.value(), terms.count);
-    let (leader, closed) = (OrDash(terms.leader), OrDash(terms.closed));
-    format!(in alloc; "{state}, price {price}, leader {leader}, count {count}, closed {closed}")
+impl Shown for Terms {
+    fn show(&self, line: &mut String) -> Result<(), AllocError> {
+        let (state, price, count) = (self.state.name(), self.price.value(), self.count);
+        let (leader, closed) = (OrDash(self.leader), OrDash(self.closed));
+        write!(
+            line,
+            "{state}, price {price}, leader {leader}, count {count}, closed {closed}"
+        )
+    }
 }
 
 /// A standing, and its floor in cents.
-pub(crate) fn standing(
-    alloc: Global,
-    standing: &Standing,
-    floor: u64,
-) -> Result<String, AllocError> {
-    let (price, count) = (standing.price().value(), standing.count());
-    let (top, second) = (amount(standing.top()), amount(standing.second()));
-    let leader = OrDash(standing.leader());
-    format!(in alloc;
-        "price {price}, leader {leader}, top {top}, second {second}, count {count}, floor {floor}"
-    )
+#[derive(Drop)]
+pub(crate) struct StandingRow {
+    pub(crate) standing: Standing,
+    pub(crate) floor: u64,
 }
 
-/// What is due.
-pub(crate) fn due(alloc: Global, due: &Due) -> Result<String, AllocError> {
-    let (sold, unsold) = (due.sold, due.unsold);
-    format!(in alloc; "sold {sold}, unsold {unsold}")
-}
-
-/// A member's best bid on an item.
-pub(crate) fn own(alloc: Global, own: &OwnBest) -> Result<String, AllocError> {
-    let (maximum, mine) = (own.maximum.value(), own.mine);
-    format!(in alloc; "maximum {maximum}, mine {mine}")
-}
-
-/// A member's bids on items.
-pub(crate) fn own_bids(alloc: Global, bids: &[OwnBid]) -> Result<String, AllocError> {
-    let mut rows = Rows::new(alloc);
-    for bid in bids {
-        rows.add(own_bid(alloc, bid)?.as_str())?;
+impl Shown for StandingRow {
+    fn show(&self, line: &mut String) -> Result<(), AllocError> {
+        let (standing, floor) = (&self.standing, self.floor);
+        let (price, count) = (standing.price().value(), standing.count());
+        let (top, second) = (amount(standing.top()), amount(standing.second()));
+        let leader = OrDash(standing.leader());
+        write!(
+            line,
+            "price {price}, leader {leader}, top {top}, second {second}, count {count}, floor {floor}"
+        )
     }
-    rows.line()
 }
 
-// A member's bids on an item.
-fn own_bid(alloc: Global, bid: &OwnBid) -> Result<String, AllocError> {
-    let rank = if bid.leading { "leading" } else { "behind" };
-    let (item, maximum, mine) = (bid.item, bid.maximum.value(), bid.mine);
-    let (price, state) = (bid.price.value(), bid.state.name());
-    format!(in alloc; "item {item}, {rank}, maximum {maximum}, mine {mine}, price {price}, {state}")
-}
-
-/// A question.
-pub(crate) fn question(alloc: Global, question: &Question) -> Result<String, AllocError> {
-    let (item, asker, number) = (question.item, question.asker, question.number);
-    let text = question.text.as_str();
-    let answer = OrDash(question.answer.as_ref().map(|answer| answer.as_str()));
-    format!(in alloc; "item {item}, asker {asker}, number {number}, {text}, {answer}")
-}
-
-/// Questions.
-pub(crate) fn questions(alloc: Global, questions: &[Question]) -> Result<String, AllocError> {
-    let mut rows = Rows::new(alloc);
-    for asked in questions {
-        rows.add(question(alloc, asked)?.as_str())?;
+impl Shown for Due {
+    fn show(&self, line: &mut String) -> Result<(), AllocError> {
+        let (sold, unsold) = (self.sold, self.unsold);
+        write!(line, "sold {sold}, unsold {unsold}")
     }
-    rows.line()
 }
 
-/// How often a member was rated.
-pub(crate) fn ratings(alloc: Global, ratings: &Ratings) -> Result<String, AllocError> {
-    let (plus, zero, minus) = (ratings.plus, ratings.zero, ratings.minus);
-    format!(in alloc; "plus {plus}, zero {zero}, minus {minus}")
-}
-
-/// Feedback.
-pub(crate) fn feedback(alloc: Global, given: &[Feedback]) -> Result<String, AllocError> {
-    let mut rows = Rows::new(alloc);
-    for row in given {
-        rows.add(feedback_row(alloc, row)?.as_str())?;
+impl Shown for OwnBest {
+    fn show(&self, line: &mut String) -> Result<(), AllocError> {
+        let (maximum, mine) = (self.maximum.value(), self.mine);
+        write!(line, "maximum {maximum}, mine {mine}")
     }
-    rows.line()
 }
 
-// What one member says of another.
-fn feedback_row(alloc: Global, row: &Feedback) -> Result<String, AllocError> {
-    let rating = match row.rating {
-        Rating::Minus => "-1",
-        Rating::Zero => "0",
-        Rating::Plus => "1",
-    };
-    let (item, from, to, text) = (row.item, row.from, row.to, text(&row.text));
-    format!(in alloc; "item {item}, from {from} to {to}, {rating}, {text}")
-}
-
-/// Sales.
-pub(crate) fn sales(alloc: Global, sales: &[Sold]) -> Result<String, AllocError> {
-    let mut rows = Rows::new(alloc);
-    for sold in sales {
-        rows.add(sale(alloc, sold)?.as_str())?;
+impl Shown for OwnBid {
+    fn show(&self, line: &mut String) -> Result<(), AllocError> {
+        let rank = if self.leading { "leading" } else { "behind" };
+        let (item, maximum, mine) = (self.item, self.maximum.value(), self.mine);
+        let (price, state) = (self.price.value(), self.state.name());
+        write!(
+            line,
+            "item {item}, {rank}, maximum {maximum}, mine {mine}, price {price}, {state}"
+        )
     }
-    rows.line()
 }
 
-// A sale.
-fn sale(alloc: Global, sale: &Sold) -> Result<String, AllocError> {
-    let (item, seller, buyer) = (sale.item, sale.seller, sale.buyer);
-    let (closed, price) = (sale.closed, sale.price.value());
-    format!(in alloc; "item {item}, seller {seller}, buyer {buyer}, closed {closed}, price {price}")
+impl Shown for Question {
+    fn show(&self, line: &mut String) -> Result<(), AllocError> {
+        let (item, asker, number) = (self.item, self.asker, self.number);
+        let asked = self.text.as_str();
+        let answer = match &self.answer {
+            Some(answer) => text(answer),
+            None => OrDash(None),
+        };
+        write!(
+            line,
+            "item {item}, asker {asker}, number {number}, {asked}, {answer}"
+        )
+    }
+}
+
+impl Shown for Ratings {
+    fn show(&self, line: &mut String) -> Result<(), AllocError> {
+        let (plus, zero, minus) = (self.plus, self.zero, self.minus);
+        write!(line, "plus {plus}, zero {zero}, minus {minus}")
+    }
+}
+
+impl Shown for Feedback {
+    fn show(&self, line: &mut String) -> Result<(), AllocError> {
+        let rating = match self.rating {
+            Rating::Minus => "-1",
+            Rating::Zero => "0",
+            Rating::Plus => "1",
+        };
+        let (item, from, to, text) = (self.item, self.from, self.to, text(&self.text));
+        write!(line, "item {item}, from {from} to {to}, {rating}, {text}")
+    }
+}
+
+impl Shown for Sold {
+    fn show(&self, line: &mut String) -> Result<(), AllocError> {
+        let (item, seller, buyer) = (self.item, self.seller, self.buyer);
+        let (closed, price) = (self.closed, self.price.value());
+        write!(
+            line,
+            "item {item}, seller {seller}, buyer {buyer}, closed {closed}, price {price}"
+        )
+    }
 }

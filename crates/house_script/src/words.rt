@@ -27,14 +27,6 @@ impl<'l> Words<'l> {
         self.words.next()
     }
 
-    /// That there are no more words.
-    pub(crate) fn end(&mut self) -> Result<(), Fault> {
-        match self.next() {
-            None => Ok(()),
-            Some(_) => Err(Fault::Script),
-        }
-    }
-
     /// The next word.
     pub(crate) fn word(&mut self) -> Result<&'l str, Fault> {
         self.next().ok_or(Fault::Script)
@@ -42,14 +34,25 @@ impl<'l> Words<'l> {
 
     /// The number that the next word spells.
     pub(crate) fn number(&mut self) -> Result<u64, Fault> {
-        self.word()?.parse().map_err(|_| Fault::Script)
+        Ok(self.word()?.parse()?)
+    }
+
+    /// The numbers that the next three words spell; where there are fewer words, the others are 0.
+    pub(crate) fn numbers(&mut self) -> Result<[u64; 3], Fault> {
+        let mut numbers = [0; 3];
+        for number in &mut numbers {
+            if let Some(word) = self.next() {
+                *number = word.parse()?;
+            }
+        }
+        Ok(numbers)
     }
 
     /// The number that the next word spells, or none where it is `-`.
     pub(crate) fn number_or_none(&mut self) -> Result<Option<u64>, Fault> {
         match self.word()? {
             "-" => Ok(None),
-            word => Ok(Some(word.parse().map_err(|_| Fault::Script)?)),
+            word => Ok(Some(word.parse()?)),
         }
     }
 
@@ -68,7 +71,7 @@ impl<'l> Words<'l> {
     pub(crate) fn text(&mut self) -> Result<Text, Fault> {
         let word = self.word()?;
         let (part, times) = match word.split_once('*') {
-            Some((part, times)) => (part, times.parse().map_err(|_| Fault::Script)?),
+            Some((part, times)) => (part, times.parse()?),
             None => (word, 1u32),
         };
         let mut text = String::new(self.alloc);

@@ -13,14 +13,22 @@ use std::io;
 use std::process::ExitCode;
 use transcript::echoed;
 
-// Plays the lines of the script, and prints what is answered.
+// Plays the script, and prints what is answered.
 fn play(rt: &(impl Input + Print), alloc: Global) -> Result<(), Fault> {
-    let script = io::read_to_string(alloc, rt.reader()).map_err(|_| Fault::Script)?;
+    let Ok(script) = io::read_to_string(alloc, rt.reader()) else {
+        return Err(Fault::Script);
+    };
     for line in script.as_str().lines() {
-        let line = echoed(rt, line).map_err(|_| Fault::Output)?;
-        if let Some(answer) = script::play(alloc, line)? {
-            println!(rt; "{answer}").map_err(|_| Fault::Output)?;
-        }
+        play_line(rt, alloc, line)?;
+    }
+    Ok(())
+}
+
+// Plays a line, and prints what is answered.
+fn play_line(rt: &impl Print, alloc: Global, line: &str) -> Result<(), Fault> {
+    let line = echoed(rt, line)?;
+    if let Some(answer) = script::play(alloc, line)? {
+        println!(rt; "{answer}")?;
     }
     Ok(())
 }

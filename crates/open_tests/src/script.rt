@@ -9,12 +9,13 @@ use house_rows::{KeepFault, Rate, Settings, Text};
 use sqlite::{Alter, Connection};
 use sqlite_trees::memory::MemStore;
 use std::alloc::{AllocError, Global};
+use std::io;
 use steps::Bands;
 use store_open::{Opened, make_house, open_house};
 use thiserror::Error;
 
 /// Why a script isn't played on.
-#[derive(Clone, Copy, Debug, PartialEq, Eq, Error)]
+#[derive(Debug, Drop, Error)]
 pub(crate) enum Fault {
     /// A line has no meaning, or the script isn't text.
     #[error("a line is no part of a script")]
@@ -36,44 +37,86 @@ impl From<AllocError> for Fault {
     }
 }
 
+impl From<io::Error> for Fault {
+    fn from(_: io::Error) -> Fault {
+        Fault::Output
+    }
+}
+
 /// What is answered to a line, if anything is.
 pub(crate) fn play(alloc: Global, line: &str) -> Result<Option<String>, Fault> {
     let (word, sql) = line.split_once(' ').unwrap_or((line, ""));
     match word {
         "" | "--" => Ok(None),
-        "house" => Ok(Some(opening(alloc, new_house(alloc)?, sql)?)),
-        "database" => Ok(Some(opening(alloc, Connection::open_in_memory(alloc)?, sql)?)),
-        "twice" => Ok(Some(second_making(alloc)?)),
+        "house" => answer_of_house(alloc, sql).map(Some),
+        "database" => answer_of_database(alloc, sql).map(Some),
+        "twice" => answer_of_making(alloc).map(Some),
         _ => Err(Fault::Script),
     }
 }
 
 // What the houses of the script are set up with.
 fn settings(alloc: Global) -> Result<Settings, Fault> {
-    let bands = Bands::example(alloc).map_err(|_| Fault::Memory)?;
     let rate = Rate::new(500).ok_or(Fault::Making)?;
-    let zone = Text::copy_of(alloc, "UTC0").map_err(|_| Fault::Memory)?;
+    let zone = Text::copy_of(alloc, "UTC0")?;
+    let Ok(bands) = Bands::example(alloc) else {
+        return Err(Fault::Memory);
+    };
     Ok(Settings { bands, rate, zone })
 }
 
-// A house in memory to which nothing has happened.
+// Makes a house in a database, and tells how that ends.
+fn make<S: Alter>(alloc: Global, conn: &mut Connection<S>) -> Result<Result<(), KeepFault>, Fault> {
+    let settings = settings(alloc)?;
+    Ok(make_house(conn, &settings))
+}
+
+// Makes a house in an empty database.
+fn make_first<S: Alter>(alloc: Global, conn: &mut Connection<S>) -> Result<(), Fault> {
+    match make(alloc, conn)? {
+        Ok(()) => Ok(()),
+        Err(_) => Err(Fault::Making),
+    }
+}
+
+// A house in memory to which nothing has happened. What owns it has few ends: each would drop it once more.
 fn new_house(alloc: Global) -> Result<Connection<MemStore>, Fault> {
     let mut conn = Connection::open_in_memory(alloc)?;
-    let settings = settings(alloc)?;
-    make_house(&mut conn, &settings).map_err(|_| Fault::Making)?;
-    Ok(conn)
+    match make_first(alloc, &mut conn) {
+        Ok(()) => Ok(conn),
+        Err(fault) => Err(fault),
+    }
+}
+
+// What an opening of a new house answers after statements.
+fn answer_of_house(alloc: Global, sql: &str) -> Result<String, Fault> {
+    let conn = new_house(alloc)?;
+    answer_of_opening(alloc, conn, sql)
+}
+
+// What an opening of an empty database answers after statements.
+fn answer_of_database(alloc: Global, sql: &str) -> Result<String, Fault> {
+    let conn = Connection::open_in_memory(alloc)?;
+    answer_of_opening(alloc, conn, sql)
 }
 
 // What an opening answers after statements.
-fn opening<S: Alter + Drop>(
+fn answer_of_opening<S: Alter + Drop>(
     alloc: Global,
     mut conn: Connection<S>,
     sql: &str,
 ) -> Result<String, Fault> {
-    conn.execute_batch(sql).map_err(|_| Fault::Script)?;
+    match conn.execute_batch(sql) {
+        Ok(()) => opened(alloc, conn),
+        Err(_) => Err(Fault::Script),
+    }
+}
+
+// What an opening answers.
+fn opened<S: Alter + Drop>(alloc: Global, conn: Connection<S>) -> Result<String, Fault> {
     match open_house(alloc, conn) {
         Ok(house) => told(alloc, &house),
-        Err(fault) => Ok(name(alloc, fault)?),
+        Err(fault) => name(alloc, fault),
     }
 }
 
@@ -91,21 +134,25 @@ fn told<S: Alter>(alloc: Global, house: &Opened<S>) -> Result<String, Fault> {
 }
 
 // What the making of a second house in a database answers.
-fn second_making(alloc: Global) -> Result<String, Fault> {
+fn answer_of_making(alloc: Global) -> Result<String, Fault> {
     let mut conn = new_house(alloc)?;
-    let settings = settings(alloc)?;
-    match make_house(&mut conn, &settings) {
+    second_making(alloc, &mut conn)
+}
+
+// What the making of a house in a database that has one answers.
+fn second_making<S: Alter>(alloc: Global, conn: &mut Connection<S>) -> Result<String, Fault> {
+    match make(alloc, conn)? {
         Ok(()) => Ok(format!(in alloc; "made")?),
-        Err(fault) => Ok(name(alloc, fault)?),
+        Err(fault) => name(alloc, fault),
     }
 }
 
 // The name of a fault.
-fn name(alloc: Global, fault: KeepFault) -> Result<String, AllocError> {
+fn name(alloc: Global, fault: KeepFault) -> Result<String, Fault> {
     let name = match fault {
         KeepFault::Memory => "Memory",
         KeepFault::Store => "Store",
         KeepFault::Damaged => "Damaged",
     };
-    format!(in alloc; "{name}")
+    Ok(format!(in alloc; "{name}")?)
 }

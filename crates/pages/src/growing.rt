@@ -7,6 +7,7 @@ ghost use Rattle.house_rows.specs.Pages.{page_of};
 ghost use Rattle.house_rows.specs.Tables.{tables_of};
 ghost use Rattle.pages_laws.specs.ByTables.{page_by};
 ghost use Rattle.pages_text.specs.Faults.{PageFaults};
+ghost use Rattle.pages_text.specs.Fits.{PageFits};
 ghost use Rattle.pages.specs.Showing.{IsGrown};
 
 use crate::reading::read_tables;
@@ -25,6 +26,10 @@ pub fn page<K: Keep>(
     caller: u64,
     query: &Query,
 ) -> Result<Result<Value, Refusal>, PageFault>
+    // Over any tables, of a history or not.
+    ensures tables { K.is_honest keep.new → IfOk result (λ told.
+        IsGrown zone.now (K.content keep.old).settings.rate
+        (page_by (K.content keep.old) caller query.now) told) }
     ensures shown { K.is_honest keep.new → (settings : TheSettings) (h : History)
         → K.content keep.old ≡ tables_of settings h
         → IfOk result (λ told. IsGrown zone.now settings.rate
@@ -50,9 +55,24 @@ fn page_tables<K: Keep>(
     ensures read { IsRead K.content K.is_failed K.is_honest K.may_leave keep.old keep.new }
 {
     let page = read_tables(alloc, keep, caller, query)?;
-    if let Page::Refused(refusal) = &page {
+    page_tree(alloc, keep, zone, &page)
+}
+
+// The tree of a page, or why it is refused.
+fn page_tree<K: Keep>(
+    alloc: Global,
+    keep: &K,
+    zone: &Zone,
+    page: &Page,
+) -> Result<Result<Value, Refusal>, PageFault>
+    requires { PageFits page.now }
+    ensures shown { K.is_honest keep.now → IfOk result (λ told.
+        IsGrown zone.now (K.content keep.now).settings.rate page.now told) }
+    ensures faults { PageFaults result (K.is_honest keep.now) (K.is_failed keep.now) (K.content keep.now) }
+{
+    let rate = keep.settings()?.rate;
+    if let Page::Refused(refusal) = page {
         return Ok(Err(*refusal));
     }
-    let rate = keep.settings()?.rate;
-    Ok(Ok(grow_page(alloc, zone, rate, &page)?))
+    Ok(Ok(grow_page(alloc, zone, rate, page)?))
 }

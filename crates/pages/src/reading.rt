@@ -24,6 +24,9 @@ pub fn read<K: Keep>(
     caller: u64,
     query: &Query,
 ) -> Result<Page, KeepFault>
+    // Over any tables, of a history or not.
+    ensures tables { K.is_honest keep.new → IfOk result (λ page.
+        page ≡ page_by (K.content keep.old) caller query.now) }
     ensures page { K.is_honest keep.new → (settings : TheSettings) (h : History)
         → K.content keep.old ≡ tables_of settings h
         → IfOk result (λ page. page ≡ page_of settings h caller query.now) }

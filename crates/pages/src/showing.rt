@@ -6,6 +6,7 @@ ghost use Rattle.house_rows.specs.Keeping.{Faults, IsRead};
 ghost use Rattle.house_rows.specs.Pages.{page_of};
 ghost use Rattle.house_rows.specs.Tables.{tables_of};
 ghost use Rattle.pages_laws.specs.ByTables.{page_by};
+ghost use Rattle.pages_text.specs.Fits.{PageFits};
 ghost use Rattle.pages.specs.Showing.{IsTold};
 
 use crate::reading::read_tables;
@@ -25,6 +26,10 @@ pub fn show<K: Keep>(
     query: &Query,
     out: &mut Vec<u8>,
 ) -> Result<Result<(), Refusal>, KeepFault>
+    // Over any tables, of a history or not.
+    ensures tables { K.is_honest keep.new → IfOk result (λ told.
+        IsTold zone.now (K.content keep.old).settings.rate
+        (page_by (K.content keep.old) caller query.now) told out.old.items out.new.items) }
     ensures shown { K.is_honest keep.new → (settings : TheSettings) (h : History)
         → K.content keep.old ≡ tables_of settings h
         → IfOk result (λ told. IsTold zone.now settings.rate
@@ -55,10 +60,29 @@ fn show_tables<K: Keep>(
     ensures read { IsRead K.content K.is_failed K.is_honest K.may_leave keep.old keep.new }
 {
     let page = read_tables(alloc, keep, caller, query)?;
-    if let Page::Refused(refusal) = &page {
+    show_page(alloc, keep, zone, &page, out)
+}
+
+// Appends a page to a buffer, or tells why it is refused.
+fn show_page<K: Keep>(
+    alloc: Global,
+    keep: &K,
+    zone: &Zone,
+    page: &Page,
+    out: &mut Vec<u8>,
+) -> Result<Result<(), Refusal>, KeepFault>
+    requires { PageFits page.now }
+    ensures shown { K.is_honest keep.now → IfOk result (λ told.
+        IsTold zone.now (K.content keep.now).settings.rate page.now told out.old.items out.new.items) }
+    ensures err { OnErr result (out.new.items ≡ out.old.items) }
+    ensures refused { IfOk result (λ told. OnErr told (out.new.items ≡ out.old.items)) }
+    ensures faults { Faults result (K.is_honest keep.now) (K.is_failed keep.now) (K.content keep.now) }
+{
+    let rate = keep.settings()?.rate;
+    if let Page::Refused(refusal) = page {
         return Ok(Err(*refusal));
     }
-    match append_page(alloc, out, zone, keep.settings()?.rate, &page) {
+    match append_page(alloc, out, zone, rate, page) {
         Ok(()) => Ok(Ok(())),
         Err(_) => Err(KeepFault::Memory),
     }

@@ -1,6 +1,6 @@
 //! What is shown as text, where the tree of the other body has the same.
 use crate::fault::Fault;
-use house_rows::{Keep, Query, Refusal};
+use house_rows::{Keep, Query};
 use pages::{page, show};
 use pages_json::{Grows, append};
 use pages_record::{append_record, record};
@@ -18,14 +18,33 @@ fn same(alloc: Global, text: Vec<u8>, tree: &Value) -> Result<Vec<u8>, Fault> {
     }
 }
 
-// A refusal, which is that of the other body too.
-fn refused(alloc: Global, refusal: &Refusal, other: &Refusal) -> Result<Vec<u8>, Fault> {
-    if refusal != other {
-        return Err(Fault::Apart);
+// Appends what a read shows, or why it is refused.
+fn append_page<K: Keep>(
+    alloc: Global,
+    keep: &mut K,
+    zone: &Zone,
+    caller: u64,
+    query: &Query,
+    text: &mut Vec<u8>,
+) -> Result<(), Fault> {
+    match show(alloc, keep, zone, caller, query, text)? {
+        Ok(()) => Ok(()),
+        Err(refusal) => Ok(append(alloc, text, &AsRefusals, &refusal)?),
     }
-    let mut text = Vec::new(alloc);
-    append(alloc, &mut text, &AsRefusals, refusal)?;
-    same(alloc, text, &AsRefusals.grow(alloc, refusal)?)
+}
+
+// The tree of what a read shows, or of why it is refused.
+fn grow_page<K: Keep>(
+    alloc: Global,
+    keep: &mut K,
+    zone: &Zone,
+    caller: u64,
+    query: &Query,
+) -> Result<Value, Fault> {
+    match page(alloc, keep, zone, caller, query)? {
+        Ok(tree) => Ok(tree),
+        Err(refusal) => Ok(AsRefusals.grow(alloc, &refusal)?),
+    }
 }
 
 /// What a read shows, or why it is refused.
@@ -37,17 +56,15 @@ pub(crate) fn shown<K: Keep>(
     query: &Query,
 ) -> Result<Vec<u8>, Fault> {
     let mut text = Vec::new(alloc);
-    let told = show(alloc, keep, zone, caller, query, &mut text)?;
-    match (told, page(alloc, keep, zone, caller, query)?) {
-        (Ok(()), Ok(tree)) => same(alloc, text, &tree),
-        (Err(refusal), Err(other)) => refused(alloc, &refusal, &other),
-        _ => Err(Fault::Apart),
-    }
+    append_page(alloc, keep, zone, caller, query, &mut text)?;
+    let tree = grow_page(alloc, keep, zone, caller, query)?;
+    same(alloc, text, &tree)
 }
 
 /// The public record.
 pub(crate) fn recorded<K: Keep>(alloc: Global, keep: &mut K) -> Result<Vec<u8>, Fault> {
     let mut text = Vec::new(alloc);
     append_record(alloc, keep, &mut text)?;
-    same(alloc, text, &record(alloc, keep)?)
+    let tree = record(alloc, keep)?;
+    same(alloc, text, &tree)
 }

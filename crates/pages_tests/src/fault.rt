@@ -2,6 +2,7 @@
 use house_rows::KeepFault;
 use pages::PageFault;
 use std::alloc::AllocError;
+use std::io;
 use thiserror::Error;
 
 /// Why a script isn't played on.
@@ -30,6 +31,12 @@ pub(crate) enum Fault {
 impl From<AllocError> for Fault {
     fn from(_: AllocError) -> Fault {
         Fault::Memory
+    }
+}
+
+impl From<io::Error> for Fault {
+    fn from(_: io::Error) -> Fault {
+        Fault::Output
     }
 }
 

@@ -23,22 +23,45 @@ use transcript::echoed;
 // Prints what is shown.
 fn print(rt: &impl Print, shown: &[u8]) -> Result<(), Fault> {
     match str::from_utf8(shown) {
-        Ok(text) => println!(rt; "{text}").map_err(|_| Fault::Output),
+        Ok(text) => Ok(println!(rt; "{text}")?),
         Err(_) => Err(Fault::Output),
     }
 }
 
-// Plays the lines of the script, and prints what is shown.
+// Plays the script.
 fn play(rt: &(impl Input + Print), alloc: Global) -> Result<(), Fault> {
-    let script = io::read_to_string(alloc, rt.reader()).map_err(|_| Fault::Unread)?;
+    match io::read_to_string(alloc, rt.reader()) {
+        Ok(script) => play_script(rt, alloc, script.as_str()),
+        Err(_) => Err(Fault::Unread),
+    }
+}
+
+// Plays a script on a stage of its own. What owns the stage has one end: each end more would drop it once more.
+fn play_script(rt: &impl Print, alloc: Global, script: &str) -> Result<(), Fault> {
     let mut stage = Stage::new(alloc)?;
-    for line in script.as_str().lines() {
-        let line = echoed(rt, line).map_err(|_| Fault::Output)?;
-        if let Some(shown) = script::play(alloc, &mut stage, line)? {
-            print(rt, &shown)?;
-        }
+    play_lines(rt, alloc, &mut stage, script)
+}
+
+// Plays lines on a stage.
+fn play_lines(
+    rt: &impl Print,
+    alloc: Global,
+    stage: &mut Stage,
+    script: &str,
+) -> Result<(), Fault> {
+    for line in script.lines() {
+        play_line(rt, alloc, stage, line)?;
     }
     Ok(())
+}
+
+// Plays a line, and prints what is shown.
+fn play_line(rt: &impl Print, alloc: Global, stage: &mut Stage, line: &str) -> Result<(), Fault> {
+    let line = echoed(rt, line)?;
+    match script::play(alloc, stage, line)? {
+        None => Ok(()),
+        Some(shown) => print(rt, &shown),
+    }
 }
 
 fn main(rt: HostRuntime) -> ExitCode {

@@ -1,5 +1,5 @@
 //! A house in memory, and what becomes of a message to it.
-use crate::bodies::shown;
+use crate::bodies::{recorded, shown};
 use crate::fault::Fault;
 use house::decide;
 use house_rows::{Command, Keep, Message, Rate, Settings, Text};
@@ -9,56 +9,77 @@ use std::alloc::Global;
 use steps::Bands;
 use store_list::ListKeep;
 
-/// The zone of a house.
-pub(crate) fn zone(name: &str) -> Result<Zone, Fault> {
-    Zone::read(name).map_err(|_| Fault::Script)
+/// A house in memory.
+#[derive(Drop)]
+pub(crate) struct House {
+    zone: Zone,
+    keep: ListKeep,
 }
 
-/// A house without members: the example bands, a fee of a tenth, and that zone.
-pub(crate) fn empty(alloc: Global, zone: &str) -> Result<ListKeep, Fault> {
-    let settings = Settings {
-        bands: Bands::example(alloc).map_err(|_| Fault::Memory)?,
-        rate: Rate::new(1_000).ok_or(Fault::Script)?,
-        zone: Text::copy_of(alloc, zone)?,
+// The example bands, a fee of a tenth, and that zone.
+fn settings(alloc: Global, zone: &str) -> Result<Settings, Fault> {
+    let rate = Rate::new(1_000).ok_or(Fault::Script)?;
+    let zone = Text::copy_of(alloc, zone)?;
+    let Ok(bands) = Bands::example(alloc) else {
+        return Err(Fault::Memory);
     };
-    Ok(ListKeep::create(alloc, settings)?)
+    Ok(Settings { bands, rate, zone })
 }
 
 // Makes the change of a command, which is accepted.
-fn change(keep: &mut ListKeep, moment: u64, caller: u64, command: &Command) -> Result<(), Fault> {
+fn change<K: Keep>(keep: &mut K, moment: u64, caller: u64, command: &Command) -> Result<(), Fault> {
     // The fault is matched, since a `?` on what holds a change isn't covered by the borrow check.
     match decide(keep, moment, caller, command) {
         Err(fault) => Err(fault.into()),
         Ok(Err(_)) => Err(Fault::Script),
-        Ok(Ok(change)) => {
-            keep.apply(&change)?;
-            Ok(())
+        Ok(Ok(change)) => match keep.apply(&change) {
+            Ok(()) => Ok(()),
+            Err(fault) => Err(fault.into()),
+        },
+    }
+}
+
+impl House {
+    /// A house without members.
+    pub(crate) fn new(alloc: Global, zone: &str) -> Result<House, Fault> {
+        let keep = ListKeep::create(alloc, settings(alloc, zone)?)?;
+        match Zone::read(zone) {
+            Ok(zone) => Ok(House { zone, keep }),
+            Err(_) => Err(Fault::Script),
         }
     }
-}
 
-/// Makes the change of what is asked, which is a command that is accepted.
-pub(crate) fn order(keep: &mut ListKeep, asked: &Asked) -> Result<(), Fault> {
-    match &asked.message {
-        Message::Order {
-            moment,
-            caller,
-            command,
-        } => change(keep, *moment, *caller, command),
-        _ => Err(Fault::Script),
+    /// Becomes a house without members.
+    pub(crate) fn renew(&mut self, alloc: Global, zone: &str) -> Result<(), Fault> {
+        *self = House::new(alloc, zone)?;
+        Ok(())
     }
-}
 
-/// What is shown to what is asked, which is no command.
-pub(crate) fn answer(
-    alloc: Global,
-    keep: &mut ListKeep,
-    zone: &Zone,
-    asked: &Asked,
-) -> Result<Vec<u8>, Fault> {
-    match &asked.message {
-        Message::Read { caller, query } => shown(alloc, keep, zone, *caller, query),
-        Message::Broken { fault, .. } => Ok(fault.body().as_bytes().to_vec(alloc)?),
-        _ => Err(Fault::Script),
+    /// Makes the change of what is asked, which is a command that is accepted, or shows what is to be.
+    pub(crate) fn answer(
+        &mut self,
+        alloc: Global,
+        asked: &Asked,
+    ) -> Result<Option<Vec<u8>>, Fault> {
+        match &asked.message {
+            Message::Order {
+                moment,
+                caller,
+                command,
+            } => {
+                change(&mut self.keep, *moment, *caller, command)?;
+                Ok(None)
+            }
+            Message::Read { caller, query } => {
+                let page = shown(alloc, &mut self.keep, &self.zone, *caller, query)?;
+                Ok(Some(page))
+            }
+            Message::Broken { fault, .. } => Ok(Some(fault.body().as_bytes().to_vec(alloc)?)),
+        }
+    }
+
+    /// The public record.
+    pub(crate) fn record(&mut self, alloc: Global) -> Result<Option<Vec<u8>>, Fault> {
+        Ok(Some(recorded(alloc, &mut self.keep)?))
     }
 }

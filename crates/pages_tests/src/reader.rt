@@ -23,6 +23,9 @@ impl Reader {
 
     /// What a message asks.
     pub(crate) fn asked(&mut self, alloc: Global, text: &str) -> Result<Asked, Fault> {
-        read(alloc, &self.routes, text.as_bytes(), &mut self.scratch).map_err(|_| Fault::Memory)
+        match read(alloc, &self.routes, text.as_bytes(), &mut self.scratch) {
+            Ok(asked) => Ok(asked),
+            Err(_) => Err(Fault::Memory),
+        }
     }
 }

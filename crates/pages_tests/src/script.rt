@@ -5,22 +5,18 @@
 //! so many of them, with the numbers from 1 on in the place of `#`. `get MEMBER TARGET` shows a page, and `record`
 //! the public record; where memory was refused they show `memory`. An empty line, and one that begins with `--`,
 //! shows nothing.
-use crate::bodies::recorded;
 use crate::fault::Fault;
 use crate::message;
-use crate::playing::{answer, empty, order, zone};
+use crate::playing::House;
 use crate::reader::Reader;
-use settle::Zone;
 use std::alloc::{AllocError, Global};
 use std::fmt::Write;
-use store_list::ListKeep;
 
-/// What the lines of a script work on: what reads messages, and a house in memory.
+/// What the lines of a script work on: what reads messages, and a house.
 #[derive(Drop)]
 pub(crate) struct Stage {
     reader: Reader,
-    zone: Zone,
-    keep: ListKeep,
+    house: House,
 }
 
 impl Stage {
@@ -28,16 +24,8 @@ impl Stage {
     pub(crate) fn new(alloc: Global) -> Result<Stage, Fault> {
         Ok(Stage {
             reader: Reader::new(alloc)?,
-            zone: zone("UTC0")?,
-            keep: empty(alloc, "UTC0")?,
+            house: House::new(alloc, "UTC0")?,
         })
-    }
-
-    // Begins a house of another zone.
-    fn begin(&mut self, alloc: Global, name: &str) -> Result<(), Fault> {
-        self.zone = zone(name)?;
-        self.keep = empty(alloc, name)?;
-        Ok(())
     }
 }
 
@@ -50,40 +38,48 @@ fn first_word(line: &str) -> (&str, &str) {
 pub(crate) fn play(alloc: Global, stage: &mut Stage, line: &str) -> Result<Option<Vec<u8>>, Fault> {
     let (word, rest) = first_word(line);
     match word {
-        "" | "--" => (),
-        "house" => stage.begin(alloc, rest)?,
-        "post" => post(alloc, stage, rest)?,
-        "each" => each(alloc, stage, rest)?,
-        "get" => return told(alloc, get(alloc, stage, rest)),
-        "record" => return told(alloc, recorded(alloc, &mut stage.keep)),
-        _ => return Err(Fault::Script),
+        "" | "--" => Ok(None),
+        "house" => {
+            stage.house.renew(alloc, rest)?;
+            Ok(None)
+        }
+        "post" => post(alloc, stage, rest),
+        "each" => {
+            each(alloc, stage, rest)?;
+            Ok(None)
+        }
+        "get" => told(alloc, get(alloc, stage, rest)),
+        "record" => told(alloc, stage.house.record(alloc)),
+        _ => Err(Fault::Script),
     }
-    Ok(None)
 }
 
 // What is shown, or that memory was refused.
-fn told(alloc: Global, shown: Result<Vec<u8>, Fault>) -> Result<Option<Vec<u8>>, Fault> {
+fn told(alloc: Global, shown: Result<Option<Vec<u8>>, Fault>) -> Result<Option<Vec<u8>>, Fault> {
     match shown {
         Err(Fault::Memory) => Ok(Some(b"memory".to_vec(alloc)?)),
-        Err(fault) => Err(fault),
-        Ok(text) => Ok(Some(text)),
+        shown => shown,
     }
 }
 
-fn get(alloc: Global, stage: &mut Stage, line: &str) -> Result<Vec<u8>, Fault> {
-    let (member, target) = first_word(line);
-    let text = message::read(alloc, member, target)?;
-    let asked = stage.reader.asked(alloc, text.as_str())?;
-    answer(alloc, &mut stage.keep, &stage.zone, &asked)
+// What becomes of a message.
+fn answer(alloc: Global, stage: &mut Stage, text: &str) -> Result<Option<Vec<u8>>, Fault> {
+    let asked = stage.reader.asked(alloc, text)?;
+    stage.house.answer(alloc, &asked)
 }
 
-fn post(alloc: Global, stage: &mut Stage, line: &str) -> Result<(), Fault> {
+fn get(alloc: Global, stage: &mut Stage, line: &str) -> Result<Option<Vec<u8>>, Fault> {
+    let (member, target) = first_word(line);
+    let text = message::read(alloc, member, target)?;
+    answer(alloc, stage, text.as_str())
+}
+
+fn post(alloc: Global, stage: &mut Stage, line: &str) -> Result<Option<Vec<u8>>, Fault> {
     let (member, line) = first_word(line);
     let (moment, line) = first_word(line);
     let (target, body) = first_word(line);
     let text = message::order(alloc, member, moment, target, body)?;
-    let asked = stage.reader.asked(alloc, text.as_str())?;
-    order(&mut stage.keep, &asked)
+    answer(alloc, stage, text.as_str())
 }
 
 // A line with a number in the place of each `#`.
@@ -105,7 +101,9 @@ fn each(alloc: Global, stage: &mut Stage, line: &str) -> Result<(), Fault> {
     };
     for number in 0..count {
         let line = numbered(alloc, line, number.saturating_add(1))?;
-        post(alloc, stage, line.as_str())?;
+        if post(alloc, stage, line.as_str())?.is_some() {
+            return Err(Fault::Script);
+        }
     }
     Ok(())
 }

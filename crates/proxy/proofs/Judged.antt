@@ -29,7 +29,7 @@ refusal-leader bands start bids m x led =
     rw (leads, leader_greatest bids m led) refl
 
 -- what anybody else is told
-refusal-other : (bands : List (ℕ × ℕ)) (start : ℕ) (bids : List Bid) (m x : ℕ) → leader bids ≢ Some m →
+pub refusal-other : (bands : List (ℕ × ℕ)) (start : ℕ) (bids : List Bid) (m x : ℕ) → leader bids ≢ Some m →
     refusal bands start bids m x ≡ (if nat_lt x (floor bands start bids) then Some (Low (floor bands start bids)) else (if nat_le 10000 (length bids) then Some Full else None))
 refusal-other bands start bids m x ne =
     let leads : is_leader (leader bids) m ≡ false = is_leader_no (leader bids) m ne in

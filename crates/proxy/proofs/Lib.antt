@@ -6,3 +6,4 @@ pub mod Judged
 pub mod Ranks
 pub mod Prices
 pub mod Rises
+pub mod Surpluses

@@ -36,6 +36,13 @@ unfolding greatest
 greatest_has [] b later = grind (arith, nat_tests)
 greatest_has (a ∷ before) b later = grind (arith, nat_tests, greatest_has before b later)
 
+-- and so is the top
+pub maximum_below : (before : List Bid) (b : Bid) (later : List Bid) → b.maximum ≤ top (before ++ b ∷ later)
+maximum_below before b later =
+    let own = greatest_has before b later in
+    let all = greatest_below (before ++ b ∷ later) b.member in
+    omega arith
+
 -- a bidder is among all but another
 others_have : (l m : ℕ) (bids : List Bid) → l ≢ m → greatest_of (maxima (bids_by m bids)) ≤ greatest_of (maxima (bids_not_by l bids))
 others_have l m [] ne = omega arith

@@ -5,4 +5,5 @@ pub mod Led
 pub mod Rank
 pub mod Accepted
 pub mod Rows
+pub mod Surplus
 pub mod WorkedRows

@@ -1,11 +1,12 @@
 //! What the definitions mean, in the subject's own words. No code runs here.
-ghost use Rattle.std.specs.Prelude.{◌≡◌, ◌≤◌, ◌<◌, ◌↔◌, ◌++◌, ◌∷◌, ℕ, List, Some, None, IfSome, length, true};
+ghost use Rattle.std.specs.Prelude.{◌≡◌, ◌≢◌, ◌≤◌, ◌<◌, ◌↔◌, ◌++◌, ◌∷◌, ℕ, List, Some, None, IfSome, length, true};
 ghost use Rattle.steps.specs.Table.{IsBandTable, over};
 ghost use Rattle.proxy.specs.declared.bid.Bid.{Bid};
-ghost use Rattle.proxy.specs.Bids.{greatest, leader, one_more, price, refusal, second, standing_of, top};
+ghost use Rattle.proxy.specs.Bids.{floor, greatest, leader, one_more, price, refusal, second, standing_of, top};
 ghost use Rattle.proxy.specs.Rank.{RanksFirst};
 ghost use Rattle.proxy.specs.Accepted.{AreAccepted};
 ghost use Rattle.proxy.specs.Rows.{is_standing};
+ghost use Rattle.proxy.specs.Surplus.{DifferInTop, with_top};
 ghost use Rattle.proxy.specs.WorkedRows.{EqualMaximumKeepsTheEarlierLeader, FirstBidTakesTheStart, GreatRaisePaysOneStepOver, HigherBidPaysOneStepOver, LowBidIsRefused, SameMaximumIsRefused, SmallRaisePaysItsMaximum, StepBeginsAtItsBand};
 
 /// The leader is the one bidder whom every other ranks below: by a smaller maximum, or by the
@@ -54,6 +55,25 @@ pub fn accepted_bids_rise()
 pub fn accepted_bids_leave_standings()
     ensures { (bands : List (ℕ × ℕ)) (start : ℕ) (bids : List Bid) → AreAccepted bands start bids
         → length bids ≤ 10000 → is_standing bands (standing_of bands start bids) ≡ true }
+{}
+
+/// How far the leader's maximum lies above what leading takes shows nowhere else: where the same
+/// member leads two lists of bids with the same second and count, by maxima of at least one step over
+/// the second, or with no second, what is kept of them differs in the top alone.
+///
+/// So price and floor are the same, and whoever doesn't lead is answered the same; and a bid of
+/// its own over which one step is at most either top leaves it so.
+pub fn surplus_is_invisible()
+    ensures kept { (bands : List (ℕ × ℕ)) (start w : ℕ) (left right : List Bid) → DifferInTop bands w left right
+        → standing_of bands start right ≡ with_top (top right) (standing_of bands start left) }
+    ensures floor { (bands : List (ℕ × ℕ)) (start w : ℕ) (left right : List Bid) → DifferInTop bands w left right
+        → floor bands start left ≡ floor bands start right }
+    ensures answer { (bands : List (ℕ × ℕ)) (start w : ℕ) (left right : List Bid) (member maximum : ℕ) → member ≢ w
+        → DifferInTop bands w left right
+        → refusal bands start left member maximum ≡ refusal bands start right member maximum }
+    ensures more { (bands : List (ℕ × ℕ)) (w : ℕ) (left right : List Bid) (member maximum : ℕ) → member ≢ w
+        → over bands maximum ≤ top left → over bands maximum ≤ top right → DifferInTop bands w left right
+        → DifferInTop bands w (one_more left member maximum) (one_more right member maximum) }
 {}
 
 /// The definitions give the values that were worked out by hand; `specs/WorkedRows.antt` has them.

@@ -18,23 +18,51 @@ use std::io::{Read, Write};
 use std::process::ExitCode;
 use transcript::echoed;
 
-// Plays the script, and writes what is told.
+// Plays the script. What owns it and the stage has one end: each end more would drop them once more.
 fn play(rt: &(impl Input + Print), alloc: Global) -> Result<(), Fault> {
-    let mut bytes = Vec::new(alloc);
-    rt.reader()
-        .read_to_end(&mut bytes)
-        .map_err(|_| Fault::Unread)?;
-    let mut script = Script { rest: &bytes };
+    let bytes = read_all(rt, alloc)?;
     let mut stage = Stage::new(alloc);
-    let mut output = io::writer(rt);
+    play_lines(rt, alloc, &mut stage, &bytes)
+}
+
+// All of the standard input.
+fn read_all(rt: &impl Input, alloc: Global) -> Result<Vec<u8>, Fault> {
+    let mut bytes = Vec::new(alloc);
+    match rt.reader().read_to_end(&mut bytes) {
+        Ok(_) => Ok(bytes),
+        Err(_) => Err(Fault::Unread),
+    }
+}
+
+// Plays the lines of a script on a stage.
+fn play_lines(
+    rt: &impl Print,
+    alloc: Global,
+    stage: &mut Stage,
+    bytes: &[u8],
+) -> Result<(), Fault> {
+    let mut script = Script { rest: bytes };
     for _ in 0..bytes.len() {
         let Some(line) = script.line()? else {
             return Ok(());
         };
-        let line = echoed(rt, line).map_err(|_| Fault::Output)?;
-        let told = script::play(alloc, &mut stage, &mut script, line)?;
-        output.write_all(&told).map_err(|_| Fault::Output)?;
+        play_line(rt, alloc, stage, &mut script, line)?;
     }
+    Ok(())
+}
+
+// Plays a line, and writes what is told.
+fn play_line(
+    rt: &impl Print,
+    alloc: Global,
+    stage: &mut Stage,
+    script: &mut Script<'_>,
+    line: &str,
+) -> Result<(), Fault> {
+    let line = echoed(rt, line)?;
+    let mut told = Vec::new(alloc);
+    script::play(alloc, stage, script, line, &mut told)?;
+    io::writer(rt).write_all(&told)?;
     Ok(())
 }
 

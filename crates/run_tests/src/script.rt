@@ -7,14 +7,14 @@
 //!
 //! Each other line plays the list over new houses, and tells the replies, a line end behind each, and the
 //! record. `answers lists` and `answers database` give each message by itself, `run lists` and `run database`
-//! the whole list; `all` does all of these, and tells which are the same. `serve PIECE` serves the list as a
-//! stream, in pieces of so many bytes, `serve PIECE take N` and `serve PIECE give N` with the N-th call of a
-//! device failing, over both keeps. An empty line, and one that begins with `--`, tells nothing.
-use crate::messages::Messages;
-use crate::playing::{Devices, Form, compared, over_database, over_lists, served};
+//! the whole list; `all` does all of these, and tells which are the same. An empty line, and one that begins
+//! with `--`, tells nothing.
+use crate::messages::{command, read};
+use crate::playing::{Form, Place, play_all, play_list};
 use house_rows::{KeepFault, Rate, Settings, Text};
 use site::RunFault;
 use std::alloc::{AllocError, Global};
+use std::io;
 use steps::{Bands, BandsFault};
 use thiserror::Error;
 
@@ -41,6 +41,12 @@ pub(crate) enum Fault {
 impl From<AllocError> for Fault {
     fn from(_: AllocError) -> Fault {
         Fault::Memory
+    }
+}
+
+impl From<io::Error> for Fault {
+    fn from(_: io::Error) -> Fault {
+        Fault::Output
     }
 }
 
@@ -106,8 +112,8 @@ pub(crate) struct Stage {
     rate: u64,
     zone: String,
     bands: Vec<(u64, u64)>,
-    /// The list.
-    pub(crate) messages: Messages,
+    /// The list: texts that are to be a message each.
+    pub(crate) messages: Vec<Vec<u8>>,
 }
 
 impl Stage {
@@ -117,28 +123,82 @@ impl Stage {
             rate: 0,
             zone: String::new(alloc),
             bands: Vec::new(alloc),
-            messages: Messages::new(alloc),
+            messages: Vec::new(alloc),
         }
     }
 
-    // Adds a band.
-    fn add_band(&mut self, at: u64, step: u64) -> Result<(), AllocError> {
-        self.bands.push((at, step))?;
+    // Begins a list to new houses.
+    fn begin(&mut self, line: &str) -> Result<(), Fault> {
+        let (rate, zone) = first_word(line);
+        self.rate = number(rate)?;
+        self.zone.clear();
+        self.zone.push_str(zone)?;
+        self.bands.clear();
+        self.messages.clear();
         Ok(())
+    }
+
+    // Adds a band.
+    fn add_band(&mut self, line: &str) -> Result<(), Fault> {
+        let (at, step) = first_word(line);
+        let band = (number(at)?, number(step)?);
+        match self.bands.push(band) {
+            Ok(()) => Ok(()),
+            Err(_) => Err(Fault::Memory),
+        }
+    }
+
+    // Adds a text.
+    fn add(&mut self, alloc: Global, text: &[u8]) -> Result<(), AllocError> {
+        self.messages.push(Vec::from_slice(alloc, text)?)?;
+        Ok(())
+    }
+
+    // Adds a command.
+    fn add_command(&mut self, alloc: Global, line: &str) -> Result<(), Fault> {
+        let (member, line) = first_word(line);
+        let (moment, line) = first_word(line);
+        let (target, body) = first_word(line);
+        let text = command(alloc, member, moment, target, body)?;
+        Ok(self.add(alloc, text.as_bytes())?)
+    }
+
+    // Adds a read.
+    fn add_read(&mut self, alloc: Global, line: &str) -> Result<(), Fault> {
+        let (member, target) = first_word(line);
+        let text = read(alloc, member, target)?;
+        Ok(self.add(alloc, text.as_bytes())?)
+    }
+
+    // Adds the bytes that follow a line.
+    fn add_text(
+        &mut self,
+        alloc: Global,
+        script: &mut Script<'_>,
+        count: &str,
+    ) -> Result<(), Fault> {
+        let Ok(count) = count.parse::<usize>() else {
+            return Err(Fault::Script);
+        };
+        let text = script.bytes(count)?;
+        Ok(self.add(alloc, text)?)
+    }
+
+    // The table of the houses.
+    fn bands(&self, alloc: Global) -> Result<Bands, BandsFault> {
+        if self.bands.is_empty() {
+            Bands::example(alloc)
+        } else {
+            Bands::of_rows(alloc, &self.bands)
+        }
     }
 
     /// The settings of the houses.
     pub(crate) fn settings(&self, alloc: Global) -> Result<Settings, Fault> {
-        let bands = if self.bands.is_empty() {
-            Bands::example(alloc)?
-        } else {
-            Bands::of_rows(alloc, &self.bands)?
-        };
-        Ok(Settings {
-            bands,
-            rate: Rate::new(self.rate).ok_or(Fault::Script)?,
-            zone: Text::copy_of(alloc, self.zone.as_str())?,
-        })
+        let rate = Rate::new(self.rate).ok_or(Fault::Script)?;
+        let zone = Text::copy_of(alloc, self.zone.as_str())?;
+        let bands = self.bands(alloc)?;
+        Ok(Settings { bands, rate, zone })
     }
 }
 
@@ -149,42 +209,10 @@ fn first_word(line: &str) -> (&str, &str) {
 
 // The number that a word writes.
 fn number(word: &str) -> Result<u64, Fault> {
-    word.parse::<u64>().map_err(|_| Fault::Script)
-}
-
-// The size that a word writes.
-fn size(word: &str) -> Result<usize, Fault> {
-    word.parse::<usize>().map_err(|_| Fault::Script)
-}
-
-// Begins a list to new houses.
-fn begin(alloc: Global, line: &str) -> Result<Stage, Fault> {
-    let (rate, zone) = first_word(line);
-    let mut stage = Stage::new(alloc);
-    stage.rate = number(rate)?;
-    stage.zone.push_str(zone)?;
-    Ok(stage)
-}
-
-// Adds a band.
-fn band(stage: &mut Stage, line: &str) -> Result<(), Fault> {
-    let (at, step) = first_word(line);
-    stage.add_band(number(at)?, number(step)?)?;
-    Ok(())
-}
-
-// Adds a command.
-fn post(alloc: Global, messages: &mut Messages, line: &str) -> Result<(), Fault> {
-    let (member, line) = first_word(line);
-    let (moment, line) = first_word(line);
-    let (target, body) = first_word(line);
-    Ok(messages.command(alloc, member, moment, target, body)?)
-}
-
-// Adds a read.
-fn get(alloc: Global, messages: &mut Messages, line: &str) -> Result<(), Fault> {
-    let (member, target) = first_word(line);
-    Ok(messages.read(alloc, member, target)?)
+    match word.parse::<u64>() {
+        Ok(number) => Ok(number),
+        Err(_) => Err(Fault::Script),
+    }
 }
 
 /// Plays a line, and what follows it in the script where it is part of it, and tells what came of it.
@@ -193,48 +221,28 @@ pub(crate) fn play(
     stage: &mut Stage,
     script: &mut Script<'_>,
     line: &str,
-) -> Result<Vec<u8>, Fault> {
+    told: &mut Vec<u8>,
+) -> Result<(), Fault> {
     let (word, rest) = first_word(line);
     match word {
-        "" | "--" => (),
-        "house" => *stage = begin(alloc, rest)?,
-        "band" => band(stage, rest)?,
-        "post" => post(alloc, &mut stage.messages, rest)?,
-        "get" => get(alloc, &mut stage.messages, rest)?,
-        "text" => {
-            let text = script.bytes(size(rest)?)?;
-            stage.messages.add(alloc, text)?;
-        }
-        _ => return told(alloc, stage, line),
+        "" | "--" => Ok(()),
+        "house" => stage.begin(rest),
+        "band" => stage.add_band(rest),
+        "post" => stage.add_command(alloc, rest),
+        "get" => stage.add_read(alloc, rest),
+        "text" => stage.add_text(alloc, script, rest),
+        "all" => play_all(alloc, stage, told),
+        "answers" => play_list(alloc, stage, place(rest)?, Form::Answers, told),
+        "run" => play_list(alloc, stage, place(rest)?, Form::Run, told),
+        _ => Err(Fault::Script),
     }
-    Ok(Vec::new(alloc))
 }
 
-// The devices that a line writes: `PIECE`, `PIECE take N` or `PIECE give N`.
-fn devices(line: &str) -> Result<Devices, Fault> {
-    let (piece, rest) = first_word(line);
-    let (word, count) = first_word(rest);
-    let piece = size(piece)?;
-    let (take, give) = match word {
-        "" => (u64::MAX, u64::MAX),
-        "take" => (number(count)?, u64::MAX),
-        "give" => (u64::MAX, number(count)?),
-        _ => return Err(Fault::Script),
-    };
-    Ok(Devices { piece, take, give })
-}
-
-// Plays the list.
-fn told(alloc: Global, stage: &Stage, line: &str) -> Result<Vec<u8>, Fault> {
-    if let Some(("serve", rest)) = line.split_once(' ') {
-        return served(alloc, stage, devices(rest)?);
-    }
-    match line {
-        "all" => compared(alloc, stage),
-        "answers lists" => over_lists(alloc, stage, Form::Answers),
-        "answers database" => over_database(alloc, stage, Form::Answers),
-        "run lists" => over_lists(alloc, stage, Form::Run),
-        "run database" => over_database(alloc, stage, Form::Run),
+// The place that a word names.
+fn place(word: &str) -> Result<Place, Fault> {
+    match word {
+        "lists" => Ok(Place::Lists),
+        "database" => Ok(Place::Database),
         _ => Err(Fault::Script),
     }
 }

@@ -1,14 +1,12 @@
-//! Plays a script of streams over new houses in memory, in pieces, cut off and over devices that fail.
+//! Plays a script of streams over new houses in memory, over devices that fail.
 //!
-//! The stored run is a test of what no clause says: that calls succeed, and that a stream is answered
-//! alike however it comes. `stdin` has the script, `stdout` its transcript, in which what has to be told
+//! The stored run is a test of what no clause says: that calls succeed, and that a fault is told where a
+//! device failed and nowhere else. `stdin` has the script, `stdout` its transcript, in which what has to be told
 //! stands behind each line, written by hand. Read `script` first, which says what a line may be, behind the mark of
 //! `transcript`.
 #![tactic(auto)]
 
-mod answers;
 mod failing;
-mod pieces;
 mod script;
 mod serving;
 mod stream;
@@ -19,15 +17,33 @@ use std::io;
 use std::process::ExitCode;
 use transcript::echoed;
 
-// Plays the lines of the script, and prints what is told.
+// Plays the script. What owns the script and the stage has one end: each end more would drop them once more.
 fn play(rt: &(impl Input + Print), alloc: Global) -> Result<(), Fault> {
-    let script = io::read_to_string(alloc, rt.reader()).map_err(|_| Fault::Script)?;
+    let Ok(script) = io::read_to_string(alloc, rt.reader()) else {
+        return Err(Fault::Script);
+    };
     let mut stage = Stage::new(alloc);
-    for line in script.as_str().lines() {
-        let line = echoed(rt, line).map_err(|_| Fault::Output)?;
-        if let Some(told) = script::play(alloc, &mut stage, line)? {
-            println!(rt; "{told}").map_err(|_| Fault::Output)?;
-        }
+    play_lines(rt, alloc, &mut stage, script.as_str())
+}
+
+// Plays lines on a stage.
+fn play_lines(
+    rt: &impl Print,
+    alloc: Global,
+    stage: &mut Stage,
+    script: &str,
+) -> Result<(), Fault> {
+    for line in script.lines() {
+        play_line(rt, alloc, stage, line)?;
+    }
+    Ok(())
+}
+
+// Plays a line, and prints what is told.
+fn play_line(rt: &impl Print, alloc: Global, stage: &mut Stage, line: &str) -> Result<(), Fault> {
+    let line = echoed(rt, line)?;
+    if let Some(told) = script::play(alloc, stage, line)? {
+        println!(rt; "{told}")?;
     }
     Ok(())
 }

@@ -2,20 +2,19 @@
 //!
 //! `post MEMBER MOMENT TARGET BODY` and `get MEMBER TARGET` add a message to the stream, and `raw TEXT`
 //! adds bytes. `house` makes what the stream holds the messages by which each house begins, and empties
-//! it, as `clear` does. Each other line serves the stream over houses of its own: `serve` once, and
-//! tells each answer; `pieces N` in pieces of N bytes, `copies COUNT N` so many times in a row and
-//! so, and `most N` at most N messages of it; `takes N`, `gives N` and `flushes N` in pieces of N
-//! bytes with each call failing in turn. An empty line, and one that begins with `--`, tells nothing.
-use crate::answers::shown;
-use crate::failing::{flushes, gives, takes};
-use crate::pieces::{copies, most, pieces};
-use crate::serving::HouseFault;
+//! it, as `clear` does. `takes N`, `gives N` and `flushes N` serve the stream over houses of their own, in
+//! pieces of N bytes, with each such call failing in turn. An empty line, and one that begins with `--`,
+//! tells nothing.
+use crate::failing::{Calls, tell};
 use crate::stream::Stream;
+use house_rows::KeepFault;
 use std::alloc::{AllocError, Global};
+use std::io;
+use steps::BandsFault;
 use thiserror::Error;
 
 /// Why a script isn't played on.
-#[derive(Clone, Copy, Debug, PartialEq, Eq, Error)]
+#[derive(Debug, Drop, Error)]
 pub(crate) enum Fault {
     /// A line has no meaning, or the script isn't text.
     #[error("a line is no part of a script")]
@@ -23,7 +22,7 @@ pub(crate) enum Fault {
     /// Memory was wanted.
     #[error("memory is wanted")]
     Memory,
-    /// No house could be made.
+    /// No house could be made, or what it begins by wasn't all answered.
     #[error("a house can't be made")]
     House,
     /// What is told couldn't be printed.
@@ -37,8 +36,20 @@ impl From<AllocError> for Fault {
     }
 }
 
-impl From<HouseFault> for Fault {
-    fn from(_: HouseFault) -> Fault {
+impl From<io::Error> for Fault {
+    fn from(_: io::Error) -> Fault {
+        Fault::Output
+    }
+}
+
+impl From<BandsFault> for Fault {
+    fn from(_: BandsFault) -> Fault {
+        Fault::House
+    }
+}
+
+impl From<KeepFault> for Fault {
+    fn from(_: KeepFault) -> Fault {
         Fault::House
     }
 }
@@ -60,6 +71,16 @@ impl Stage {
             stream: Stream::new(alloc),
         }
     }
+
+    // What the stream holds is how each house begins.
+    fn begin(&mut self, alloc: Global) {
+        self.setup = std::mem::replace(&mut self.stream, Stream::new(alloc));
+    }
+
+    // Empties the stream.
+    fn clear(&mut self, alloc: Global) {
+        self.stream = Stream::new(alloc);
+    }
 }
 
 // The first word of a line, and what stands behind the space after it.
@@ -79,49 +100,45 @@ fn number(word: &str) -> Result<usize, Fault> {
 pub(crate) fn play(alloc: Global, stage: &mut Stage, line: &str) -> Result<Option<String>, Fault> {
     let (word, rest) = first_word(line);
     match word {
-        "" | "--" => (),
-        "post" => post(alloc, &mut stage.stream, rest)?,
-        "get" => {
-            let (member, target) = first_word(rest);
-            stage.stream.read(alloc, member, target)?;
+        "takes" => tell(alloc, stage, Calls::Takes, number(rest)?),
+        "gives" => tell(alloc, stage, Calls::Gives, number(rest)?),
+        "flushes" => tell(alloc, stage, Calls::Flushes, number(rest)?),
+        _ => {
+            prepare(alloc, stage, word, rest)?;
+            Ok(None)
         }
-        "raw" => stage.stream.raw(rest)?,
-        "house" => stage.begin(alloc),
-        "clear" => stage.stream = Stream::new(alloc),
-        _ => return Ok(Some(served(alloc, stage, word, rest)?)),
     }
-    Ok(None)
 }
 
-impl Stage {
-    // What the stream holds is how each house begins.
-    fn begin(&mut self, alloc: Global) {
-        self.setup = std::mem::replace(&mut self.stream, Stream::new(alloc));
+// Plays a line of which nothing is told.
+fn prepare(alloc: Global, stage: &mut Stage, word: &str, rest: &str) -> Result<(), Fault> {
+    match word {
+        "" | "--" => Ok(()),
+        "post" => post(&mut stage.stream, rest),
+        "get" => get(&mut stage.stream, rest),
+        "raw" => Ok(stage.stream.add(rest)?),
+        "house" => {
+            stage.begin(alloc);
+            Ok(())
+        }
+        "clear" => {
+            stage.clear(alloc);
+            Ok(())
+        }
+        _ => Err(Fault::Script),
     }
 }
 
 // Adds a command.
-fn post(alloc: Global, stream: &mut Stream, line: &str) -> Result<(), Fault> {
+fn post(stream: &mut Stream, line: &str) -> Result<(), Fault> {
     let (member, line) = first_word(line);
     let (moment, line) = first_word(line);
     let (target, body) = first_word(line);
-    stream.command(alloc, member, moment, target, body)?;
-    Ok(())
+    Ok(stream.command(member, moment, target, body)?)
 }
 
-// What comes of serving the stream.
-fn served(alloc: Global, stage: &Stage, word: &str, rest: &str) -> Result<String, Fault> {
-    match word {
-        "serve" => shown(alloc, stage),
-        "pieces" => pieces(alloc, stage, number(rest)?),
-        "copies" => {
-            let (count, piece) = first_word(rest);
-            copies(alloc, stage, number(count)?, number(piece)?)
-        }
-        "most" => most(alloc, stage, number(rest)?),
-        "takes" => takes(alloc, stage, number(rest)?),
-        "gives" => gives(alloc, stage, number(rest)?),
-        "flushes" => flushes(alloc, stage, number(rest)?),
-        _ => Err(Fault::Script),
-    }
+// Adds a read.
+fn get(stream: &mut Stream, line: &str) -> Result<(), Fault> {
+    let (member, target) = first_word(line);
+    Ok(stream.read(member, target)?)
 }

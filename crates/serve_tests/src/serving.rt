@@ -1,104 +1,90 @@
 //! A new house in memory, and a stream served over it.
+use crate::script::{Fault, Stage};
 use crate::stream::Stream;
 use device::{MemorySink, MemorySource, Sink, Source};
-use house_rows::{KeepFault, Rate, Settings, Text};
+use house_rows::{Keep, Rate, Settings, Text};
 use site::Site;
 use site_serve::{ServeFault, Served, serve};
-use std::alloc::{AllocError, Global};
-use steps::{Bands, BandsFault};
+use std::alloc::Global;
+use steps::Bands;
 use store_list::ListKeep;
-
-/// No house could be made, or what it begins by wasn't all answered.
-#[derive(Clone, Copy, Debug, PartialEq, Eq)]
-pub(crate) struct HouseFault;
-
-impl From<AllocError> for HouseFault {
-    fn from(_: AllocError) -> HouseFault {
-        HouseFault
-    }
-}
-
-impl From<BandsFault> for HouseFault {
-    fn from(_: BandsFault) -> HouseFault {
-        HouseFault
-    }
-}
-
-impl From<KeepFault> for HouseFault {
-    fn from(_: KeepFault) -> HouseFault {
-        HouseFault
-    }
-}
-
-impl From<ServeFault> for HouseFault {
-    fn from(_: ServeFault) -> HouseFault {
-        HouseFault
-    }
-}
-
-// The example table, 1000 ten-thousandths and UTC.
-fn settings(alloc: Global) -> Result<Settings, HouseFault> {
-    Ok(Settings {
-        bands: Bands::example(alloc)?,
-        rate: Rate::new(1000).ok_or(HouseFault)?,
-        zone: Text::copy_of(alloc, "UTC0")?,
-    })
-}
-
-/// A house that begins by the messages of a setup.
-pub(crate) fn new_site(alloc: Global, setup: &Stream) -> Result<Site<ListKeep>, HouseFault> {
-    let keep = ListKeep::create(alloc, settings(alloc)?)?;
-    let mut site = Site::new(alloc, keep)?;
-    let mut source = MemorySource::new(&setup.bytes);
-    let mut sink = MemorySink::new(alloc);
-    serve(alloc, &mut source, &mut sink, &mut site, u64::MAX)?;
-    Ok(site)
-}
 
 /// What serving a stream has left.
 #[derive(Drop)]
 pub(crate) struct Left {
     /// What was told of it.
     pub(crate) told: Result<Served, ServeFault>,
-    /// What was answered.
-    pub(crate) sink: MemorySink,
     /// The public record behind it.
     pub(crate) record: Vec<u8>,
-    /// The answer to a read behind it.
-    pub(crate) page: Vec<u8>,
 }
 
-const READ: &[u8] = b"GET /items/1 HTTP/1.1\r\nhost: h\r\nx-member: 2\r\n\r\n";
+// The example table, 1000 ten-thousandths and UTC.
+fn settings(alloc: Global) -> Result<Settings, Fault> {
+    let rate = Rate::new(1000).ok_or(Fault::House)?;
+    let zone = Text::copy_of(alloc, "UTC0")?;
+    let bands = Bands::example(alloc)?;
+    Ok(Settings { bands, rate, zone })
+}
 
-/// Serves over a new house, and then looks at the record and at an item.
-pub(crate) fn serve_over(
+// A new house.
+fn new_site(alloc: Global) -> Result<Site<ListKeep>, Fault> {
+    let keep = ListKeep::create(alloc, settings(alloc)?)?;
+    Ok(Site::new(alloc, keep)?)
+}
+
+// Answers the messages of a setup.
+fn begin<K: Keep + Drop>(alloc: Global, site: &mut Site<K>, setup: &Stream) -> Result<(), Fault> {
+    let mut source = MemorySource::new(setup.bytes());
+    let mut sink = MemorySink::new(alloc);
+    match serve(alloc, &mut source, &mut sink, site, u64::MAX) {
+        Ok(_) => Ok(()),
+        Err(_) => Err(Fault::House),
+    }
+}
+
+// Serves over a house behind its setup, and then looks at the record.
+fn serve_behind<K: Keep + Drop, R: Source, W: Sink>(
     alloc: Global,
+    site: &mut Site<K>,
     setup: &Stream,
-    source: MemorySource<'_>,
-    sink: MemorySink,
+    source: &mut R,
+    sink: &mut W,
     most: u64,
-) -> Result<Left, HouseFault> {
-    let mut site = new_site(alloc, setup)?;
-    let mut source = source;
-    let mut sink = sink;
-    let told = serve(alloc, &mut source, &mut sink, &mut site, most);
+) -> Result<Left, Fault> {
+    begin(alloc, site, setup)?;
+    let told = serve(alloc, source, sink, site, most);
     let record = site.record()?;
-    let page = Vec::from_slice(alloc, &site.answer(READ))?;
-    Ok(Left {
-        told,
-        sink,
-        record,
-        page,
-    })
+    Ok(Left { told, record })
 }
 
-/// Serves at most so many messages of a stream, which comes whole.
-pub(crate) fn serve_first(
+/// Serves over a new house that begins by the messages of a setup.
+pub(crate) fn serve_over<R: Source, W: Sink>(
     alloc: Global,
     setup: &Stream,
-    stream: &Stream,
+    source: &mut R,
+    sink: &mut W,
     most: u64,
-) -> Result<Left, HouseFault> {
-    let source = MemorySource::new(&stream.bytes);
-    serve_over(alloc, setup, source, MemorySink::new(alloc), most)
+) -> Result<Left, Fault> {
+    let mut site = new_site(alloc)?;
+    serve_behind(alloc, &mut site, setup, source, sink, most)
+}
+
+/// What the first messages of a stream have left, which came whole.
+#[derive(Drop)]
+pub(crate) struct Prefix {
+    /// What was answered.
+    pub(crate) answers: MemorySink,
+    /// The public record behind them.
+    pub(crate) record: Vec<u8>,
+}
+
+impl Prefix {
+    /// Serves at most so many messages of the stream.
+    pub(crate) fn new(alloc: Global, stage: &Stage, most: u64) -> Result<Prefix, Fault> {
+        let mut source = MemorySource::new(stage.stream.bytes());
+        let mut answers = MemorySink::new(alloc);
+        let left = serve_over(alloc, &stage.setup, &mut source, &mut answers, most)?;
+        let Left { record, .. } = left;
+        Ok(Prefix { answers, record })
+    }
 }

@@ -2,11 +2,10 @@
 use std::alloc::{AllocError, Global};
 use std::fmt::Write;
 
-/// The bytes of messages in a row, and perhaps of what is none behind them.
+/// Messages in a row, and perhaps what is none behind them.
 #[derive(Drop)]
 pub(crate) struct Stream {
-    /// The bytes.
-    pub(crate) bytes: Vec<u8>,
+    text: String,
     /// Behind how many bytes each message ends.
     pub(crate) ends: Vec<usize>,
 }
@@ -15,74 +14,57 @@ impl Stream {
     /// A stream of nothing.
     pub(crate) fn new(alloc: Global) -> Stream {
         Stream {
-            bytes: Vec::new(alloc),
+            text: String::new(alloc),
             ends: Vec::new(alloc),
         }
     }
 
-    // Adds a message.
-    fn message(&mut self, text: &str) -> Result<(), AllocError> {
-        self.bytes.extend_from_slice(text.as_bytes())?;
-        self.ends.push(self.bytes.len())?;
-        Ok(())
+    /// The bytes.
+    pub(crate) fn bytes(&self) -> &[u8] {
+        self.text.as_bytes()
     }
 
     /// Adds a command.
     pub(crate) fn command(
         &mut self,
-        alloc: Global,
         member: &str,
         moment: &str,
         target: &str,
         body: &str,
     ) -> Result<(), AllocError> {
-        let mut text = String::new(alloc);
+        let length = body.len();
         write!(
-            text,
-            "POST {target} HTTP/1.1\r\nhost: h\r\nx-member: {member}\r\n"
+            self.text,
+            "POST {target} HTTP/1.1\r\nhost: h\r\nx-member: {member}\r\nx-moment: {moment}\r\n"
         )?;
-        write!(
-            text,
-            "x-moment: {moment}\r\ncontent-length: {}\r\n\r\n{body}",
-            body.len()
-        )?;
-        self.message(&text)
+        write!(self.text, "content-length: {length}\r\n\r\n{body}")?;
+        self.ends.push(self.text.len())?;
+        Ok(())
     }
 
     /// Adds a read.
-    pub(crate) fn read(
-        &mut self,
-        alloc: Global,
-        member: &str,
-        target: &str,
-    ) -> Result<(), AllocError> {
-        let text = format!(in alloc;
+    pub(crate) fn read(&mut self, member: &str, target: &str) -> Result<(), AllocError> {
+        write!(
+            self.text,
             "GET {target} HTTP/1.1\r\nhost: h\r\nx-member: {member}\r\n\r\n"
         )?;
-        self.message(&text)
+        self.ends.push(self.text.len())?;
+        Ok(())
     }
 
-    /// Adds bytes that are no whole message.
-    pub(crate) fn raw(&mut self, text: &str) -> Result<(), AllocError> {
-        self.bytes.extend_from_slice(text.as_bytes())?;
-        Ok(())
+    /// Adds what is no message.
+    pub(crate) fn add(&mut self, text: &str) -> Result<(), AllocError> {
+        self.text.push_str(text)
     }
 
     /// How many messages end within so many bytes.
     pub(crate) fn whole_within(&self, length: usize) -> usize {
-        self.ends.iter().filter(|end| **end <= length).count()
-    }
-
-    /// So many copies in a row.
-    pub(crate) fn repeated(&self, alloc: Global, count: usize) -> Result<Stream, AllocError> {
-        let mut copies = Stream::new(alloc);
-        for _ in 0..count {
-            let before = copies.bytes.len();
-            copies.bytes.extend_from_slice(&self.bytes)?;
-            for end in &self.ends {
-                copies.ends.push(before.saturating_add(*end))?;
+        let mut count = 0usize;
+        for end in &self.ends {
+            if *end <= length {
+                count = count.saturating_add(1);
             }
         }
-        Ok(copies)
+        count
     }
 }

@@ -2,3 +2,4 @@ mod Steps
 mod Turns
 mod Stops
 mod Bare
+pub mod Raised

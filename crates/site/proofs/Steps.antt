@@ -1,19 +1,27 @@
 -- What answering one message does, from what carrying it out did.
 use Rattle.std.proofs.Common.{◌≡◌, ◌⊎◌, ◌∙◌, ◌++◌, ℕ, List, Bool, true, false, refl, sym, ap, subst, inl, inr, Ok, Err}
 use Rattle.std.specs.Borrow.{Bor}
-use Rattle.std.specs.Prelude.{Result}
+use Rattle.std.specs.Prelude.{OnOk, Result}
 use Rattle.std.proofs.lemmas.List.{append_cancel_left}
 use Rattle.house_rows.specs.declared.fault.KeepFault.{KeepFault}
 use Rattle.house_rows.specs.declared.fault.KeepFault.TheVariants.{Memory, Store, Damaged}
+use Rattle.house_rows.specs.declared.message.Message.{Message}
+use Rattle.house_rows.specs.declared.message.Message.TheVariants.{Broken, Order, Read}
+use Rattle.house_rows.specs.declared.query.Query.{Query}
+use Rattle.house_rows.specs.declared.reply.Reply.{Reply}
+use Rattle.house_rows.specs.declared.reply.Reply.TheVariants.{Done, Faulty, Shows}
 use Rattle.house_rows.specs.declared.settings.Settings.{Settings}
 use Rattle.house_rows.specs.History.{History}
 use Rattle.house_rows.specs.Runs.{next, reply}
 use Rattle.house_rows.specs.Tables.{Tables, tables_of}
 use Rattle.house_rows.proofs.Put.{by_test}
+use Rattle.pages_laws.specs.ByTables.{page_by}
 use Rattle.settle.specs.declared.zone.Zone.{Zone}
-use Rattle.site_acts.specs.Acted.{IsActed, is_asking, is_entered}
+use Rattle.site_acts.specs.Acted.{IfRead, IsActed, is_asking, is_entered}
 use Rattle.site_asks.specs.Asked.{asked_of}
 use Rattle.site_asks.specs.declared.asked.Asked.{Asked}
+use Rattle.site_asks.specs.declared.fault.Fault.{Fault}
+use Rattle.site_asks.specs.declared.fault.Fault.TheVariants as fault
 use Rattle.site_replies.specs.Texts.{digits_in, fault_text, is_failure, reply_text}
 use Rattle.site_replies.proofs.StatusLemmas.{reply_served}
 use Rattle.wire.specs.Answer.{answer_bytes, head_start, status_line}
@@ -22,7 +30,7 @@ use Rattle.wire.specs.Message.{Message as Framed}
 use Rattle.wire.specs.declared.fault.WireFault.{WireFault}
 use Rattle.wire.specs.declared.fault.WireFault.TheVariants as wire
 use Rattle.wire.proofs.OneFrame.{one_frame}
-use Rattle.site.specs.Answers.{IsAppended, IsStep, IsTold, answer_of, broken_text, next_of}
+use Rattle.site.specs.Answers.{IsAppended, IsStep, IsTold, IsUnmade, answer_of, broken_text, next_of}
 
 pub not_both : (b : Bool) → b ≡ true → b ≡ false → ⊥
 not_both true is not = cc
@@ -69,6 +77,32 @@ same_left : {K : Type 0} (is_failed : K → Bool) (may_leave : K → Tables → 
 same_left is_failed may_leave old new left (inl e) t may = subst (λ k. may_leave k t) e may
 same_left is_failed may_leave old new left (inr going) t may = left going t may
 
+-- a read that was carried out shows its page
+read_shown : (message : Message Fault) (zone : Zone) (t : Tables) (closes : Bool) (u : Unit {0})
+    (before after text : List ℕ) → after ≡ before ++ text
+    → IfRead message (λ caller query. OnOk {E = KeepFault} (Ok u) (after ≡ before
+    ++ reply_text zone t.settings.rate closes (Shows (page_by t caller query))))
+    → IfRead message (λ caller query.
+    text ≡ reply_text zone t.settings.rate closes (Shows (page_by t caller query)))
+read_shown (Order moment caller command) zone t closes u before after text e shown = tt
+read_shown (Read caller query) zone t closes u before after text e shown =
+    append_cancel_left before text
+    (reply_text zone t.settings.rate closes (Shows (page_by t caller query))) (sym e ∙ shown)
+read_shown (Broken caller fault) zone t closes u before after text e shown = tt
+
+-- where it met a fault nothing has acted, unless the store failed
+unmade : {K : Type 0} (content : K → Tables) (is_failed : K → Bool) (is_honest : K → Type 0)
+    (may_leave : K → Tables → Type 0)
+    (zone : Zone) (asked : Asked) (f : KeepFault) (before after : List ℕ) (old new : K)
+    → IsActed content is_failed is_honest may_leave zone asked.closes asked.message (Err f) before
+    after old new
+    → IsUnmade content is_failed is_honest may_leave asked (fault_text f asked.closes) old new
+unmade content is_failed is_honest may_leave zone asked f before after old new acted = record {
+  text = (f, refl);
+  tables = acted.unmade;
+  left = acted.left;
+}
+
 -- it was carried out
 step_ok : {K : Type 0} (content : K → Tables) (is_failed : K → Bool) (is_honest : K → Type 0)
     (may_leave : K → Tables → Type 0)
@@ -97,6 +131,20 @@ step_ok content is_failed is_honest may_leave zone asked u before after old new 
           });
           crash = λ t may. acted.crash_next honest settings h is same t may;
         };
+        told = inl (record {
+          text = (rate, r, refl);
+          shown = λ honest. read_shown asked.message zone (content old) asked.closes u before after
+              (reply_text zone rate asked.closes r) e (acted.shown honest);
+          accepted = λ honest going. elim (acted.accepted honest going) [
+            | inl same ↦ inl same
+            | inr done ↦ inr (
+              done.0,
+              done.1,
+              append_cancel_left before (reply_text zone rate asked.closes r)
+                  (reply_text zone done.0 asked.closes (Done done.1)) (sym e ∙ done.2),
+            )
+          ];
+        });
         made = acted.made;
         crash = acted.crash;
         failure = λ honest sound failing.
@@ -130,6 +178,7 @@ step_err content is_failed is_honest may_leave zone asked Memory before after ol
         }));
         crash = λ t may. acted.crash_next honest settings h is same t may;
       };
+      told = inr (unmade content is_failed is_honest may_leave zone asked Memory before after old new acted);
       made = acted.made;
       crash = acted.crash;
       failure = λ honest sound failing. absurd (not_both _ failing (memory_goes asked.closes));
@@ -148,6 +197,7 @@ step_err content is_failed is_honest may_leave zone asked Store before after old
         }));
         crash = λ t may. acted.crash_next honest settings h is same t may;
       };
+      told = inr (unmade content is_failed is_honest may_leave zone asked Store before after old new acted);
       made = acted.made;
       crash = acted.crash;
       failure = λ honest sound failing. inl (acted.store.0 refl).0;
@@ -159,6 +209,7 @@ step_err content is_failed is_honest may_leave zone asked Store before after old
 step_err content is_failed is_honest may_leave zone asked Damaged before after old new acted =
     record {
       answer = λ honest settings h is same. absurd (acted.whole honest settings h is same refl);
+      told = inr (unmade content is_failed is_honest may_leave zone asked Damaged before after old new acted);
       made = acted.made;
       crash = acted.crash;
       failure = λ honest sound failing. inr (acted.damaged honest sound refl);
@@ -208,6 +259,11 @@ step_unread content is_failed is_honest may_leave zone asked closes k same = rec
     }));
     crash = λ t may. inl may;
   };
+  told = inr (record {
+    text = (Memory, ap (fault_text Memory) same);
+    tables = λ honest going. refl;
+    left = λ honest going t may. may;
+  });
   made = λ honest going. inl refl;
   crash = λ honest t may. inl may;
   failure = λ honest sound failing. absurd (not_both _ failing (memory_goes closes));
@@ -222,6 +278,16 @@ broken_replied : (settings : Settings) (zone : Zone) (h : History) (f : WireFaul
     → broken_text f ≡ answer_of settings zone h (asked_of (Err f))
 unfolding answer_of asked_of reply reply_text
 broken_replied settings zone h f = refl
+
+broken_reply : (zone : Zone) (f : WireFault)
+    → (rate : ℕ) × (r : Reply Fault)
+    × (broken_text f ≡ reply_text zone rate (asked_of (Err f)).closes r)
+unfolding asked_of reply_text
+broken_reply zone f = (0, Faulty (fault.Frame f), refl)
+
+broken_reads : (f : WireFault) (P : ℕ → Query → Type 0) → IfRead (asked_of (Err f)).message P
+unfolding asked_of
+broken_reads f P = tt
 
 broken_leaves : (settings : Settings) (h : History) (f : WireFault)
     → next_of settings h (asked_of (Err f)) ≡ h
@@ -262,6 +328,11 @@ step_broken content is_failed is_honest may_leave zone f k = record {
     });
     crash = λ t may. inl may;
   };
+  told = inl (record {
+    text = broken_reply zone f;
+    shown = λ honest. broken_reads f _;
+    accepted = λ honest going. inl refl;
+  });
   made = λ honest going. inl refl;
   crash = λ honest t may. inl may;
   failure = λ honest sound failing. absurd (not_both _ failing (broken_goes f));

@@ -1,8 +1,10 @@
 -- The answer to one message. Start here.
-use Rattle.std.specs.Prelude.{◌≡◌, ◌⊎◌, ◌↔◌, ◌++◌, ℕ, List, Bool, true, false, None, Result, Ok, Err, IsErrOf, IsOk, IsSome}
+use Rattle.std.specs.Prelude.{◌≡◌, ◌⊎◌, ◌↔◌, ◌++◌, ℕ, List, [], Bool, true, false, None, Result, Ok, Err, IsErrOf, IsOk, IsSome}
 use Rattle.std.specs.Borrow.{Bor}
 use Rattle.house_rows.specs.declared.fault.KeepFault.{KeepFault}
 use Rattle.house_rows.specs.declared.fault.KeepFault.TheVariants as fault
+use Rattle.house_rows.specs.declared.reply.Reply.{Reply}
+use Rattle.house_rows.specs.declared.reply.Reply.TheVariants.{Shows}
 use Rattle.house_rows.specs.declared.settings.Settings.{Settings}
 use Rattle.house_rows.specs.History.{History}
 use Rattle.house_rows.specs.Keeping.{AreSound}
@@ -10,10 +12,12 @@ use Rattle.house_rows.specs.Runs.{next, reply}
 use Rattle.house_rows.specs.Tables.{Tables, tables_of}
 use Rattle.house_rows.specs.Verdict.{IsHistory}
 use Rattle.jiff.specs.Words.{read_whole}
+use Rattle.pages_laws.specs.ByTables.{page_by}
 use Rattle.settle.specs.Zoned.{IsPlainText}
 use Rattle.settle.specs.declared.zone.Zone.{Zone}
-use Rattle.site_acts.specs.Acted.{IsMade, IsTaken, is_asking, is_entered}
+use Rattle.site_acts.specs.Acted.{IfRead, IsMade, IsTaken, TellsDone, is_asking, is_entered}
 use Rattle.site_asks.specs.declared.asked.Asked.{Asked}
+use Rattle.site_asks.specs.declared.fault.Fault.{Fault}
 use Rattle.site_replies.specs.Texts.{fault_text, is_failure, reply_text}
 use Rattle.wire.specs.Answer.{answer_bytes, error_body}
 use Rattle.wire.specs.Fault.{status_of, word_of}
@@ -74,6 +78,27 @@ pub record Answers {K : Type 0} (content : K → Tables) (is_failed : K → Bool
       → may_leave old t ⊎ ((is_failed old ≡ false)
       × (t ≡ tables_of settings (next_of settings h asked)))
 
+-- over any tables, the text of a reply: that of a read shows the page of the kept tables, and
+-- nothing is changed but where it tells that a command was accepted
+pub record IsReplied {K : Type 0} (content : K → Tables) (is_failed : K → Bool)
+    (is_honest : K → Type 0) (zone : Zone) (asked : Asked) (reply : List ℕ) (old new : K)
+    : Type 0 where
+  pub text : (rate : ℕ) × (r : Reply Fault) × (reply ≡ reply_text zone rate asked.closes r)
+  pub shown : is_honest new → IfRead asked.message (λ caller query.
+      reply ≡ reply_text zone (content old).settings.rate asked.closes
+      (Shows (page_by (content old) caller query)))
+  pub accepted : is_honest new → is_failed new ≡ false → (content new ≡ content old)
+      ⊎ TellsDone zone asked.closes [] reply
+
+-- or a text of 500 or 503 that stands ready: nothing has acted, unless the store failed
+pub record IsUnmade {K : Type 0} (content : K → Tables) (is_failed : K → Bool)
+    (is_honest : K → Type 0) (may_leave : K → Tables → Type 0) (asked : Asked) (reply : List ℕ)
+    (old new : K) : Type 0 where
+  pub text : (f : KeepFault) × (reply ≡ fault_text f asked.closes)
+  pub tables : is_honest new → is_failed new ≡ false → content new ≡ content old
+  pub left : is_honest new → is_failed new ≡ false
+      → (t : Tables) → may_leave new t → may_leave old t
+
 -- what answering one message does to any keep
 pub record IsStep {K : Type 0} (content : K → Tables) (is_failed : K → Bool)
     (is_honest : K → Type 0) (may_leave : K → Tables → Type 0)
@@ -81,7 +106,10 @@ pub record IsStep {K : Type 0} (content : K → Tables) (is_failed : K → Bool)
   pub answer : is_honest new → (settings : Settings) (h : History) → IsHistory settings h
       → content old ≡ tables_of settings h
       → Answers content is_failed may_leave settings zone h asked reply old new
-  -- over any tables nothing is changed but by a change, and a crash leaves no more
+  -- over any tables, of a history or not
+  pub told : IsReplied content is_failed is_honest zone asked reply old new
+      ⊎ IsUnmade content is_failed is_honest may_leave asked reply old new
+  -- nothing is changed but by a change, and a crash leaves no more
   pub made : is_honest new → is_failed new ≡ false → (content new ≡ content old)
       ⊎ IsMade (content old) (content new)
   pub crash : is_honest new → (t : Tables) → may_leave new t

@@ -1,4 +1,5 @@
 -- Runs: the answers to a list of messages, and those to one member.
+use Rattle.std.specs.List.{AllZip}
 use Rattle.std.specs.Prelude.{if◌then◌else◌, ◌≡◌, ◌⊎◌, ℕ, List, [], ◌∷◌, ◌++◌, Bool, true, false, Err}
 use Rattle.house_rows.specs.declared.fault.KeepFault.TheVariants as fault
 use Rattle.house_rows.specs.declared.message.Message.{Message}
@@ -8,8 +9,10 @@ use Rattle.house_rows.specs.History.{History}
 use Rattle.house_rows.specs.Runs.{AreTwins, is_of, rendered_to}
 use Rattle.house_rows.specs.Tables.{Tables, tables_of}
 use Rattle.house_rows.specs.Verdict.{IsHistory}
+use Rattle.house_laws.specs.Covered.{IsCovered, Sealed, bid_message, raised, with_maximum}
 use Rattle.settle.specs.declared.zone.Zone.{Zone}
 use Rattle.site_acts.specs.Acted.{is_asking}
+use Rattle.site_asks.specs.Asked.{IsAsked}
 use Rattle.site_asks.specs.declared.asked.Asked.{Asked}
 use Rattle.site_asks.specs.declared.fault.Fault.{Fault}
 use Rattle.site_replies.specs.Texts.{fault_text, is_failure, reply_text}
@@ -48,11 +51,27 @@ TellsFault text reply = (fault : WireFault) → IsFrame text (Err fault) → rep
 abbrev pub TwinRuns : Settings → ℕ → List Asked → List Asked → Type 0
 TwinRuns settings c left right = AreTwins meant settings c left right
 
+-- the bid in a place of a run, which is counted from 1, is covered, and it isn't the member's
+abbrev pub IsCoveredRun : Settings → ℕ → ℕ → ℕ → Sealed → List Asked → Type 0
+IsCoveredRun settings c place y b ms = IsCovered meant settings c place y b ms
+
+-- what is asked is that bid with another maximum
+abbrev pub Raises : ℕ → Sealed → Asked → Type 0
+Raises y b asked = asked.message ≡ bid_message (with_maximum y b)
+
 -- the replies at a member's places
 abbrev pub at_places : ℕ → List Asked → List (List ℕ) → List (List ℕ)
 at_places c [] replies = []
 at_places c (m ∷ ms) [] = []
 at_places c (m ∷ ms) (r ∷ rs) = (if is_from c m then r ∷ [] else []) ++ at_places c ms rs
+
+-- another text in a place of a run is hidden from a member: the list with it asks what it asks in that place, is a twin for the
+-- member, and has the replies at the member's places
+pub record IsHidden (settings : Settings) (zone : Zone) (c place : ℕ) (texts : List (List ℕ)) (asked : List Asked)
+    (text : List ℕ) (other : Asked) (replies : List (List ℕ)) : Type 0 where
+  pub asks : AllZip IsAsked (raised place text texts) (raised place other asked)
+  pub twins : TwinRuns settings c asked (raised place other asked)
+  pub same : at_places c asked replies ≡ answers_to settings zone c (raised place other asked)
 
 -- messages answered in turn, each over what the one before left
 abbrev pub InTurn : {K : Type 0} → (Asked → List ℕ → K → K → Type 0) → List Asked → List (List ℕ)

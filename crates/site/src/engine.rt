@@ -1,5 +1,5 @@
 //! The engine over a keep.
-ghost use Rattle.std.specs.Prelude.{◌≡◌, ◌↔◌, [], ℕ, List, Ok, Err, IfErr, IfOk, IsOk, true};
+ghost use Rattle.std.specs.Prelude.{◌≡◌, ◌↔◌, [], ℕ, List, Ok, Err, IfErr, IfOk, IsOk, OnOk, true};
 ghost use Rattle.std.specs.Borrow.{sem};
 ghost use Rattle.std.specs.Cow.{cow_slice_items};
 ghost use Rattle.house_rows.specs.declared.settings.Settings.{Settings as TheSettings};
@@ -9,6 +9,7 @@ ghost use Rattle.house_rows.specs.Tables.{tables_of};
 ghost use Rattle.house_rows.specs.Verdict.{IsHistory};
 ghost use Rattle.pages_record.specs.Record.{record_text};
 ghost use Rattle.settle.specs.Zoned.{IsZoneOf};
+ghost use Rattle.steps.specs.Table.{IsBandTable};
 ghost use Rattle.site_asks.specs.Asked.{IsAsked, asked_of};
 ghost use Rattle.site_asks.specs.declared.asked.Asked.{Asked as TheAsked};
 ghost use Rattle.wire.specs.Frame.{IsFrame};
@@ -41,12 +42,15 @@ pub struct Site<K: Drop> {
     pub(crate) keep: K,
 }
 
-// The zone that is kept.
+// The zone that is kept, beside bands that are a valid table, as those of all settings are.
 fn read_zone(settings: &Settings) -> Result<Zone, KeepFault>
+    ensures bands { IsBandTable settings.now.bands }
     ensures ok { IsOk result ↔ IsReadable settings.now.zone }
     ensures zone { IfOk result (IsZoneOf settings.now.zone) }
     ensures err { IfErr result (λ fault. fault ≡ KeepFault.Damaged) }
 {
+    // For the proof alone: the rows of a table are valid.
+    let _ = settings.bands.rows();
     match Zone::read(settings.zone.as_str()) {
         Ok(zone) => Ok(zone),
         Err(_) => Err(KeepFault::Damaged),
@@ -80,6 +84,8 @@ impl<K: Keep + Drop> Site<K> {
         ensures keep { IfOk result (λ site. site.keep ≡ keep) }
         ensures zone { K.is_honest keep → IfOk result (λ site.
             IsZoneOf (K.content keep).settings.zone (zone_of site)) }
+        ensures bands { K.is_honest keep → OnOk result
+            (IsBandTable (K.content keep).settings.bands) }
         ensures faults { IsBegun result (K.is_honest keep) (K.is_failed keep) (K.content keep) }
     {
         let zone = read_zone(keep.settings()?)?;

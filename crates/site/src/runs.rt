@@ -2,12 +2,14 @@
 ghost use Rattle.std.specs.Prelude.{◌≡◌, [], List, ℕ, IfOk, IsErr, map, length};
 ghost use Rattle.std.specs.Cow.{cow_slice_items};
 ghost use Rattle.std.specs.List.{AllByRecursion, AllZip};
+ghost use Rattle.steps.specs.Table.{IsBandTable};
+ghost use Rattle.house_laws.specs.Covered.{Sealed};
 ghost use Rattle.house_rows.specs.declared.settings.Settings.{Settings as TheSettings};
 ghost use Rattle.house_rows.specs.History.{History};
 ghost use Rattle.house_rows.specs.Tables.{tables_of};
 ghost use Rattle.house_rows.specs.Verdict.{IsHistory};
 ghost use Rattle.site.specs.Answers.{IsStep, zone_of};
-ghost use Rattle.site.specs.Runs.{InTurn, IsGoing, Ran, Stopped, TellsFault, TwinRuns, answers_to, at_places};
+ghost use Rattle.site.specs.Runs.{InTurn, IsCoveredRun, IsGoing, IsHidden, Raises, Ran, Stopped, TellsFault, TwinRuns, answers_to, at_places};
 ghost use Rattle.site_asks.specs.Asked.{IsAsked};
 ghost use Rattle.site_asks.specs.declared.asked.Asked.{Asked as TheAsked};
 ghost use Rattle.site_replies.specs.Texts.{IsServed};
@@ -24,7 +26,8 @@ pub enum RunFault {
 
 impl<K: Keep + Drop> Site<K> {
     /// Answers each message in turn. Where a run of a new house met neither want of memory nor a
-    /// failure, a member's replies are those of any run that is a twin of it for the member.
+    /// failure, a member's replies are those of any run that is a twin of it for the member; and those
+    /// in which the last leader's covered bid is raised are such runs for everybody else.
     pub fn run(&mut self, messages: &[Vec<u8>]) -> Result<Vec<Reply>, RunFault>
         ensures steps { IfOk result (λ v. (asked : List TheAsked)
             × AllZip IsAsked (map (λ m. m.items) messages.now) asked
@@ -53,6 +56,17 @@ impl<K: Keep + Drop> Site<K> {
             → TwinRuns settings c firsts seconds
             → at_places c firsts (map cow_slice_items v.items)
             ≡ answers_to settings (zone_of self.old) c seconds) }
+        // However far the last leader raises a bid that covers what leading takes.
+        ensures surplus { K.is_honest self.new.keep
+            → (settings : TheSettings) → IsBandTable settings.bands
+            → K.content self.old.keep ≡ tables_of settings []
+            → IfOk result (λ v. AllByRecursion IsServed (map cow_slice_items v.items)
+            → (c place y : ℕ) (b : Sealed) (asked : List TheAsked) (text : List ℕ) (other : TheAsked)
+            → AllZip IsAsked (map (λ m. m.items) messages.now) asked
+            → IsCoveredRun settings c place y b asked
+            → IsAsked text other → Raises y b other
+            → IsHidden settings (zone_of self.old) c place (map (λ m. m.items) messages.now) asked
+            text other (map cow_slice_items v.items)) }
         ensures broken { IfOk result (λ v.
             AllZip TellsFault (map (λ m. m.items) messages.now) (map cow_slice_items v.items)) }
         ensures as_many { IfOk result (λ v. length v.items ≡ length messages.now) }

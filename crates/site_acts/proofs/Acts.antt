@@ -1,7 +1,7 @@
 -- What has acted: a message that only read, a command whose change was made or wasn't, and a
 -- message that asks for nothing.
-use Rattle.std.proofs.Common.{◌≡◌, ◌⊎◌, ◌∷◌, ◌++◌, ◌∙◌, ℕ, List, Bool, true, false, refl, sym, ap, inl, inr}
-use Rattle.std.specs.Prelude.{Option, Result, Ok, Err, IfErr, OnOk, OnErr, IsErrOf}
+use Rattle.std.proofs.Common.{◌≡◌, ◌++◌, ◌∙◌, ℕ, List, Bool, true, false, refl, sym, ap, inl, inr}
+use Rattle.std.specs.Prelude.{Option, Result, Ok, Err, IfErr, OnOk, OnErr}
 use Rattle.house.specs.Decided.{IsAccepted}
 use Rattle.house.specs.Own.{IsOf}
 use Rattle.house.proofs.Found.{by_test}
@@ -9,12 +9,13 @@ use Rattle.house.proofs.Unchanged.{still_there}
 use Rattle.house_rows.specs.declared.change.Change.{Change}
 use Rattle.house_rows.specs.declared.command.Command.{Command}
 use Rattle.house_rows.specs.declared.fault.KeepFault.{KeepFault}
-use Rattle.house_rows.specs.declared.fault.KeepFault.TheVariants.{Memory, Store, Damaged}
+use Rattle.house_rows.specs.declared.fault.KeepFault.TheVariants.{Memory}
 use Rattle.house_rows.specs.declared.message.Message.{Message}
 use Rattle.house_rows.specs.declared.message.Message.TheVariants.{Order, Broken}
 use Rattle.house_rows.specs.declared.reply.Reply.{Reply}
-use Rattle.house_rows.specs.declared.reply.Reply.TheVariants.{Done, Faulty}
+use Rattle.house_rows.specs.declared.reply.Reply.TheVariants.{Done, Faulty, Shows}
 use Rattle.house_rows.specs.declared.settings.Settings.{Settings}
+use Rattle.house_rows.specs.declared.told.Told.{Told}
 use Rattle.house_rows.specs.Asks.{ChangeFits}
 use Rattle.house_rows.specs.Changed.{changed}
 use Rattle.house_rows.specs.History.{History}
@@ -24,10 +25,11 @@ use Rattle.house_rows.specs.Tables.{Tables, tables_of}
 use Rattle.house_rows.specs.Verdict.{IsHistory}
 use Rattle.house_rows.proofs.Next.{next_accepted, reply_accepted}
 use Rattle.house_rows.proofs.Sound.{rows_are_sound}
+use Rattle.pages_laws.specs.ByTables.{page_by}
 use Rattle.settle.specs.declared.zone.Zone.{Zone}
 use Rattle.site_asks.specs.declared.fault.Fault.{Fault}
 use Rattle.site_replies.specs.Texts.{reply_text}
-use Rattle.site_acts.specs.Acted.{IsActed, is_asking, is_entered}
+use Rattle.site_acts.specs.Acted.{IfRead, IsActed, TellsDone, is_asking, is_entered}
 use Rattle.site_acts.specs.Entered.{IfTold, IsApplied}
 
 -- the tables of a history are sound
@@ -48,17 +50,22 @@ pub acted_by_reading : {K : Type 0} (content : K → Tables) (is_failed : K → 
     × (next settings h message ≡ h) × (is_entered settings h message ≡ false)))
     → OnOk result ((rate : ℕ) × (r : Reply Fault)
     × (after ≡ before ++ reply_text zone rate closes r))
+    → (is_honest new → IfRead message (λ caller query. OnOk result (after ≡ before
+    ++ reply_text zone (content old).settings.rate closes
+    (Shows (page_by (content old) caller query)))))
     → OnErr result (after ≡ before)
     → Faults result (is_honest new) (is_failed new) (content old)
     → IsRead content is_failed is_honest may_leave old new
     → IsActed content is_failed is_honest may_leave zone closes message result before after old new
 acted_by_reading content is_failed is_honest may_leave zone closes message (Ok u) before after old
-    new asks value text same faults read = record {
+    new asks value text shown same faults read = record {
       told = λ honest settings h is e. (value honest settings h is e).0;
       tables = λ honest settings h is e.
           still_there u content is_failed is_honest may_leave old new faults read honest ∙ e
           ∙ ap (tables_of settings) (sym (value honest settings h is e).1);
       text = text;
+      shown = shown;
+      accepted = λ honest going. inl (read.same honest going);
       err = tt;
       unmade = λ honest going. tt;
       store = (λ e. (faults.store.0 e, asks), λ e. faults.store.1 e.0);
@@ -76,10 +83,12 @@ acted_by_reading content is_failed is_honest may_leave zone closes message (Ok u
           ∙ (value honest settings h is e).2 in cc);
     }
 acted_by_reading content is_failed is_honest may_leave zone closes message (Err f) before after old
-    new asks value text same faults read = record {
+    new asks value text shown same faults read = record {
       told = λ honest settings h is e. tt;
       tables = λ honest settings h is e. tt;
       text = tt;
+      shown = shown;
+      accepted = λ honest going. inl (read.same honest going);
       err = same;
       unmade = λ honest going. read.same honest going;
       store = (λ e. (faults.store.0 e, asks), λ e. faults.store.1 e.0);
@@ -127,6 +136,11 @@ leads_on settings h moment caller command change t e is =
     ∙ ap (tables_of settings)
     (sym (next_accepted Fault settings h moment caller command is.accepted))
 
+-- what tells of an accepted command is the text of a reply
+some_reply : (zone : Zone) (closes : Bool) (before after : List ℕ) → TellsDone zone closes before after
+    → (rate : ℕ) × (r : Reply Fault) × (after ≡ before ++ reply_text zone rate closes r)
+some_reply zone closes before after (rate, told, e) = (rate, Done told, e)
+
 -- an accepted command
 pub acted_by_change : {K : Type 0} (content : K → Tables) (is_failed : K → Bool)
     (is_honest : K → Type 0) (may_leave : K → Tables → Type 0)
@@ -136,8 +150,7 @@ pub acted_by_change : {K : Type 0} (content : K → Tables) (is_failed : K → B
     → (is_honest new → (rate : ℕ)
     → IfTold (content mid) change
     (λ told. OnOk result (after ≡ before ++ reply_text zone rate closes (Done told))))
-    → OnOk result ((rate : ℕ) × (r : Reply Fault)
-    × (after ≡ before ++ reply_text zone rate closes r))
+    → OnOk result (TellsDone zone closes before after)
     → OnErr result (after ≡ before)
     → IsApplied content is_failed is_honest may_leave change result mid new
     → IsActed content is_failed is_honest may_leave zone closes (Order moment caller command) result
@@ -155,7 +168,9 @@ acted_by_change content is_failed is_honest may_leave zone closes moment caller 
           let b = applied.honest honest in
           applied.ok honest ∙ leads_on settings h moment caller command change (content mid)
           (ready.same b ∙ e) (ready.accepted b settings h is e);
-      text = text;
+      text = some_reply zone closes before after text;
+      shown = λ honest. tt;
+      accepted = λ honest going. inr text;
       err = tt;
       unmade = λ honest going. tt;
       store = (λ e. cc, λ e. applied.faults.store.1 e.0);
@@ -200,6 +215,8 @@ acted_by_change content is_failed is_honest may_leave zone closes moment caller 
       told = λ honest settings h is e. tt;
       tables = λ honest settings h is e. tt;
       text = tt;
+      shown = λ honest. tt;
+      accepted = λ honest going. inl (applied.err honest going ∙ ready.same (applied.honest honest));
       err = same;
       unmade = λ honest going. applied.err honest going ∙ ready.same (applied.honest honest);
       store = (λ e. (applied.faults.store.0 e, refl), λ e. applied.faults.store.1 e.0);
@@ -264,6 +281,8 @@ acted_by_nothing content is_failed is_honest may_leave zone closes caller fault 
       told = λ honest settings h is e. value settings.rate;
       tables = λ honest settings h is e. e;
       text = (0, Faulty fault, value 0);
+      shown = λ honest. tt;
+      accepted = λ honest going. inl refl;
       err = tt;
       unmade = λ honest going. tt;
       store = (λ e. cc, λ e. absurd (let wrong : false ≡ true = e.1 in cc));
@@ -283,6 +302,8 @@ acted_by_nothing content is_failed is_honest may_leave zone closes caller fault 
       told = λ honest settings h is e. tt;
       tables = λ honest settings h is e. tt;
       text = tt;
+      shown = λ honest. tt;
+      accepted = λ honest going. inl refl;
       err = same;
       unmade = λ honest going. refl;
       store = (λ e. cc, λ e. absurd (let wrong : false ≡ true = e.1 in cc));
@@ -306,3 +327,11 @@ pub some_text : (result : Result (Unit {0}) KeepFault) (zone : Zone) (rate : ℕ
     × (after ≡ before ++ reply_text zone rate closes r))
 some_text (Ok u) zone rate closes r before after e = (rate, r, e)
 some_text (Err f) zone rate closes r before after e = tt
+
+-- and where that is told it is so of an accepted command
+pub done_text : (result : Result (Unit {0}) KeepFault) (zone : Zone) (rate : ℕ) (closes : Bool)
+    (told : Told) (before after : List ℕ)
+    → OnOk result (after ≡ before ++ reply_text zone rate closes (Done told))
+    → OnOk result (TellsDone zone closes before after)
+done_text (Ok u) zone rate closes told before after e = (rate, told, e)
+done_text (Err f) zone rate closes told before after e = tt

@@ -1,11 +1,10 @@
 -- What a call that leaves the history is replied: a read, or a command that is refused.
 use Rattle.std.proofs.Common.{◌≡◌, ◌++◌, ◌∙◌, ℕ, List, Bool, false, refl, sym, ap, Some}
-use Rattle.std.specs.Prelude.{Option, Result, Ok, Err, IfErr, OnOk, IsErrOf, length, take}
+use Rattle.std.specs.Prelude.{Result, Ok, Err, IfErr, OnOk, IsErrOf, length, take}
 use Rattle.std.proofs.Math.Seq.{take-append_seam}
 use Rattle.house_rows.specs.declared.command.Command.{Command}
 use Rattle.house_rows.specs.declared.fault.KeepFault.{KeepFault}
 use Rattle.house_rows.specs.declared.fault.KeepFault.TheVariants.{Memory, Store, Damaged}
-use Rattle.house_rows.specs.declared.message.Message.{Message}
 use Rattle.house_rows.specs.declared.message.Message.TheVariants.{Order, Read}
 use Rattle.house_rows.specs.declared.page.Page.{Page}
 use Rattle.house_rows.specs.declared.query.Query.{Query}
@@ -115,3 +114,11 @@ unfolding next reply
 shown_reads (Ok u) zone closes settings h caller query page rate before after is at text =
     (rw (← is, ← at) text, refl, refl)
 shown_reads (Err f) zone closes settings h caller query page rate before after is at text = tt
+
+-- a page, by the tables that are kept
+pub shown_page : (result : Result (Unit {0}) KeepFault) (zone : Zone) (closes : Bool)
+    (page other : Page) (rate own : ℕ) (before after : List ℕ) → page ≡ other → rate ≡ own
+    → OnOk result (after ≡ before ++ reply_text zone rate closes (Shows page))
+    → OnOk result (after ≡ before ++ reply_text zone own closes (Shows other))
+shown_page (Ok u) zone closes page other rate own before after is at text = rw (← is, ← at) text
+shown_page (Err f) zone closes page other rate own before after is at text = tt

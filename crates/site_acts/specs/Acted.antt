@@ -6,8 +6,11 @@ use Rattle.house_rows.specs.declared.fault.KeepFault.{KeepFault}
 use Rattle.house_rows.specs.declared.fault.KeepFault.TheVariants.{Store, Damaged}
 use Rattle.house_rows.specs.declared.message.Message.{Message}
 use Rattle.house_rows.specs.declared.message.Message.TheVariants.{Order, Read, Broken}
+use Rattle.house_rows.specs.declared.query.Query.{Query}
 use Rattle.house_rows.specs.declared.reply.Reply.{Reply}
+use Rattle.house_rows.specs.declared.reply.Reply.TheVariants.{Done, Shows}
 use Rattle.house_rows.specs.declared.settings.Settings.{Settings}
+use Rattle.house_rows.specs.declared.told.Told.{Told}
 use Rattle.house_rows.specs.Asks.{ChangeFits, IsFree}
 use Rattle.house_rows.specs.Changed.{changed}
 use Rattle.house_rows.specs.History.{History}
@@ -15,6 +18,7 @@ use Rattle.house_rows.specs.Keeping.{AreSound}
 use Rattle.house_rows.specs.Runs.{next, reply}
 use Rattle.house_rows.specs.Tables.{Tables, tables_of}
 use Rattle.house_rows.specs.Verdict.{IsHistory, verdict}
+use Rattle.pages_laws.specs.ByTables.{page_by}
 use Rattle.settle.specs.declared.zone.Zone.{Zone}
 use Rattle.site_asks.specs.declared.fault.Fault.{Fault}
 use Rattle.site_replies.specs.Texts.{reply_text}
@@ -44,6 +48,17 @@ IsTaken t (Order moment caller command) =
 IsTaken t (Read caller query) = ⊥
 IsTaken t (Broken caller fault) = ⊥
 
+-- of a read, what is said of its caller and its query
+abbrev pub IfRead : Message Fault → (ℕ → Query → Type 0) → Type 0
+IfRead (Order moment caller command) P = Unit {0}
+IfRead (Read caller query) P = P caller query
+IfRead (Broken caller fault) P = Unit {0}
+
+-- what is appended tells that a command was accepted
+abbrev pub TellsDone : Zone → Bool → List ℕ → List ℕ → Type 0
+TellsDone zone closes before after =
+    (rate : ℕ) × (told : Told) × (after ≡ before ++ reply_text zone rate closes (Done told))
+
 -- what a message does to a keep, and which bytes are appended for it; `old` and `new` are the keep,
 -- `before` and `after` the bytes
 pub record IsActed {K : Type 0} (content : K → Tables) (is_failed : K → Bool)
@@ -62,6 +77,13 @@ pub record IsActed {K : Type 0} (content : K → Tables) (is_failed : K → Bool
   -- over any tables what is appended is the text of a reply
   pub text : OnOk result ((rate : ℕ) × (r : Reply Fault)
       × (after ≡ before ++ reply_text zone rate closes r))
+  -- and that of a read shows the page of the kept tables
+  pub shown : is_honest new → IfRead message (λ caller query. OnOk result (after ≡ before
+      ++ reply_text zone (content old).settings.rate closes
+      (Shows (page_by (content old) caller query))))
+  -- nothing is changed but where a command is told that it was accepted
+  pub accepted : is_honest new → is_failed new ≡ false → (content new ≡ content old)
+      ⊎ TellsDone zone closes before after
   -- a call that fails appends nothing, and has not acted unless the store failed
   pub err : OnErr result (after ≡ before)
   pub unmade : is_honest new → is_failed new ≡ false → OnErr result (content new ≡ content old)

@@ -1,12 +1,10 @@
 //! What a command does: the verdict, then the bytes of its answer, and the change last.
 ghost use Rattle.std.specs.Prelude.{◌≡◌, ◌++◌, ℕ, false, OnErr, OnOk};
 ghost use Rattle.house_rows.specs.declared.message.Message.TheVariants.{Order};
-ghost use Rattle.house_rows.specs.declared.reply.Reply.{Reply as TheReply};
 ghost use Rattle.house_rows.specs.declared.reply.Reply.TheVariants.{Done};
 ghost use Rattle.house_rows.specs.Asks.{ChangeFits};
 ghost use Rattle.house_rows.specs.Keeping.{AreSound, Faults, IsRead};
-ghost use Rattle.site_asks.specs.declared.fault.Fault.{Fault};
-ghost use Rattle.site_acts.specs.Acted.{IsActed};
+ghost use Rattle.site_acts.specs.Acted.{IsActed, TellsDone};
 ghost use Rattle.site_acts.specs.Entered.{IfTold, IsApplied};
 ghost use Rattle.site_replies.specs.Texts.{reply_text};
 
@@ -53,8 +51,8 @@ fn enter<K: Keep>(
     ensures told { K.is_honest keep.new → (rate : ℕ)
         → IfTold (K.content keep.old) change.now (λ told. OnOk result (out.new.items
         ≡ out.old.items ++ reply_text writer.old.zone rate closes (Done told))) }
-    ensures text { OnOk result ((rate : ℕ) × (r : TheReply Fault)
-        × (out.new.items ≡ out.old.items ++ reply_text writer.old.zone rate closes r)) }
+    ensures text { OnOk result
+        (TellsDone writer.old.zone closes out.old.items out.new.items) }
     ensures err { OnErr result (out.new.items ≡ out.old.items) }
     ensures applied { IsApplied K.content K.is_failed K.is_honest K.may_leave change.now result
         keep.old keep.new }
@@ -83,8 +81,8 @@ fn foretell<K: Keep>(
     ensures told { K.is_honest keep.new → (rate : ℕ)
         → IfTold (K.content keep.old) change.now (λ told. OnOk result (out.new.items
         ≡ out.old.items ++ reply_text writer.old.zone rate closes (Done told))) }
-    ensures text { OnOk result ((rate : ℕ) × (r : TheReply Fault)
-        × (out.new.items ≡ out.old.items ++ reply_text writer.old.zone rate closes r)) }
+    ensures text { OnOk result
+        (TellsDone writer.old.zone closes out.old.items out.new.items) }
     ensures err { OnErr result (out.new.items ≡ out.old.items) }
     ensures faults { Faults result (K.is_honest keep.new) (K.is_failed keep.new)
         (K.content keep.old) }

@@ -3,7 +3,7 @@ use crate::fault::Fault;
 use house_rows::Message;
 
 /// What a message asks, and the one thing beside it that its answer shows.
-#[derive(Debug, Drop)]
+#[derive(Drop)]
 pub struct Asked {
     /// Whether the connection ends behind the answer.
     pub closes: bool,

@@ -1,7 +1,10 @@
 mod Callers
 mod Cuts
+mod Leaders
 mod Lists
 mod Pairs
 mod Places
+mod RaisedRuns
 mod Runs
+mod SealedBids
 mod Twins

@@ -1,5 +1,6 @@
 //! Two sites, side by side.
-ghost use Rattle.std.specs.Prelude.{◌≡◌};
+ghost use Rattle.std.specs.Prelude.{◌≡◌, IfOk, true};
+ghost use Rattle.steps.specs.Table.{IsBandTable};
 ghost use Rattle.house_rows.specs.declared.settings.Settings.{Settings as TheSettings};
 ghost use Rattle.house_rows.specs.History.{History};
 ghost use Rattle.house_rows.specs.Runs.{Agrees};
@@ -40,6 +41,8 @@ fn are_alike<K: Keep + Drop>(left: &mut Site<K>, right: &mut Site<K>) -> Result<
         → K.content (keep_of right.old) ≡ tables_of others k
         → IsSeen K.content K.is_failed (settings ≡ others)
         (keep_of left.old) (keep_of right.old) (keep_of left.new) (keep_of right.new) result }
+    ensures valid { K.is_honest (keep_of left.new)
+        → IfOk result (λ _. IsBandTable (K.content (keep_of left.old)).settings.bands) }
     ensures left { IsUsed K.is_failed K.is_honest left.old left.new }
     ensures right { IsUsed K.is_failed K.is_honest right.old right.new }
 {
@@ -59,6 +62,8 @@ pub(crate) fn may_begin<K: Keep + Drop>(
         → IsSeen K.content K.is_failed
         (MayBegin (K.content (keep_of left.old)) (K.content (keep_of right.old)))
         (keep_of left.old) (keep_of right.old) (keep_of left.new) (keep_of right.new) result }
+    ensures valid { K.is_honest (keep_of left.new) → IfOk result (λ begins.
+        begins ≡ true → IsBandTable (K.content (keep_of left.old)).settings.bands) }
     ensures left { IsUsed K.is_failed K.is_honest left.old left.new }
     ensures right { IsUsed K.is_failed K.is_honest right.old right.new }
 {

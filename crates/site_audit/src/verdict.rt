@@ -41,8 +41,8 @@ fn apart_at(place: usize) -> Verdict
     }
 }
 
-// Compares two lists over houses that are new.
-fn compare<K: Keep + Drop>(
+/// Compares two lists over houses that are new.
+pub(crate) fn compare<K: Keep + Drop>(
     alloc: Global,
     left: &mut Site<K>,
     right: &mut Site<K>,

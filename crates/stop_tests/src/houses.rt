@@ -1,12 +1,9 @@
-//! Houses on two files: made, opened, given commands, and shown.
-use crate::fault::Fault;
-use crate::order::Order;
-use house::decide;
-use house_rows::{Keep, KeepFault, Rate, Refusal, Settings, Text};
+//! Houses on two files.
+use house_rows::KeepFault;
+use house_script::{Fault, settings};
 use sqlite::{Alter, Connection, FileStore, Options};
+use sqlite_disk::{Disk, Files};
 use std::alloc::Global;
-use std::fmt::Write;
-use steps::Bands;
 use stop_files::{Pair, Stopping};
 use store::SqlKeep;
 
@@ -20,14 +17,6 @@ pub(crate) trait Connects<S: Alter> {
 // What the salts of the logs are drawn from.
 const SEED: u64 = 2026;
 
-// What the houses are set up with.
-fn settings(alloc: Global) -> Result<Settings, KeepFault> {
-    let bands = Bands::example(alloc).map_err(|_| KeepFault::Memory)?;
-    let rate = Rate::new(1_000).ok_or(KeepFault::Damaged)?;
-    let zone = Text::copy_of(alloc, "UTC0").map_err(|_| KeepFault::Memory)?;
-    Ok(Settings { bands, rate, zone })
-}
-
 /// How much room a connection has.
 #[derive(Clone, Copy, Debug)]
 pub(crate) struct Room {
@@ -37,6 +26,26 @@ pub(crate) struct Room {
     pub(crate) written: usize,
     /// How many pages the log has before it is copied into the database file.
     pub(crate) logged: usize,
+}
+
+impl Room {
+    /// The room that a line spells: `create READ WRITTEN LOGGED`.
+    pub(crate) fn of_line(line: &str) -> Result<Room, Fault> {
+        let mut words = line.split_whitespace();
+        if words.next() != Some("create") {
+            return Err(Fault::Script);
+        }
+        Ok(Room {
+            read: size(words.next())?,
+            written: size(words.next())?,
+            logged: size(words.next())?,
+        })
+    }
+}
+
+// The size that a word spells.
+fn size(word: Option<&str>) -> Result<usize, Fault> {
+    word.unwrap_or("").parse().map_err(|_| Fault::Script)
 }
 
 /// Connects with the database on two files.
@@ -49,90 +58,44 @@ pub(crate) struct Place<'p> {
 
 impl<'p> Connects<FileStore<Stopping<'p>>> for Place<'p> {
     fn connection(&self) -> Result<Connection<FileStore<Stopping<'p>>>, KeepFault> {
-        let files = self.pair.files();
-        if !files.may_be_used() {
-            return Err(KeepFault::Store);
-        }
-        let options = Options {
-            cache_pages: self.room.read,
-            spill_pages: self.room.written,
-            checkpoint_frames: self.room.logged,
-            seed: SEED,
-        };
-        match Connection::open_files(self.alloc, files, options) {
-            Ok(conn) => Ok(conn),
-            Err(_) => Err(KeepFault::Store),
-        }
+        connect(self.alloc, self.pair.files(), self.room)
+    }
+}
+
+// A connection with the database on files.
+fn connect<D: Disk + Drop>(
+    alloc: Global,
+    files: Files<D>,
+    room: Room,
+) -> Result<Connection<FileStore<D>>, KeepFault> {
+    if !files.may_be_used() {
+        return Err(KeepFault::Store);
+    }
+    let options = Options {
+        cache_pages: room.read,
+        spill_pages: room.written,
+        checkpoint_frames: room.logged,
+        seed: SEED,
+    };
+    match Connection::open_files(alloc, files, options) {
+        Ok(conn) => Ok(conn),
+        Err(_) => Err(KeepFault::Store),
     }
 }
 
 /// The keep of a new house.
-pub(crate) fn created<S: Alter + Drop, C: Connects<S>>(
+pub(crate) fn create<S: Alter + Drop, C: Connects<S>>(
     alloc: Global,
     place: &C,
 ) -> Result<SqlKeep<S>, KeepFault> {
-    SqlKeep::create(alloc, place.connection()?, settings(alloc)?)
+    let settings = settings(alloc).map_err(|_| KeepFault::Memory)?;
+    SqlKeep::create(alloc, place.connection()?, settings)
 }
 
 /// The keep of the house that is there.
-pub(crate) fn opened<S: Alter + Drop, C: Connects<S>>(
+pub(crate) fn open<S: Alter + Drop, C: Connects<S>>(
     alloc: Global,
     place: &C,
 ) -> Result<SqlKeep<S>, KeepFault> {
     SqlKeep::open(alloc, place.connection()?)
-}
-
-/// Gives a command, and tells why it is refused, if it is.
-pub(crate) fn give<K: Keep>(keep: &mut K, order: &Order) -> Result<Option<Refusal>, KeepFault> {
-    match decide(keep, order.moment, order.caller, &order.command) {
-        Err(fault) => Err(fault),
-        Ok(Err(refusal)) => Ok(Some(refusal)),
-        Ok(Ok(change)) => {
-            keep.apply(&change)?;
-            Ok(None)
-        }
-    }
-}
-
-/// Gives a command, which has to be accepted.
-pub(crate) fn take<K: Keep>(keep: &mut K, order: &Order) -> Result<(), Fault> {
-    match give(keep, order)? {
-        None => Ok(()),
-        Some(_) => Err(Fault::House),
-    }
-}
-
-/// All that the house shows to anybody.
-pub(crate) fn shown<K: Keep>(alloc: Global, keep: &mut K) -> Result<String, Fault> {
-    let mut text = String::new(alloc);
-    write!(text, "{} {:?}", keep.clock()?, keep.members()?)?;
-    write!(text, " {:?} {:?}", keep.categories()?, keep.items()?)?;
-    write!(
-        text,
-        " {:?} {:?}",
-        keep.all_published()?,
-        keep.all_feedback()?
-    )?;
-    for member in 1..=u64::from(keep.counts()?.members) {
-        show_member(&mut text, keep, member)?;
-    }
-    Ok(text)
-}
-
-// Adds what the house shows to a member alone.
-fn show_member<K: Keep>(text: &mut String, keep: &mut K, member: u64) -> Result<(), Fault> {
-    write!(
-        text,
-        " {:?} {:?}",
-        keep.bids_of(member, 0)?,
-        keep.watches_of(member)?
-    )?;
-    write!(
-        text,
-        " {:?} {:?}",
-        keep.questions_of(member, 0)?,
-        keep.waiting_for(member)?
-    )?;
-    write!(text, " {:?}", keep.sold_of(member)?)?;
-    Ok(())
 }

@@ -1,36 +1,33 @@
 //! Stops a house in files at each call of its store, and looks what is left of it.
 //!
-//! `stdin` has the life of a house: a command a line, `MOMENT CALLER NAME WORD..`, behind the mark of `transcript`;
-//! an empty line, and one that begins with `--`, is none. The making of the house and each command in turn is done
-//! again and again, with a stop of the log and then of the database file behind one call more each time, until a run
-//! ends with no stop. Behind each stop nothing, all, or every other sector of what wasn't synced is lost, and the
-//! files are opened again. What is right is told on standard output, behind its line, how many stops there were on
-//! standard error. Read `stops` first.
+//! `stdin` has the life of a house, behind the mark of `transcript`: `create READ WRITTEN LOGGED`, with the room of its
+//! connections, and then a command a line, as `house_script` says; an empty line, and one that begins with `--`, is
+//! none. The making of the house and each command in turn is done again and again, with a stop of the log and then of
+//! the database file behind one call more each time, until a run ends with no stop. Behind each stop nothing, all, or
+//! every other sector of what wasn't synced is lost, and the files are opened again. What is right is told on
+//! standard output, behind its line, how many stops there were on standard error. Read `stops` first.
 #![tactic(auto)]
 
-mod fault;
 mod houses;
-mod order;
+mod sessions;
 mod stops;
 mod tally;
 
-use fault::Fault;
-use order::{spelled, spelled_room};
+use house_script::{Fault, read_script};
+use houses::Room;
 use std::alloc::Global;
-use std::io;
 use std::process::ExitCode;
 use stops::Case;
 use transcript::echoed;
 
-// What is done by a line: a house is made, or one more command is given in it.
-fn done(alloc: Global, before: Option<Case>, line: &str) -> Result<(&str, Case), Fault> {
-    match before {
-        None => Ok(("create", Case::making(alloc, spelled_room(alloc, line)?)?)),
-        Some(case) => {
-            let (name, order) = spelled(alloc, line)?;
-            Ok((name, case.next(alloc, order)?))
+// The name of what a line does: its first word that is no number.
+fn name(line: &str) -> &str {
+    for word in line.split_whitespace() {
+        if word.parse::<u64>().is_err() {
+            return word;
         }
     }
+    line
 }
 
 // Stops what is to be stopped, and tells what came of it.
@@ -40,22 +37,45 @@ fn tell(rt: &(impl Print + Eprint), alloc: Global, name: &str, case: &Case) -> R
     eprintln!(rt; "{name}: {tally:?}").map_err(|_| Fault::Output)
 }
 
-fn play(rt: &(impl Input + Print + Eprint), alloc: Global) -> Result<(), Fault> {
-    let script = io::read_to_string(alloc, rt.reader()).map_err(|_| Fault::Script)?;
-    let mut last = None;
-    for line in script.as_str().lines() {
-        let line = echoed(rt, line).map_err(|_| Fault::Output)?;
-        if !line.is_empty() && !line.starts_with("--") {
-            let (name, case) = done(alloc, last, line)?;
-            tell(rt, alloc, name, &case)?;
-            last = Some(case);
-        }
+// Makes a house by the line of its making, and gives it the commands of the lines that follow.
+fn play_lines(rt: &(impl Print + Eprint), alloc: Global, script: &str) -> Result<(), Fault> {
+    let mut case = None;
+    for line in script.lines() {
+        play_line(rt, alloc, &mut case, line)?;
     }
     Ok(())
 }
 
+// Plays a line: a house is made, or one more command is given in it.
+fn play_line<'s>(
+    rt: &(impl Print + Eprint),
+    alloc: Global,
+    case: &mut Option<Case<'s>>,
+    line: &'s str,
+) -> Result<(), Fault> {
+    let line = echoed(rt, line).map_err(|_| Fault::Output)?;
+    if line.is_empty() || line.starts_with("--") {
+        return Ok(());
+    }
+    match case {
+        None => {
+            let making = Case::making(alloc, Room::of_line(line)?)?;
+            tell(rt, alloc, name(line), case.insert(making))
+        }
+        Some(case) => {
+            case.advance(alloc, line)?;
+            tell(rt, alloc, name(line), case)
+        }
+    }
+}
+
 fn main(rt: HostRuntime) -> ExitCode {
-    match play(&rt, rt.alloc()) {
+    let alloc = rt.alloc();
+    let played = match read_script(&rt, alloc) {
+        Ok(script) => play_lines(&rt, alloc, script.as_str()),
+        Err(fault) => Err(fault),
+    };
+    match played {
         Ok(()) => ExitCode::SUCCESS,
         Err(fault) => {
             let _ = eprintln!(rt; "stop_tests: {fault}");

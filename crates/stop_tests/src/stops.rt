@@ -1,177 +1,134 @@
 //! A house is stopped at each call of either file, and what is left is looked at.
-use crate::fault::Fault;
-use crate::houses::{Connects, Place, Room, created, give, opened, shown, take};
-use crate::order::Order;
+use crate::houses::{Place, Room};
+use crate::sessions::{Answer, Session, Stop, answer_at_stop, view};
 use crate::tally::{Found, Tally};
-use house_rows::{Keep, KeepFault};
-use sqlite::Alter;
+use house_script::Fault;
 use std::alloc::Global;
+use std::mem;
 use stop_files::{Image, Loss, Pair, Side};
-use store::SqlKeep;
 
 // What log and database file may have lost when the machine comes back.
 const LOSSES: [Loss; 4] = [Loss::Nothing, Loss::All, Loss::Even, Loss::Odd];
 
+// A house that is opened, and nothing more.
+const THERE: Session = Session {
+    is_new: false,
+    earlier: None,
+    last: None,
+};
+
+impl Place<'_> {
+    // What the house shows after a session.
+    fn view(&self, session: Session<'_>) -> Result<String, Fault> {
+        view(self.alloc, self, session)
+    }
+
+    // What is answered when a file stops.
+    fn answer(&self, session: Session<'_>, stop: Stop<'_>) -> Result<Answer, Fault> {
+        answer_at_stop(self.alloc, self, session, stop)
+    }
+}
+
 /// What is stopped: a command in a house where another was acknowledged before it, or, where there is none, the
 /// making of a house.
 #[derive(Drop)]
-pub(crate) struct Case {
+pub(crate) struct Case<'s> {
     room: Room,
-    // What was synced before the other command.
+    // What was synced before the session.
     base: Image,
-    earlier: Option<Order>,
-    order: Option<Order>,
+    session: Session<'s>,
     // What the house shows; of no house that is nothing.
     before: String,
     after: String,
 }
 
-// What is answered to what is stopped.
-#[derive(Clone, Copy, Debug, PartialEq, Eq)]
-enum Answer {
-    Done,
-    Store,
-    Other,
-}
-
-// The house that is there, with what was acknowledged in it.
-fn begun<S: Alter + Drop, C: Connects<S>>(
+// What a house in files shows after a session.
+fn view_in(
     alloc: Global,
-    place: &C,
-    earlier: &Option<Order>,
-) -> Result<SqlKeep<S>, Fault> {
-    let mut keep = opened(alloc, place)?;
-    if let Some(order) = earlier {
-        take(&mut keep, order)?;
-    }
-    Ok(keep)
+    image: &Image,
+    room: Room,
+    session: Session<'_>,
+) -> Result<String, Fault> {
+    let pair = &Pair::of(alloc, image)?;
+    Place { alloc, pair, room }.view(session)
 }
 
-// What a new house shows.
-fn shown_new<S: Alter + Drop, C: Connects<S>>(alloc: Global, place: &C) -> Result<String, Fault> {
-    shown(alloc, &mut created(alloc, place)?)
-}
-
-// What a house shows before a command and behind it.
-fn shown_around<S: Alter + Drop, C: Connects<S>>(
-    alloc: Global,
-    place: &C,
-    earlier: &Option<Order>,
-    order: &Order,
-) -> Result<(String, String), Fault> {
-    let mut keep = begun(alloc, place, earlier)?;
-    let before = shown(alloc, &mut keep)?;
-    take(&mut keep, order)?;
-    let after = shown(alloc, &mut keep)?;
-    Ok((before, after))
-}
-
-impl Case {
+impl<'s> Case<'s> {
     /// The making of a house, in two files that hold nothing.
-    pub(crate) fn making(alloc: Global, room: Room) -> Result<Case, Fault> {
+    pub(crate) fn making(alloc: Global, room: Room) -> Result<Case<'s>, Fault> {
         let base = Image::blank(alloc);
-        let pair = &Pair::of(alloc, &base)?;
-        let after = shown_new(alloc, &Place { alloc, pair, room })?;
+        let session = Session {
+            is_new: true,
+            ..THERE
+        };
+        let after = view_in(alloc, &base, room, session)?;
         Ok(Case {
             room,
             base,
-            earlier: None,
-            order: None,
+            session,
             before: String::new(alloc),
             after,
         })
     }
 
-    // A new house, or, where what is stopped is a command, the one that is there, with what was acknowledged.
-    fn house<S: Alter + Drop, C: Connects<S>>(
-        &self,
-        alloc: Global,
-        place: &C,
-        earlier: &Option<Order>,
-    ) -> Result<SqlKeep<S>, Fault> {
-        match self.order {
-            None => Ok(created(alloc, place)?),
-            Some(_) => begun(alloc, place, earlier),
-        }
-    }
-
-    // Does all but the last.
-    fn repeat<S: Alter + Drop, C: Connects<S>>(
-        &self,
-        alloc: Global,
-        place: &C,
-    ) -> Result<(), Fault> {
-        let _ = self.house(alloc, place, &self.earlier)?;
+    /// Goes on to the command that comes next, which has to be accepted and to change what the house shows.
+    pub(crate) fn advance(&mut self, alloc: Global, command: &'s str) -> Result<(), Fault> {
+        let session = Session {
+            is_new: false,
+            earlier: self.session.last,
+            last: Some(command),
+        };
+        let (base, after) = self.next(alloc, session)?;
+        self.base = base;
+        self.session = session;
+        self.before = mem::replace(&mut self.after, after);
         Ok(())
     }
 
-    // What was synced once all but the last was done.
-    fn base_of_next(&self, alloc: Global) -> Result<Image, Fault> {
-        let pair = &Pair::of(alloc, &self.base)?;
-        let room = self.room;
-        self.repeat(alloc, &Place { alloc, pair, room })?;
-        Ok(pair.left(alloc, Loss::All)?)
-    }
-
-    /// The command that comes next, which has to be accepted and to change what the house shows.
-    pub(crate) fn next(self, alloc: Global, order: Order) -> Result<Case, Fault> {
-        let base = self.base_of_next(alloc)?;
-        let pair = &Pair::of(alloc, &base)?;
-        let room = self.room;
-        let place = Place { alloc, pair, room };
-        let (before, after) = shown_around(alloc, &place, &self.order, &order)?;
-        if before == after {
-            return Err(Fault::House);
+    // What was synced before the next session, and what the house shows after it.
+    fn next(&self, alloc: Global, session: Session<'_>) -> Result<(Image, String), Fault> {
+        let base = self.next_base(alloc)?;
+        let after = view_in(alloc, &base, self.room, session)?;
+        if after == self.after {
+            return Err(Fault::Keep);
         }
-        Ok(Case {
-            room,
-            base,
-            earlier: self.order,
-            order: Some(order),
-            before,
-            after,
-        })
+        Ok((base, after))
     }
 
-    // Does it, with a stop of one file behind so many calls.
-    fn run<S: Alter + Drop, C: Connects<S>>(
-        &self,
-        alloc: Global,
-        place: &C,
-        pair: &Pair,
-        side: Side,
-        calls: u64,
-    ) -> Result<Answer, Fault> {
-        let Some(order) = &self.order else {
-            pair.stop_after(side, calls);
-            return made(alloc, place);
+    // What was synced once all but the last command was given.
+    fn next_base(&self, alloc: Global) -> Result<Image, Fault> {
+        let pair = &Pair::of(alloc, &self.base)?;
+        let session = Session {
+            last: None,
+            ..self.session
         };
-        let mut keep = begun(alloc, place, &self.earlier)?;
-        pair.stop_after(side, calls);
-        answered(&mut keep, order)
+        let room = self.room;
+        let _ = Place { alloc, pair, room }.view(session)?;
+        pair.left(alloc, Loss::All).map_err(|_| Fault::Keep)
     }
 
     // Whether it can be done where it was found not to be.
-    fn can_be_done<S: Alter + Drop, C: Connects<S>>(
-        &self,
-        alloc: Global,
-        place: &C,
-    ) -> Result<bool, Fault> {
-        let mut keep = self.house(alloc, place, &self.order)?;
-        Ok(shown(alloc, &mut keep)? == self.after)
+    fn can_be_done(&self, place: &Place<'_>) -> Result<bool, Fault> {
+        let session = Session {
+            earlier: None,
+            ..self.session
+        };
+        Ok(place.view(session)? == self.after)
     }
 
     // What is found in files that are opened again.
-    fn found(&self, alloc: Global, answer: Answer, image: &Image) -> Result<Found, Fault> {
-        let pair = &Pair::of(alloc, image)?;
-        let room = self.room;
-        let place = Place { alloc, pair, room };
-        let there = house_on(alloc, &place)?;
-        Ok(if answer == Answer::Other {
-            Found::Answer
-        } else if there == self.after {
+    fn find(&self, alloc: Global, answer: Answer, place: &Place<'_>) -> Result<Found, Fault> {
+        if answer == Answer::Other {
+            return Ok(Found::Answer);
+        }
+        // A house that can't be opened shows nothing.
+        let there = match place.view(THERE) {
+            Err(Fault::Keep) => String::new(alloc),
+            there => there?,
+        };
+        Ok(if there == self.after {
             Found::After
-        } else if there != self.before || !self.can_be_done(alloc, &place)? {
+        } else if there != self.before || !self.can_be_done(place)? {
             Found::Other
         } else if answer == Answer::Done {
             Found::Lost
@@ -180,22 +137,43 @@ impl Case {
         })
     }
 
+    // What is found where files have lost something.
+    fn find_left(
+        &self,
+        alloc: Global,
+        answer: Answer,
+        stopped: &Pair,
+        loss: Loss,
+    ) -> Result<Found, Fault> {
+        let image = stopped.left(alloc, loss).map_err(|_| Fault::Keep)?;
+        let pair = &Pair::of(alloc, &image)?;
+        let room = self.room;
+        self.find(alloc, answer, &Place { alloc, pair, room })
+    }
+
+    // Stops a file, and looks what is left: whether it did stop.
+    fn stop(&self, alloc: Global, stop: Stop<'_>, tally: &mut Tally) -> Result<bool, Fault> {
+        let (pair, side, calls, room) = (stop.pair, stop.side, stop.calls, self.room);
+        let answer = Place { alloc, pair, room }.answer(self.session, stop)?;
+        if !pair.has_stopped(side) {
+            if answer != Answer::Done {
+                tally.find(side, calls, Found::Answer);
+            }
+            return Ok(false);
+        }
+        tally.stop();
+        for loss in LOSSES {
+            tally.find(side, calls, self.find_left(alloc, answer, pair, loss)?);
+        }
+        Ok(true)
+    }
+
     // Stops one file behind each number of calls, until a run ends with no stop.
     fn stop_side(&self, alloc: Global, side: Side, tally: &mut Tally) -> Result<(), Fault> {
         for calls in 0..u64::MAX {
             let pair = &Pair::of(alloc, &self.base)?;
-            let room = self.room;
-            let answer = self.run(alloc, &Place { alloc, pair, room }, pair, side, calls)?;
-            if !pair.has_stopped(side) {
-                if answer != Answer::Done {
-                    tally.find(side, calls, Found::Answer);
-                }
+            if !self.stop(alloc, Stop { pair, side, calls }, tally)? {
                 return Ok(());
-            }
-            tally.stop();
-            for loss in LOSSES {
-                let image = pair.left(alloc, loss)?;
-                tally.find(side, calls, self.found(alloc, answer, &image)?);
             }
         }
         Ok(())
@@ -207,40 +185,5 @@ impl Case {
         self.stop_side(alloc, Side::Log, &mut tally)?;
         self.stop_side(alloc, Side::Database, &mut tally)?;
         Ok(tally)
-    }
-}
-
-// What is answered to the making of a house.
-fn made<S: Alter + Drop, C: Connects<S>>(alloc: Global, place: &C) -> Result<Answer, Fault> {
-    match created(alloc, place) {
-        Ok(_) => Ok(Answer::Done),
-        Err(KeepFault::Store) => Ok(Answer::Store),
-        Err(KeepFault::Damaged) => Ok(Answer::Other),
-        Err(KeepFault::Memory) => Err(Fault::Memory),
-    }
-}
-
-// What is answered to a command. Where that is Store, so is every later call.
-fn answered<K: Keep>(keep: &mut K, order: &Order) -> Result<Answer, Fault> {
-    match give(keep, order) {
-        Ok(None) => Ok(Answer::Done),
-        Err(KeepFault::Store) if is_shut(keep, order) => Ok(Answer::Store),
-        Err(KeepFault::Memory) => Err(Fault::Memory),
-        _ => Ok(Answer::Other),
-    }
-}
-
-// Whether a read and a command are answered Store.
-fn is_shut<K: Keep>(keep: &mut K, order: &Order) -> bool {
-    matches!(keep.items(), Err(KeepFault::Store))
-        && matches!(give(keep, order), Err(KeepFault::Store))
-}
-
-// What is shown by the house that is there.
-fn house_on<S: Alter + Drop, C: Connects<S>>(alloc: Global, place: &C) -> Result<String, Fault> {
-    match opened(alloc, place) {
-        Ok(mut keep) => shown(alloc, &mut keep),
-        Err(KeepFault::Memory) => Err(Fault::Memory),
-        Err(_) => Ok(String::new(alloc)),
     }
 }

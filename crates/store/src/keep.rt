@@ -278,7 +278,7 @@ impl<S: Alter> Keep for SqlKeep<S> {
         told!(self, question_at(&mut self.conn, item, asker, number))
     }
 
-    #[tactic(auto, using(crate::proofs::Absent::no_giver, crate::proofs::Absent::no_given), unfolding(store_rows::specs::Tables::tables_in))]
+    #[tactic(auto, using(store_rows::proofs::Sound::feedback_fits, crate::proofs::Absent::no_giver, crate::proofs::Absent::no_given), unfolding(store_rows::specs::Tables::tables_in))]
     fn given(&mut self, item: u64, giver: u64) -> Result<bool, KeepFault> {
         self.serves()?;
         let Ok(item) = u32::try_from(item) else {

@@ -39,6 +39,9 @@ put_feedback_is = (refl, (refl, refl))
 abbrev pub feedback_to_text : List ℕ
 feedback_to_text = codes "SELECT item, giver, receiver, rating, body FROM feedback WHERE receiver = ?1 ORDER BY rowid"
 
+abbrev pub is_given_text : List ℕ
+is_given_text = codes "SELECT item, giver, receiver, rating, body FROM feedback WHERE item = ?1 AND giver = ?2 ORDER BY rowid"
+
 abbrev pub question_at_text : List ℕ
 question_at_text = codes "SELECT item, asker, n, answer, body FROM question WHERE item = ?1 AND asker = ?2 AND n = ?3 ORDER BY rowid"
 
@@ -47,6 +50,10 @@ talk_shown = col 1 1 ∷ col 1 2 ∷ col 1 3 ∷ col 1 4 ∷ col 1 5 ∷ []
 
 abbrev pub question_shown : List Term
 question_shown = col 1 1 ∷ col 1 2 ∷ col 1 3 ∷ col 1 5 ∷ col 1 4 ∷ []
+
+-- of this item by this giver
+abbrev pub given_by : List Term
+given_by = equals 1 ∷ op2 (Compare Eq Binary) (col 1 2) (col 0 1) ∷ []
 
 -- of this key
 abbrev pub by_question : List Term
@@ -62,6 +69,11 @@ pub feedback_to_is : (command_of (understood house_schema feedback_to_text) ≡ 
     × (reads_listing house_schema feedback_to_text ≡ false) × IsPlain (understood house_schema feedback_to_text)
 unfolding understood everything
 feedback_to_is = (refl, refl, (refl, refl))
+
+pub is_given_is : (command_of (understood house_schema is_given_text) ≡ Select (record { lets = []; body = plain_query 14 given_by talk_shown by_rowid }) feedback_names)
+    × (reads_listing house_schema is_given_text ≡ false) × IsPlain (understood house_schema is_given_text)
+unfolding understood everything
+is_given_is = (refl, refl, (refl, refl))
 
 pub question_at_is : (command_of (understood house_schema question_at_text) ≡ Select (record { lets = []; body = plain_query 12 by_question question_shown by_rowid }) question_names)
     × (reads_listing house_schema question_at_text ≡ false) × IsPlain (understood house_schema question_at_text)

@@ -1,15 +1,17 @@
 //! Feedback between the parties of a sale.
 ghost use Rattle.std.specs.Prelude.{◌≡◌, ◌<◌, ◌^◌, false, OnOk, IsErrOf};
+ghost use Rattle.std.specs.List.{AllByRecursion, list_any};
 ghost use Rattle.sqlite.specs.State.{HasCleanDisk};
 ghost use Rattle.sqlite.specs.Held.{state};
 ghost use Rattle.house_rows.specs.Asks.{IsFree};
-ghost use Rattle.house_rows.specs.Fits.{IsMoment};
+ghost use Rattle.house_rows.specs.Fits.{FeedbackFits, IsMoment};
 ghost use Rattle.house_rows.specs.declared.change.Change.TheVariants.{Feedback};
 ghost use Rattle.house_rows.specs.declared.fault.KeepFault.TheVariants.{Damaged};
 ghost use Rattle.store_rows.specs.House.{IsBegun};
 ghost use Rattle.store_rows.specs.Tables.{Changes, IsNumbered, Rests, tables_in};
 ghost use Rattle.store_rows.specs.Frames.{WritesMany};
 ghost use Rattle.store_rows.specs.Commits.{Commits};
+ghost use Rattle.store_talk.specs.Taken.{has_feedback_key};
 
 use crate::feedback::put_feedback;
 use crate::given::is_given;
@@ -67,7 +69,8 @@ fn commit_feedback<S: Alter>(
 }
 
 /// Gives a member feedback on an item. The moment is in seconds since 1970-01-01T00:00:00Z. Where
-/// this giver has given some on the item, it is `Damaged`, and so is a moment of more than 32 bits.
+/// a row has this item and giver, also one that doesn't fit, it is `Damaged`, and so is a moment of
+/// more than 32 bits.
 pub fn give_feedback<S: Alter>(
     conn: &mut Connection<S>,
     moment: u64,
@@ -84,8 +87,12 @@ pub fn give_feedback<S: Alter>(
     ensures taken { HasCleanDisk (state S.Store conn.new)
         → OnOk result (IsFree (tables_in (state S.Store conn.old).now.trees)
         (Feedback moment item from to rating text.entry)) }
+    ensures key { HasCleanDisk (state S.Store conn.new)
+        → OnOk result (list_any (has_feedback_key item from)
+        ((state S.Store conn.old).now.trees 14) ≡ false) }
     ensures moment { OnOk result (moment < 2 ^ 32) }
     ensures damaged { HasCleanDisk (state S.Store conn.new)
+        → AllByRecursion FeedbackFits (tables_in (state S.Store conn.old).now.trees).feedback
         → IsMoment moment
         → IsFree (tables_in (state S.Store conn.old).now.trees)
         (Feedback moment item from to rating text.entry)

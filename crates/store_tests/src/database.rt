@@ -48,11 +48,11 @@ impl Connects<FileStore<File>> for InFile<'_> {
 
 /// Makes each house in a database of its own.
 #[derive(Drop)]
-pub(crate) struct Databases<C> {
-    pub(crate) place: C,
+pub(crate) struct Databases<'c, C> {
+    pub(crate) place: &'c C,
 }
 
-impl<S: Alter + Drop, C: Connects<S>> Makes<SqlKeep<S>> for Databases<C> {
+impl<S: Alter + Drop, C: Connects<S>> Makes<SqlKeep<S>> for Databases<'_, C> {
     fn empty(&self, alloc: Global, settings: Settings) -> Result<SqlKeep<S>, KeepFault> {
         SqlKeep::create(alloc, self.place.connection()?, settings)
     }

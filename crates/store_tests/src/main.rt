@@ -1,40 +1,69 @@
-//! Plays a script on houses in SQLite: one command or one question a line, and one line of answer.
+//! Plays a script on houses in memory and in SQLite: one command or one question a line, and one line of answer.
 //!
-//! `store_tests` plays it on houses in memory. `store_tests make FILE` plays it on a house in a new file, and
-//! `store_tests ask FILE` asks the house that is there. The stored run is a test of the keep in SQLite: `stdin`
-//! has the script, `stdout` its transcript, in which what the house has to answer stands behind each line, which is
-//! what a house in memory answers. `house_script` says what a line may be.
+//! `store_tests` plays it on houses in memory up to the comment `-- In SQLite.`, and after it, or where there is none,
+//! on houses in SQLite in memory. `store_tests memory` plays it on houses in memory. `store_tests make FILE` plays
+//! it on a house in a new file, and `store_tests ask FILE` asks the house that is there. The stored run is a test of the
+//! house's decisions and of the keep in SQLite: `stdin` has the script, `stdout` its transcript, in which what the house
+//! has to answer stands behind each line, written by hand from its rules. `house_script` says what a line may be.
 #![tactic(auto)]
 
 mod database;
 mod place;
 
 use database::{Connects, Databases, InFile, InMemory};
-use house_script::{Fault, ask, play};
+use house_rows::{KeepFault, Settings};
+use house_script::{Fault, Makes, ask, play, read_script};
 use place::{Place, named_place};
 use sqlite::Alter;
 use std::alloc::Global;
 use std::fs;
 use std::process::ExitCode;
 use store::SqlKeep;
+use store_list::ListKeep;
 
-// Plays the script on houses that are made in a place.
-fn make<S: Alter + Drop, C: Connects<S> + Drop>(
-    rt: &HostRuntime,
-    alloc: Global,
-    place: C,
-) -> Result<(), Fault> {
-    play(rt, alloc, &Databases { place })
+// What parts a script that is played in memory and then in SQLite.
+const MARK: &str = "-- In SQLite.\n";
+
+// Makes keeps in memory.
+#[derive(Drop)]
+struct Lists;
+
+impl Makes<ListKeep> for Lists {
+    fn empty(&self, alloc: Global, settings: Settings) -> Result<ListKeep, KeepFault> {
+        ListKeep::create(alloc, settings)
+    }
 }
 
-// Asks the house that is in a place.
-fn ask_there<S: Alter + Drop, C: Connects<S> + Drop>(
+// Plays a script on houses that are made in a place.
+fn make<S: Alter + Drop, C: Connects<S>>(
     rt: &HostRuntime,
     alloc: Global,
-    place: C,
+    place: &C,
+    script: &str,
 ) -> Result<(), Fault> {
-    let keep = SqlKeep::open(alloc, place.connection()?)?;
-    ask(rt, alloc, keep)
+    play(rt, alloc, &Databases { place }, script)
+}
+
+// Asks the house that is in a place the questions of a script.
+fn ask_there<S: Alter + Drop, C: Connects<S>>(
+    rt: &HostRuntime,
+    alloc: Global,
+    place: &C,
+    script: &str,
+) -> Result<(), Fault> {
+    let mut keep = SqlKeep::open(alloc, place.connection()?)?;
+    ask(rt, alloc, &mut keep, script)
+}
+
+// Plays a script up to the mark on houses in memory, and after it in SQLite.
+fn play_both(rt: &HostRuntime, alloc: Global, script: &str) -> Result<(), Fault> {
+    let place = &InMemory { alloc };
+    let Some((first, rest)) = script.split_once(MARK) else {
+        return make(rt, alloc, place, script);
+    };
+    play(rt, alloc, &Lists, first)?;
+    print!(rt; "{MARK}").map_err(|_| Fault::Output)?;
+    make(rt, alloc, place, rest)
 }
 
 // That a file is there which isn't empty: a connection would make a database of it.
@@ -44,11 +73,19 @@ fn is_there(rt: &HostRuntime, path: &str) -> bool {
 
 // Plays the script where the command line says.
 fn start(rt: &HostRuntime, alloc: Global) -> Result<(), Fault> {
-    match named_place(rt)? {
-        Place::Memory => make(rt, alloc, InMemory { alloc }),
-        Place::New(path) => make(rt, alloc, InFile::new(rt, path.as_str())),
+    let place = named_place(rt)?;
+    let script = read_script(rt, alloc)?;
+    match place {
+        Place::Both => play_both(rt, alloc, script.as_str()),
+        Place::Memory => play(rt, alloc, &Lists, script.as_str()),
+        Place::New(path) => make(rt, alloc, &InFile::new(rt, path.as_str()), script.as_str()),
         Place::There(path) if !is_there(rt, path.as_str()) => Err(Fault::Keep),
-        Place::There(path) => ask_there(rt, alloc, InFile::new(rt, path.as_str())),
+        Place::There(path) => ask_there(
+            rt,
+            alloc,
+            &InFile::new(rt, path.as_str()),
+            script.as_str(),
+        ),
     }
 }
 

@@ -8,6 +8,8 @@ use std::rt::Env;
 /// Where the house of a script lies.
 #[derive(Drop)]
 pub(crate) enum Place {
+    /// In memory, and then in SQLite in memory, as the script says.
+    Both,
     /// In memory.
     Memory,
     /// In a new file of this name.
@@ -16,7 +18,7 @@ pub(crate) enum Place {
     There(String),
 }
 
-/// The place that the command line names: none, `make FILE` or `ask FILE`.
+/// The place that the command line names: none, `memory`, `make FILE` or `ask FILE`.
 pub(crate) fn named_place(rt: &(impl Env + AllocGlobal)) -> Result<Place, Fault> {
     let mut words = env::args(rt).map_err(|error| match error.kind() {
         ErrorKind::OutOfMemory => Fault::Memory,
@@ -25,8 +27,11 @@ pub(crate) fn named_place(rt: &(impl Env + AllocGlobal)) -> Result<Place, Fault>
     // The first word is the program's own name.
     let _ = words.next();
     let Some(word) = words.next() else {
-        return Ok(Place::Memory);
+        return Ok(Place::Both);
     };
+    if word.as_str() == "memory" {
+        return Ok(Place::Memory);
+    }
     let path = words.next().ok_or(Fault::Script)?;
     match word.as_str() {
         "make" => Ok(Place::New(path)),

@@ -10,10 +10,10 @@ returns-clause-ended g c =
     let k = g.K.Keep in
     on_ok_then c.finish.result c.finish.ensures.ended (λ ended.
     taken k.content k.is_failed k.is_honest k.may_leave g.K.Ends.is_ended c.args.by
-    c.args.keep c.in_ok-keep.keep c.check_member.new.keep (keep_of c.in_ok-site.site)
+    c.args.keep c.in_ok-keep.keep c.known.new.keep (keep_of c.in_ok-site.site)
     (keep_of c.import-imported.new.site) c.end.result (zone_of c.in_ok-site.site)
-    c.in_ok-keep.ensures c.in_ok-check_member.ensures.read
-    (λ honest. c.in_ok-check_member.ensures.known honest refl) c.in_ok-site.ensures.keep
+    c.in_ok-keep.ensures c.in_ok-lots.ensures.known.read
+    c.in_ok-lots.ensures.known.known c.in_ok-site.ensures.keep
     c.in_ok-site.ensures.zone c.import-imported.ensures.ordered c.end.ensures ended)
 
 pub returns-clause-listed : goal.returns-clause-listed
@@ -26,10 +26,10 @@ returns-clause-listed g c =
     (λ told ended. dealt k.content k.is_failed k.is_honest k.may_leave g.K.Ends.is_ended
     g.R.Read.remaining c.args.by c.args.keep (keep_of site)
     (taken k.content k.is_failed k.is_honest k.may_leave g.K.Ends.is_ended c.args.by
-    c.args.keep c.in_ok-keep.keep c.check_member.new.keep (keep_of site) (keep_of after)
-    c.end.result (zone_of site) c.in_ok-keep.ensures c.in_ok-check_member.ensures.read
-    (λ honest. c.in_ok-check_member.ensures.known honest refl) c.in_ok-site.ensures.keep
+    c.args.keep c.in_ok-keep.keep c.known.new.keep (keep_of site) (keep_of after)
+    c.end.result (zone_of site) c.in_ok-keep.ensures c.in_ok-lots.ensures.known.read
+    c.in_ok-lots.ensures.known.known c.in_ok-site.ensures.keep
     c.in_ok-site.ensures.zone c.import-imported.ensures.ordered c.end.ensures ended)
     c.args.lots c.in_ok-lots.lots (g.W.Write.contents c.args.output.now)
     (g.W.Write.contents c.import-imported.new.output) (g.W.Write.contents c.finish.new.output) told
-    c.in_ok-lots.was c.in_ok-site.ensures.keep c.finish.ensures.kept)
+    c.in_ok-lots.ensures.same c.in_ok-site.ensures.keep c.finish.ensures.kept)

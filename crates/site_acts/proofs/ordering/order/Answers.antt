@@ -38,7 +38,7 @@ returns-in-Ok-Err-clause-acted g c =
     (rw c.in-Ok-Err.field-0-is at (d.decided honest settings h is e)) c.write.ensures.ok)
     (some_text c.write.result c.args.writer.now.zone 0 c.args.closes (Denied c.in-Ok-Err.refusal)
     c.args.out.now.items c.write.new.out.items (c.write.ensures.ok 0))
-    c.write.ensures.err (faults_after c.in-Ok-Err.field-0 c.write.result _ _ _ d.faults
+    (λ honest. tt) c.write.ensures.err (faults_after c.in-Ok-Err.field-0 c.write.result _ _ _ d.faults
     c.write.ensures.memory) d.read
 
 pub returns-in-Err-clause-acted : goal.returns-in-Err-clause-acted
@@ -47,5 +47,5 @@ returns-in-Err-clause-acted g c =
     c.args.writer.now.zone c.args.closes _
     (Err c.in-Err.fault) c.args.out.now.items c.args.out.now.items c.args.keep.now c.decide.new.keep
     refl
-    (λ honest settings h is e. tt) tt refl
+    (λ honest settings h is e. tt) tt (λ honest. tt) refl
     (faults_err _ _ c.in-Err.fault _ _ _ c.in-Err.ensures.faults) c.in-Err.ensures.read

@@ -1,8 +1,10 @@
-use Rattle.std.proofs.Common.{refl, Err}
+use Rattle.std.proofs.Common.{refl, ap, Err}
 use Rattle.std.proofs.lemmas.Result.{err_from_is_err_and}
 use Rattle.house_rows.specs.declared.reply.Reply.TheVariants.{Shows}
 use Rattle.site_acts.proofs.Acts.{acted_by_reading, some_text}
-use Rattle.site_acts.proofs.Staying.{faults_after, faults_err, left_alone, rate_is, shown_reads}
+use Rattle.house_rows.specs.declared.settings.Settings.{Settings}
+use Rattle.pages_laws.specs.ByTables.{page_by}
+use Rattle.site_acts.proofs.Staying.{faults_after, faults_err, left_alone, rate_is, shown_page, shown_reads}
 use Rattle.site_acts.proofs.reading.read.Goals as goal
 
 pub returns-in_err-rate-clause-acted : goal.returns-in_err-rate-clause-acted
@@ -13,7 +15,7 @@ returns-in_err-rate-clause-acted g c =
     acted_by_reading g.K.Keep.content g.K.Keep.is_failed g.K.Keep.is_honest g.K.Keep.may_leave
     c.args.writer.now.zone c.args.closes _
     (Err fault) c.args.out.now.items c.args.out.now.items c.args.keep.now c.args.keep.now refl
-    (λ honest settings h is e. tt) tt refl (faults_err _ _ fault _ _ _ c.in_err-rate.ensures.faults)
+    (λ honest settings h is e. tt) tt (λ honest. tt) refl (faults_err _ _ fault _ _ _ c.in_err-rate.ensures.faults)
     (left_alone g.K.Keep.content g.K.Keep.is_failed g.K.Keep.is_honest g.K.Keep.may_leave
     c.args.keep.now)
     )
@@ -27,7 +29,7 @@ returns-in_err-page-clause-acted g c =
     acted_by_reading g.K.Keep.content g.K.Keep.is_failed g.K.Keep.is_honest g.K.Keep.may_leave
     c.args.writer.now.zone c.args.closes _
     (Err fault) c.args.out.now.items c.args.out.now.items c.args.keep.now c.read.new.keep refl
-    (λ honest settings h is e. tt) tt refl (faults_err _ _ fault _ _ _ c.in_err-page.ensures.faults)
+    (λ honest settings h is e. tt) tt (λ honest. tt) refl (faults_err _ _ fault _ _ _ c.in_err-page.ensures.faults)
     c.in_err-page.ensures.read
     )
 
@@ -46,5 +48,12 @@ returns-clause-acted g c =
     (c.in_ok-rate.ensures.value (p.read.honest honest)) e) c.show.ensures.ok)
     (some_text c.show.result c.args.writer.now.zone c.in_ok-rate.field-0.now.rate c.args.closes
     (Shows c.in_ok-page.page) c.args.out.now.items c.show.new.out.items c.show.ensures.ok)
+    (λ honest. shown_page c.show.result c.args.writer.now.zone c.args.closes c.in_ok-page.page
+    (page_by (g.K.Keep.content c.args.keep.now) c.args.caller c.args.query.now)
+    c.in_ok-rate.field-0.now.rate
+    (g.K.Keep.content c.args.keep.now).settings.rate
+    c.args.out.now.items c.show.new.out.items (p.tables honest)
+    (ap (λ (s : Settings). s.rate) (c.in_ok-rate.ensures.value (p.read.honest honest)))
+    c.show.ensures.ok)
     c.show.ensures.err (faults_after c.in_ok-page.page c.show.result _ _ _ p.faults
     c.show.ensures.memory) p.read

@@ -1,4 +1,6 @@
-use Rattle.std.proofs.Common.{◌≡◌, ◌∙◌, ap}
+use Rattle.std.proofs.Common.{◌≡◌, ◌∙◌, ap, subst}
+use Rattle.steps.specs.Table.{IsBandTable}
+use Rattle.house_rows.specs.Tables.{Tables}
 use Rattle.site_audit.specs.Places.{keep_of}
 use Rattle.site_audit.proofs.Pairs.{alike_told, seen_err, seen_from, seen_gave, sound_if}
 use Rattle.site_audit.proofs.pair.are_alike.Goals as goal
@@ -32,3 +34,8 @@ returns-clause-told g c = λ honest honest' settings others h k is is' e d.
       same,
       same',
     )
+
+pub returns-clause-valid : goal.returns-clause-valid
+returns-clause-valid g c = λ honest.
+    subst (λ (t : Tables). IsBandTable t.settings.bands)
+    (ap g.K.Keep.content c.keep_mut.ensures.keep) (c.in_ok-have_same_settings.ensures.valid honest)

@@ -1,5 +1,8 @@
-use Rattle.std.proofs.Common.{◌∙◌}
+use Rattle.std.proofs.Common.{◌≡◌, ◌∙◌, subst, true}
+use Rattle.std.proofs.lemmas.Result.{IfOk-weaker}
+use Rattle.steps.specs.Table.{IsBandTable}
 use Rattle.house.proofs.Unchanged.{still_there}
+use Rattle.house_rows.specs.Tables.{Tables}
 use Rattle.site_audit.specs.Audits.{MayBegin}
 use Rattle.site_audit.specs.Places.{keep_of}
 use Rattle.site_audit.proofs.Pairs.{begun, left_err, right_err, seen_gave, sound_if}
@@ -48,3 +51,16 @@ returns-clause-told g c = λ honest honest' settings others h k is is' e d.
     ((c.in_ok-is_new.ensures.told before settings h is e).0 c.if-not-branch.false)
     ((c.in_ok-is_new-2.ensures.told before' others k is' d).0 c.if-not-branch-2.false) same same'
     (c.are_alike.ensures.told honest honest' settings others h k is is' (same ∙ e) (same' ∙ d))
+
+pub returns-clause-valid : goal.returns-clause-valid
+returns-clause-valid g c = λ honest.
+    let n = g.K.Keep in
+    let a = keep_of c.args.left.now in
+    let a' = keep_of c.is_new.new.self in
+    let same = still_there c.in_ok-is_new.field-0 n.content n.is_failed n.is_honest n.may_leave a a'
+    c.in_ok-is_new.ensures.faults c.in_ok-is_new.ensures.read
+    (c.are_alike.ensures.left.honest honest) in
+    IfOk-weaker c.are_alike.result (λ _. IsBandTable (n.content a').settings.bands)
+    (λ begins. begins ≡ true → IsBandTable (n.content a).settings.bands)
+    (λ begins valid yes. subst (λ (t : Tables). IsBandTable t.settings.bands) same valid)
+    (c.are_alike.ensures.valid honest)

@@ -1,7 +1,11 @@
-use Rattle.std.proofs.Common.{◌≡◌, ◌==◌, ◌<◌, ◌^◌, ◌∙◌, ap, arith, length, not, rules}
+use Rattle.std.proofs.Common.{◌≡◌, ◌<◌, ◌^◌, ◌∙◌, ap, arith, rules, sym, subst, is_some, slice_get, option_map, IfSome}
 use Rattle.sqlite.specs.Held.{state}
-use Rattle.store_talk.proofs.FindMeaning.{is_given_is}
-use Rattle.store_talk.proofs.FeedbackFinds.{feedback_found}
+use Rattle.house_rows.specs.Fits.{FeedbackFits}
+use Rattle.house_rows.specs.declared.talk.Feedback.{Feedback}
+use Rattle.std.specs.Prelude.{Option}
+use Rattle.store_rows.specs.Rows.{feedback_of}
+use Rattle.store_talk.proofs.TalkMeaning.{is_given_is}
+use Rattle.store_talk.proofs.FeedbackFinds.{feedback_found, given_fits, key_found}
 use Rattle.store_talk.proofs.given.is_given.Goals as goal
 
 pub rows_shown-requires-clause-plain : goal.rows_shown-requires-clause-plain
@@ -12,5 +16,32 @@ returns-clause-found g c clean =
     let low : c.args.item < 2 ^ 32 = omega (arith, c.ranges.item) in
     let small : c.args.giver < 2 ^ 32 = omega (arith, c.ranges.giver) in
     let shown = rw (c.params-to_sql.ensures, c.params-to_sql-2.ensures) at (c.in_ok-rows.ensures.rows clean) in
-    let none : c.is_empty.result ≡ (length c.in_ok-rows.rows.items == 0) = search rules in
-    ap not none ∙ feedback_found c.args.item c.args.giver low small (state g.S.Store c.args.conn.now) (state g.S.Store c.rows_shown.new.conn) c.in_ok-rows.rows.items (c.rows_shown.ensures.house clean) shown
+    let items = c.in_ok-rows.rows.items in
+    let same : c.deref.result.now ≡ items = search rules in
+    let given_is : c.in_ok-given.given ≡ option_map feedback_of (slice_get items 0) = c.in_ok-given.ensures.value ∙ ap (λ l. option_map feedback_of (slice_get l 0)) same in
+    let some : c.is_some.result ≡ is_some c.in_ok-given.given = search rules in
+    some ∙ ap (λ (o : Option Feedback). is_some o) given_is
+    ∙ feedback_found c.args.item c.args.giver low small (state g.S.Store c.args.conn.now) (state g.S.Store c.rows_shown.new.conn) items (c.rows_shown.ensures.house clean) shown
+    (subst (λ (o : Option Feedback). IfSome o FeedbackFits) given_is c.in_ok-given.ensures.fits)
+
+pub returns-clause-key : goal.returns-clause-key
+returns-clause-key g c clean =
+    let low : c.args.item < 2 ^ 32 = omega (arith, c.ranges.item) in
+    let small : c.args.giver < 2 ^ 32 = omega (arith, c.ranges.giver) in
+    let shown = rw (c.params-to_sql.ensures, c.params-to_sql-2.ensures) at (c.in_ok-rows.ensures.rows clean) in
+    let items = c.in_ok-rows.rows.items in
+    let same : c.deref.result.now ≡ items = search rules in
+    let given_is : c.in_ok-given.given ≡ option_map feedback_of (slice_get items 0) = c.in_ok-given.ensures.value ∙ ap (λ l. option_map feedback_of (slice_get l 0)) same in
+    let some : c.is_some.result ≡ is_some c.in_ok-given.given = search rules in
+    some ∙ ap (λ (o : Option Feedback). is_some o) given_is
+    ∙ key_found c.args.item c.args.giver low small (state g.S.Store c.args.conn.now) (state g.S.Store c.rows_shown.new.conn) items (c.rows_shown.ensures.house clean) shown
+
+pub returns-in_err-given-clause-damaged : goal.returns-in_err-given-clause-damaged
+returns-in_err-given-clause-damaged g c clean fits is =
+    let low : c.args.item < 2 ^ 32 = omega (arith, c.ranges.item) in
+    let small : c.args.giver < 2 ^ 32 = omega (arith, c.ranges.giver) in
+    let shown = rw (c.params-to_sql.ensures, c.params-to_sql-2.ensures) at (c.in_ok-rows.ensures.rows clean) in
+    let items = c.in_ok-rows.rows.items in
+    let same : c.deref.result.now ≡ items = search rules in
+    let fit = given_fits c.args.item c.args.giver low small (state g.S.Store c.args.conn.now) (state g.S.Store c.rows_shown.new.conn) items (c.rows_shown.ensures.house clean) shown fits in
+    c.first_of.ensures.damaged (subst (λ l. IfSome (option_map feedback_of (slice_get l 0)) FeedbackFits) (sym same) fit) (search rules)

@@ -1,6 +1,7 @@
 use Rattle.std.proofs.Common.{◌≡◌, ◌∙◌, ◌++◌, ◌∷◌, [], ◌+◌, ◌<◌, ◌≤◌, map, take, length, ap, refl, arith}
 use Rattle.std.proofs.lemmas.List.{map-append, take_all, take_more, get_or_read}
 use Rattle.std.specs.Cow.{cow_slice_items}
+use Rattle.site.proofs.Raised.{run_hides}
 use Rattle.site.proofs.Stops.{stopped_texts}
 use Rattle.site.proofs.Turns.{ran_texts, run_isolated, turns_more, zip_more}
 use Rattle.site.specs.Runs.{TellsFault}
@@ -94,3 +95,16 @@ returns-clause-isolation g c = λ honest settings e served n second firsts secon
     (map (λ m. m.items) c.args.messages.now) (map cow_slice_items c.loop-message.replies.items)
     c.args.self.now.keep c.loop-message.self.keep turns honest e served n firsts seconds are
     twin
+
+pub returns-clause-surplus : goal.returns-clause-surplus
+returns-clause-surplus g c =
+    λ honest settings valid e served n place y b asked text other are covered is raises.
+    let k = g.K.Keep in
+    let done : length c.args.messages.now ≤ c.loop-message.message-index =
+    omega (arith, c.loop-message-test.false) in
+    let turns = rw (take_all c.loop-message.message-index c.args.messages.now
+    done) at c.loop-message.invariant.steps in
+    run_hides k.content k.is_failed k.is_honest k.may_leave settings c.args.self.now.writer.zone
+    (map (λ m. m.items) c.args.messages.now) (map cow_slice_items c.loop-message.replies.items)
+    c.args.self.now.keep c.loop-message.self.keep turns honest valid e served n place y b asked
+    text other are covered is raises

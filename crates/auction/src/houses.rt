@@ -1,0 +1,59 @@
+//! Keeps that the program makes and opens.
+ghost use Rattle.std.specs.Prelude.{◌≡◌, [], false, IfErr, IfOk};
+ghost use Rattle.house_rows.specs.Tables.{tables_of};
+
+use crate::ends::Ends;
+use crate::files::{StoreInFile, create_house, open_keep};
+use house_rows::{Keep, KeepFault, Settings};
+use std::alloc::Global;
+use store::SqlKeep;
+use store_list::ListKeep;
+
+/// A keep in memory.
+pub trait KeepInMemory: Sized + Keep + Drop {
+    /// That of a new house.
+    fn create(alloc: Global, settings: Settings) -> Result<Self, KeepFault>
+        ensures empty { IfOk result (λ keep. Self.content keep ≡ tables_of settings []) }
+        ensures memory { IfErr result (λ fault. fault ≡ KeepFault.Memory) };
+}
+
+impl KeepInMemory for ListKeep {
+    fn create(alloc: Global, settings: Settings) -> Result<ListKeep, KeepFault> {
+        ListKeep::create(alloc, settings)
+    }
+}
+
+/// A keep in a file.
+pub trait KeepInFile: Sized + Keep + Drop + Ends {
+    /// That of a new house.
+    fn create(
+        rt: &HostRuntime,
+        alloc: Global,
+        path: &str,
+        settings: Settings,
+    ) -> Result<Self, KeepFault>
+        ensures { IfOk result (λ keep. Self.is_honest keep
+            → Self.content keep ≡ tables_of settings []) };
+
+    /// That of the house in the file.
+    fn open(rt: &HostRuntime, alloc: Global, path: &str) -> Result<Self, KeepFault>
+        ensures { IfOk result (λ keep. Self.is_failed keep ≡ false) };
+}
+
+impl<S: StoreInFile> KeepInFile for SqlKeep<S>
+where
+    SqlKeep<S>: Ends,
+{
+    fn create(
+        rt: &HostRuntime,
+        alloc: Global,
+        path: &str,
+        settings: Settings,
+    ) -> Result<SqlKeep<S>, KeepFault> {
+        create_house(rt, alloc, path, settings)
+    }
+
+    fn open(rt: &HostRuntime, alloc: Global, path: &str) -> Result<SqlKeep<S>, KeepFault> {
+        open_keep(rt, alloc, path)
+    }
+}

@@ -1,0 +1,257 @@
+//! The words that the program takes.
+ghost use Rattle.std.specs.Prelude.{IfOk, IfSome};
+ghost use Rattle.std.specs.Int.{IsInRange};
+ghost use Rattle.auction_words.specs.Tasks.{IsMember, IsWithin};
+
+use crate::commands::{MOST_CONNECTIONS, MOST_MESSAGES, command};
+use cents::LIMIT;
+use clap::{ArgMatches, Error};
+use house_rows::{MOST_MEMBERS, Rate};
+use settle::LAST_MOMENT;
+use std::alloc::Global;
+
+/// What a house is set up with, as the words name it.
+#[derive(Clone, Copy, Debug, PartialEq, Eq)]
+pub struct HouseWords<'a> {
+    /// The file of the band table; without one it is the example table.
+    pub bands: Option<&'a str>,
+    /// The rate of the fee.
+    pub rate: Rate,
+    /// The rule of the zone.
+    pub zone: &'a str,
+}
+
+/// What a replay is asked for.
+#[derive(Clone, Copy, Debug, PartialEq, Eq)]
+pub struct Replay {
+    /// To begin with three members, a category and an item.
+    pub preset: bool,
+    /// To append the public record.
+    pub record: bool,
+}
+
+/// What serving is asked for.
+#[derive(Clone, Copy, Debug, PartialEq, Eq)]
+pub struct Serve {
+    /// The port, from 1 on.
+    pub port: u16,
+    /// How many connections, from 1 to 1000000.
+    pub count: u64,
+}
+
+/// What an import is asked for.
+#[derive(Clone, Copy, Debug, PartialEq, Eq)]
+pub struct ImportWords<'a> {
+    /// The lot file.
+    pub lots: &'a str,
+    /// The member who lists, from 1 to 100000.
+    pub member: u64,
+    /// The moment of each listing, up to 4102444800.
+    pub moment: u64,
+}
+
+/// What a statement is asked for, as the words name it.
+#[derive(Clone, Copy, Debug, PartialEq, Eq)]
+pub struct StatementWords<'a> {
+    /// The member, from 1 to 100000.
+    pub member: u64,
+    /// The first day.
+    pub from: &'a str,
+    /// The last day.
+    pub to: &'a str,
+    /// To print records of CSV.
+    pub csv: bool,
+}
+
+/// What an audit is asked for.
+#[derive(Clone, Copy, Debug, PartialEq, Eq)]
+pub struct AuditWords<'a> {
+    /// The file of one list of messages.
+    pub left: &'a str,
+    /// The file of the other.
+    pub right: &'a str,
+    /// The member, from 1 to 100000.
+    pub member: u64,
+}
+
+/// What a look at a surplus is asked for.
+#[derive(Clone, Copy, Debug, PartialEq, Eq)]
+pub struct SurplusWords<'a> {
+    /// The file of the list of messages.
+    pub list: &'a str,
+    /// The place of a bid in it, from 1 to 1000000.
+    pub place: u64,
+    /// The maximum that the bid is raised to, in cents, up to 1000000000.
+    pub maximum: u64,
+    /// The member who looks, from 1 to 100000.
+    pub member: u64,
+}
+
+/// What the words ask for.
+#[derive(Clone, Copy, Debug, PartialEq, Eq)]
+pub enum Task<'a> {
+    /// To make a house in a file.
+    Init(&'a str, HouseWords<'a>),
+    /// To answer connections over the house in a file.
+    Serve(&'a str, Serve),
+    /// To answer standard input over a new house in memory.
+    Replay(HouseWords<'a>, Replay),
+    /// To list the rows of a lot file in the house in a file.
+    Import(&'a str, ImportWords<'a>),
+    /// To print a statement from the house in a file.
+    Statement(&'a str, StatementWords<'a>),
+    /// To compare two runs over new houses in memory.
+    Audit(HouseWords<'a>, AuditWords<'a>),
+    /// To raise a bid of a run over new houses in memory.
+    Surplus(HouseWords<'a>, SurplusWords<'a>),
+}
+
+// A number of the words, if it is in a range. `clap` has refused the others, and says so of the top
+// command alone: so they are looked for here once more.
+fn number(words: &ArgMatches<'_>, name: &str, least: u64, most: u64) -> Option<u64>
+    ensures { IfSome result (IsInRange least most) }
+{
+    let number = words.get_one(name)?;
+    if least <= number && number <= most {
+        Some(number)
+    } else {
+        None
+    }
+}
+
+// The number of a member.
+fn member(words: &ArgMatches<'_>) -> Option<u64>
+    ensures { IfSome result IsMember }
+{
+    number(words, "member", 1, MOST_MEMBERS as u64)
+}
+
+// What the words of a subcommand say of the house. None is answered for no words that were taken.
+fn house_words<'a>(words: &ArgMatches<'a>) -> Option<HouseWords<'a>> {
+    Some(HouseWords {
+        bands: words.get_str("bands"),
+        rate: Rate::new(words.get_one("rate")?)?,
+        zone: words.get_str("zone")?,
+    })
+}
+
+// What the words of `init` ask for.
+fn init_task<'a>(words: &ArgMatches<'a>) -> Option<Task<'a>>
+    ensures { IfSome result IsWithin }
+{
+    let file = words.get_str("file")?;
+    match house_words(words) {
+        Some(house) => Some(Task::Init(file, house)),
+        None => None,
+    }
+}
+
+// What the words of `serve` ask for.
+fn serve_task<'a>(words: &ArgMatches<'a>) -> Option<Task<'a>>
+    ensures { IfSome result IsWithin }
+{
+    let file = words.get_str("file")?;
+    let port = number(words, "port", 1, 65_535)? as u16;
+    let count = number(words, "count", 1, MOST_CONNECTIONS)?;
+    Some(Task::Serve(file, Serve { port, count }))
+}
+
+// What the words of `replay` ask for.
+fn replay_task<'a>(words: &ArgMatches<'a>) -> Option<Task<'a>>
+    ensures { IfSome result IsWithin }
+{
+    let asked = Replay {
+        preset: words.get_flag("preset"),
+        record: words.get_flag("record"),
+    };
+    match house_words(words) {
+        Some(house) => Some(Task::Replay(house, asked)),
+        None => None,
+    }
+}
+
+// What the words of `import` ask for.
+fn import_task<'a>(words: &ArgMatches<'a>) -> Option<Task<'a>>
+    ensures { IfSome result IsWithin }
+{
+    let file = words.get_str("file")?;
+    let asked = ImportWords {
+        lots: words.get_str("lots")?,
+        member: member(words)?,
+        moment: number(words, "moment", 0, LAST_MOMENT)?,
+    };
+    Some(Task::Import(file, asked))
+}
+
+// What the words of `statement` ask for.
+fn statement_task<'a>(words: &ArgMatches<'a>) -> Option<Task<'a>>
+    ensures { IfSome result IsWithin }
+{
+    let file = words.get_str("file")?;
+    let asked = StatementWords {
+        member: member(words)?,
+        from: words.get_str("from")?,
+        to: words.get_str("to")?,
+        csv: words.get_flag("csv"),
+    };
+    Some(Task::Statement(file, asked))
+}
+
+// What the words of `audit` ask for.
+fn audit_task<'a>(words: &ArgMatches<'a>) -> Option<Task<'a>>
+    ensures { IfSome result IsWithin }
+{
+    let asked = AuditWords {
+        left: words.get_str("left")?,
+        right: words.get_str("right")?,
+        member: member(words)?,
+    };
+    match house_words(words) {
+        Some(house) => Some(Task::Audit(house, asked)),
+        None => None,
+    }
+}
+
+// What the words of `surplus` ask for.
+fn surplus_task<'a>(words: &ArgMatches<'a>) -> Option<Task<'a>>
+    ensures { IfSome result IsWithin }
+{
+    let asked = SurplusWords {
+        list: words.get_str("list")?,
+        place: number(words, "place", 1, MOST_MESSAGES)?,
+        maximum: number(words, "maximum", 0, LIMIT)?,
+        member: member(words)?,
+    };
+    match house_words(words) {
+        Some(house) => Some(Task::Surplus(house, asked)),
+        None => None,
+    }
+}
+
+// What the words of a subcommand ask for.
+fn task_of<'a>(name: &str, words: &ArgMatches<'a>) -> Option<Task<'a>>
+    ensures { IfSome result IsWithin }
+{
+    match name {
+        "init" => init_task(words),
+        "serve" => serve_task(words),
+        "replay" => replay_task(words),
+        "import" => import_task(words),
+        "statement" => statement_task(words),
+        "audit" => audit_task(words),
+        "surplus" => surplus_task(words),
+        _ => None,
+    }
+}
+
+/// What words ask for, the first of them the program's own name. An error is for words that are
+/// refused, for those that ask for help, and for want of memory.
+pub fn read_task<'a>(alloc: Global, words: &'a [String]) -> Result<Option<Task<'a>>, Error>
+    ensures { IfOk result (λ task. IfSome task IsWithin) }
+{
+    let matches = command(alloc)?.try_get_matches_from(words)?;
+    Ok(match matches.subcommand() {
+        Some((name, words)) => task_of(name, words),
+        None => None,
+    })
+}

@@ -1,0 +1,16 @@
+//! The words of the auction house's program: what they ask for, and which settings they name.
+//!
+//! Promised: each number that a task names is in its range; the settings of a new house are those
+//! that its words name, of a zone that can be read, and else it is told why there are none. Read
+//! `command_line` first, and then `settings`.
+#![tactic(auto)]
+
+mod command_line;
+mod commands;
+mod settings;
+
+pub use command_line::{
+    AuditWords, HouseWords, ImportWords, Replay, Serve, StatementWords, SurplusWords, Task,
+    read_task,
+};
+pub use settings::{SettingsFault, read_settings, same_settings};

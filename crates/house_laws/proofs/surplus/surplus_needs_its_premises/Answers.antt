@@ -1,0 +1,56 @@
+use Rattle.std.proofs.Common.{◌≡◌, ℕ, List, [], ◌∷◌, ◌++◌, refl, ap, arith}
+use Rattle.steps.specs.Table.{step_at}
+use Rattle.proxy.specs.Bids.{greatest, leader, price, second, top}
+use Rattle.house_rows.specs.declared.command.Command.TheVariants.{Bid}
+use Rattle.house_rows.specs.declared.item.ItemShown.{ItemShown}
+use Rattle.house_rows.specs.declared.message.Message.TheVariants.{Order, Read}
+use Rattle.house_rows.specs.declared.query.Query.TheVariants as query
+use Rattle.house_rows.specs.Items.{items, items_shown}
+use Rattle.house_rows.specs.Runs.{next}
+use Rattle.house_rows.specs.Verdict.{verdict}
+use Rattle.house_rows.specs.Views.{Public}
+use Rattle.house_laws.specs.TwinRuns.{setup_messages}
+use Rattle.house_laws.proofs.surplus.surplus_needs_its_premises.Goals as goal
+
+abbrev first_price : List ItemShown → ℕ
+first_price [] = 0
+first_price (it ∷ its) = it.item.terms.price
+
+abbrev first_count : List ItemShown → ℕ
+first_count [] = 0
+first_count (it ∷ its) = it.item.terms.count
+
+pub returns-clause-covered : goal.returns-clause-covered
+unfolding next verdict items items_shown greatest leader price second top step_at
+returns-clause-covered g c = record {
+  before = setup_messages ++ Order 1001 2 (Bid 1 1000) ∷ [];
+  here = Order 1002 3 (Bid 1 3000);
+  later = Read 2 (query.Item 1) ∷ [];
+  parts = refl;
+  placed = refl;
+  means = refl;
+  covered = record {
+    accepted = refl;
+    no_more = refl;
+    leads = refl;
+    covers = omega arith;
+    above = omega arith;
+    fits = omega arith;
+  };
+  apart = refl;
+}
+
+pub returns-clause-step : goal.returns-clause-step
+unfolding next verdict items items_shown greatest leader price second top step_at
+returns-clause-step g c = λ twin.
+    let e : 1040 ≡ 1050 = ap (λ (p : Public). first_price p.items) twin.2.2.2.2.2.2.1.public in omega (arith, e)
+
+pub returns-clause-last : goal.returns-clause-last
+unfolding next verdict items items_shown greatest leader price second top step_at
+returns-clause-last g c = λ twin.
+    let e : 3 ≡ 2 = ap (λ (p : Public). first_count p.items) twin.2.2.2.2.2.2.2.1.public in omega (arith, e)
+
+pub returns-clause-leads : goal.returns-clause-leads
+unfolding next verdict items items_shown greatest leader price second top step_at
+returns-clause-leads g c = λ twin.
+    let e : 3100 ≡ 3200 = ap (λ (p : Public). first_price p.items) twin.2.2.2.2.2.2.2.1.public in omega (arith, e)

@@ -1,0 +1,37 @@
+-- A run with a covered surplus, and what the premises of that are for.
+use Rattle.std.specs.Prelude.{◌≡◌, ℕ, List, [], ◌∷◌, ◌++◌}
+use Rattle.house_rows.specs.declared.command.Command.TheVariants.{Bid}
+use Rattle.house_rows.specs.declared.message.Message.{Message}
+use Rattle.house_rows.specs.declared.message.Message.TheVariants.{Order}
+use Rattle.house_rows.specs.Runs.{Twin}
+use Rattle.house_laws.specs.Covered.{IsCovered, Sealed}
+use Rattle.house_laws.specs.Examples.{settings}
+use Rattle.house_laws.specs.TwinRuns.{run_with, setup_messages}
+
+-- Cid's bid, after Ben's of 10.00
+abbrev pub cids_bid : ℕ → Sealed
+cids_bid amount = record { moment = 1002; member = 3; item = 1; maximum = amount }
+
+-- Cid's 30.00 lie a step over Ben's 10.00, so to Ben 80.00 may stand in their place
+abbrev pub SurplusIsCovered : Type 0 → Type 0
+SurplusIsCovered F = IsCovered {A = Message F} (λ m. m) settings 2 7 8000 (cids_bid 3000) (run_with 3000)
+
+-- 10.40 don't, and the price would tell
+abbrev pub LessThanAStepMakesNoTwin : Type 0 → Type 0
+LessThanAStepMakesNoTwin F = Twin {F = F} settings 2 (run_with 1040) (run_with 8000) → ⊥
+
+-- Cid bids an amount, and then 50.00
+abbrev pub run_then : {F : Type 0} → ℕ → List (Message F)
+run_then amount = setup_messages ++ (Order 1001 2 (Bid 1 1000) ∷ Order 1002 3 (Bid 1 amount) ∷ Order 1003 3 (Bid 1 5000) ∷ [])
+
+-- after 80.00 these are refused, and the count of bids would tell
+abbrev pub BidThatIsNotTheLastMakesNoTwin : Type 0 → Type 0
+BidThatIsNotTheLastMakesNoTwin F = Twin {F = F} settings 2 (run_then 3000) (run_then 8000) → ⊥
+
+-- Cid bids an amount, and then Ben 31.00
+abbrev pub run_under : {F : Type 0} → ℕ → List (Message F)
+run_under amount = setup_messages ++ (Order 1001 2 (Bid 1 1000) ∷ Order 1002 3 (Bid 1 amount) ∷ Order 1003 2 (Bid 1 3100) ∷ [])
+
+-- who leads in the end would tell
+abbrev pub LeaderWhoIsOvertakenMakesNoTwin : Type 0 → Type 0
+LeaderWhoIsOvertakenMakesNoTwin F = Twin {F = F} settings 2 (run_under 3000) (run_under 8000) → ⊥

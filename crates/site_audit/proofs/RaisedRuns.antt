@@ -1,0 +1,207 @@
+-- What comparing both lists shows of a surplus.
+use Rattle.std.proofs.Common.{◌≡◌, ◌∙◌, ℕ, List, [], Bool, map, refl, sym, subst, arith, false, Result, Ok, Err, None}
+use Rattle.std.specs.Prelude.{IsErr, IsErrAnd}
+use Rattle.steps.specs.Table.{IsBandTable}
+use Rattle.proxy.specs.Bids.{greatest}
+use Rattle.house_laws.specs.Covered.{IsCoveredBid, IsLedByBoth, LeadsBy, Sealed, raised, with_maximum}
+use Rattle.house_laws.proofs.CoveredLeads.{covered_led, led_covered, run_is_history}
+use Rattle.house_laws.proofs.CoveredRuns.{covered_twins}
+use Rattle.house_rows.specs.declared.command.Command.TheVariants.{Bid}
+use Rattle.house_rows.specs.declared.item.ItemShown.{ItemShown}
+use Rattle.house_rows.specs.declared.settings.Settings.{Settings}
+use Rattle.house_rows.specs.Bids.{bids_on}
+use Rattle.house_rows.specs.Fits.{IsItem, IsMember}
+use Rattle.house_rows.specs.History.{History}
+use Rattle.house_rows.specs.Runs.{AreTwins, history_of}
+use Rattle.house_rows.specs.Tables.{Tables}
+use Rattle.house_rows.specs.Verdict.{IsHistory, Rule, bid_rules}
+use Rattle.house_rows.proofs.Passed.{common_pass, item_pass, own_pass}
+use Rattle.house_rows.proofs.Ranged.{caller_is}
+use Rattle.house_rows.proofs.RangedTalk.{item_there}
+use Rattle.settle.specs.declared.zone.Zone.{Zone}
+use Rattle.site_bids.specs.Spelt.{IsSent}
+use Rattle.site_audit.specs.declared.fault.AuditFault.{AuditFault}
+use Rattle.site_audit.specs.declared.fault.AuditFault.TheVariants.{Memory, Store, NotNew}
+use Rattle.site_audit.specs.declared.finding.Surplus.{Surplus}
+use Rattle.site_audit.specs.Audits.{AreEqual, IsFound, MayBegin}
+use Rattle.site_audit.specs.Places.{Heard, IsSeen, heard_message}
+use Rattle.site_audit.specs.SealedBids.{IsBidAt, IsBidFound, IsRaise, MayRaise}
+use Rattle.site_audit.specs.Surplus.{IsCoveredText, IsHiddenBid, IsNoSurplus, IsSurplusFound, IsSurplusResult}
+use Rattle.site_audit.proofs.SealedBids.{covered_at, one_bid_at}
+
+-- the history after a list
+abbrev pub after : Settings → List Heard → History
+after settings heards = history_of settings (map heard_message heards)
+
+pub is_history : (settings : Settings) (heards : List Heard) → IsHistory settings (after settings heards)
+is_history settings heards = run_is_history settings [] (map heard_message heards) tt
+
+-- the bidder leads after both lists, by its maximum and by the greater one
+abbrev pub BothLead : Settings → ℕ → ℕ → Sealed → List Heard → Heard → Type 0
+BothLead settings place y b heards text =
+    LeadsBy settings.bands b.member b.maximum (bids_on (after settings heards) b.item)
+    × LeadsBy settings.bands b.member y (bids_on (after settings (raised place text heards)) b.item)
+
+-- a covered bid in the place is the one that stands there
+the_bid : (settings : Settings) (c place y : ℕ) (b d : Sealed) (heards : List Heard)
+    → IsBidAt place b heards → IsCoveredText settings c place y d heards
+    → IsCoveredText settings c place y b heards
+the_bid settings c place y b d heards there covered =
+    subst (λ e. IsCoveredText settings c place y e heards)
+    (one_bid_at place d b heards (covered_at settings c place y d heards covered) there) covered
+
+-- where the runs are no twins, no bid there is covered
+pub apart_tells : (settings : Settings) (c place y : ℕ) (b : Sealed) (heards : List Heard)
+    (text : Heard) → IsBandTable settings.bands → IsBidAt place b heards → IsRaise y b text
+    → ¬ (AreTwins heard_message settings c heards (raised place text heards))
+    → IsNoSurplus settings c place y heards
+apart_tells settings c place y b heards text valid there raise not = λ d covered.
+    not (covered_twins heard_message settings c place y b heards text valid
+    (the_bid settings c place y b d heards there covered) raise.asks)
+
+-- where they are, and both lead in the end, it is
+pub equal_tells : {K : Type 0} (content : K → Tables) (settings : Settings) (zone : Zone)
+    (c place y : ℕ) (b : Sealed) (heards : List Heard) (text : Heard) (replies : List (List ℕ))
+    (left right left_new right_new : K) → IsBandTable settings.bands → IsBidAt place b heards
+    → MayRaise c y b → IsRaise y b text
+    → AreEqual content settings zone c heards (raised place text heards) replies left right
+    → content left_new ≡ content left → content right_new ≡ content right
+    → BothLead settings place y b heards text
+    → IsHiddenBid content settings zone c place y heards replies left_new right_new
+equal_tells content settings zone c place y b heards text replies left right left_new right_new valid
+    there may raise equal same same' both =
+    let shows : IsLedByBoth heard_message settings c place y b heards text = record {
+      before = there.before;
+      here = there.here;
+      later = there.later;
+      parts = there.parts;
+      placed = there.placed;
+      means = there.means;
+      above = may.above;
+      fits = may.fits;
+      apart = may.apart;
+      twins = equal.twins;
+      left = both.0;
+      right = both.1;
+    } in
+    record {
+      bid = b;
+      covered = led_covered heard_message settings c place y b heards text valid raise.asks shows;
+      text = text;
+      raise = raise;
+      left = equal.left;
+      right = equal.right;
+      left_tables = same ∙ equal.left_tables;
+      right_tables = same' ∙ equal.right_tables;
+    }
+
+-- and where not both lead, it isn't
+pub not_led : (settings : Settings) (c place y : ℕ) (b : Sealed) (heards : List Heard) (text : Heard)
+    → IsBandTable settings.bands → IsBidAt place b heards → IsRaise y b text
+    → ¬ (BothLead settings place y b heards text) → IsNoSurplus settings c place y heards
+not_led settings c place y b heards text valid there raise not = λ d covered.
+    let shows = covered_led heard_message settings c place y b heards text valid raise.asks
+    (the_bid settings c place y b d heards there covered) in
+    not (shows.left, shows.right)
+
+-- a bid that was accepted can be sent, and so can one of a greater maximum
+accepted_sent : (settings : Settings) (y : ℕ) (b : Sealed) (h last : History) → IsHistory settings h
+    → IsCoveredBid settings y b h last → IsSent (with_maximum y b)
+accepted_sent settings y b h last is covered =
+    let common = common_pass settings h b.moment b.member (Bid b.item b.maximum) covered.accepted in
+    let who : IsMember b.member = caller_is settings h b.moment b.member false is common refl in
+    let more : ItemShown → List Rule = bid_rules b.moment b.member b.maximum
+    (greatest (bids_on h b.item) b.member) in
+    let pass = item_pass settings h b.item more
+    (own_pass settings h b.moment b.member (Bid b.item b.maximum) covered.accepted) in
+    let what : IsItem b.item = item_there settings h b.item pass.listing is pass.listed in
+    let above = covered.above in
+    let fits = covered.fits in
+    record {
+      item = (omega (arith, what), omega (arith, what));
+      member = omega (arith, who);
+      moment = common.moment_fits;
+      maximum = (omega (arith, above), omega (arith, fits));
+    }
+
+-- where it may not be raised, it isn't
+pub not_raised : (settings : Settings) (c place y : ℕ) (b : Sealed) (heards : List Heard)
+    → IsBidAt place b heards → ¬ (MayRaise c y b) → IsNoSurplus settings c place y heards
+not_raised settings c place y b heards there not = λ d covered.
+    let mine : IsCoveredText settings c place y b heards =
+    the_bid settings c place y b d heards there covered in
+    not (record {
+      sent = accepted_sent settings y b _ _
+          (run_is_history settings [] (map heard_message mine.before) tt) mine.covered;
+      above = mine.covered.above;
+      fits = mine.covered.fits;
+      apart = mine.apart;
+    })
+
+-- and where no bid stands, none is
+pub no_bid : (settings : Settings) (c place y : ℕ) (heards : List Heard)
+    → IsBidFound place heards (Ok None) → IsNoSurplus settings c place y heards
+no_bid settings c place y heards none = λ d covered.
+    none d (covered_at settings c place y d heards covered)
+
+-- the result that a fault was made into
+pub fault_gave : {A : Type 0} (P : Result A AuditFault → Type 0) (f : AuditFault)
+    (result : Result A AuditFault) → IsErr result × IsErrAnd result (λ told. told ≡ f) → P (Err f)
+    → P result
+fault_gave P f (Ok a) gave is = absurd gave.1
+fault_gave P f (Err told) gave is = subst (λ e. P (Err e)) (sym gave.1) is
+
+-- a fault of the comparison
+pub found_gives : {K : Type 0} (content : K → Tables) (is_failed : K → Bool) (settings : Settings)
+    (zone : Zone) (c place y : ℕ) (heards rights : List Heard) (left right : K) (f : AuditFault)
+    → IsFound content is_failed settings zone c heards rights left right (Err f)
+    → IsSurplusFound content is_failed settings zone c place y heards left right (Err f)
+found_gives content is_failed settings zone c place y heards rights left right Memory found = tt
+found_gives content is_failed settings zone c place y heards rights left right Store found = found
+found_gives content is_failed settings zone c place y heards rights left right NotNew found = found
+
+-- a fault of the looks at the end
+pub seen_gives : {K : Type 0} (content : K → Tables) (is_failed : K → Bool) (P : Type 0)
+    (settings : Settings) (zone : Zone) (c place y : ℕ) (heards : List Heard)
+    (left right left_new right_new : K) (f : AuditFault)
+    → IsSeen content is_failed P left right left_new right_new (Err f)
+    → IsSurplusFound content is_failed settings zone c place y heards left_new right_new (Err f)
+seen_gives content is_failed P settings zone c place y heards left right left_new right_new Memory
+    seen = tt
+seen_gives content is_failed P settings zone c place y heards left right left_new right_new Store
+    seen = seen
+seen_gives content is_failed P settings zone c place y heards left right left_new right_new NotNew
+    seen = seen
+
+-- a fault of reading the bid
+pub read_gives : {K : Type 0} (content : K → Tables) (is_failed : K → Bool) (settings : Settings)
+    (zone : Zone) (c place y : ℕ) (heards : List Heard) (left right left_new right_new : K)
+    (f : AuditFault) → IsBidFound place heards (Err f)
+    → IsSurplusResult content is_failed settings zone c place y heards left right left_new right_new
+    (Err f)
+read_gives content is_failed settings zone c place y heards left right left_new right_new Memory
+    found = tt
+read_gives content is_failed settings zone c place y heards left right left_new right_new Store
+    found = absurd found
+read_gives content is_failed settings zone c place y heards left right left_new right_new NotNew
+    found = absurd found
+
+-- the result over houses with which an audit can begin
+pub result_of : {K : Type 0} (content : K → Tables) (is_failed : K → Bool) (settings : Settings)
+    (zone zone' : Zone) (c place y : ℕ) (heards : List Heard) (left right left_new right_new : K)
+    (result : Result Surplus AuditFault) → MayBegin (content left) (content right) → zone ≡ zone'
+    → IsSurplusFound content is_failed settings zone c place y heards left_new right_new result
+    → IsSurplusResult content is_failed settings zone' c place y heards left right left_new right_new
+    result
+result_of content is_failed settings zone zone' c place y heards left right left_new right_new
+    (Ok surplus) may e found = (
+      may,
+      subst (λ z. IsSurplusFound content is_failed settings z c place y heards left_new right_new
+          (Ok surplus)) e found,
+    )
+result_of content is_failed settings zone zone' c place y heards left right left_new right_new
+    (Err Memory) may e found = tt
+result_of content is_failed settings zone zone' c place y heards left right left_new right_new
+    (Err Store) may e found = found
+result_of content is_failed settings zone zone' c place y heards left right left_new right_new
+    (Err NotNew) may e found = absurd found

@@ -1,0 +1,3 @@
+pub mod BidRoutes
+pub mod Decimals
+pub mod BidTexts

@@ -1,0 +1,98 @@
+//! Answers, byte for byte.
+use crate::frames::Frames;
+use crate::script::Fault;
+use crate::spelling::{first_word, number, shown};
+use std::alloc::Global;
+use wire::{
+    Answer, Methods, Status, WireFault, broken_frame, damaged_row, failed_store, no_memory,
+};
+
+/// The answer of a line, which is also written behind those before it.
+pub(crate) fn answer(alloc: Global, frames: &mut Frames, line: &str) -> Result<String, Fault> {
+    let answer = spelled(line, &frames.text)?;
+    answer.write_into(&mut frames.written)?;
+    Ok(shown(alloc, &answer.to_bytes(alloc)?)?)
+}
+
+/// What stands before the body of the answer of a line, and the length of all.
+pub(crate) fn head(alloc: Global, body: &[u8], line: &str) -> Result<String, Fault> {
+    let bytes = spelled(line, body)?.to_bytes(alloc)?;
+    let length = bytes.len();
+    let head = shown(alloc, &bytes[..length.saturating_sub(body.len())])?;
+    Ok(format!(in alloc; "{head}, {length} bytes")?)
+}
+
+// The answer that a line spells, with a body.
+fn spelled<'b>(line: &str, body: &'b [u8]) -> Result<Answer<'b>, Fault> {
+    let (code, line) = first_word(line);
+    let (ends, methods) = first_word(line);
+    Ok(Answer {
+        status: status_of(code)?,
+        allow: METHODS.into_iter().find(|some| some.text() == methods),
+        closes: closes(ends)?,
+        body,
+    })
+}
+
+fn closes(word: &str) -> Result<bool, Fault> {
+    match word {
+        "closes" => Ok(true),
+        "stays" => Ok(false),
+        _ => Err(Fault::Script),
+    }
+}
+
+const METHODS: [Methods; 3] = [Methods::Get, Methods::Post, Methods::GetAndPost];
+
+const STATUSES: [Status; 11] = [
+    Status::Success,
+    Status::Created,
+    Status::BadRequest,
+    Status::Forbidden,
+    Status::NotFound,
+    Status::MethodNotAllowed,
+    Status::Conflict,
+    Status::ContentTooLarge,
+    Status::InternalServerError,
+    Status::NotImplemented,
+    Status::ServiceUnavailable,
+];
+
+fn status_of(code: &str) -> Result<Status, Fault> {
+    let code: u16 = number(code)?;
+    let found = STATUSES.into_iter().find(|status| status.code() == code);
+    found.ok_or(Fault::Script)
+}
+
+/// An answer that takes no memory.
+pub(crate) fn fixed(alloc: Global, line: &str) -> Result<String, Fault> {
+    let (name, ends) = first_word(line);
+    let closes = closes(ends)?;
+    let bytes = match name {
+        "memory" => no_memory(closes),
+        "store" => failed_store(closes),
+        "damaged" => damaged_row(closes),
+        _ => return Err(Fault::Script),
+    };
+    Ok(shown(alloc, bytes)?)
+}
+
+const FAULTS: [WireFault; 7] = [
+    WireFault::Head,
+    WireFault::Host,
+    WireFault::Transfer,
+    WireFault::Length,
+    WireFault::Size,
+    WireFault::End,
+    WireFault::Excess,
+];
+
+/// The fault of a number: itself, its status, its word, how it is shown, and its answer.
+pub(crate) fn fault(alloc: Global, word: &str) -> Result<String, Fault> {
+    let wanted: u32 = number(word)?;
+    let found = FAULTS.into_iter().find(|fault| fault.number() == wanted);
+    let fault = found.ok_or(Fault::Script)?;
+    let (status, word) = (fault.status().code(), fault.word());
+    let answer = shown(alloc, broken_frame(fault))?;
+    Ok(format!(in alloc; "{fault:?}, {status}, {word}, {fault}, {answer}")?)
+}

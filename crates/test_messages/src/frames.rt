@@ -1,0 +1,94 @@
+//! The section on frames: what its lines may be, and what is answered to them.
+//!
+//! `text T` begins a text, `add T` adds to it, and `times N T` adds N times. `whole` tells the message that
+//! the text is, or its fault, and `one NAME` and `body` a field and the body of that message; `cuts` tells the
+//! same of each beginning of the text. `stream N` reads the text through an inbox in pieces of N bytes.
+//! `inbox` empties the inbox; `feed` gives it the text, `look` and `ended` look at what it holds, before and
+//! at the end of the input, `done` drops the message at its front, `space` tells its room; `looks` tells what
+//! a look tells of each beginning of the text, before and at the end. `answer CODE ENDS METHODS` tells an
+//! answer with the text as its body, `head` of the same words what stands before the body and the length of
+//! all, and `written` the answers so far as they were written into one buffer; `fixed NAME ENDS` and
+//! `fault N` tell answers that stand ready. Behind `whole` and `feed` a text may stand, which becomes the
+//! text.
+use crate::script::Fault;
+use crate::spelling::first_word;
+use crate::{answers, messages, spelling, streams};
+use std::alloc::{AllocError, Global};
+use wire::Inbox;
+
+/// What the lines work on.
+#[derive(Drop)]
+pub(crate) struct Frames {
+    pub(crate) text: Vec<u8>,
+    pub(crate) inbox: Inbox,
+    pub(crate) written: Vec<u8>,
+}
+
+impl Frames {
+    /// An empty text, an empty inbox, and nothing written.
+    pub(crate) fn new(alloc: Global) -> Result<Frames, AllocError> {
+        Ok(Frames {
+            text: Vec::new(alloc),
+            inbox: Inbox::new(alloc)?,
+            written: Vec::new(alloc),
+        })
+    }
+
+    /// Takes another text, where one is given.
+    pub(crate) fn take(&mut self, text: &str) -> Result<(), Fault> {
+        if text.is_empty() {
+            return Ok(());
+        }
+        self.text.clear();
+        spelling::push(&mut self.text, text)
+    }
+}
+
+/// Plays a line, and tells what is answered to it, if anything is.
+pub(crate) fn play(
+    alloc: Global,
+    frames: &mut Frames,
+    line: &str,
+) -> Result<Option<String>, Fault> {
+    let (word, rest) = first_word(line);
+    match word {
+        "text" => {
+            frames.text.clear();
+            spelling::push(&mut frames.text, rest)?;
+        }
+        "add" => spelling::push(&mut frames.text, rest)?,
+        "times" => spelling::repeat(&mut frames.text, rest)?,
+        "inbox" => frames.inbox = Inbox::new(alloc)?,
+        "done" => streams::done(&mut frames.inbox),
+        _ => return Ok(Some(answer(alloc, frames, word, rest)?)),
+    }
+    Ok(None)
+}
+
+// What is answered to a line that asks.
+fn answer(alloc: Global, frames: &mut Frames, word: &str, rest: &str) -> Result<String, Fault> {
+    match word {
+        "whole" => {
+            frames.take(rest)?;
+            Ok(messages::whole(alloc, &frames.text)?)
+        }
+        "one" => messages::one(alloc, &frames.text, rest.as_bytes()),
+        "body" => messages::body(alloc, &frames.text),
+        "cuts" => Ok(messages::cuts(alloc, &frames.text)?),
+        "stream" => streams::stream(alloc, &frames.text, rest),
+        "feed" => {
+            frames.take(rest)?;
+            Ok(streams::fed(alloc, &mut frames.inbox, &frames.text)?)
+        }
+        "look" => Ok(streams::look(alloc, &frames.inbox, false)?),
+        "ended" => Ok(streams::look(alloc, &frames.inbox, true)?),
+        "space" => Ok(streams::space(alloc, &mut frames.inbox)?),
+        "looks" => Ok(streams::looks(alloc, &frames.text)?),
+        "answer" => answers::answer(alloc, frames, rest),
+        "head" => answers::head(alloc, &frames.text, rest),
+        "written" => Ok(spelling::shown(alloc, &frames.written)?),
+        "fixed" => answers::fixed(alloc, rest),
+        "fault" => answers::fault(alloc, rest),
+        _ => Err(Fault::Script),
+    }
+}

@@ -1,0 +1,58 @@
+//! Plays a script on messages: texts as frames, streams through an inbox, answers, routes, and what messages ask.
+//!
+//! The stored run is a test of what no clause says: that calls succeed, that the table of routes can be made, and
+//! that the clauses mean what RFC 9110 and RFC 9112 say, what real clients send (`tests/clients` has how those were
+//! captured), and what the house's routes, fields and faults are said to be. `stdin` has the script, `stdout` its
+//! transcript, in which what has to be answered stands behind each line, written by hand. Read `script` first,
+//! which says what a line may be, behind the mark of `transcript`.
+#![tactic(auto)]
+
+mod answers;
+mod asks;
+mod commands;
+mod frames;
+mod messages;
+mod routes;
+mod runs;
+mod script;
+mod spelling;
+mod streams;
+
+use script::{Fault, Stage};
+use std::alloc::Global;
+use std::io;
+use std::process::ExitCode;
+use transcript::echoed;
+
+// Plays the script.
+fn play(rt: &(impl Input + Print), alloc: Global) -> Result<(), Fault> {
+    let script = io::read_to_string(alloc, rt.reader()).map_err(|_| Fault::Script)?;
+    let mut stage = Stage::Start;
+    play_lines(rt, alloc, &mut stage, script.as_str())
+}
+
+// Plays the lines of the script, and prints what is answered.
+fn play_lines(
+    rt: &impl Print,
+    alloc: Global,
+    stage: &mut Stage,
+    script: &str,
+) -> Result<(), Fault> {
+    for line in script.lines() {
+        let line = echoed(rt, line).map_err(|_| Fault::Output)?;
+        if let Some(answer) = script::play(alloc, stage, line)? {
+            println!(rt; "{answer}").map_err(|_| Fault::Output)?;
+        }
+    }
+    Ok(())
+}
+
+fn main(rt: HostRuntime) -> ExitCode {
+    match play(&rt, rt.alloc()) {
+        Ok(()) => ExitCode::SUCCESS,
+        Err(fault) => {
+            let _ = eprintln!(rt; "test_messages: {fault}");
+            ExitCode::FAILURE
+        }
+    }
+}

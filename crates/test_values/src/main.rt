@@ -1,0 +1,65 @@
+//! Plays a script on what stands below the site: devices, band tables and bids, amounts, days and statements, and
+//! the names of the house.
+//!
+//! The stored run is a test of what no clause says: that calls succeed, what comes of readers and writers that
+//! fail, how often a writer is called, and that the clauses mean what people were promised and write. `stdin` has
+//! the script, `stdout` its transcript, in which what has to be answered stands behind each line, worked out by
+//! hand, but for the days of moments, which are the C library's. Read `script` first, which says what a line may
+//! be, behind the mark of `transcript`. Commands, changes and rows are made by `store_tests`.
+#![tactic(auto)]
+
+mod accounts;
+mod amounts;
+mod bands;
+mod days;
+mod devices;
+mod items;
+mod names;
+mod readers;
+mod sales;
+mod script;
+mod sinks;
+mod spelling;
+mod statements;
+mod tables;
+mod words;
+mod writers;
+
+use script::{Fault, Stage};
+use std::alloc::Global;
+use std::io;
+use std::process::ExitCode;
+use transcript::echoed;
+
+// Plays the script.
+fn play(rt: &(impl Input + Print), alloc: Global) -> Result<(), Fault> {
+    let script = io::read_to_string(alloc, rt.reader()).map_err(|_| Fault::Script)?;
+    let mut stage = Stage::Names;
+    play_lines(rt, alloc, &mut stage, script.as_str())
+}
+
+// Plays the lines of the script, and prints what is answered.
+fn play_lines(
+    rt: &impl Print,
+    alloc: Global,
+    stage: &mut Stage,
+    script: &str,
+) -> Result<(), Fault> {
+    for line in script.lines() {
+        let line = echoed(rt, line).map_err(|_| Fault::Output)?;
+        if let Some(answer) = script::play(alloc, stage, line)? {
+            println!(rt; "{answer}").map_err(|_| Fault::Output)?;
+        }
+    }
+    Ok(())
+}
+
+fn main(rt: HostRuntime) -> ExitCode {
+    match play(&rt, rt.alloc()) {
+        Ok(()) => ExitCode::SUCCESS,
+        Err(fault) => {
+            let _ = eprintln!(rt; "test_values: {fault}");
+            ExitCode::FAILURE
+        }
+    }
+}

@@ -1,0 +1,83 @@
+//! What a script is: sections, each of which begins with its line.
+//!
+//! `section devices`, `section bands`, `section accounts` and `section names` begin a section with nothing in it yet;
+//! the modules of these names say what its lines may be. An empty line, and one that begins with `--`, has no
+//! answer.
+use crate::accounts::Accounts;
+use crate::bands::Bidding;
+use crate::devices::Devices;
+use crate::{accounts, bands, devices, names};
+use std::alloc::{AllocError, Global};
+use thiserror::Error;
+
+/// Why a script isn't played on.
+#[derive(Clone, Copy, Debug, PartialEq, Eq, Error)]
+pub(crate) enum Fault {
+    /// A line has no meaning, or the script isn't text.
+    #[error("a line is no part of a script")]
+    Script,
+    /// Memory was wanted.
+    #[error("memory is wanted")]
+    Memory,
+    /// The standing kept from bid to bid isn't that of the list of accepted bids.
+    #[error("a standing isn't that of its bids")]
+    Standing,
+    /// What is answered couldn't be printed.
+    #[error("the answers can't be written")]
+    Output,
+}
+
+impl From<AllocError> for Fault {
+    fn from(_: AllocError) -> Fault {
+        Fault::Memory
+    }
+}
+
+/// What the lines of a section work on.
+#[derive(Drop)]
+pub(crate) enum Stage {
+    /// Sources, sinks and writers.
+    Devices(Devices),
+    /// A table, and bids on an item.
+    Bands(Bidding),
+    /// A zone, sales and a statement.
+    Accounts(Accounts),
+    /// Nothing.
+    Names,
+}
+
+impl Stage {
+    // What a section begins with.
+    fn new(alloc: Global, section: &str) -> Result<Stage, Fault> {
+        match section {
+            "devices" => Ok(Stage::Devices(Devices::new(alloc)?)),
+            "bands" => Ok(Stage::Bands(Bidding::new(alloc)?)),
+            "accounts" => Ok(Stage::Accounts(Accounts::new(alloc)?)),
+            "names" => Ok(Stage::Names),
+            _ => Err(Fault::Script),
+        }
+    }
+}
+
+/// Plays a line, and tells what is answered to it, if anything is.
+pub(crate) fn play(alloc: Global, stage: &mut Stage, line: &str) -> Result<Option<String>, Fault> {
+    if line.is_empty() || line.starts_with("--") {
+        return Ok(None);
+    }
+    if let Some(section) = line.strip_prefix("section ") {
+        renew(alloc, stage, section)?;
+        return Ok(None);
+    }
+    match stage {
+        Stage::Devices(devices) => devices::play(alloc, devices, line),
+        Stage::Bands(bidding) => bands::play(alloc, bidding, line),
+        Stage::Accounts(accounts) => accounts::play(alloc, accounts, line),
+        Stage::Names => Ok(Some(names::answer(alloc, line)?)),
+    }
+}
+
+// Begins a section.
+fn renew(alloc: Global, stage: &mut Stage, section: &str) -> Result<(), Fault> {
+    *stage = Stage::new(alloc, section)?;
+    Ok(())
+}

@@ -1,0 +1,92 @@
+//! How numbers, bytes and texts are spelled in a script.
+use crate::script::Fault;
+use cents::Cents;
+use std::alloc::Global;
+use std::str::FromStr;
+
+/// The first word of a line, and what stands behind the space after it.
+pub(crate) fn first_word(line: &str) -> (&str, &str) {
+    line.split_once(' ').unwrap_or((line, ""))
+}
+
+/// The number that a word spells.
+pub(crate) fn number<T: FromStr>(word: &str) -> Result<T, Fault>
+where
+    <T as FromStr>::Err: Drop,
+{
+    match word.parse() {
+        Ok(number) => Ok(number),
+        Err(_) => Err(Fault::Script),
+    }
+}
+
+/// The number that a word spells, where it isn't `-`.
+pub(crate) fn optional<T: FromStr>(word: &str) -> Result<Option<T>, Fault>
+where
+    <T as FromStr>::Err: Drop,
+{
+    if word == "-" {
+        return Ok(None);
+    }
+    Ok(Some(number(word)?))
+}
+
+/// The amount that a word spells, in cents.
+pub(crate) fn amount(word: &str) -> Result<Cents, Fault> {
+    Cents::new(number(word)?).ok_or(Fault::Script)
+}
+
+/// Adds the bytes that a text spells: an ASCII character as itself, and `\r`, `\n`, `\t` and `\xff`.
+pub(crate) fn push(bytes: &mut Vec<u8>, text: &str) -> Result<(), Fault> {
+    for (place, part) in text.split('\\').enumerate() {
+        let mut plain = part.as_bytes();
+        if place > 0 {
+            let (byte, behind) = escaped(plain)?;
+            bytes.extend_from_slice(&[byte])?;
+            plain = behind;
+        }
+        bytes.extend_from_slice(plain)?;
+    }
+    Ok(())
+}
+
+// The byte that what follows a backslash spells, and what stands behind it.
+fn escaped(part: &[u8]) -> Result<(u8, &[u8]), Fault> {
+    match part {
+        [b'r', behind @ ..] => Ok((b'\r', behind)),
+        [b'n', behind @ ..] => Ok((b'\n', behind)),
+        [b't', behind @ ..] => Ok((b'\t', behind)),
+        [b'x', high, low, behind @ ..] => Ok((digit(*high) << 4 | digit(*low), behind)),
+        _ => Err(Fault::Script),
+    }
+}
+
+// The value of a hexadecimal digit, or 0.
+fn digit(byte: u8) -> u8 {
+    match byte {
+        b'0'..=b'9' => byte - b'0',
+        b'a'..=b'f' => byte - b'a' + 10,
+        _ => 0,
+    }
+}
+
+/// The text that a line spells, in which `\20ac;` is the character of that number.
+pub(crate) fn spelled(alloc: Global, line: &str) -> Result<String, Fault> {
+    let mut text = String::new(alloc);
+    push_characters(&mut text, line)?;
+    Ok(text)
+}
+
+fn push_characters(text: &mut String, line: &str) -> Result<(), Fault> {
+    for (place, part) in line.split('\\').enumerate() {
+        let mut plain = part;
+        if place > 0 {
+            let (number, behind) = part.split_once(';').ok_or(Fault::Script)?;
+            let number = u32::from_str_radix(number, 16).map_err(|_| Fault::Script)?;
+            text.push(char::from_u32(number).ok_or(Fault::Script)?)?;
+            plain = behind;
+        }
+        text.push_str(plain)?;
+    }
+    Ok(())
+}

@@ -1,0 +1,174 @@
+#!/usr/bin/env python3
+"""Does what docs/RUNNING.md says: `running_doc.py PROGRAM`.
+
+The sessions of the page print what stands there. The table of lines has each line of the program's faults, and names
+scripts that have these lines. Causes that no other script has are brought about: a port that the user may not use,
+too many open files, standard error that takes nothing, a sale whose row is spoiled. A server that gets a signal
+leaves both files with all that it answered, which an opening takes; then a statement makes one file of two, of which
+a backup is a copy. Needs curl and sqlite3. The last line is 'N checks, M wrong'.
+"""
+import contextlib
+import os
+import pathlib
+import re
+import resource
+import shutil
+import signal
+import socket
+import subprocess
+import sys
+import tempfile
+
+from bad_files import SMALL_LOG, as_nobody
+from readme import Shell, sessions
+from served import CHECKS, PRESET, Program, check, exchange, fault, free_port, message, served
+
+ROOT = pathlib.Path(__file__).resolve().parent.parent
+PAGE = (ROOT / "docs" / "RUNNING.md").read_text()
+INIT = ["--bands", "bands.csv", "--rate", "1000", "--zone", "UTC0"]
+DAYS = ["--from", "1970-01-01", "--to", "1970-01-01"]
+ITEM = message("GET", "/items/1", 2)
+BID = message("POST", "/items/1/bids", 2, 1001, '{"maximum":500}')
+# How many files may be open: too few for the file and its log, enough to listen, enough for a connection.
+FILES = range(5, 9)
+
+
+def pages(program):
+    """The sessions of the page."""
+    port = str(free_port())
+    for session in sessions(PAGE):
+        with tempfile.TemporaryDirectory() as folder:
+            shell = Shell(pathlib.Path(folder), program)
+            for command, wanted in session:
+                told = shell.run(command.replace("8080", port)).replace(port, "8080")
+                check(f"$ {command}", trimmed(told), trimmed(wanted))
+            shell.process.communicate()
+
+
+def trimmed(text):
+    return "\n".join(line.rstrip() for line in text.splitlines())
+
+
+def lines():
+    """The table has each line of the faults, and each script that it names has the line."""
+    source = (ROOT / "crates" / "auction" / "src" / "fault.rt").read_text()
+    rows = re.findall(r"^\|([^|]*)\|[^|]*\|[^|]*\|([^|]*)\|$", PAGE, re.M)
+    named, line = {}, ""
+    for first, scripts in rows:
+        line = first.strip(" `") or line
+        named.setdefault(line, set()).update(re.findall(r"[a-z_]+\.py", scripts))
+    told = {re.sub(r"\{.*?\}", "..", text).replace("LEFT", "..")
+            for text in re.findall(r'"(auction: [^"]*)"', source)}
+    for text in sorted(told):
+        begins = text.split("..")[0].rstrip()
+        check(f"the table has {text}", any(row.startswith(begins) for row in named), True)
+    for row, scripts in named.items():
+        if not row.startswith("auction: "):
+            continue
+        # A fault of bands stands with its row's number in the scripts.
+        word = re.sub(r" [0-9]+$", "", row.removeprefix("auction: ")).removeprefix("bands: ")
+        for script in scripts:
+            text = (ROOT / "tests" / script).read_text()
+            check(f"{script} has {row}", word in text or "memory" in script, True)
+
+
+def limited(count):
+    return lambda: resource.setrlimit(resource.RLIMIT_NOFILE, (count, count))
+
+
+def sockets(program, folder):
+    """A port that isn't the user's to take, and a process that may open few files."""
+    first = pathlib.Path("/proc/sys/net/ipv4/ip_unprivileged_port_start")
+    if first.exists() and int(first.read_text()) > 80:
+        nobody = Program(program.path, folder, as_nobody)
+        check("port 80", nobody.ended("serve", "house", "--port", "80", "--count", "1"), fault("socket"))
+    told = [few_files(program, folder, count) for count in FILES]
+    check("few open files", {ending[2] for ending in told}, {fault("file: Store")[2], fault("socket")[2], b""})
+    check("few open files, a connection", (1, b"listening\n", fault("socket")[2]) in told, True)
+
+
+def few_files(program, folder, count):
+    """How serving one connection ends where so many files may be open."""
+    with Program(program.path, folder, limited(count)).serving("house", 1) as server:
+        if server.is_listening:
+            with contextlib.suppress(ConnectionError):
+                exchange(server.port, ITEM)
+    return server.ending
+
+
+def untold(program, folder):
+    """A fault of which nobody can be told has its status."""
+    with open("/dev/full", "wb") as full:
+        result = subprocess.run([program.path, "statement", "missing", "--member", "1", *DAYS], cwd=folder,
+                                stderr=full, stdout=subprocess.PIPE, timeout=60)
+    check("nobody to tell", (result.returncode, result.stdout), (1, b""))
+
+
+def spoiled(program, folder):
+    """A sale whose price no bids leave."""
+    check("sold made", program.ended("init", "sold", *INIT), (0, b"created\n", b""))
+    program.answers("sold", [b"".join([*PRESET, BID, message("POST", "/close", 0, 5000)])])
+    subprocess.run(["sqlite3", "sold", "UPDATE item SET price = price + 1"], cwd=folder, check=True)
+    check("a spoiled sale", program.ended("statement", "sold", "--member", "1", *DAYS), fault("file: Damaged"))
+
+
+def signals(program, folder):
+    """What a signal leaves, and the next start."""
+    statement = ["--member", "2", *DAYS]
+    for number in (signal.SIGTERM, signal.SIGINT, signal.SIGKILL):
+        name = number.name.lower()
+        check(f"{name} made", program.ended("init", name, *INIT), (0, b"created\n", b""))
+        with program.serving(name, 5) as server:
+            exchange(server.port, b"".join([*PRESET, BID]))
+            before = exchange(server.port, ITEM)
+            # A client that is connected, and sends nothing, when the signal comes.
+            with socket.create_connection(("127.0.0.1", server.port)):
+                server.process.send_signal(number)
+                server.process.wait(60)
+        check(f"{name} ends it", server.ending, (-number, b"listening\n", b""))
+        check(f"{name} leaves a log", (folder / f"{name}-wal").stat().st_size > SMALL_LOG, True)
+        check(f"{name}, served again", program.answers(name, [ITEM]), ([before], served(1)))
+        alone(program, folder, name, statement, before)
+
+
+def alone(program, folder, name, statement, before):
+    """After a statement one file is the house; a copy of it and of its log is a backup."""
+    with program.serving(name, 2) as server:
+        exchange(server.port, message("POST", "/items/1/bids", 3, 1002, '{"maximum":500}'))
+        server.process.kill()
+    for part in ("", "-wal"):
+        shutil.copy(folder / f"{name}{part}", folder / f"{name}-kept{part}")
+    check(f"{name}, a statement", program.ended("statement", name, *statement)[0], 0)
+    log = folder / f"{name}-wal"
+    check(f"{name}, a small log", not log.exists() or log.stat().st_size < SMALL_LOG, True)
+    log.unlink(missing_ok=True)
+    for file in (name, f"{name}-kept"):
+        check(f"{file} is whole", program.answers(file, [ITEM]), ([before], served(1)))
+    check(f"{name} is sound", subprocess.run(["sqlite3", name, "PRAGMA integrity_check"], cwd=folder,
+                                             capture_output=True).stdout, b"ok\n")
+
+
+def main():
+    path = str(pathlib.Path(sys.argv[1]).resolve())
+    pages(path)
+    lines()
+    with tempfile.TemporaryDirectory() as name:
+        os.chmod(name, 0o777)
+        folder = pathlib.Path(name)
+        shutil.copy(path, folder / "auction")
+        (folder / "auction").chmod(0o755)
+        shutil.copy(ROOT / "examples" / "bands.csv", folder / "bands.csv")
+        program = Program(str(folder / "auction"), name)
+        check("made", program.ended("init", "house", *INIT), (0, b"created\n", b""))
+        for file in folder.glob("house*"):
+            file.chmod(0o666)
+        sockets(program, folder)
+        untold(program, folder)
+        spoiled(program, folder)
+        signals(program, folder)
+    print(f"{len(CHECKS)} checks, {CHECKS.count(False)} wrong")
+    return 1 if not all(CHECKS) else 0
+
+
+if __name__ == "__main__":
+    sys.exit(main())
