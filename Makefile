@@ -80,7 +80,7 @@ demo test auction wrong: has-kit
 session: has-bin has-curl
 program cases fuzz mutated twins memory file office kills stops cuts stalls documents: has-program
 rows random file statement memory: has-tests
-cases rows: has-cases
+cases: has-cases
 memory stops cuts: has-cc
 documents: has-curl
 
