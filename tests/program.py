@@ -88,6 +88,23 @@ REFUSED_WORDS = [
     ["surplus", "list", "--place", "7", "--maximum", "1", "--member", "1", "--preset"],
 ]
 
+# Commands, each with its own help.
+COMMANDS = ["init", "serve", "replay", "import", "statement", "audit", "surplus"]
+COLUMNS = 80
+
+# Numbers that are none or out of range, and what the error says that they have to be.
+REFUSED_NUMBERS = [
+    (["init", "house", "--bands", "t.csv", "--zone", "UTC0", "--rate", "10%"], "ten-thousandths of its price: 0 to 2000"),
+    (["replay", "--rate", "0.1"], "ten-thousandths of its price: 0 to 2000"),
+    (["replay", "--rate", "2001"], "ten-thousandths of its price: 0 to 2000"),
+    (["serve", "house", "--count", "1", "--port", "http"], "1 to 65535"),
+    (["serve", "house", "--port", "80", "--count", "all"], "1 to 1000000"),
+    (["import", "house", "lots.csv", "--member", "1", "--moment", "2026-01-01"], "in whole seconds after 1970 began"),
+    (["import", "house", "lots.csv", "--moment", "1", "--member", "Ana"], "1 to 100000"),
+    (["surplus", "list", "--maximum", "1", "--member", "1", "--place", "first"], "1 to 1000000"),
+    (["surplus", "list", "--place", "7", "--member", "1", "--maximum", "80.00"], "in cents: 0 to 1000000000"),
+]
+
 # The text of a band table, and how its fault is told.
 FIFTY_BANDS = "at,step\n" + "".join(f"{at},5\n" for at in range(50))
 FAULTY_TABLES = [
@@ -122,9 +139,34 @@ def refused(result):
     return result.returncode == 2 and result.stdout == b"" and begins
 
 
+def is_narrow(text):
+    return all(len(line) <= COLUMNS for line in text.decode().splitlines())
+
+
+def refused_number(words, wanted):
+    """Whether the error names the refused value, says what it has to be, and shows the command's usage."""
+    def judge(result):
+        told = result.stderr.decode()
+        begins = told.startswith(f"error: invalid value '{words[-1]}' for '{words[-2]} <N>'\n")
+        usage = f"\nUsage: auction {words[0]} " in told
+        return refused(result) and begins and wanted in told and usage and is_narrow(result.stderr)
+    return judge
+
+
 def helped(result):
-    """Whether the run gave the help that it was asked for."""
-    return result.returncode == 0 and b"Usage: " in result.stdout and result.stderr == b""
+    """Whether the run gave the help that it was asked for, in lines that fit."""
+    is_help = b"Usage: " in result.stdout and is_narrow(result.stdout)
+    return result.returncode == 0 and is_help and result.stderr == b""
+
+
+def helped_at_length(result):
+    """Whether the help is the long one, which has an example."""
+    return helped(result) and b"\nExample" in result.stdout
+
+
+def helped_in_short(result):
+    """Whether the help is the short one, which names the long one."""
+    return helped(result) and b"\nExample" not in result.stdout and b"(see more with '--help')" in result.stdout
 
 
 def cases(folder, full):
@@ -142,10 +184,14 @@ def cases(folder, full):
         yield over_memory(words, ended(0, b"", b""))
     yield over_memory(["replay", "--record", "--bands", str(table), "--rate", "2000", "--zone", "CET-1"],
                       ended(0, EMPTY_RECORD, b""))
-    for words in (["--help"], ["help"], ["replay", "--help"], ["help", "replay"], ["init", "--help"],
-                  ["serve", "--help"], ["import", "--help"], ["statement", "--help"], ["audit", "--help"],
-                  ["surplus", "--help"]):
-        yield over_memory(words, helped)
+    for words in ([], *([command] for command in COMMANDS)):
+        yield over_memory([*words, "--help"], helped_at_length)
+        yield over_memory(["help", *words], helped_at_length)
+        yield over_memory([*words, "-h"], helped_in_short)
+    for word in ("--version", "-V"):
+        yield over_memory([word], ended(0, b"auction 1.0.0\n", b""))
+    for words, wanted in REFUSED_NUMBERS:
+        yield over_memory(words, refused_number(words, wanted))
     for rule in ("", "UTC", "CET-1\n", "CET-25", "Europe/Berlin"):
         yield over_memory(["replay", "--zone", rule], fault("zone"), READ)
     # A table's fault is told before a zone's.

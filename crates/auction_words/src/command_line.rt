@@ -1,12 +1,12 @@
 //! The words that the program takes.
 ghost use Rattle.std.specs.Prelude.{IfOk, IfSome};
-ghost use Rattle.std.specs.Int.{IsInRange};
 ghost use Rattle.auction_words.specs.Tasks.{IsMember, IsWithin};
 
 use crate::commands::{MOST_CONNECTIONS, MOST_MESSAGES, command};
+use crate::values::{Refused, number, refusal, text};
 use cents::LIMIT;
 use clap::{ArgMatches, Error};
-use house_rows::{MOST_MEMBERS, Rate};
+use house_rows::{MOST_MEMBERS, MOST_RATE, Rate};
 use settle::LAST_MOMENT;
 use std::alloc::Global;
 
@@ -106,131 +106,123 @@ pub enum Task<'a> {
     Surplus(HouseWords<'a>, SurplusWords<'a>),
 }
 
-// A number of the words, if it is in a range. `clap` has refused the others, and says so of the top
-// command alone: so they are looked for here once more.
-fn number(words: &ArgMatches<'_>, name: &str, least: u64, most: u64) -> Option<u64>
-    ensures { IfSome result (IsInRange least most) }
-{
-    let number = words.get_one(name)?;
-    if least <= number && number <= most {
-        Some(number)
-    } else {
-        None
-    }
-}
-
 // The number of a member.
-fn member(words: &ArgMatches<'_>) -> Option<u64>
-    ensures { IfSome result IsMember }
+fn member(words: &ArgMatches<'_>) -> Result<u64, Refused>
+    ensures { IfOk result IsMember }
 {
     number(words, "member", 1, MOST_MEMBERS as u64)
 }
 
-// What the words of a subcommand say of the house. None is answered for no words that were taken.
-fn house_words<'a>(words: &ArgMatches<'a>) -> Option<HouseWords<'a>> {
-    Some(HouseWords {
-        bands: words.get_str("bands"),
-        rate: Rate::new(words.get_one("rate")?)?,
-        zone: words.get_str("zone")?,
-    })
+// What the words of a subcommand say of the house.
+fn house_words<'a>(words: &ArgMatches<'a>) -> Result<HouseWords<'a>, Refused> {
+    let rate = number(words, "rate", 0, MOST_RATE)?;
+    let zone = text(words, "zone")?;
+    match Rate::new(rate) {
+        Some(rate) => Ok(HouseWords {
+            bands: words.get_str("bands"),
+            rate,
+            zone,
+        }),
+        None => Err(Refused { name: "rate" }),
+    }
 }
 
 // What the words of `init` ask for.
-fn init_task<'a>(words: &ArgMatches<'a>) -> Option<Task<'a>>
-    ensures { IfSome result IsWithin }
+fn init_task<'a>(words: &ArgMatches<'a>) -> Result<Task<'a>, Refused>
+    ensures { IfOk result IsWithin }
 {
-    let file = words.get_str("file")?;
+    let file = text(words, "file")?;
     match house_words(words) {
-        Some(house) => Some(Task::Init(file, house)),
-        None => None,
+        Ok(house) => Ok(Task::Init(file, house)),
+        Err(refused) => Err(refused),
     }
 }
 
 // What the words of `serve` ask for.
-fn serve_task<'a>(words: &ArgMatches<'a>) -> Option<Task<'a>>
-    ensures { IfSome result IsWithin }
+fn serve_task<'a>(words: &ArgMatches<'a>) -> Result<Task<'a>, Refused>
+    ensures { IfOk result IsWithin }
 {
-    let file = words.get_str("file")?;
+    let file = text(words, "file")?;
     let port = number(words, "port", 1, 65_535)? as u16;
     let count = number(words, "count", 1, MOST_CONNECTIONS)?;
-    Some(Task::Serve(file, Serve { port, count }))
+    Ok(Task::Serve(file, Serve { port, count }))
 }
 
 // What the words of `replay` ask for.
-fn replay_task<'a>(words: &ArgMatches<'a>) -> Option<Task<'a>>
-    ensures { IfSome result IsWithin }
+fn replay_task<'a>(words: &ArgMatches<'a>) -> Result<Task<'a>, Refused>
+    ensures { IfOk result IsWithin }
 {
     let asked = Replay {
         preset: words.get_flag("preset"),
         record: words.get_flag("record"),
     };
     match house_words(words) {
-        Some(house) => Some(Task::Replay(house, asked)),
-        None => None,
+        Ok(house) => Ok(Task::Replay(house, asked)),
+        Err(refused) => Err(refused),
     }
 }
 
 // What the words of `import` ask for.
-fn import_task<'a>(words: &ArgMatches<'a>) -> Option<Task<'a>>
-    ensures { IfSome result IsWithin }
+fn import_task<'a>(words: &ArgMatches<'a>) -> Result<Task<'a>, Refused>
+    ensures { IfOk result IsWithin }
 {
-    let file = words.get_str("file")?;
+    let file = text(words, "file")?;
     let asked = ImportWords {
-        lots: words.get_str("lots")?,
+        lots: text(words, "lots")?,
         member: member(words)?,
         moment: number(words, "moment", 0, LAST_MOMENT)?,
     };
-    Some(Task::Import(file, asked))
+    Ok(Task::Import(file, asked))
 }
 
 // What the words of `statement` ask for.
-fn statement_task<'a>(words: &ArgMatches<'a>) -> Option<Task<'a>>
-    ensures { IfSome result IsWithin }
+fn statement_task<'a>(words: &ArgMatches<'a>) -> Result<Task<'a>, Refused>
+    ensures { IfOk result IsWithin }
 {
-    let file = words.get_str("file")?;
+    let file = text(words, "file")?;
     let asked = StatementWords {
         member: member(words)?,
-        from: words.get_str("from")?,
-        to: words.get_str("to")?,
+        from: text(words, "from")?,
+        to: text(words, "to")?,
         csv: words.get_flag("csv"),
     };
-    Some(Task::Statement(file, asked))
+    Ok(Task::Statement(file, asked))
 }
 
 // What the words of `audit` ask for.
-fn audit_task<'a>(words: &ArgMatches<'a>) -> Option<Task<'a>>
-    ensures { IfSome result IsWithin }
+fn audit_task<'a>(words: &ArgMatches<'a>) -> Result<Task<'a>, Refused>
+    ensures { IfOk result IsWithin }
 {
     let asked = AuditWords {
-        left: words.get_str("left")?,
-        right: words.get_str("right")?,
+        left: text(words, "left")?,
+        right: text(words, "right")?,
         member: member(words)?,
     };
     match house_words(words) {
-        Some(house) => Some(Task::Audit(house, asked)),
-        None => None,
+        Ok(house) => Ok(Task::Audit(house, asked)),
+        Err(refused) => Err(refused),
     }
 }
 
 // What the words of `surplus` ask for.
-fn surplus_task<'a>(words: &ArgMatches<'a>) -> Option<Task<'a>>
-    ensures { IfSome result IsWithin }
+fn surplus_task<'a>(words: &ArgMatches<'a>) -> Result<Task<'a>, Refused>
+    ensures { IfOk result IsWithin }
 {
     let asked = SurplusWords {
-        list: words.get_str("list")?,
+        list: text(words, "list")?,
         place: number(words, "place", 1, MOST_MESSAGES)?,
         maximum: number(words, "maximum", 0, LIMIT)?,
         member: member(words)?,
     };
     match house_words(words) {
-        Some(house) => Some(Task::Surplus(house, asked)),
-        None => None,
+        Ok(house) => Ok(Task::Surplus(house, asked)),
+        Err(refused) => Err(refused),
     }
 }
 
 // What the words of a subcommand ask for.
-fn task_of<'a>(name: &str, words: &ArgMatches<'a>) -> Option<Task<'a>>
-    ensures { IfSome result IsWithin }
+fn task_of<'a>(name: &str, words: &ArgMatches<'a>) -> Result<Task<'a>, Refused>
+    ensures { IfOk result IsWithin }
 {
     match name {
         "init" => init_task(words),
@@ -240,7 +232,7 @@ fn task_of<'a>(name: &str, words: &ArgMatches<'a>) -> Option<Task<'a>>
         "statement" => statement_task(words),
         "audit" => audit_task(words),
         "surplus" => surplus_task(words),
-        _ => None,
+        _ => Err(Refused { name: "command" }),
     }
 }
 
@@ -250,8 +242,11 @@ pub fn read_task<'a>(alloc: Global, words: &'a [String]) -> Result<Option<Task<'
     ensures { IfOk result (λ task. IfSome task IsWithin) }
 {
     let matches = command(alloc)?.try_get_matches_from(words)?;
-    Ok(match matches.subcommand() {
-        Some((name, words)) => task_of(name, words),
-        None => None,
-    })
+    match matches.subcommand() {
+        Some((name, words)) => match task_of(name, words) {
+            Ok(task) => Ok(Some(task)),
+            Err(refused) => Err(refusal(alloc, name, words, refused)?),
+        },
+        None => Ok(None),
+    }
 }

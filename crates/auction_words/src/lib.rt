@@ -8,6 +8,8 @@
 mod command_line;
 mod commands;
 mod settings;
+mod texts;
+mod values;
 
 pub use command_line::{
     AuditWords, HouseWords, ImportWords, Replay, Serve, StatementWords, SurplusWords, Task,

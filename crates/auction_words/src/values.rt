@@ -1,0 +1,77 @@
+//! The values of the words, each read or refused.
+ghost use Rattle.std.specs.Prelude.{◌≡◌, IfOk};
+ghost use Rattle.std.specs.Int.{IsInRange};
+ghost use Rattle.clap.specs.Values.{kind_of};
+ghost use Rattle.clap.specs.declared.error.kind.ErrorKind.TheVariants.{ValueValidation};
+
+use crate::commands::subcommand;
+use clap::error::ErrorKind;
+use clap::{ArgMatches, Command, Error};
+use std::alloc::{AllocError, Global};
+
+/// The name of an option or a file whose value is refused.
+#[derive(Clone, Copy, Debug)]
+pub struct Refused {
+    /// The name.
+    pub name: &'static str,
+}
+
+/// A text of the words, which is there in all that `clap` takes.
+pub fn text<'a>(words: &ArgMatches<'a>, name: &'static str) -> Result<&'a str, Refused> {
+    match words.get_str(name) {
+        Some(text) => Ok(text),
+        None => Err(Refused { name }),
+    }
+}
+
+/// A number of the words, in a range.
+pub fn number(
+    words: &ArgMatches<'_>,
+    name: &'static str,
+    least: u64,
+    most: u64,
+) -> Result<u64, Refused>
+    ensures { IfOk result (IsInRange least most) }
+{
+    match words.get_one(name) {
+        Some(number) if least <= number && number <= most => Ok(number),
+        _ => Err(Refused { name }),
+    }
+}
+
+// What is told of a refused value: the value, and what the help has of its option.
+fn told(
+    alloc: Global,
+    command: &Command<'_>,
+    words: &ArgMatches<'_>,
+    refused: Refused,
+) -> Result<String, AllocError> {
+    let value = words.get_str(refused.name).unwrap_or("");
+    let options = command.get_arguments();
+    match options
+        .iter()
+        .find(|option| option.get_id() == refused.name)
+    {
+        Some(option) => {
+            let help = option.get_long_help().or(option.get_help());
+            let help = help.unwrap_or("");
+            format!(in alloc; "invalid value '{value}' for '{option}'\n\n{help}")
+        }
+        None => format!(in alloc; "invalid value '{value}'"),
+    }
+}
+
+/// The error for a refused value of a subcommand, with its usage.
+pub fn refusal(
+    alloc: Global,
+    name: &str,
+    words: &ArgMatches<'_>,
+    refused: Refused,
+) -> Result<Error, AllocError>
+    ensures { IfOk result (λ error. kind_of error ≡ ValueValidation) }
+{
+    let usage_name = format!(in alloc; "auction {name}")?;
+    let mut command = subcommand(alloc, name)?.bin_name(usage_name.as_str())?;
+    let message = told(alloc, &command, words, refused)?;
+    command.error(ErrorKind::ValueValidation, message.as_str())
+}
