@@ -1,22 +1,25 @@
 #!/usr/bin/env python3
-"""Reads the documents of the repository: `documents.py`.
+"""Reads the documents of the repository: `documents.py [PROGRAM]`.
 
 Each link leads to a file and a heading that are there. Each file that is named between backticks is there, by its path
 or the end of it. Each name of code in PROMISES.md, DEFINITIONS.md and GLOSSARY.md is a word of some source, and each
-wrong body there has its file. README.md, HTTP.md, RUNNING.md and CHANGING.md have no sentence over 30 words,
-and no line over 100 columns outside tables; of the other pages these are counted. docs/ has at most 18,000 words
-outside blocks of code, a word being what has a letter or a digit. The last line is 'N checks, M wrong'.
+wrong body there has its file. README.md and the pages of docs/ have no sentence over 30 words, and no line over 100
+columns outside tables; of bench/README.md these are counted. docs/ has at most 18,000 words outside blocks of code, a
+word being what has a letter or a digit. The manual docs/auction.1 has no line over 80 columns, and no fault that
+mandoc finds, where mandoc is there. It has each command of PROGRAM with all its files, options and ranges, as the help
+tells them, and no other. The last line is 'N checks, M wrong'.
 """
 import pathlib
 import re
+import shutil
 import subprocess
 import sys
 
 ROOT = pathlib.Path(__file__).resolve().parent.parent
 PAGES = [ROOT / "README.md", ROOT / "bench" / "README.md", *sorted((ROOT / "docs").glob("*.md"))]
-PLAIN = ["README.md", "docs/HTTP.md", "docs/RUNNING.md", "docs/CHANGING.md"]
 OF_CODE = ["docs/PROMISES.md", "docs/DEFINITIONS.md", "docs/GLOSSARY.md"]
-MOST_WORDS, MOST_IN_SENTENCE, MOST_COLUMNS = 18_000, 30, 100
+MANUAL = ROOT / "docs" / "auction.1"
+MOST_WORDS, MOST_IN_SENTENCE, MOST_COLUMNS, MOST_IN_MANUAL = 18_000, 30, 100, 80
 
 LINK = re.compile(r"\]\(([^)#\s]*)(?:#([^)\s]*))?\)")
 FENCED = re.compile(r"^```.*?^```$", re.M | re.S)
@@ -24,6 +27,10 @@ QUOTED = re.compile(r"`([^`\n]+)`")
 FILE = re.compile(r"[\w./*-]+\.(?:py|rt|antt|md|csv|http|c|sh|edit|txt)")
 NAME = re.compile(r"(?:\w+::)*([A-Za-z_]\w*)")
 HEX = re.compile(r"[0-9a-f]{16}")
+# A file or an option in the help and in the manual, and the range of a number.
+HELPED = re.compile(r"^ +(?:-\w, )?(?:--([a-z]+))? ?(?:<([A-Z]+)>)?  +(.*)$", re.M)
+GIVEN = re.compile(r"Fl -([a-z]+)(?: Ar ([A-Z]+))?|Ar ([A-Z]+)")
+RANGE = re.compile(r"[0-9]+ to [0-9]+(?![-0-9])")
 WRONG = re.compile(r"`([a-z0-9]+(?:-[a-z]+){2,})`")
 CHECKS = []
 
@@ -93,6 +100,70 @@ def words_of(text):
     return sum(any(letter.isalnum() for letter in word) for word in FENCED.sub("", text).split())
 
 
+def helps(program):
+    """The files and options of each command, each with its range, as the help tells them."""
+    def told(*words):
+        return subprocess.run([program, *words], capture_output=True, text=True, timeout=60, check=True).stdout
+
+    listed = told("-h").split("Commands:\n")[1].split("\n\n")[0]
+    for command in re.findall(r"^  (\w+)", listed, re.M):
+        if command != "help":
+            rows = HELPED.findall(told(command, "-h"))
+            yield command, {(option, value): RANGE.findall(text) for option, value, text in rows if option != "help"}
+
+
+def manual_part(text, begin, end):
+    return text.split(begin)[1].split(end)[0]
+
+
+def given(text):
+    """The files and options that a part of the manual names."""
+    return [(option, value or file) for option, value, file in GIVEN.findall(text)]
+
+
+def manual_items(part):
+    """The files and options of a command's list in the manual, each with its range. One that is as elsewhere has None."""
+    items = {}
+    for item in part.split("\n.It ")[1:]:
+        head, text = item.split("\n", 1)
+        text = " ".join(text.split())
+        for name in given(head):
+            items[name] = None if "As at" in text else RANGE.findall(text)
+    return items
+
+
+def manual(program):
+    text = MANUAL.read_text()
+    for line in text.splitlines():
+        check(f"auction.1: over {MOST_IN_MANUAL} columns: {line}", len(line) <= MOST_IN_MANUAL)
+    if shutil.which("mandoc"):
+        lint = subprocess.run(["mandoc", "-Tlint", MANUAL], capture_output=True, text=True)
+        check(f"auction.1: {lint.stdout}{lint.stderr}", lint.returncode == 0 and not lint.stdout)
+    if program is None:
+        return
+    commands = dict(helps(program))
+    synopsis = manual_part(text, ".Sh SYNOPSIS", ".Sh DESCRIPTION").split("\n.Nm\n.Cm ")[1:]
+    listed = manual_part(text, ".Sh COMMANDS", ".Sh FILES").split("\n.It Cm ")[1:]
+    for name, parts in (("synopsis", synopsis), ("commands", listed)):
+        check(f"auction.1: the {name} are {sorted(commands)}",
+              {part.split("\n")[0] for part in parts} == {*commands, "help"})
+    for part in synopsis:
+        command = part.split("\n")[0]
+        if command in commands:
+            check(f"auction.1: the synopsis of {command}", set(given(part)) == set(commands[command]))
+    for part in listed:
+        command = part.split("\n")[0]
+        if command in commands:
+            manual_command(command, manual_items(part), commands[command])
+
+
+def manual_command(command, items, helped):
+    check(f"auction.1: {command} has {sorted(items)}", set(items) == set(helped))
+    for name, ranges in helped.items():
+        had = items.get(name, [])
+        check(f"auction.1: {command}: {name}: {ranges}", had is None or set(ranges) <= set(had))
+
+
 def main():
     there = subprocess.run(["git", "ls-files", "--cached", "--others", "--exclude-standard"], cwd=ROOT, text=True,
                            capture_output=True, check=True).stdout.splitlines()
@@ -109,12 +180,13 @@ def main():
             code(page, text, words)
             wrong_bodies(page, text, there)
         long, wide = long_parts(text)
-        if named(page) in PLAIN:
+        if page.parent.name != "bench":
             for part in [*long, *wide]:
                 check(f"{named(page)}: too long: {part}", False)
         total += words_of(text) if page.parent.name == "docs" else 0
         print(f"{named(page)}: {words_of(text)} words, {len(long)} sentences over {MOST_IN_SENTENCE} words, "
               f"{len(wide)} lines over {MOST_COLUMNS} columns")
+    manual(sys.argv[1] if len(sys.argv) > 1 else None)
     print(f"docs/: {total} words")
     check(f"docs/ has over {MOST_WORDS} words", total <= MOST_WORDS)
     print(f"{len(CHECKS)} checks, {CHECKS.count(False)} wrong")

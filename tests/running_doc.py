@@ -1,11 +1,11 @@
 #!/usr/bin/env python3
 """Does what docs/RUNNING.md says: `running_doc.py PROGRAM`.
 
-The sessions of the page print what stands there. The table of lines has each line of the program's faults, and names
-scripts that have these lines. Causes that no other script has are brought about: a port that the user may not use,
-too many open files, standard error that takes nothing, a sale whose row is spoiled. A server that gets a signal
-leaves both files with all that it answered, which an opening takes; then a statement makes one file of two, of which
-a backup is a copy. Needs curl and sqlite3. The last line is 'N checks, M wrong'.
+The sessions of the page print what stands there. The table of lines has each line of the program's faults, as the help
+has, and names scripts that have these lines. Causes that no other script has are brought about: a port that the user
+may not use, too many open files, standard error that takes nothing, a sale whose row is spoiled. A server that gets a
+signal leaves both files with all that it answered, which an opening takes; then a statement makes one file of two, of
+which a backup is a copy. Needs curl and sqlite3. The last line is 'N checks, M wrong'.
 """
 import contextlib
 import os
@@ -49,8 +49,9 @@ def trimmed(text):
     return "\n".join(line.rstrip() for line in text.splitlines())
 
 
-def lines():
-    """The table has each line of the faults, and each script that it names has the line."""
+def lines(program):
+    """The table and the help have each line of the faults, and each script that the table names has the line."""
+    help_text = subprocess.run([program, "--help"], capture_output=True, text=True, timeout=60).stdout
     source = (ROOT / "crates" / "auction" / "src" / "fault.rt").read_text()
     rows = re.findall(r"^\|([^|]*)\|[^|]*\|[^|]*\|([^|]*)\|$", PAGE, re.M)
     named, line = {}, ""
@@ -62,6 +63,7 @@ def lines():
     for text in sorted(told):
         begins = text.split("..")[0].rstrip()
         check(f"the table has {text}", any(row.startswith(begins) for row in named), True)
+        check(f"the help has {text}", begins in help_text, True)
     for row, scripts in named.items():
         if not row.startswith("auction: "):
             continue
@@ -151,7 +153,7 @@ def alone(program, folder, name, statement, before):
 def main():
     path = str(pathlib.Path(sys.argv[1]).resolve())
     pages(path)
-    lines()
+    lines(path)
     with tempfile.TemporaryDirectory() as name:
         os.chmod(name, 0o777)
         folder = pathlib.Path(name)
