@@ -1,5 +1,5 @@
 -- What a message asks. Start here. Faults are judged in the order in which the lines below stand.
-use Rattle.std.specs.Prelude.{◌≡◌, ℕ, List, true, Option, Some, None, Result, Ok, Err}
+use Rattle.std.specs.Prelude.{◌≡◌, ℕ, List, Bool, true, Option, Some, None, Result, Ok, Err}
 use Rattle.house_rows.specs.declared.command.Command.{Command}
 use Rattle.house_rows.specs.declared.message.Message.{Message}
 use Rattle.house_rows.specs.declared.message.Message.TheVariants.{Order, Read, Broken}
@@ -17,7 +17,7 @@ use Rattle.wire.specs.Frame.{IsFrame}
 use Rattle.wire.specs.Message.{Message as Framed}
 use Rattle.wire.specs.declared.fault.WireFault.{WireFault}
 use Rattle.site_asks.specs.Days.{period_of}
-use Rattle.site_asks.specs.Faults.{or_fault}
+use Rattle.site_asks.specs.Faults.{is_of_body, or_fault}
 use Rattle.site_asks.specs.Heads.{caller_in, moment_in}
 use Rattle.site_asks.specs.Wanted.{wanted_of}
 use Rattle.site_asks.specs.declared.asked.Asked.{Asked}
@@ -68,6 +68,16 @@ asks_of caller m = do
 abbrev pub or_broken : Option ℕ → Result (Message Fault) Fault → Message Fault
 or_broken caller (Ok message) = message
 or_broken caller (Err f) = Broken caller f
+
+-- whether a message may ask for something, as far as can be told without its body
+abbrev pub may_ask : Message Fault → Bool
+may_ask (Order moment caller command) = true
+may_ask (Read caller query) = true
+may_ask (Broken caller f) = is_of_body f
+
+-- the same of a message of anybody
+abbrev pub MayAsk : Result (Message Fault) Fault → Type 0
+MayAsk meant = may_ask (or_broken None meant) ≡ true
 
 -- what a whole message asks
 unfoldable pub message_of : Framed → Message Fault

@@ -1,5 +1,5 @@
 -- What a message is answered that asks for nothing.
-use Rattle.std.specs.Prelude.{◌≡◌, ℕ, List, ◌++◌, codes, Option, Some, None, Result, Ok, Err}
+use Rattle.std.specs.Prelude.{◌≡◌, ℕ, List, ◌++◌, codes, Bool, true, false, Option, Some, None, Result, Ok, Err}
 use Rattle.site_orders.specs.Fields.{name_of}
 use Rattle.site_orders.specs.declared.field.Field.{Field}
 use Rattle.status.specs.declared.Status.{Status}
@@ -47,6 +47,12 @@ body_of fault.Json = error_body (codes "json")
 body_of (fault.Field f) = field_body f
 body_of fault.Date = error_body (codes "date")
 body_of fault.Order = error_body (codes "order")
+
+-- whether it is a fault of the body, which is judged behind path, method, caller and moment
+abbrev pub is_of_body : Fault → Bool
+is_of_body fault.Json = true
+is_of_body (fault.Field f) = true
+is_of_body _ = false
 
 abbrev pub or_fault : {A : Type 0} → Fault → Option A → Result A Fault
 or_fault f None = Err f

@@ -1,5 +1,5 @@
 //! The days of a statement.
-ghost use Rattle.std.specs.Prelude.{◌≡◌};
+ghost use Rattle.std.specs.Prelude.{◌≡◌, IsErrOf};
 ghost use Rattle.site_asks.specs.Days.{day_in, period_of};
 ghost use Rattle.site_asks.specs.Faults.{Gives};
 
@@ -25,7 +25,8 @@ fn day(text: &[u8]) -> Option<Day>
 /// The read of a statement from one day to another.
 #[tactic(auto, unfolding(crate::specs::Days::period_of))]
 pub(crate) fn period(from: &[u8], to: &[u8]) -> Result<Query, Unasked>
-    ensures { Gives result (period_of from.now to.now) }
+    ensures gives { Gives result (period_of from.now to.now) }
+    ensures sound { ¬ (IsErrOf result Unasked.Memory) }
 {
     let Some(from) = day(from) else {
         return Err(Unasked::Fault(Fault::Date));

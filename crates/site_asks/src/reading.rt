@@ -1,7 +1,7 @@
 //! Reading a message.
-ghost use Rattle.std.specs.Prelude.{◌≡◌, IfOk, Some};
+ghost use Rattle.std.specs.Prelude.{◌≡◌, IfOk, IsErr, IsErrOf, Some, true};
 ghost use Rattle.house_rows.specs.declared.message.Message.TheVariants as message;
-ghost use Rattle.site_asks.specs.Asked.{asked_of, asks_of, called, message_of, ordered};
+ghost use Rattle.site_asks.specs.Asked.{MayAsk, asked_of, asks_of, called, may_ask, message_of, ordered};
 ghost use Rattle.site_asks.specs.Faults.{Gives};
 ghost use Rattle.site_asks.specs.Reading.{IsRead, IsRequestRead};
 
@@ -35,7 +35,8 @@ fn ordered(
     request: &Request<'_>,
     scratch: &mut Scratch,
 ) -> Result<Message<Fault>, Unasked>
-    ensures { Gives result (ordered caller order request.now) }
+    ensures gives { Gives result (ordered caller order request.now) }
+    ensures unread { IsErrOf result Unasked.Memory → MayAsk (ordered caller order request.now) }
 {
     let Some(moment) = moment(request) else {
         return Err(Unasked::Fault(Fault::Moment));
@@ -61,7 +62,9 @@ fn called(
     request: &Request<'_>,
     scratch: &mut Scratch,
 ) -> Result<Message<Fault>, Unasked>
-    ensures { Gives result (called caller wanted.entry request.now) }
+    ensures gives { Gives result (called caller wanted.entry request.now) }
+    ensures unread { IsErrOf result Unasked.Memory
+        → MayAsk (called caller wanted.entry request.now) }
 {
     match wanted {
         Wanted::Order(order) => ordered(alloc, caller, order, request, scratch),
@@ -82,7 +85,8 @@ fn asks(
     request: &Request<'_>,
     scratch: &mut Scratch,
 ) -> Result<Message<Fault>, Unasked>
-    ensures { Gives result (asks_of caller request.now) }
+    ensures gives { Gives result (asks_of caller request.now) }
+    ensures unread { IsErrOf result Unasked.Memory → MayAsk (asks_of caller request.now) }
 {
     let route = match routes.find(request.method(), request.target()) {
         Ok(route) => route,
@@ -103,7 +107,8 @@ fn message(
     request: &Request<'_>,
     scratch: &mut Scratch,
 ) -> Result<Message<Fault>, AllocError>
-    ensures { IfOk result (λ m. m ≡ message_of request.now) }
+    ensures ok { IfOk result (λ m. m ≡ message_of request.now) }
+    ensures unread { IsErr result → may_ask (message_of request.now) ≡ true }
 {
     let caller = caller(request);
     match asks(alloc, routes, caller, request, scratch) {
