@@ -1,5 +1,5 @@
 mod Steps
 mod Turns
-mod Stops
+pub mod Stops
 mod Bare
 pub mod Raised

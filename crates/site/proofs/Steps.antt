@@ -1,7 +1,9 @@
 -- What answering one message does, from what carrying it out did.
 use Rattle.std.proofs.Common.{◌≡◌, ◌⊎◌, ◌∙◌, ◌++◌, ℕ, List, Bool, true, false, refl, sym, ap, subst, inl, inr, Ok, Err}
 use Rattle.std.specs.Borrow.{Bor}
-use Rattle.std.specs.Prelude.{OnOk, Result}
+use Rattle.std.specs.Fmt.{digits}
+use Rattle.std.specs.Prelude.{OnOk, Result, codes, drop, take}
+use Rattle.std.specs.Str.{bytes_eq}
 use Rattle.std.proofs.lemmas.List.{append_cancel_left}
 use Rattle.house_rows.specs.declared.fault.KeepFault.{KeepFault}
 use Rattle.house_rows.specs.declared.fault.KeepFault.TheVariants.{Memory, Store, Damaged}
@@ -18,12 +20,13 @@ use Rattle.house_rows.proofs.Put.{by_test}
 use Rattle.pages_laws.specs.ByTables.{page_by}
 use Rattle.settle.specs.declared.zone.Zone.{Zone}
 use Rattle.site_acts.specs.Acted.{IfRead, IsActed, is_asking, is_entered}
-use Rattle.site_asks.specs.Asked.{asked_of}
+use Rattle.site_asks.specs.Asked.{asked_of, may_ask}
 use Rattle.site_asks.specs.declared.asked.Asked.{Asked}
 use Rattle.site_asks.specs.declared.fault.Fault.{Fault}
 use Rattle.site_asks.specs.declared.fault.Fault.TheVariants as fault
 use Rattle.site_replies.specs.Texts.{digits_in, fault_text, is_failure, reply_text}
-use Rattle.site_replies.proofs.StatusLemmas.{reply_served}
+use Rattle.site_replies.proofs.StatusLemmas.{reply_served, store_told}
+use Rattle.status.specs.Status.{phrase_of}
 use Rattle.wire.specs.Answer.{answer_bytes, head_start, status_line}
 use Rattle.wire.specs.Frame.{IsFrame}
 use Rattle.wire.specs.Message.{Message as Framed}
@@ -40,6 +43,33 @@ not_both false is not = cc
 pub memory_goes : (closes : Bool) → is_failure (fault_text Memory closes) ≡ false
 unfolding fault_text digits_in answer_bytes head_start status_line
 memory_goes closes = refl
+
+-- a failed store and a damaged row differ in the second digit of their content-length
+abbrev is_of_17 : List ℕ → Bool
+is_of_17 text = bytes_eq (take 1 (drop 85 text)) (codes "7")
+
+store_is_of_17 : (closes : Bool) → is_of_17 (fault_text Store closes) ≡ true
+unfolding fault_text answer_bytes head_start status_line phrase_of digits
+store_is_of_17 closes = refl
+
+damage_is_not : (closes : Bool) → is_of_17 (fault_text Damaged closes) ≡ false
+unfolding fault_text answer_bytes head_start status_line phrase_of digits
+damage_is_not closes = refl
+
+-- a text that isn't told as a failure doesn't tell that the store failed
+served_not_store : (text : List ℕ) (closes : Bool) → is_failure text ≡ false
+    → text ≡ fault_text Store closes → ⊥
+served_not_store text closes served e =
+    not_both _ (store_told closes) (rw e at served)
+
+damage_not_store : (closes : Bool) → fault_text Damaged closes ≡ fault_text Store closes → ⊥
+damage_not_store closes e = not_both _ (store_is_of_17 closes) (rw e at (damage_is_not closes))
+
+-- what asks for anything may ask
+asks_may : (message : Message Fault) → is_asking message ≡ true → may_ask message ≡ true
+asks_may (Order moment caller command) asks = refl
+asks_may (Read caller query) asks = refl
+asks_may (Broken caller f) asks = absurd (let wrong : false ≡ true = asks in cc)
 
 -- a message that asks for nothing leaves the keep; another was asked of one that hasn't failed,
 -- where no failure was told
@@ -150,6 +180,8 @@ step_ok content is_failed is_honest may_leave zone asked u before after old new 
         failure = λ honest sound failing.
             absurd (not_both _ failing (reply_served zone rate asked.closes r).not_failed);
         down = λ failed asks. absurd (let wrong = acted.store.1 (failed, asks) in cc);
+        store = λ told. absurd (served_not_store (reply_text zone rate asked.closes r)
+            asked.closes (reply_served zone rate asked.closes r).not_failed told);
         honest = acted.honest;
         stays = acted.stays;
         asleep = acted.asleep;
@@ -182,7 +214,9 @@ step_err content is_failed is_honest may_leave zone asked Memory before after ol
       made = acted.made;
       crash = acted.crash;
       failure = λ honest sound failing. absurd (not_both _ failing (memory_goes asked.closes));
-      down = λ failed asks. inr refl;
+      down = λ failed asks. absurd (let wrong = acted.store.1 (failed, asks) in cc);
+      store = λ told. absurd (served_not_store (fault_text Memory asked.closes) asked.closes
+          (memory_goes asked.closes) told);
       honest = acted.honest;
       stays = acted.stays;
       asleep = acted.asleep;
@@ -192,7 +226,7 @@ step_err content is_failed is_honest may_leave zone asked Store before after old
       answer = λ honest settings h is same. record {
         outcome = inr (inr (record {
           told = refl;
-          asking = (acted.store.0 refl).1;
+          asking = asks_may asked.message (acted.store.0 refl).1;
           failed = (acted.store.0 refl).0;
         }));
         crash = λ t may. acted.crash_next honest settings h is same t may;
@@ -201,7 +235,8 @@ step_err content is_failed is_honest may_leave zone asked Store before after old
       made = acted.made;
       crash = acted.crash;
       failure = λ honest sound failing. inl (acted.store.0 refl).0;
-      down = λ failed asks. inl refl;
+      down = λ failed asks. refl;
+      store = λ told. ((acted.store.0 refl).0, asks_may asked.message (acted.store.0 refl).1);
       honest = acted.honest;
       stays = acted.stays;
       asleep = acted.asleep;
@@ -214,6 +249,7 @@ step_err content is_failed is_honest may_leave zone asked Damaged before after o
       crash = acted.crash;
       failure = λ honest sound failing. inr (acted.damaged honest sound refl);
       down = λ failed asks. absurd (let wrong = acted.store.1 (failed, asks) in cc);
+      store = λ told. absurd (damage_not_store asked.closes told);
       honest = acted.honest;
       stays = acted.stays;
       asleep = acted.asleep;
@@ -243,35 +279,72 @@ step_acted content is_failed is_honest may_leave zone asked (Ok u) (Err text) be
 step_acted content is_failed is_honest may_leave zone asked (Err f) (Ok v) before after old new
     acted told = absurd told
 
--- memory was refused before the keep was asked
-pub step_unread : {K : Type 0} (content : K → Tables) (is_failed : K → Bool)
+-- memory was refused for the body, over a keep that goes on
+unread_going : {K : Type 0} (content : K → Tables) (is_failed : K → Bool)
     (is_honest : K → Type 0) (may_leave : K → Tables → Type 0)
-    (zone : Zone) (asked : Asked) (closes : Bool) (k : K) → closes ≡ asked.closes
-    → IsStep content is_failed is_honest may_leave zone asked (fault_text Memory closes) k k
-step_unread content is_failed is_honest may_leave zone asked closes k same = record {
+    (zone : Zone) (asked : Asked) (k : K) → is_failed k ≡ false
+    → IsStep content is_failed is_honest may_leave zone asked (fault_text Memory asked.closes) k k
+unread_going content is_failed is_honest may_leave zone asked k going = record {
   answer = λ honest settings h is e. record {
-    outcome = inr (inl (record {
-      told = ap (fault_text
-          Memory) same;
-      tables = refl;
-      same = refl;
-      left = λ t may. may;
-    }));
+    outcome = inr (inl (record { told = refl; tables = refl; same = refl; left = λ t may. may }));
     crash = λ t may. inl may;
   };
   told = inr (record {
-    text = (Memory, ap (fault_text Memory) same);
+    text = (Memory, refl);
     tables = λ honest going. refl;
     left = λ honest going t may. may;
   });
   made = λ honest going. inl refl;
   crash = λ honest t may. inl may;
-  failure = λ honest sound failing. absurd (not_both _ failing (memory_goes closes));
-  down = λ failed asks. inr (ap (fault_text Memory) same);
+  failure = λ honest sound failing. absurd (not_both _ failing (memory_goes asked.closes));
+  down = λ failed asks. absurd (not_both _ failed going);
+  store = λ told. absurd (served_not_store (fault_text Memory asked.closes) asked.closes
+      (memory_goes asked.closes) told);
   honest = λ honest. honest;
   stays = λ failed. failed;
   asleep = λ idle. refl;
 }
+
+-- over one that has failed
+unread_down : {K : Type 0} (content : K → Tables) (is_failed : K → Bool)
+    (is_honest : K → Type 0) (may_leave : K → Tables → Type 0)
+    (zone : Zone) (asked : Asked) (k : K) → may_ask asked.message ≡ true → is_failed k ≡ true
+    → IsStep content is_failed is_honest may_leave zone asked (fault_text Store asked.closes) k k
+unread_down content is_failed is_honest may_leave zone asked k may failed = record {
+  answer = λ honest settings h is e. record {
+    outcome = inr (inr (record { told = refl; asking = may; failed = failed }));
+    crash = λ t may. inl may;
+  };
+  told = inr (record {
+    text = (Store, refl);
+    tables = λ honest going. refl;
+    left = λ honest going t may. may;
+  });
+  made = λ honest going. inl refl;
+  crash = λ honest t may. inl may;
+  failure = λ honest sound failing. inl failed;
+  down = λ failed asks. refl;
+  store = λ told. (failed, may);
+  honest = λ honest. honest;
+  stays = λ failed. failed;
+  asleep = λ idle. refl;
+}
+
+-- and whatever the keep has done before
+pub step_unread : {K : Type 0} (content : K → Tables) (is_failed : K → Bool)
+    (is_honest : K → Type 0) (may_leave : K → Tables → Type 0)
+    (zone : Zone) (asked : Asked) (closes : Bool) (reply : List ℕ) (k : K)
+    → closes ≡ asked.closes → may_ask asked.message ≡ true
+    → (is_failed k ≡ true → reply ≡ fault_text Store closes)
+    → (is_failed k ≡ false → reply ≡ fault_text Memory closes)
+    → IsStep content is_failed is_honest may_leave zone asked reply k k
+step_unread content is_failed is_honest may_leave zone asked closes reply k same may down going =
+    elim (by_test (is_failed k)) [
+      | inl failed ↦ rw (down failed, same)
+          (unread_down content is_failed is_honest may_leave zone asked k may failed)
+      | inr goes ↦ rw (going goes, same)
+          (unread_going content is_failed is_honest may_leave zone asked k goes)
+    ]
 
 -- the text that stands ready for a broken frame is that of the reply
 broken_replied : (settings : Settings) (zone : Zone) (h : History) (f : WireFault)
@@ -337,6 +410,8 @@ step_broken content is_failed is_honest may_leave zone f k = record {
   crash = λ honest t may. inl may;
   failure = λ honest sound failing. absurd (not_both _ failing (broken_goes f));
   down = λ failed asks. absurd (not_both _ asks (broken_asks f));
+  store = λ told. absurd (served_not_store (broken_text f) (asked_of (Err f)).closes (broken_goes f)
+      told);
   honest = λ honest. honest;
   stays = λ failed. failed;
   asleep = λ idle. refl;

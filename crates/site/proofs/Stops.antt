@@ -12,10 +12,10 @@ use Rattle.site_asks.specs.Asked.{IsAsked}
 use Rattle.site_asks.specs.declared.asked.Asked.{Asked}
 use Rattle.site_replies.specs.Texts.{is_failure}
 use Rattle.site_replies.proofs.StatusLemmas.{reply_served, store_told}
-use Rattle.site.specs.Answers.{Answers, IsFailed, IsStep, answer_of, next_of}
-use Rattle.site.specs.Runs.{AreDown, InTurn, IsGoing, Stopped}
+use Rattle.site.specs.Answers.{Answers, IsDown, IsFailed, IsStep, answer_of, next_of}
+use Rattle.site.specs.Runs.{AreDown, InTurn, IsGoing, StaysDown, Stopped}
 use Rattle.site.proofs.Steps.{memory_goes, not_both}
-use Rattle.site.proofs.Turns.{Turns, honest_before, next_is, one_asked, settled_next}
+use Rattle.site.proofs.Turns.{Turns, honest_before, next_is, one_asked, one_meaning, settled_next}
 
 -- a store that failed stays so
 failed_after : {K : Type 0} (content : K → Tables) (is_failed : K → Bool) (is_honest : K → Type 0)
@@ -32,8 +32,8 @@ failed_after content is_failed is_honest may_leave zone (m ∷ ms) (r ∷ rs) ol
     failed =
     failed_after content is_failed is_honest may_leave zone ms rs mid new turn (step.stays failed)
 
--- what asks it for anything is answered so
-down_after : {K : Type 0} (content : K → Tables) (is_failed : K → Bool) (is_honest : K → Type 0)
+-- each command and each read is told so
+pub down_after : {K : Type 0} (content : K → Tables) (is_failed : K → Bool) (is_honest : K → Type 0)
     (may_leave : K → Tables → Type 0)
     (zone : Zone) (ms : List Asked) (rs : List (List ℕ)) (old new : K)
     → InTurn (IsStep content is_failed is_honest may_leave zone) ms rs old new
@@ -46,6 +46,20 @@ down_after content is_failed is_honest may_leave zone (m ∷ ms) (r ∷ rs) old 
       step.down (step.stays failed),
       down_after content is_failed is_honest may_leave zone ms rs mid
           new turn (step.stays failed),
+    )
+
+pub stays_down : {K : Type 0} (content : K → Tables) (is_failed : K → Bool)
+    (is_honest : K → Type 0) (may_leave : K → Tables → Type 0)
+    (zone : Zone) (ms : List Asked) (rs : List (List ℕ)) (old new : K)
+    → InTurn (IsStep content is_failed is_honest may_leave zone) ms rs old new → StaysDown ms rs
+stays_down content is_failed is_honest may_leave zone [] [] old new turn = tt
+stays_down content is_failed is_honest may_leave zone [] (r ∷ rs) old new turn = absurd turn
+stays_down content is_failed is_honest may_leave zone (m ∷ ms) [] old new turn = absurd turn
+stays_down content is_failed is_honest may_leave zone (m ∷ ms) (r ∷ rs) old new
+    (mid, step, turn) = (
+      (λ told. down_after content is_failed is_honest may_leave zone ms rs mid new turn
+          (step.store told).0),
+      stays_down content is_failed is_honest may_leave zone ms rs mid new turn,
     )
 
 -- and a crash leaves nothing that it could not have left before
@@ -204,3 +218,33 @@ stopped_texts content is_failed is_honest may_leave settings zone h texts rs old
     honest is e asked also stopped =
     stopped_of content is_failed is_honest may_leave settings zone h asked rs old new
     (rw (one_asked texts ms asked are also) at turn) honest is e stopped
+
+-- of texts, whatever they ask
+pub down_text : {K : Type 0} (content : K → Tables) (is_failed : K → Bool)
+    (is_honest : K → Type 0) (may_leave : K → Tables → Type 0)
+    (zone : Zone) (text r : List ℕ) (old new : K)
+    → (m : Asked) × IsAsked text m × IsStep content is_failed is_honest may_leave zone m r old new
+    → is_failed old ≡ true → (asked : Asked) → IsAsked text asked → IsDown asked r
+down_text content is_failed is_honest may_leave zone text r old new (m, is, step) failed asked
+    also =
+    rw (one_meaning text m asked is also) at (step.down (step.stays failed))
+
+pub down_texts : {K : Type 0} (content : K → Tables) (is_failed : K → Bool)
+    (is_honest : K → Type 0) (may_leave : K → Tables → Type 0)
+    (zone : Zone) (texts rs : List (List ℕ)) (old new : K)
+    → Turns (IsStep content is_failed is_honest may_leave zone) texts rs old new
+    → is_failed old ≡ true → (asked : List Asked) → AllZip IsAsked texts asked → AreDown asked rs
+down_texts content is_failed is_honest may_leave zone texts rs old new (ms, are, turn) failed asked
+    also =
+    down_after content is_failed is_honest may_leave zone asked rs old new
+    (rw (one_asked texts ms asked are also) at turn) failed
+
+pub stays_texts : {K : Type 0} (content : K → Tables) (is_failed : K → Bool)
+    (is_honest : K → Type 0) (may_leave : K → Tables → Type 0)
+    (zone : Zone) (texts rs : List (List ℕ)) (old new : K)
+    → Turns (IsStep content is_failed is_honest may_leave zone) texts rs old new
+    → (asked : List Asked) → AllZip IsAsked texts asked → StaysDown asked rs
+stays_texts content is_failed is_honest may_leave zone texts rs old new (ms, are, turn) asked
+    also =
+    stays_down content is_failed is_honest may_leave zone asked rs old new
+    (rw (one_asked texts ms asked are also) at turn)

@@ -202,7 +202,7 @@ isolated settings zone c left right twin =
     laws.isolation meant (rendered settings zone) settings c left right twin
 
 -- a text asks for one thing
-one_meaning : (text : List ℕ) (m n : Asked) → IsAsked text m → IsAsked text n → m ≡ n
+pub one_meaning : (text : List ℕ) (m n : Asked) → IsAsked text m → IsAsked text n → m ≡ n
 one_meaning text m n (f, is, e) (g, also, d) = e ∙ ap asked_of (one_frame text f g is also) ∙ sym d
 
 pub one_asked : (texts : List (List ℕ)) (ms ns : List Asked) → AllZip IsAsked texts ms

@@ -16,6 +16,7 @@ use Rattle.pages_laws.specs.ByTables.{page_by}
 use Rattle.settle.specs.Zoned.{IsPlainText}
 use Rattle.settle.specs.declared.zone.Zone.{Zone}
 use Rattle.site_acts.specs.Acted.{IfRead, IsMade, IsTaken, TellsDone, is_asking, is_entered}
+use Rattle.site_asks.specs.Asked.{may_ask}
 use Rattle.site_asks.specs.declared.asked.Asked.{Asked}
 use Rattle.site_asks.specs.declared.fault.Fault.{Fault}
 use Rattle.site_replies.specs.Texts.{fault_text, is_failure, reply_text}
@@ -58,10 +59,15 @@ pub record IsWanting {K : Type 0} (content : K → Tables) (is_failed : K → Bo
   pub same : is_failed new ≡ is_failed old
   pub left : (t : Tables) → may_leave new t → may_leave old t
 
--- the store failed, in this call or an earlier one; only what asks it for anything is told so
+-- a command or a read is told that the store has failed
+abbrev pub IsDown : Asked → List ℕ → Type 0
+IsDown asked reply = is_asking asked.message ≡ true → reply ≡ fault_text fault.Store asked.closes
+
+-- the store failed, in this call or an earlier one; only what asks it for anything is told so, or
+-- might, were its body read
 pub record IsFailed (asked : Asked) (reply : List ℕ) (is_failed : Bool) : Type 0 where
   pub told : reply ≡ fault_text fault.Store asked.closes
-  pub asking : is_asking asked.message ≡ true
+  pub asking : may_ask asked.message ≡ true
   pub failed : is_failed ≡ true
 
 -- what one message is answered over a history whose tables the keep has, what it leaves, and what a
@@ -118,11 +124,12 @@ pub record IsStep {K : Type 0} (content : K → Tables) (is_failed : K → Bool)
   -- command's change is taken
   pub failure : is_honest new → AreSound (content old) → is_failure reply ≡ true
       → (is_failed new ≡ true) ⊎ IsTaken (content old) asked.message
-  -- and where the store has failed, whatever asks it for anything is answered so, or that memory
+  -- and where the store has failed, each command and each read is told so, and never that memory
   -- was refused
-  pub down : is_failed new ≡ true → is_asking asked.message ≡ true
-      → (reply ≡ fault_text fault.Store asked.closes)
-      ⊎ (reply ≡ fault_text fault.Memory asked.closes)
+  pub down : is_failed new ≡ true → IsDown asked reply
+  -- nothing else is told so, but what no memory was found to read
+  pub store : reply ≡ fault_text fault.Store asked.closes
+      → (is_failed new ≡ true) × (may_ask asked.message ≡ true)
   pub honest : is_honest new → is_honest old
   pub stays : is_failed old ≡ true → is_failed new ≡ true
   -- what asks the keep for nothing leaves it as it was

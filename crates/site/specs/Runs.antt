@@ -11,14 +11,13 @@ use Rattle.house_rows.specs.Tables.{Tables, tables_of}
 use Rattle.house_rows.specs.Verdict.{IsHistory}
 use Rattle.house_laws.specs.Covered.{IsCovered, Sealed, bid_message, raised, with_maximum}
 use Rattle.settle.specs.declared.zone.Zone.{Zone}
-use Rattle.site_acts.specs.Acted.{is_asking}
 use Rattle.site_asks.specs.Asked.{IsAsked}
 use Rattle.site_asks.specs.declared.asked.Asked.{Asked}
 use Rattle.site_asks.specs.declared.fault.Fault.{Fault}
 use Rattle.site_replies.specs.Texts.{fault_text, is_failure, reply_text}
 use Rattle.wire.specs.Frame.{IsFrame}
 use Rattle.wire.specs.declared.fault.WireFault.{WireFault}
-use Rattle.site.specs.Answers.{answer_of, broken_text, next_of}
+use Rattle.site.specs.Answers.{IsDown, answer_of, broken_text, next_of}
 
 -- whether a message is a member's
 abbrev pub is_from : ℕ → Asked → Bool
@@ -110,15 +109,17 @@ pub record Ran {K : Type 0} (content : K → Tables) (is_failed : K → Bool)
   pub settled : ((t : Tables) → may_leave old t → t ≡ content old) → (t : Tables) → may_leave new t
       → t ≡ content new
 
--- the answers to messages over a store that has failed: whatever asks it for anything is answered
--- so, or that memory was refused
+-- the answers to messages over a store that has failed: each command and each read is told so
 abbrev pub AreDown : List Asked → List (List ℕ) → Type 0
-AreDown [] [] = Unit {0}
-AreDown (m ∷ ms) (r ∷ rs) =
-    (is_asking m.message ≡ true → (r ≡ fault_text fault.Store m.closes)
-    ⊎ (r ≡ fault_text fault.Memory m.closes)) × AreDown ms rs
-AreDown [] (r ∷ rs) = ⊥
-AreDown (m ∷ ms) [] = ⊥
+AreDown asked replies = AllZip IsDown asked replies
+
+-- once one of them is told that the store has failed, each command and each read behind it is told so
+abbrev pub StaysDown : List Asked → List (List ℕ) → Type 0
+StaysDown [] [] = Unit {0}
+StaysDown (m ∷ ms) (r ∷ rs) =
+    (r ≡ fault_text fault.Store m.closes → AreDown ms rs) × StaysDown ms rs
+StaysDown [] (r ∷ rs) = ⊥
+StaysDown (m ∷ ms) [] = ⊥
 
 -- the replies to messages of which one told that the store failed: before the first such they are a
 -- run, and behind it the store stays failed. A crash leaves the tables before its message or after

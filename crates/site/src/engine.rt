@@ -1,5 +1,5 @@
 //! The engine over a keep.
-ghost use Rattle.std.specs.Prelude.{◌≡◌, ◌↔◌, [], ℕ, List, Ok, Err, IfErr, IfOk, IsOk, OnOk, true};
+ghost use Rattle.std.specs.Prelude.{◌≡◌, ◌↔◌, [], ℕ, List, Ok, Err, IfErr, IfOk, IsOk, OnOk, false, true};
 ghost use Rattle.std.specs.Borrow.{sem};
 ghost use Rattle.std.specs.Cow.{cow_slice_items};
 ghost use Rattle.house_rows.specs.declared.settings.Settings.{Settings as TheSettings};
@@ -12,9 +12,10 @@ ghost use Rattle.settle.specs.Zoned.{IsZoneOf};
 ghost use Rattle.steps.specs.Table.{IsBandTable};
 ghost use Rattle.site_asks.specs.Asked.{IsAsked, asked_of};
 ghost use Rattle.site_asks.specs.declared.asked.Asked.{Asked as TheAsked};
+ghost use Rattle.site_replies.specs.Texts.{fault_text};
 ghost use Rattle.wire.specs.Frame.{IsFrame};
 ghost use Rattle.wire.specs.declared.fault.WireFault.{WireFault};
-ghost use Rattle.site.specs.Answers.{IsAppended, IsBegun, IsReadable, IsStep, IsTold, broken_text, zone_of};
+ghost use Rattle.site.specs.Answers.{IsAppended, IsBegun, IsDown, IsReadable, IsStep, IsTold, broken_text, zone_of};
 ghost use Rattle.site.specs.Lent.{LendsKeep};
 
 use house_rows::{Counts, Keep, KeepFault, Settings};
@@ -67,6 +68,17 @@ fn told(acted: Result<(), KeepFault>, closes: bool) -> Result<(), &'static [u8]>
     }
 }
 
+// What a message is told for whose body memory was refused. A failed store goes first.
+fn unread_text<K: Keep>(keep: &K, closes: bool) -> &'static [u8]
+    ensures failed { K.is_failed keep.now ≡ true → result.now ≡ fault_text KeepFault.Store closes }
+    ensures going { K.is_failed keep.now ≡ false → result.now ≡ fault_text KeepFault.Memory closes }
+{
+    match keep.settings() {
+        Err(KeepFault::Store) => fault_text(KeepFault::Store, closes),
+        _ => fault_text(KeepFault::Memory, closes),
+    }
+}
+
 // Whether there is no row to count, and the clock hasn't moved.
 fn are_blank(counts: Counts, clock: u64) -> bool
     ensures { (result ≡ true) ↔ ((counts.members ≡ 0) × (counts.categories ≡ 0)
@@ -116,7 +128,8 @@ impl<K: Keep + Drop> Site<K> {
     }
 
     /// Answers a message, behind what the buffer holds. Where memory was refused or the keep fails,
-    /// the buffer has what it had, and the answer is a text that stands ready.
+    /// the buffer has what it had, and the answer is a text that stands ready. Over a keep that has
+    /// failed each command and each read is answered so, never that memory was refused.
     pub fn answer_into(
         &mut self,
         request: &Request<'_>,
@@ -132,7 +145,7 @@ impl<K: Keep + Drop> Site<K> {
                 let acted = act(&mut self.keep, &mut self.writer, &asked, out);
                 told(acted, asked.closes)
             }
-            Err(refused) => Err(fault_text(KeepFault::Memory, refused.closes)),
+            Err(refused) => Err(unread_text(&self.keep, refused.closes)),
         }
     }
 
@@ -154,6 +167,9 @@ impl<K: Keep + Drop> Site<K> {
         ensures step { (asked : TheAsked) × IsAsked message.now asked
             × IsStep K.content K.is_failed K.is_honest K.may_leave (zone_of self.old)
             asked (cow_slice_items result) self.old.keep self.new.keep }
+        // Whatever the keep holds, and whatever memory is refused.
+        ensures down { K.is_failed self.old.keep ≡ true → (asked : TheAsked)
+            → IsAsked message.now asked → IsDown asked (cow_slice_items result) }
         ensures broken { (fault : WireFault) → IsFrame message.now (Err fault)
             → (cow_slice_items result ≡ broken_text fault) × (self.new.keep ≡ self.old.keep) }
         ensures zone { zone_of self.new ≡ zone_of self.old }

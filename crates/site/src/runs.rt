@@ -1,5 +1,5 @@
 //! Runs: a list of messages, answered in turn.
-ghost use Rattle.std.specs.Prelude.{◌≡◌, [], List, ℕ, IfOk, IsErr, map, length};
+ghost use Rattle.std.specs.Prelude.{◌≡◌, [], List, ℕ, IfOk, IsErr, map, length, true};
 ghost use Rattle.std.specs.Cow.{cow_slice_items};
 ghost use Rattle.std.specs.List.{AllByRecursion, AllZip};
 ghost use Rattle.steps.specs.Table.{IsBandTable};
@@ -9,7 +9,7 @@ ghost use Rattle.house_rows.specs.History.{History};
 ghost use Rattle.house_rows.specs.Tables.{tables_of};
 ghost use Rattle.house_rows.specs.Verdict.{IsHistory};
 ghost use Rattle.site.specs.Answers.{IsStep, zone_of};
-ghost use Rattle.site.specs.Runs.{InTurn, IsCoveredRun, IsGoing, IsHidden, Raises, Ran, Stopped, TellsFault, TwinRuns, answers_to, at_places};
+ghost use Rattle.site.specs.Runs.{AreDown, InTurn, IsCoveredRun, IsGoing, IsHidden, Raises, Ran, StaysDown, Stopped, TellsFault, TwinRuns, answers_to, at_places};
 ghost use Rattle.site_asks.specs.Asked.{IsAsked};
 ghost use Rattle.site_asks.specs.declared.asked.Asked.{Asked as TheAsked};
 ghost use Rattle.site_replies.specs.Texts.{IsServed};
@@ -67,6 +67,14 @@ impl<K: Keep + Drop> Site<K> {
             → IsAsked text other → Raises y b other
             → IsHidden settings (zone_of self.old) c place (map (λ m. m.items) messages.now) asked
             text other (map cow_slice_items v.items)) }
+        // Over any keep, whatever it holds: once the store has failed, no command and no read is told
+        // anything else.
+        ensures down { K.is_failed self.old.keep ≡ true → (asked : List TheAsked)
+            → AllZip IsAsked (map (λ m. m.items) messages.now) asked
+            → IfOk result (λ v. AreDown asked (map cow_slice_items v.items)) }
+        ensures stays_down { (asked : List TheAsked)
+            → AllZip IsAsked (map (λ m. m.items) messages.now) asked
+            → IfOk result (λ v. StaysDown asked (map cow_slice_items v.items)) }
         ensures broken { IfOk result (λ v.
             AllZip TellsFault (map (λ m. m.items) messages.now) (map cow_slice_items v.items)) }
         ensures as_many { IfOk result (λ v. length v.items ≡ length messages.now) }

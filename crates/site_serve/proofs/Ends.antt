@@ -21,6 +21,7 @@ use Rattle.house_rows.proofs.Put.{by_test}
 use Rattle.settle.specs.declared.zone.Zone.{Zone}
 use Rattle.site.specs.Answers.{IsAnswered, IsFailed, IsStep, IsWanting, next_of}
 use Rattle.site.specs.Runs.{AreDown, InTurn}
+use Rattle.site.proofs.Stops.{down_after, stays_down}
 use Rattle.site_acts.specs.Acted.{is_entered}
 use Rattle.site_asks.specs.declared.asked.Asked.{Asked}
 use Rattle.site_asks.specs.declared.fault.Fault.{Fault}
@@ -328,6 +329,10 @@ ended content is_failed is_honest may_leave zone left now before after most coun
       replies = replies;
       answered = answered;
       written = written;
+      down = λ failed. down_after content is_failed is_honest may_leave zone (map heard messages)
+          replies old new answered failed;
+      stays_down = stays_down content is_failed is_honest may_leave zone (map heard messages)
+          replies old new answered;
       at_end = λ honest settings h is e. left_of content is_failed is_honest may_leave settings zone
           h (map heard messages) replies old new answered honest is e;
       at_each = λ honest n.

@@ -10,7 +10,7 @@ use Rattle.house_rows.specs.Tables.{Tables, tables_of}
 use Rattle.house_rows.specs.Verdict.{IsHistory}
 use Rattle.settle.specs.declared.zone.Zone.{Zone}
 use Rattle.site.specs.Answers.{IsStep, next_of}
-use Rattle.site.specs.Runs.{AreDown, InTurn, IsRun}
+use Rattle.site.specs.Runs.{AreDown, InTurn, IsRun, StaysDown}
 use Rattle.site_asks.specs.declared.asked.Asked.{Asked}
 use Rattle.site_replies.specs.Texts.{fault_text}
 use Rattle.wire.specs.Cut.{Cut, Stop}
@@ -81,6 +81,9 @@ pub record HasEnded {K : Type 0} (content : K → Tables) (is_failed : K → Boo
   pub answered : InTurn (IsStep content is_failed is_honest may_leave zone) (map heard messages)
       replies old new
   pub written : AppendsBeginning before after (concat replies ++ rest_bytes stop)
+  -- over any keep: once the store has failed, each command and each read is told so
+  pub down : is_failed old ≡ true → AreDown (map heard messages) replies
+  pub stays_down : StaysDown (map heard messages) replies
   -- what is left as it ended
   pub at_end : is_honest new
       → Leaves content is_failed may_leave zone (map heard messages) replies old new

@@ -142,7 +142,8 @@ pub fn serve<R: Source, W: Sink, K: Keep + Drop>(
     ensures memory { result ≡ Err ServeFault.Memory
         → (source.new ≡ source.old) × (sink.new ≡ sink.old) × (site.new ≡ site.old) }
 
-    // However it ends, at each moment a crash leaves the tables of what was accepted so far.
+    // However it ends, at each moment a crash leaves the tables of what was accepted so far; and once
+    // the store has failed, each command and each read is told so.
     ensures crash { HasEnded K.content K.is_failed K.is_honest K.may_leave (zone_of site.old)
         (R.left source.old) (R.left source.new) most (W.taken sink.old) (W.taken sink.new)
         (keep_of site.old) (keep_of site.new) }

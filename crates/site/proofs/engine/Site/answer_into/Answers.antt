@@ -1,7 +1,5 @@
 use Rattle.std.proofs.Common.{refl, Ok}
-use Rattle.house_rows.specs.declared.fault.KeepFault.TheVariants.{Memory}
 use Rattle.site_asks.specs.Asked.{asked_of}
-use Rattle.site_replies.specs.Texts.{fault_text}
 use Rattle.site.proofs.Steps.{step_acted, step_unread}
 use Rattle.site.proofs.engine.Site.answer_into.Goals as goal
 
@@ -18,9 +16,10 @@ pub returns-in-Err-clause-step : goal.returns-in-Err-clause-step
 unfolding asked_of
 returns-in-Err-clause-step g c =
     let k = g.K.Keep in (
-      fault_text Memory c.in-Err.refused.closes,
-      (c.fault_text.ensures, refl),
+      c.unread_text.result.now,
+      (refl, refl),
       step_unread k.content k.is_failed k.is_honest k.may_leave c.args.self.now.writer.zone
-          (asked_of (Ok c.args.request.now))
-          c.in-Err.refused.closes c.args.self.now.keep c.in-Err.ensures,
+          (asked_of (Ok c.args.request.now)) c.in-Err.refused.closes c.unread_text.result.now
+          c.args.self.now.keep c.in-Err.ensures.0 c.in-Err.ensures.1
+          c.unread_text.ensures.failed c.unread_text.ensures.going,
     )

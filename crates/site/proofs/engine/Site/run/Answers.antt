@@ -2,7 +2,7 @@ use Rattle.std.proofs.Common.{◌≡◌, ◌∙◌, ◌++◌, ◌∷◌, [], ◌
 use Rattle.std.proofs.lemmas.List.{map-append, take_all, take_more, get_or_read}
 use Rattle.std.specs.Cow.{cow_slice_items}
 use Rattle.site.proofs.Raised.{run_hides}
-use Rattle.site.proofs.Stops.{stopped_texts}
+use Rattle.site.proofs.Stops.{down_texts, stays_texts, stopped_texts}
 use Rattle.site.proofs.Turns.{ran_texts, run_isolated, turns_more, zip_more}
 use Rattle.site.specs.Runs.{TellsFault}
 use Rattle.site.proofs.engine.Site.run.Goals as goal
@@ -76,6 +76,28 @@ returns-clause-stopped g c = λ honest settings h is e asked are.
     h
     (map (λ m. m.items) c.args.messages.now) (map cow_slice_items c.loop-message.replies.items)
     c.args.self.now.keep c.loop-message.self.keep turns honest is e asked are
+
+pub returns-clause-down : goal.returns-clause-down
+returns-clause-down g c = λ failed asked are.
+    let k = g.K.Keep in
+    let done : length c.args.messages.now ≤ c.loop-message.message-index =
+    omega (arith, c.loop-message-test.false) in
+    let turns = rw (take_all c.loop-message.message-index c.args.messages.now
+    done) at c.loop-message.invariant.steps in
+    down_texts k.content k.is_failed k.is_honest k.may_leave c.args.self.now.writer.zone
+    (map (λ m. m.items) c.args.messages.now) (map cow_slice_items c.loop-message.replies.items)
+    c.args.self.now.keep c.loop-message.self.keep turns failed asked are
+
+pub returns-clause-stays_down : goal.returns-clause-stays_down
+returns-clause-stays_down g c = λ asked are.
+    let k = g.K.Keep in
+    let done : length c.args.messages.now ≤ c.loop-message.message-index =
+    omega (arith, c.loop-message-test.false) in
+    let turns = rw (take_all c.loop-message.message-index c.args.messages.now
+    done) at c.loop-message.invariant.steps in
+    stays_texts k.content k.is_failed k.is_honest k.may_leave c.args.self.now.writer.zone
+    (map (λ m. m.items) c.args.messages.now) (map cow_slice_items c.loop-message.replies.items)
+    c.args.self.now.keep c.loop-message.self.keep turns asked are
 
 pub returns-clause-broken : goal.returns-clause-broken
 returns-clause-broken g c =
