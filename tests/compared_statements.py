@@ -9,6 +9,7 @@ import pathlib
 import subprocess
 import sys
 
+from sent import PATIENCE
 from statement import lines, records, statement
 
 # Without a line, with one, with so few that they are sorted in place, with more, and with many.
@@ -22,7 +23,7 @@ def fields_read(output, count):
 
 
 def is_right(program, sales):
-    result = subprocess.run([program, str(sales)], capture_output=True, text=True, timeout=60)
+    result = subprocess.run([program, str(sales)], capture_output=True, text=True, timeout=PATIENCE)
     expected = records(lines(sales))
     read = fields_read(result.stdout, len(expected) - 1)
     return (result.returncode == 0 and result.stdout == statement(sales)

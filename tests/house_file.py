@@ -20,7 +20,7 @@ import sys
 import tempfile
 
 from sent import answers_in
-from served import CHECKS, MESSAGES, READS, SETTINGS, Program, check, exchange, fault, free_port, message, served
+from served import CHECKS, MESSAGES, READS, SETTINGS, Program, check, exchange, fault, message, served
 
 # A read of each thing that the messages before the reads leave.
 SIGHTS = [*READS, message("GET", "/members/2", 1), message("GET", "/me/watches", 2),
@@ -81,8 +81,7 @@ def together(program, folder, init):
     check("made", program.ended("init", "shared", *init), (0, b"created\n", b""))
     with program.serving("shared", 2) as server:
         exchange(server.port, b"".join(COMMANDS[:5]))
-        words = ["--port", str(free_port()), "--count", "1"]
-        check("served twice", program.ended("serve", "shared", *words), fault("file: Store"))
+        check("served twice", program.ended("serve", "shared", "--port", "1", "--count", "1"), fault("file: Store"))
         check("made while served", program.ended("init", "shared", *init), fault("file: Store"))
         exchange(server.port, b"".join(COMMANDS[5:]))
     check("shared ended", server.ending, served(2))

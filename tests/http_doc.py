@@ -15,7 +15,7 @@ import sys
 import tempfile
 
 from plain_site import NUMBERS
-from readme import Shell, free_port, sessions
+from readme import played
 from sent import PHRASES, answers_in
 from served import Program, exchange, served
 
@@ -82,14 +82,8 @@ class Page:
                 print(f"{what}\n  got:    {got}\n  wanted: {wanted}")
 
     def sessions(self, program):
-        port = free_port()
-        for session in sessions(self.text):
-            with tempfile.TemporaryDirectory() as folder:
-                shell = Shell(pathlib.Path(folder), program)
-                for command, wanted in session:
-                    told = shell.run(command.replace("8080", port)).replace(port, "8080")
-                    self.judged(f"$ {command}", told, wanted)
-                shell.process.communicate()
+        for command, told, wanted in played(self.text, program):
+            self.judged(f"$ {command}", told, wanted)
 
     def messages(self):
         """Each message: its bytes, how often they are sent, its form, and its answer on the page."""

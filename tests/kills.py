@@ -19,7 +19,7 @@ import sys
 import tempfile
 import threading
 
-from sent import command, compact
+from sent import PATIENCE, command, compact
 from served import CHECKS, SETTINGS, Program, check, served
 
 # The tables in which the commands make rows.
@@ -48,7 +48,7 @@ class Client:
     """Sends commands until its connection ends."""
 
     def __init__(self, port):
-        self.connection = socket.create_connection(("127.0.0.1", port), timeout=60)
+        self.connection = socket.create_connection(("127.0.0.1", port), timeout=PATIENCE)
         self.answers = self.connection.makefile("rb")
 
     def asks(self, text):

@@ -4,7 +4,7 @@
 The files are written as spreadsheets write them, and as nobody should; each import has to print what was worked out by
 hand or what tests/plain_office.py prints, and the house has to have the items that this lists. A second import of
 the same file leaves every table as it was. A file of 20 MB, of which all is there already, is imported, and so is
-one of ROWS rows, 20,000 without it, whose memory may be that of a hundred rows and a megabyte. The last line is
+one of ROWS rows, 20,000 without it, in the least memory in which a hundred rows are, and a megabyte. The last line is
 'N checks, M wrong'.
 
 53 files were worked out by hand: quotes, line ends of all kinds, a byte order mark, files that end inside quotes,
@@ -17,10 +17,8 @@ import pathlib
 import random
 import shutil
 import sqlite3
-import subprocess
 import sys
 import tempfile
-import time
 
 from plain_house import BANDS
 from plain_office import HEAD, MARK, imported
@@ -30,8 +28,8 @@ from served import CHECKS, Program, check
 
 SEED = 2026
 HEAD_LINE = ",".join(HEAD).encode() + b"\n"
-# The most that a longer import may hold, in KiB.
-MORE_MEMORY = 1_024
+# The most that a longer import may take, in KiB of its addresses; how near the least is found, and what is always enough.
+MORE_MEMORY, NEAR, ENOUGH = 1_024, 128, 1 << 17
 LONG_FILE = 20_000_000
 
 
@@ -298,30 +296,25 @@ def long_file(office):
 
 
 def memory(office, count):
-    """The most memory of an import of so many rows, against a hundred, of a house that has them all."""
+    """The memory of an import of so many rows, against a hundred, of a house that has them all."""
     file = with_items(office, count)
     before = office.dump(file)
-    peaks = {}
-    for rows in (100, count):
-        (office.folder / "lots.csv").write_bytes(HEAD_LINE + lot_rows(rows))
-        printed, peaks[rows] = peak(office, ["import", file, "lots.csv", "--member", "1", "--moment", "1000"])
-        check(f"{rows} rows", printed, all_there(rows))
+    least, enough = 0, ENOUGH
+    check("100 rows", is_imported(office, file, 100, enough), True)
+    while enough - least > NEAR:
+        middle = (least + enough) // 2
+        least, enough = (least, middle) if is_imported(office, file, 100, middle) else (middle, enough)
+    check(f"{count} rows", is_imported(office, file, count, enough + MORE_MEMORY), True)
     check(f"{count} rows, every table", office.dump(file), before)
-    print(f"the most memory: 100 rows {peaks[100]} KiB, {count} rows {peaks[count]} KiB")
-    check(f"memory of {count} rows", peaks[count] <= peaks[100] + MORE_MEMORY, True)
+    print(f"the least memory for 100 rows: {enough} KiB, and {MORE_MEMORY} more for {count}")
 
 
-def peak(office, words):
-    """What a run prints, and the most memory that it had, in KiB, by the kernel's count."""
-    with open(office.folder / "printed", "wb") as output:
-        process = subprocess.Popen([office.program.path, *words], cwd=office.folder, stdout=output)
-        most = 0
-        while process.poll() is None:
-            with contextlib.suppress(OSError, StopIteration):
-                lines = pathlib.Path(f"/proc/{process.pid}/status").read_text().splitlines()
-                most = max(most, int(next(line for line in lines if line.startswith("VmHWM")).split()[1]))
-            time.sleep(0.002)
-    return (office.folder / "printed").read_bytes(), most
+def is_imported(office, file, count, size):
+    """Whether so many rows are imported where the process may have no more memory than so many KiB."""
+    (office.folder / "lots.csv").write_bytes(HEAD_LINE + lot_rows(count))
+    words = [office.program.path, "import", file, "lots.csv", "--member", "1", "--moment", "1000"]
+    ending = Program("/bin/sh", office.folder).ended("-c", 'ulimit -v "$0" && exec "$@"', str(size), *words)
+    return ending == (0, all_there(count), b"")
 
 
 def main():

@@ -33,8 +33,8 @@ from fuzz import Sender
 from kills import rows
 from plain_house import BANDS
 from plain_site import AHEAD, COMMANDS, Site
-from sent import HEAD, Answer, Malformed, Request, answers_in, command, lengthened
-from served import CHECKS, Program, check, served
+from sent import HEAD, PATIENCE, Answer, Malformed, Request, answers_in, command, lengthened
+from served import CHECKS, Program, check, read_all, served
 
 # What a process may take, in bytes of its addresses.
 MOST_MEMORY = 64 << 20
@@ -159,11 +159,11 @@ def pieces(chance, stream):
 
 def exchange(port, parts):
     """Sends parts one after the other over a connection, and reads all that is answered."""
-    with socket.create_connection(("127.0.0.1", port), timeout=60) as connection:
+    with socket.create_connection(("127.0.0.1", port), timeout=PATIENCE) as connection:
         connection.setsockopt(socket.IPPROTO_TCP, socket.TCP_NODELAY, 1)
         sending = threading.Thread(target=send, args=(connection, parts))
         sending.start()
-        told = b"".join(iter(lambda: connection.recv(65536), b""))
+        told = read_all(connection)
         sending.join()
         return told
 

@@ -30,6 +30,7 @@ import sys
 import tempfile
 
 from house_file import limited
+from sent import PATIENCE
 from served import CHECKS, EXAMPLE, PRESET, Program, check, fault, message, served
 
 HEAD = "lot,category,title,text,start,buy_now,end\n"
@@ -120,7 +121,7 @@ def on_full_device(program, *words):
     """How a run ends whose output is full."""
     with open("/dev/full", "wb") as full:
         result = subprocess.run([program.path, *words], cwd=program.folder, stdout=full, stderr=subprocess.PIPE,
-                                timeout=60)
+                                timeout=PATIENCE)
     return result.returncode, result.stderr
 
 

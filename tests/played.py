@@ -2,6 +2,8 @@
 import pathlib
 import subprocess
 
+from sent import PATIENCE
+
 
 def spelled(word):
     """An argument as a script spells it."""
@@ -16,7 +18,7 @@ def compared(command, lines):
     """Plays a script by a command, and compares: `lines` are its lines, each with its answer or None for a line that has none."""
     script = "\n".join(line for line, _ in lines)
     result = subprocess.run([str(pathlib.Path(command[0]).resolve()), *command[1:]], input=script.encode(), capture_output=True,
-                            timeout=60)
+                            timeout=PATIENCE)
     expected = [pair for pair in lines if pair[1] is not None]
     told = result.stdout.decode().splitlines()
     wrong = [(line, answer, got) for (line, answer), got in zip(expected, told) if answer != got]

@@ -11,6 +11,8 @@ import subprocess
 import sys
 import tempfile
 
+from sent import PATIENCE
+
 READ = b"GET /items/1 HTTP/1.1\r\nhost: h\r\nx-member: 2\r\n\r\n"
 REPLAY = ["replay", "--preset"]
 
@@ -221,7 +223,7 @@ def main():
     count = wrong = 0
     with tempfile.TemporaryDirectory() as name, open("/dev/full", "wb") as full:
         for case, words, devices, judge in cases(pathlib.Path(name), full):
-            result = subprocess.run([program, *words], stderr=subprocess.PIPE, timeout=60, **devices)
+            result = subprocess.run([program, *words], stderr=subprocess.PIPE, timeout=PATIENCE, **devices)
             count += 1
             if not judge(result):
                 wrong += 1

@@ -4,16 +4,17 @@
 A session is a block of which the first line begins with `$ `; each such line is a command, and the lines behind it are
 what it has to print. All commands of a session run in one shell, in a folder of their own that has `examples/`, with
 PROGRAM as `auction`. A command that ends with `&` has printed its first line before the next begins; what else it
-prints stands behind the command that waits for it, whichever of the two was the faster. The last line is
-'N commands, M wrong'.
+prints stands behind the command that waits for it, whichever of the two was the faster. In the place of the port 8080
+stands one that nobody else takes. The last line is 'N commands, M wrong'.
 """
 import os
 import pathlib
 import re
-import socket
 import subprocess
 import sys
 import tempfile
+
+from served import held_port
 
 ROOT = pathlib.Path(__file__).resolve().parent.parent
 END = "--- the command has ended ---"
@@ -25,11 +26,6 @@ def sessions(text):
     for block in re.findall(r"^```text\n(\$ .*?)^```$", text, re.M | re.S):
         parts = [part.split("\n", 1) for part in block.removeprefix("$ ").split("\n$ ")]
         yield [(command, told.rstrip("\n")) for command, told in (part + [""] * (2 - len(part)) for part in parts)]
-
-
-def free_port():
-    with socket.create_server(("127.0.0.1", 0)) as server:
-        return str(server.getsockname()[1])
 
 
 class Shell:
@@ -68,20 +64,29 @@ class Shell:
         self.process.stdin.flush()
 
 
+def in_place(text, old, new):
+    """A text in which another number stands in the place of one."""
+    return re.sub(rf"\b{old}\b", new, text)
+
+
+def played(text, program):
+    """Plays the sessions of a page: each command, what it printed, and what it has to print."""
+    for session in sessions(text):
+        with tempfile.TemporaryDirectory() as folder, held_port() as held:
+            shell, port = Shell(pathlib.Path(folder), program), str(held)
+            for command, wanted in session:
+                yield command, in_place(shell.run(in_place(command, PORT, port)), port, PORT), wanted
+            shell.process.communicate()
+
+
 def main():
     commands = wrong = 0
-    port = free_port()
-    for session in sessions((ROOT / "README.md").read_text()):
-        with tempfile.TemporaryDirectory() as folder:
-            shell = Shell(pathlib.Path(folder), sys.argv[1])
-            for command, wanted in session:
-                told = shell.run(command.replace(PORT, port)).replace(port, PORT)
-                print(f"$ {command}\n{told}".rstrip("\n"))
-                commands += 1
-                if told != wanted:
-                    wrong += 1
-                    print(f"README.md has:\n{wanted}")
-            shell.process.communicate()
+    for command, told, wanted in played((ROOT / "README.md").read_text(), sys.argv[1]):
+        print(f"$ {command}\n{told}".rstrip("\n"))
+        commands += 1
+        if told != wanted:
+            wrong += 1
+            print(f"README.md has:\n{wanted}")
     print(f"{commands} commands, {wrong} wrong")
     return 1 if wrong or not commands else 0
 

@@ -12,6 +12,7 @@ import subprocess
 import sys
 import tempfile
 
+from sent import PATIENCE
 from served import CHECKS, PRESET, Program, check, exchange, served
 
 BEN, CID = (["-H", f"x-member: {member}", "-H", "x-moment: 1002"] for member in (2, 3))
@@ -33,8 +34,8 @@ def placed(count, floor, leader, price):
 
 def curl(*words):
     """What curl reads, and the status and the number of new connections of each answer."""
-    told = subprocess.run(["curl", "-s", "-S", "--max-time", "20", "-w", "\n%{http_code} %{num_connects}\n", *words],
-                          capture_output=True, text=True, timeout=60)
+    told = subprocess.run(["curl", "-s", "-S", "--max-time", str(PATIENCE), "-w", "\n%{http_code} %{num_connects}\n", *words],
+                          capture_output=True, text=True)
     lines = told.stdout.splitlines()
     answers = [(json.loads(body), *map(int, numbers.split())) for body, numbers in zip(lines[::2], lines[1::2])]
     return answers, told.stderr
@@ -63,7 +64,7 @@ def ask(connection, method, path, fields, body=None):
 
 def ask_by_python(port):
     """Asks four times over one connection."""
-    connection = http.client.HTTPConnection("127.0.0.1", port, timeout=20)
+    connection = http.client.HTTPConnection("127.0.0.1", port, timeout=PATIENCE)
     ben = {"x-member": "2", "x-moment": "1003"}
     check("python bids", ask(connection, "POST", "/items/1/bids", ben, '{"maximum":1000}'),
           (201, placed(3, 1050, 3, 1000)))

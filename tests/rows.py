@@ -24,7 +24,7 @@ import sys
 
 from fuzz import END, HEAD, SEED, Sender, played
 from plain_site import AHEAD, Site, setup
-from sent import Answer, answers_in, value_of
+from sent import PATIENCE, Answer, answers_in, value_of
 from worked import FORMS, block, stored
 
 STORED = pathlib.Path(__file__).resolve().parent.parent / "crates/run_tests"
@@ -36,7 +36,7 @@ EXCESS = Answer(400, {"error": "excess"}, "", True)
 
 
 def run(program, script):
-    result = subprocess.run([program], input=script, capture_output=True, timeout=600)
+    result = subprocess.run([program], input=script, capture_output=True, timeout=PATIENCE)
     if (result.returncode, result.stderr) != (0, b""):
         print(f"ended with {result.returncode}: {result.stderr[:200]}")
     return result.stdout

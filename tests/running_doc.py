@@ -20,8 +20,9 @@ import sys
 import tempfile
 
 from bad_files import SMALL_LOG, as_nobody
-from readme import Shell, sessions
-from served import CHECKS, PRESET, Program, check, exchange, fault, free_port, message, served
+from readme import played
+from sent import PATIENCE
+from served import CHECKS, PRESET, Program, check, exchange, fault, message, served
 
 ROOT = pathlib.Path(__file__).resolve().parent.parent
 PAGE = (ROOT / "docs" / "RUNNING.md").read_text()
@@ -35,14 +36,8 @@ FILES = range(5, 9)
 
 def pages(program):
     """The sessions of the page."""
-    port = str(free_port())
-    for session in sessions(PAGE):
-        with tempfile.TemporaryDirectory() as folder:
-            shell = Shell(pathlib.Path(folder), program)
-            for command, wanted in session:
-                told = shell.run(command.replace("8080", port)).replace(port, "8080")
-                check(f"$ {command}", trimmed(told), trimmed(wanted))
-            shell.process.communicate()
+    for command, told, wanted in played(PAGE, program):
+        check(f"$ {command}", trimmed(told), trimmed(wanted))
 
 
 def trimmed(text):
@@ -102,7 +97,7 @@ def untold(program, folder):
     """A fault of which nobody can be told has its status."""
     with open("/dev/full", "wb") as full:
         result = subprocess.run([program.path, "statement", "missing", "--member", "1", *DAYS], cwd=folder,
-                                stderr=full, stdout=subprocess.PIPE, timeout=60)
+                                stderr=full, stdout=subprocess.PIPE, timeout=PATIENCE)
     check("nobody to tell", (result.returncode, result.stdout), (1, b""))
 
 
@@ -114,8 +109,14 @@ def spoiled(program, folder):
     check("a spoiled sale", program.ended("statement", "sold", "--member", "1", *DAYS), fault("file: Damaged"))
 
 
+def interruptible():
+    """Has a process take SIGINT as ever, also where this one was started in the background, and so takes none."""
+    signal.signal(signal.SIGINT, signal.SIG_DFL)
+
+
 def signals(program, folder):
     """What a signal leaves, and the next start."""
+    program = Program(program.path, folder, interruptible)
     statement = ["--member", "2", *DAYS]
     for number in (signal.SIGTERM, signal.SIGINT, signal.SIGKILL):
         name = number.name.lower()
@@ -126,7 +127,7 @@ def signals(program, folder):
             # A client that is connected, and sends nothing, when the signal comes.
             with socket.create_connection(("127.0.0.1", server.port)):
                 server.process.send_signal(number)
-                server.process.wait(60)
+                server.process.wait(PATIENCE)
         check(f"{name} ends it", server.ending, (-number, b"listening\n", b""))
         check(f"{name} leaves a log", (folder / f"{name}-wal").stat().st_size > SMALL_LOG, True)
         check(f"{name}, served again", program.answers(name, [ITEM]), ([before], served(1)))

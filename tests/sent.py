@@ -8,6 +8,8 @@ import pathlib
 import re
 import subprocess
 
+# How long anything is waited for, in seconds: only what never ends takes so long, also on a machine that is busy.
+PATIENCE = 600
 # The statuses that an answer may have, with their phrases.
 PHRASES = {200: "OK", 201: "Created", 400: "Bad Request", 403: "Forbidden", 404: "Not Found",
            405: "Method Not Allowed", 409: "Conflict", 413: "Content Too Large",
@@ -91,6 +93,11 @@ class Answer:
         return "\r\n".join(lines).encode() + body
 
 
+def gives_up(text):
+    """Whether an answer tells want of memory, or that the store failed."""
+    return text.startswith((b"HTTP/1.1 503 ", b"HTTP/1.1 500 "))
+
+
 def value_of(body):
     """The value of a body, which has to be compact JSON with its keys in byte order."""
     try:
@@ -125,7 +132,7 @@ def answers_in(text):
 def replayed(program, stream, *words):
     """What `auction replay` writes on a stream with these words, which has to end without a fault."""
     result = subprocess.run([str(pathlib.Path(program).resolve()), "replay", *words], input=stream,
-                            capture_output=True, timeout=60)
+                            capture_output=True, timeout=PATIENCE)
     if (result.returncode, result.stderr) != (0, b""):
         raise Malformed(f"ended with {result.returncode}: {result.stderr[:200]}")
     return result.stdout

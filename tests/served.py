@@ -25,6 +25,8 @@ import sys
 import tempfile
 import threading
 
+from sent import PATIENCE
+
 SETTINGS = ["--rate", "2000", "--zone", "CET-1"]
 
 
@@ -95,30 +97,30 @@ class Program:
 
     def ended(self, *words, given=b""):
         """How a run ends: its status, and what it wrote to standard output and to standard error."""
-        result = subprocess.run([self.path, *words], input=given, cwd=self.folder, capture_output=True, timeout=60,
+        result = subprocess.run([self.path, *words], input=given, cwd=self.folder, capture_output=True, timeout=PATIENCE,
                                 preexec_fn=self.before, env=self.environment)
         return result.returncode, result.stdout, result.stderr
 
     @contextlib.contextmanager
-    def serving(self, file, count, seconds=60):
-        """A server of so many connections, which has ended behind this, unless it is killed before or takes longer."""
-        port = free_port()
-        process = subprocess.Popen([self.path, "serve", file, "--port", str(port), "--count", str(count)],
-                                   cwd=self.folder, stdout=subprocess.PIPE, stderr=subprocess.PIPE,
-                                   preexec_fn=self.before, env=self.environment)
-        watch = threading.Timer(seconds, process.kill)
-        watch.start()
-        server = Server(port, process)
-        try:
-            first = process.stdout.readline()
-            server.is_listening = first == b"listening\n"
-            yield server
-            rest, error = process.communicate(timeout=60)
-            server.ending = process.returncode, first + rest, error
-        finally:
-            watch.cancel()
-            process.kill()
-            process.wait()
+    def serving(self, file, count, seconds=PATIENCE):
+        """A server of so many connections, which has ended behind this, unless it is killed before or never ends."""
+        with held_port() as port:
+            process = subprocess.Popen([self.path, "serve", file, "--port", str(port), "--count", str(count)],
+                                       cwd=self.folder, stdout=subprocess.PIPE, stderr=subprocess.PIPE,
+                                       preexec_fn=self.before, env=self.environment)
+            watch = threading.Timer(seconds, process.kill)
+            watch.start()
+            server = Server(port, process)
+            try:
+                first = process.stdout.readline()
+                server.is_listening = first == b"listening\n"
+                yield server
+                rest, error = process.communicate()
+                server.ending = process.returncode, first + rest, error
+            finally:
+                watch.cancel()
+                process.kill()
+                process.wait()
 
     def answers(self, file, streams):
         """What each stream is answered, sent over a connection of its own; and how serving ends."""
@@ -127,23 +129,37 @@ class Program:
         return told, server.ending
 
 
-def free_port():
-    with socket.create_server(("127.0.0.1", 0)) as server:
-        return server.getsockname()[1]
+@contextlib.contextmanager
+def held_port():
+    """A port that a server may take, and nobody else: it is bound here too, where nobody listens, and both say that they
+    share it. The kernel gives a port that is bound to nobody who asks for any."""
+    with socket.socket() as holder:
+        holder.setsockopt(socket.SOL_SOCKET, socket.SO_REUSEADDR, 1)
+        holder.bind(("127.0.0.1", 0))
+        yield holder.getsockname()[1]
 
 
-def exchange(port, stream):
-    """Sends a stream and then the end of it; a stream that is None is reset before it sends anything."""
-    with socket.create_connection(("127.0.0.1", port), timeout=120) as connection:
+def exchange(port, stream, may_reset=False):
+    """Sends a stream and then the end of it, and reads what is answered, up to a reset where that may come; a stream that is
+    None is reset before it sends anything."""
+    with socket.create_connection(("127.0.0.1", port), timeout=PATIENCE) as connection:
         if stream is None:
             connection.setsockopt(socket.SOL_SOCKET, socket.SO_LINGER, b"\1\0\0\0\0\0\0\0")
             return None
         # Answers are read meanwhile: else neither side goes on where they are long.
         sending = threading.Thread(target=send, args=(connection, stream))
         sending.start()
-        told = b"".join(iter(lambda: connection.recv(65536), b""))
+        told = read_all(connection, may_reset)
         sending.join()
         return told
+
+
+def read_all(connection, may_reset=False):
+    told = b""
+    with contextlib.suppress(ConnectionResetError) if may_reset else contextlib.nullcontext():
+        for piece in iter(lambda: connection.recv(65536), b""):
+            told += piece
+    return told
 
 
 def send(connection, stream):
@@ -205,7 +221,8 @@ def faults(program, init):
     wrong[1] = "bands.csv"
     check("zone second", program.ended("init", "house", *wrong), fault("zone"))
     check("a folder", program.ended("init", ".", *init), fault("file: Store"))
-    words = ["--port", str(free_port()), "--count", "1"]
+    # A file is looked at before a port.
+    words = ["--port", "1", "--count", "1"]
     check("missing", program.ended("serve", "missing", *words), fault("file: Store"))
     check("still missing", (folder / "missing").exists(), False)
     (folder / "empty").write_bytes(b"")
@@ -220,18 +237,19 @@ def faults(program, init):
 def lost_output(program, init):
     """How `init` and `serve` end whose output is full, or is closed behind its first line."""
     wanted = 1, b"auction: output: Write\n"
-    words = ["--port", str(free_port()), "--count", "1"]
-    for name, run in (("init", ["init", "untold", *init]), ("serve", ["serve", "house", *words])):
-        with open("/dev/full", "wb") as full:
-            result = subprocess.run([program.path, *run], cwd=program.folder, stdout=full, stderr=subprocess.PIPE,
-                                    timeout=60)
-        check(f"{name} with a full output", (result.returncode, result.stderr), wanted)
-    process = subprocess.Popen([program.path, "serve", "untold", *words], cwd=program.folder, restore_signals=False,
-                               stdout=subprocess.PIPE, stderr=subprocess.PIPE)
-    check("what is made untold is served", process.stdout.readline(), b"listening\n")
-    process.stdout.close()
-    exchange(int(words[1]), READS[0])
-    check("an output that is closed", (process.wait(60), process.stderr.read()), wanted)
+    with held_port() as port:
+        words = ["--port", str(port), "--count", "1"]
+        for name, run in (("init", ["init", "untold", *init]), ("serve", ["serve", "house", *words])):
+            with open("/dev/full", "wb") as full:
+                result = subprocess.run([program.path, *run], cwd=program.folder, stdout=full, stderr=subprocess.PIPE,
+                                        timeout=PATIENCE)
+            check(f"{name} with a full output", (result.returncode, result.stderr), wanted)
+        process = subprocess.Popen([program.path, "serve", "untold", *words], cwd=program.folder, restore_signals=False,
+                                   stdout=subprocess.PIPE, stderr=subprocess.PIPE)
+        check("what is made untold is served", process.stdout.readline(), b"listening\n")
+        process.stdout.close()
+        exchange(port, READS[0])
+        check("an output that is closed", (process.wait(PATIENCE), process.stderr.read()), wanted)
 
 
 def most(program):

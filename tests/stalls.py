@@ -1,5 +1,5 @@
 #!/usr/bin/env python3
-"""Has clients that stall in front of one that asks: `stalls.py PROGRAM`, for up to two minutes.
+"""Has clients that stall in front of one that asks: `stalls.py PROGRAM`, for some two minutes.
 
 Connections are served one after the other, so who sends nothing, or reads none of its answers, holds up all others
 until nothing has moved for 30 seconds; then the next is answered. What a write had taken by then counts as a move, so
@@ -14,10 +14,11 @@ import tempfile
 import threading
 import time
 
+from sent import PATIENCE
 from served import CHECKS, MESSAGES, Program, check, exchange, message, served
 
 # For how long a connection may be still, and how long one of these may hold up the others, in seconds.
-STILL, LONGEST = 30, 115
+STILL, LONGEST = 30, 240
 # A page of twenty items, so that the answers to all messages of a connection find no room in the system's buffers.
 FILLING = MESSAGES[:3] + [
     message("POST", "/items", 1, 1000, '{"category":1,"end":5000,"lot":"A%d","start":500,"text":"","title":"Atlas"}'
@@ -43,11 +44,12 @@ def stall(program, file, way):
     """What the client is answered that comes behind one that stalls."""
     init = ["--bands", "bands.csv", "--rate", "1000", "--zone", "UTC0"]
     check(f"{file} made", program.ended("init", file, *init), (0, b"created\n", b""))
-    with program.serving(file, 3, seconds=120) as server:
+    with program.serving(file, 3) as server:
         exchange(server.port, b"".join(FILLING))
         wanted = program.ended("replay", *init, given=b"".join([*FILLING, READ]))[1]
-        with socket.create_connection(("127.0.0.1", server.port), timeout=60) as first:
-            began = time.monotonic()
+        # The clock begins before the connection does, so that no pause of this process makes the wait look short.
+        began = time.monotonic()
+        with socket.create_connection(("127.0.0.1", server.port), timeout=PATIENCE) as first:
             way(first)
             check(f"{file} answered", wanted.endswith(exchange(server.port, READ)), True)
             waited = time.monotonic() - began

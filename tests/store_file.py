@@ -24,6 +24,7 @@ import subprocess
 import sys
 import tempfile
 
+from sent import PATIENCE
 from transcript import pairs
 
 CRATE = pathlib.Path(__file__).resolve().parent.parent / "crates" / "store_tests"
@@ -185,7 +186,7 @@ def parts():
 def played(program, word, path, lines):
     """How a run ends that plays lines: its status, and its answers."""
     script = "\n".join(line for line, _ in lines)
-    result = subprocess.run([program, word, path], input=script.encode(), capture_output=True, timeout=60)
+    result = subprocess.run([program, word, path], input=script.encode(), capture_output=True, timeout=PATIENCE)
     return result.returncode, result.stdout.decode().splitlines()
 
 
@@ -317,7 +318,7 @@ def read_by_shell(path):
 
 def shell(path, statement):
     """The lines that the shell shows."""
-    ran = subprocess.run(["sqlite3", path, statement], capture_output=True, check=True, timeout=60)
+    ran = subprocess.run(["sqlite3", path, statement], capture_output=True, check=True, timeout=PATIENCE)
     return ran.stdout.decode().splitlines()
 
 

@@ -18,6 +18,8 @@ import subprocess
 import sys
 import tempfile
 
+from sent import PATIENCE
+
 HERE = pathlib.Path(__file__).resolve().parent
 
 def bid(member, moment, maximum):
@@ -221,7 +223,7 @@ def main():
         table.flush()
         for name, words, stream, settings, ending in cases(library, table.name):
             result = subprocess.run([program, "replay", "--preset", *words], input=stream,
-                                    capture_output=True, env={**os.environ, **settings}, timeout=60)
+                                    capture_output=True, env={**os.environ, **settings}, timeout=PATIENCE)
             count += 1
             if (result.returncode, result.stdout, result.stderr) != ending:
                 wrong += 1
