@@ -3,8 +3,9 @@
 
 A stream has commands and reads of every kind, with callers, moments, bodies, targets and fields that are right or
 broken, and it ends cleanly, by a message that ends the connection, at a broken frame, cut short, or in bytes at
-random. Each answer has to be well formed and the one of tests/plain_site.py; only of bytes at random nothing but the
-form is known. Then what one member has sealed is changed, its maximum, a watch or a question that waits, so that the
+random. One maximum in four is any from 1 to the limit, near a bound, or equal to another. Each answer has to be well
+formed and the one of tests/plain_site.py; of bytes at random nothing is known but the form, and that memory is ample,
+so that no answer is 503 or 500. Then what one member has sealed is changed, its maximum, a watch or a question that waits, so that the
 stream is a twin for others by the plain site: what these are answered has to stay the same, byte for byte. One stream
 in EVERY, 5 without it and none where it is 0, is sent over TCP too, to a house in a file: it has to be answered the
 same, and the house that is served again has to show every page as the plain site does. The last line is 'N messages,
@@ -25,10 +26,10 @@ import re
 import sys
 import tempfile
 
-from plain_house import BANDS
+from plain_house import BANDS, MOST_CENTS
 from plain_site import AHEAD, COMMANDS, FIELDS, MOST_BODY, MOST_FIELDS, MOST_HEAD, NUMBERS, READS, SHORT, Site, setup
 from random_house import Chance
-from sent import Answer, Malformed, answers_in, command, compact, lengthened, read, replayed, value_of
+from sent import Answer, Malformed, answers_in, command, compact, gives_up, lengthened, read, replayed, value_of
 from served import Program, served
 
 SEED = 2026
@@ -56,11 +57,29 @@ PLAIN_FIELDS = [("User-Agent", " client/1"), ("accept", "*/*"), ("Expect", " 100
                 ("via", " \té\t")]
 
 
+def any_maximum(chance, others):
+    """A maximum from the whole range: any amount, any magnitude, one near a bound, or the same as another."""
+    return chance.choice([
+        lambda: chance.randint(1, MOST_CENTS),
+        lambda: int(10 ** chance.uniform(0, 9)),
+        lambda: chance.choice([1, 2, MOST_CENTS - 1, MOST_CENTS]),
+        lambda: chance.choice([*others, MOST_CENTS])])()
+
+
+class Sealing(Chance):
+    """Random words, of which one maximum in four is from the whole range."""
+
+    def bid(self):
+        caller, number, maximum = super().bid()
+        others = [bid.maximum for bid in self.house.placed if bid.item == number]
+        return caller, number, any_maximum(self.random, others) if self.rarely(25) else maximum
+
+
 class Sender:
     """Random requests over what a plain site has."""
 
     def __init__(self, site, seed):
-        self.site, self.chance = site, Chance(site.house, seed)
+        self.site, self.chance = site, Sealing(site.house, seed)
         self.random = self.chance.random
         self.repeated = []
 
@@ -277,12 +296,13 @@ def sealed_changes(first, chance):
     parts = {at: first.requests[at].target.split("/")[-1] for at, answer in enumerate(first.answers)
              if answer.status in (200, 201) and first.requests[at].method == "POST"}
     places, kind = list(parts), chance.choice(["bids", "bids", "questions", "watch"])
+    maxima = {at: json.loads(first.requests[at].body)["maximum"] for at in places if parts[at] == "bids"}
     chance.shuffle(places)
     for at in sorted(places, key=lambda at: parts[at] != kind):
         request, part = first.requests[at], parts[at]
         if part == "bids":
-            more = json.loads(request.body)["maximum"] + chance.choice([-1, 1, 7, 500, 100_000])
-            body = compact({"maximum": max(0, more)})
+            near = max(0, maxima[at] + chance.choice([-1, 1, 7, 500, 100_000]))
+            body = compact({"maximum": chance.choice([near, any_maximum(chance, list(maxima.values()))])})
         elif part == "questions":
             body = compact({"text": f"Is it {chance.randrange(1_000)} years old?"})
         elif part in ("watch", "unwatch"):
@@ -368,6 +388,7 @@ class Fuzz:
             told, ending = program.answers("house", [first, stream])
             if (told[1], ending) != (b"".join(texts), served(2)):
                 self.fail(f"over TCP {stream[:300]}", (b"".join(texts), served(2)), (told[1], ending))
+            self.unrefused(answers_in(told[0])[0])
             asked = list(sights(site)) if is_known else []
             shown, _ = program.answers("house", [b"".join(request.text() for request in asked)])
         for request, got in zip(asked, answers_in(shown[0])[0]):
@@ -395,12 +416,19 @@ class Fuzz:
             return
         texts, rest = told
         self.statuses.update(int(text[9:12]) for text in texts)
+        self.unrefused(texts)
         for at, (answer, got) in enumerate(zip(expected, texts)):
             if answer.text() != got:
                 what = first.requests[at].text() if at < len(first.requests) else "the end of a stream"
                 self.fail(what, answer.text(), got)
         if answers is not None and (len(texts), rest) != (len(expected), record):
             self.fail("a stream's end", (len(expected), record), (len(texts), rest))
+
+    def unrefused(self, texts):
+        """Fails where an answer gives up."""
+        for text in texts:
+            if gives_up(text):
+                self.fail("with ample memory", "an answer", text)
 
     def twin(self, first, settings, words, told):
         """Changes what one member sealed, and compares what others are told, where the plain site says that they may."""

@@ -6,10 +6,11 @@ accepted, is the last accepted one of its bidder on its item, and in the end has
 maximum, if there is one, at or below its own; where the new maximum is greater, and at most the limit; and where the
 other isn't the bidder. All of this is found by the plain site of tests/plain_site.py alone. Where it holds, the list
 with that bid raised has to be a twin of the list for the other, by the plain site; `surplus` has to print `same, N
-replies`; and two replays have to give the other N replies which are the same, byte for byte. Where it doesn't,
-`surplus` has to print `not covered`. Numbers that no words of the program's may have are refused. COUNT raises are
-tried, 1,000 without it, each in a list of its own, by two tables of bands; nine in twenty are chosen to be covered, the
-others miss one condition each or are any. The last line is 'N covered, M not, K wrong'.
+replies`; and two replays have to give the other N replies which are the same, byte for byte, in answers which are those
+of the plain site, so that none is 503 or 500. Where it doesn't, `surplus` has to print `not covered`. Numbers that no
+words of the program's may have are refused. COUNT raises are tried, 1,000 without it, each in a list of its own, by two
+tables of bands; nine in twenty are chosen to be covered, the others miss one condition each or are any. New maxima are
+near the old, anywhere up to the limit, or at it. The last line is 'N covered, M not, K wrong'.
 """
 import collections
 import dataclasses
@@ -181,7 +182,9 @@ class Raises(Lists):
         return Raise(bid.place, self.more(bid.maximum), self.other(run, bid))
 
     def more(self, maximum):
-        return min(MOST_CENTS, self.random.choice([*(maximum + more for more in MORE), MOST_CENTS]))
+        near = [min(MOST_CENTS, maximum + more) for more in MORE]
+        far = [self.random.randint(maximum, MOST_CENTS), MOST_CENTS - 1, MOST_CENTS]
+        return self.random.choice([*near, *far])
 
     def other(self, run, bid):
         """Mostly a member who isn't the bidder, now and then nobody's number."""

@@ -3,7 +3,8 @@
 
 EQUAL pairs, 1,000 without it, differ in what others than the member have sealed, maxima, watches and questions that
 wait, and agree in what is public and in what waits for the member: `audit` has to print `equal, N replies`, and two
-replays have to give the member N replies which are the same, byte for byte. APART pairs, 1,000 too, differ at some
+replays have to give the member N replies which are the same, byte for byte, in answers which are those of the plain
+site, so that none is 503 or 500. APART pairs, 1,000 too, differ at some
 step for the member: `audit` has to print `apart at step K`, the first at which the plain site of tests/plain_site.py
 finds the lists of another length, a message of the member's another, or the record or what waits for it another. A
 file with a broken frame is no list. The last line is 'N equal, M apart, K wrong'.
@@ -19,7 +20,7 @@ import tempfile
 
 from fuzz import Sender, named, sealed_changes
 from plain_site import AHEAD, Site, frame_fault, setup
-from sent import answers_in, command, compact, read, replayed
+from sent import PATIENCE, answers_in, command, compact, read, replayed
 
 SEED = 2026
 LONGEST = 80
@@ -108,14 +109,17 @@ class Lists:
         return [*words, "--bands", str(table)]
 
     def answers(self, settings, run, member):
-        """What a replay answers to a member in a list."""
+        """What a replay answers to a member in a list, of which each answer has to be the plain site's."""
         stream = b"".join(request.text() for request in run.requests)
         texts, _ = answers_in(replayed(self.program, stream, *self.words(settings)))
+        for request, text, answer in zip(run.requests, texts, run.answers):
+            if text != answer.text():
+                self.fail(request.text(), answer.text(), text)
         return [text for request, text in zip(run.requests, texts) if caller(request) == member]
 
     def ended(self, *words):
         """How the program ends with these words, in the folder of the lists."""
-        ran = subprocess.run([self.program, *words], cwd=self.folder, capture_output=True, timeout=60)
+        ran = subprocess.run([self.program, *words], cwd=self.folder, capture_output=True, timeout=PATIENCE)
         return ran.returncode, ran.stdout, ran.stderr
 
 
