@@ -1,16 +1,19 @@
 """Runs of a program with each of its allocations refused in turn. It needs a C compiler, `cc`."""
+import concurrent.futures
 import contextlib
 import os
 import pathlib
 import subprocess
 import tempfile
 
+from sent import PATIENCE
+
 HERE = pathlib.Path(__file__).resolve().parent
 
 
 def run(command, given=b"", **environment):
     return subprocess.run(command, input=given, capture_output=True,
-                          env={**os.environ, **environment}, timeout=60)
+                          env={**os.environ, **environment}, timeout=PATIENCE)
 
 
 @contextlib.contextmanager
@@ -23,10 +26,18 @@ def built_library():
         yield library
 
 
+def in_turn(call, numbers):
+    """What a call gives for each number, in their order; as many are called at once as there are processors."""
+    with concurrent.futures.ThreadPoolExecutor(os.cpu_count()) as pool:
+        yield from pool.map(call, numbers)
+
+
 def refused_runs(command, library, given=b"", every=1):
     """For each allocation of a command, or one in so many, its number, counted from 1, and the run that is refused it."""
-    for number in range(1, allocations(command, library, given) + 1, every):
-        yield number, run(command, given, LD_PRELOAD=library, REFUSE=str(number))
+    def refused(number):
+        return number, run(command, given, LD_PRELOAD=library, REFUSE=str(number))
+
+    return in_turn(refused, range(1, allocations(command, library, given) + 1, every))
 
 
 def allocations(command, library, given=b""):

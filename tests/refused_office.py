@@ -8,6 +8,7 @@ STATEMENT and AUDIT are how many allocations are passed over for each that is re
 compiler, `cc`. The last line is 'N runs, M wrong'.
 """
 import collections
+import contextlib
 import pathlib
 import shutil
 import sqlite3
@@ -15,9 +16,11 @@ import sys
 import tempfile
 
 from office import AS_CSV, BOTH_DAYS, BY_ANA, HEAD, SALES, house, run as audited
-from refusal import allocations, built_library, ended, run, told
+from refusal import allocations, built_library, ended, in_turn, run, told
 from served import EXAMPLE, PRESET, Program
 
+# What stands for the path of the house in the words of a run.
+HOUSE = "HOUSE"
 MEMORY = b"auction: memory\n"
 ROWS = ["A1,1,Atlas,,5.00,,5000", "B2,1,Globe,,7.50,20.00,6000", "C3,2,Chart,,5.00,,6000", "D4,1,Novel,,1,,6000",
         "E5,1,Map,,x,,6000"]
@@ -47,14 +50,19 @@ class Refusals:
         self.count, self.wrong, self.ends = 0, [], collections.Counter()
 
     def each(self, name, words, every, judge, file=None):
-        """Refuses allocations of a run, over a copy of a house where it has one."""
+        """Refuses allocations of a run, over a copy of a house where it has one, whose path the words then have as `HOUSE`."""
         self.ends.clear()
-        self.renew(file)
-        count = allocations([self.program, *words], self.library)
-        for number in range(1, count + 1, every):
-            self.renew(file)
-            result = run([self.program, *words], LD_PRELOAD=self.library, REFUSE=str(number))
-            end = judge(*ended(result))
+
+        def refused(number):
+            with self.copy(file) as path:
+                command = [self.program, *(path if word == HOUSE else word for word in words)]
+                if number == 0:
+                    return allocations(command, self.library)
+                result = run(command, LD_PRELOAD=self.library, REFUSE=str(number))
+                return number, result, judge(path, *ended(result))
+
+        count = refused(0)
+        for number, result, end in in_turn(refused, range(1, count + 1, every)):
             self.count += 1
             self.ends[end or "wrong"] += 1
             if end is None:
@@ -64,44 +72,43 @@ class Refusals:
         if not any(end.startswith("stopped") for end in self.ends):
             self.wrong.append((f"none of {name}", self.ends))
 
-    def renew(self, file):
-        for left in self.folder.glob("refused*"):
-            left.unlink()
-        if file:
-            shutil.copy(self.folder / file, self.folder / "refused")
+    @contextlib.contextmanager
+    def copy(self, file):
+        """The path of a copy of a house, which goes again; of no house that is no path."""
+        with tempfile.TemporaryDirectory(dir=self.folder) as folder:
+            yield file and shutil.copy(self.folder / file, folder)
 
     def imports(self, every):
         before = content(self.folder / "whole")
 
-        def judge(status, output, error):
+        def judge(path, status, output, error):
             lines = output.splitlines(keepends=True)
             count = 1 + (LINES[1] in lines) + (LINES[3] in lines)
-            right = lines == LINES[:len(lines)] and content(self.folder / "refused") == (ITEMS[:count], *before[1:])
+            right = lines == LINES[:len(lines)] and content(path) == (ITEMS[:count], *before[1:])
             if right and (status, error) == (1, MEMORY):
                 return f"stopped behind {len(lines)} lines"
             return "as ever" if right and (status, lines, error) == (1, LINES, b"") else None
 
         (self.folder / "lots.csv").write_text(HEAD + "".join(row + "\n" for row in ROWS))
-        self.each("import", ["import", f"{self.folder}/refused", f"{self.folder}/lots.csv", *BY_ANA], every, judge,
+        self.each("import", ["import", HOUSE, f"{self.folder}/lots.csv", *BY_ANA], every, judge,
                   "whole")
 
     def statements(self, every):
         before = content(self.folder / "sales")
         for text, more in ((BOTH_DAYS, []), (AS_CSV, ["--csv"])):
-            def judge(status, output, error):
-                if content(self.folder / "refused") != before or not text.startswith(output):
+            def judge(path, status, output, error):
+                if content(path) != before or not text.startswith(output):
                     return None
                 if (status, error) == (1, MEMORY):
                     return "stopped behind some of it" if output else "stopped"
                 return "as ever" if (status, output, error) == (0, text, b"") else None
 
-            self.each(" ".join(["statement", *more]), ["statement", f"{self.folder}/refused", *PERIOD, *more], every,
-                      judge, "sales")
+            self.each(" ".join(["statement", *more]), ["statement", HOUSE, *PERIOD, *more], every, judge, "sales")
 
     def audits(self, every):
         for name, third, whole in (("equal", 8000, (0, b"equal, 2 replies\n", b"")),
                                    ("apart", 1040, (1, b"apart at step 7\n", b""))):
-            def judge(*ending):
+            def judge(_, *ending):
                 return {(1, b"", MEMORY): "stopped", whole: "as ever"}.get(ending)
 
             files = [self.folder / name for name in ("left", "right")]

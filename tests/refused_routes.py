@@ -22,7 +22,7 @@ import tempfile
 
 from plain_house import BANDS
 from plain_site import Site, setup
-from refusal import allocations, built_library, ended, run, told
+from refusal import allocations, built_library, ended, in_turn, refused_runs, run, told
 from routes import messages, reads
 from sent import Malformed, answers_in
 from served import Program, exchange, served
@@ -81,8 +81,7 @@ class Runs:
     def replay(self, every):
         """Refuses allocations of a replay."""
         command = [self.program, "replay", "--preset", "--record"]
-        for number in range(1, allocations(command, self.library, STREAM) + 1, every):
-            result = run(command, STREAM, **self.refusing(number))
+        for number, result in refused_runs(command, self.library, STREAM, every):
             right, end = self.replayed(*ended(result))
             self.judge(number, right, end, result)
         self.tell("replay")
@@ -106,9 +105,9 @@ class Runs:
         """Refuses allocations of serving a house in a file."""
         self.make("whole")
         self.serve_once(0, REFUSE_COUNT=f"{self.folder}/count")
-        count = int(pathlib.Path(self.folder, "count").read_text())
-        for number in range(1, count + 1, every):
-            self.judge(number, *self.serve_once(number))
+        numbers = range(1, int(pathlib.Path(self.folder, "count").read_text()) + 1, every)
+        for number, end in zip(numbers, in_turn(self.serve_once, numbers)):
+            self.judge(number, *end)
         self.tell("serve")
 
     def make(self, file):
@@ -119,38 +118,36 @@ class Runs:
 
     def serve_once(self, number, **more):
         """Serves a copy of the house: whether that was as it has to be, how it ended, and what was seen."""
-        folder = pathlib.Path(self.folder)
-        for left in folder.glob("refused*"):
-            left.unlink()
-        shutil.copy(folder / "whole", folder / "refused")
-        program = Program(self.program, self.folder, environment={**self.refusing(number), **more})
-        with program.serving("refused", 1) as server:
-            output = exchange(server.port, STREAM) if server.is_listening else b""
-        if server.ending == STOPPED:
-            return self.is_whole(), "stopped at once", server.ending
-        right, end = self.served(output)
-        return right and server.ending == served(1), end, (server.ending, output)
+        with tempfile.TemporaryDirectory(dir=self.folder) as folder:
+            shutil.copy(f"{self.folder}/whole", f"{folder}/refused")
+            program = Program(self.program, folder, environment={**self.refusing(number), **more})
+            with program.serving("refused", 1) as server:
+                # A connection that finds no memory is ended before anything is read, and so may be reset.
+                output = exchange(server.port, STREAM, may_reset=True) if server.is_listening else b""
+            if server.ending == STOPPED:
+                return self.is_whole(folder), "stopped at once", server.ending
+            right, end = self.served(folder, output)
+            return right and server.ending == served(1), end, (server.ending, output)
 
-    def is_whole(self):
-        """Whether the house is as it was, and can be served."""
-        return self.seen() == (without(frozenset(range(len(MESSAGES))))[2], True)
+    def is_whole(self, folder):
+        """Whether the house in a folder is as it was, and can be served."""
+        return self.seen(folder) == (without(frozenset(range(len(MESSAGES))))[2], True)
 
-    def served(self, output):
+    def served(self, folder, output):
         try:
             texts, rest = answers_in(output)
         except Malformed:
             return False, "no answers"
         if output == b"":
-            return self.is_whole(), "no answer"
+            return self.is_whole(folder), "no answer"
         refused, right = judged(texts)
         self.places |= refused
-        return right and rest == b"" and self.seen() == (without(refused)[2], True), "503" if refused else "as ever"
+        return right and rest == b"" and self.seen(folder) == (without(refused)[2], True), "503" if refused else "as ever"
 
-    def seen(self):
-        """The pages of the house, and whether SQLite finds no fault in it."""
-        program = Program(self.program, self.folder)
-        output, _ = program.answers("refused", [b"".join(request.text() for request in SIGHTS)])
-        database = sqlite3.connect(f"{self.folder}/refused")
+    def seen(self, folder):
+        """The pages of the house in a folder, and whether SQLite finds no fault in it."""
+        output, _ = Program(self.program, folder).answers("refused", [b"".join(request.text() for request in SIGHTS)])
+        database = sqlite3.connect(f"{folder}/refused")
         faults = [database.execute(f"PRAGMA {check}").fetchall() for check in ("integrity_check", "foreign_key_check")]
         database.close()
         return answers_in(output[0])[0], faults == [[("ok",)], []]
@@ -159,18 +156,22 @@ class Runs:
         """Refuses allocations of making a house."""
         words = ["--bands", f"{self.folder}/bands.csv", "--rate", "1000", "--zone", "UTC0"]
         count = allocations([self.program, "init", f"{self.folder}/counted", *words], self.library)
-        for number in range(1, count + 1, every):
-            path = f"{self.folder}/made{number}"
-            first = run([self.program, "init", path, *words], **self.refusing(number))
-            second = run([self.program, "init", path, *words])
-            ends = [ended(first), ended(second)]
-            end = "there" if ends[1] == THERE else "made again" if ends[1] == CREATED else "neither"
-            self.judge(number, ends in MADE and self.is_new(f"made{number}"), end, ends)
+        numbers = range(1, count + 1, every)
+        for number, end in zip(numbers, in_turn(lambda number: self.init_once(number, words), numbers)):
+            self.judge(number, *end)
         self.tell("init")
 
-    def is_new(self, file):
-        """Whether a house is a new one."""
-        output, _ = Program(self.program, self.folder).answers(file, [b"".join(request.text() for request in SIGHTS)])
+    def init_once(self, number, words):
+        """Makes a house, and again without a refusal: whether that was as it has to be, how it ended, and what was told."""
+        with tempfile.TemporaryDirectory(dir=self.folder) as folder:
+            command = [self.program, "init", f"{folder}/made", *words]
+            ends = [ended(run(command, **self.refusing(number))), ended(run(command))]
+            end = "there" if ends[1] == THERE else "made again" if ends[1] == CREATED else "neither"
+            return ends in MADE and self.is_new(folder), end, ends
+
+    def is_new(self, folder):
+        """Whether the house in a folder is a new one."""
+        output, _ = Program(self.program, folder).answers("made", [b"".join(request.text() for request in SIGHTS)])
         site = Site()
         return answers_in(output[0])[0] == [site.answer(request).text() for request in SIGHTS]
 

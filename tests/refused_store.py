@@ -1,21 +1,27 @@
 #!/usr/bin/env python3
-"""Refuses allocations of a house's runs in a file, one in so many: `refused_store.py PROGRAM [EVERY]`.
+"""Refuses allocations of a house's runs in a file, one in so many: `refused_store.py PROGRAM [EVERY [OPENING]]`.
 
 The program is that of the crate `store_tests`. With a refusal a house is made in a new file, and then
 asked without one: it answers as the same house in memory does, which got every command but the one that
 was answered `Memory`. Then a house that is there is asked with a refusal: the answers break off with
-status 1, or all come, and the file is as it was. A run that ends with status 1 tells that memory is
-wanted. It needs a C compiler, `cc`. The last line is 'N runs, M wrong'.
+status 1, or all come, and the file is as it was. So it is where no more is asked than that it opens and
+tells its clock, with one allocation in OPENING refused. A run that ends with status 1 tells that memory
+is wanted. EVERY and OPENING are 1 where they are left out. It needs a C compiler, `cc`. The last line is
+'N runs, M wrong'.
 """
+import contextlib
 import pathlib
+import shutil
 import sys
 import tempfile
 
-from refusal import allocations, built_library, run, told
+from refusal import allocations, built_library, in_turn, run, told
 from refused_house import SCRIPT
 
 COMMANDS = [line for line in SCRIPT if not line.startswith("?") and line not in ("record", "fill")]
 QUESTIONS = [line for line in SCRIPT if line.startswith("?")]
+# A house's file, and its log, which belongs to it.
+FILES = ("", "-wal")
 # What a run tells that wants memory: for the script itself, or for anything else.
 WANTED = ("the script can't be read", "memory is wanted")
 
@@ -34,8 +40,24 @@ def asked_without(program, place):
     return told_lines[-len(QUESTIONS):]
 
 
-def made(program, library, number, path, asked):
+def made(program, library, number, folder, asked):
     """Makes a house with an allocation refused: whether it is then asked as it has to be, and which commands were refused."""
+    path = f"{folder}/made{number}"
+    with gone(path):
+        return made_at(path, program, library, number, asked)
+
+
+@contextlib.contextmanager
+def gone(path):
+    """Has a house's files go again."""
+    try:
+        yield
+    finally:
+        for ending in FILES:
+            pathlib.Path(path + ending).unlink(missing_ok=True)
+
+
+def made_at(path, program, library, number, asked):
     status, told_lines = answers(program, ["make", path], COMMANDS, LD_PRELOAD=library, REFUSE=str(number))
     if status == 1 and not told_lines:
         return True, []
@@ -46,31 +68,48 @@ def made(program, library, number, path, asked):
     return right, refused
 
 
-def asked(program, library, number, path, whole):
-    """Asks a house with an allocation refused: whether the answers are, or begin, those of the house."""
-    content = pathlib.Path(path).read_bytes()
-    status, told_lines = answers(program, ["ask", path], QUESTIONS, LD_PRELOAD=library, REFUSE=str(number))
-    begun = status == 1 and told_lines == whole[:len(told_lines)] and len(told_lines) < len(whole)
-    return (begun or (status, told_lines) == (0, whole)) and pathlib.Path(path).read_bytes() == content
+def asked(program, library, number, folder, questions, whole):
+    """Asks a copy of a house with an allocation refused: whether the answers are, or begin, those of the house."""
+    path = f"{folder}/asked{number}"
+    with gone(path):
+        for ending in FILES:
+            shutil.copy(f"{folder}/counted{ending}", path + ending)
+        content = pathlib.Path(path).read_bytes()
+        status, told_lines = answers(program, ["ask", path], questions, LD_PRELOAD=library, REFUSE=str(number))
+        begun = status == 1 and told_lines == whole[:len(told_lines)] and len(told_lines) < len(whole)
+        return (begun or (status, told_lines) == (0, whole)) and pathlib.Path(path).read_bytes() == content
 
 
-def runs(program, library, folder, every):
+def askings(program, library, folder, questions, whole, every):
+    """Each run that is asked questions: its number, and whether it was as it has to be."""
+    count = allocations([program, "ask", f"{folder}/counted"], library, "\n".join(questions).encode())
+
+    def right(number):
+        return asked(program, library, number, folder, questions, whole)
+
+    numbers = range(1, count + 1, every)
+    return zip(numbers, in_turn(right, numbers))
+
+
+def runs(program, library, folder, every, opening):
     """Each run's number, whether it was as it has to be, and which commands it was refused."""
     without = {place: asked_without(program, place) for place in range(len(COMMANDS) + 1)}
-    commands, questions = "\n".join(COMMANDS).encode(), "\n".join(QUESTIONS).encode()
-    making = allocations([program, "make", f"{folder}/counted"], library, commands)
-    for number in range(1, making + 1, every):
-        yield f"{number} of making", *made(program, library, number, f"{folder}/made{number}", without)
-    asking = allocations([program, "ask", f"{folder}/counted"], library, questions)
-    for number in range(1, asking + 1, every):
-        yield f"{number} of asking", asked(program, library, number, f"{folder}/counted", without[len(COMMANDS)]), []
+    making = allocations([program, "make", f"{folder}/counted"], library, "\n".join(COMMANDS).encode())
+    numbers = range(1, making + 1, every)
+    for number, end in zip(numbers, in_turn(lambda number: made(program, library, number, folder, without), numbers)):
+        yield f"{number} of making", *end
+    whole = without[len(COMMANDS)]
+    for number, right in askings(program, library, folder, QUESTIONS, whole, every):
+        yield f"{number} of asking", right, []
+    for number, right in askings(program, library, folder, QUESTIONS[:1], whole[:1], opening):
+        yield f"{number} of opening", right, []
 
 
 def main():
     program = str(pathlib.Path(sys.argv[1]).resolve())
-    every = int(sys.argv[2]) if len(sys.argv) > 2 else 1
+    every, opening = (int(word) for word in [*sys.argv[2:], "1", "1"][:2])
     with built_library() as library, tempfile.TemporaryDirectory() as folder:
-        ends = list(runs(program, library, folder, every))
+        ends = list(runs(program, library, folder, every, opening))
     refused = {place for _, _, places in ends for place in places}
     print(f"{len(refused)} of {len(COMMANDS)} commands were answered Memory")
     wrong = [(what, "wrong") for what, right, _ in ends if not right]
