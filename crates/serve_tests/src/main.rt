@@ -1,4 +1,4 @@
-//! Plays a script of streams over new houses in memory, over devices that fail.
+//! Plays a script of streams over new houses in memory, over devices that fail, and over a connection.
 //!
 //! The stored run is a test of what no clause says: that calls succeed, and that a fault is told where a
 //! device failed and nowhere else. `stdin` has the script, `stdout` its transcript, in which what has to be told
@@ -9,6 +9,7 @@
 mod failing;
 mod script;
 mod serving;
+mod socket;
 mod stream;
 
 use script::{Fault, Stage};
@@ -18,7 +19,7 @@ use std::process::ExitCode;
 use transcript::echoed;
 
 // Plays the script. What owns the script and the stage has one end: each end more would drop them once more.
-fn play(rt: &(impl Input + Print), alloc: Global) -> Result<(), Fault> {
+fn play(rt: &HostRuntime, alloc: Global) -> Result<(), Fault> {
     let Ok(script) = io::read_to_string(alloc, rt.reader()) else {
         return Err(Fault::Script);
     };
@@ -28,7 +29,7 @@ fn play(rt: &(impl Input + Print), alloc: Global) -> Result<(), Fault> {
 
 // Plays lines on a stage.
 fn play_lines(
-    rt: &impl Print,
+    rt: &HostRuntime,
     alloc: Global,
     stage: &mut Stage,
     script: &str,
@@ -40,9 +41,9 @@ fn play_lines(
 }
 
 // Plays a line, and prints what is told.
-fn play_line(rt: &impl Print, alloc: Global, stage: &mut Stage, line: &str) -> Result<(), Fault> {
+fn play_line(rt: &HostRuntime, alloc: Global, stage: &mut Stage, line: &str) -> Result<(), Fault> {
     let line = echoed(rt, line)?;
-    if let Some(told) = script::play(alloc, stage, line)? {
+    if let Some(told) = script::play(rt, alloc, stage, line)? {
         println!(rt; "{told}")?;
     }
     Ok(())

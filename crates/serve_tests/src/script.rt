@@ -3,9 +3,10 @@
 //! `post MEMBER MOMENT TARGET BODY` and `get MEMBER TARGET` add a message to the stream, and `raw TEXT`
 //! adds bytes. `house` makes what the stream holds the messages by which each house begins, and empties
 //! it, as `clear` does. `takes N`, `gives N` and `flushes N` serve the stream over houses of their own, in
-//! pieces of N bytes, with each such call failing in turn. An empty line, and one that begins with `--`,
-//! tells nothing.
+//! pieces of N bytes, with each such call failing in turn. `socket` serves it over a connection, and tells what the
+//! other end reads. An empty line, and one that begins with `--`, tells nothing.
 use crate::failing::{Calls, tell};
+use crate::socket::tell_received;
 use crate::stream::Stream;
 use house_rows::KeepFault;
 use std::alloc::{AllocError, Global};
@@ -28,6 +29,9 @@ pub(crate) enum Fault {
     /// What is told couldn't be printed.
     #[error("what is told can't be written")]
     Output,
+    /// A connection of the program with itself couldn't be made, or failed.
+    #[error("a connection failed")]
+    Socket,
 }
 
 impl From<AllocError> for Fault {
@@ -97,9 +101,15 @@ fn number(word: &str) -> Result<usize, Fault> {
 }
 
 /// Plays a line, and tells what came of it, if anything did.
-pub(crate) fn play(alloc: Global, stage: &mut Stage, line: &str) -> Result<Option<String>, Fault> {
+pub(crate) fn play(
+    rt: &HostRuntime,
+    alloc: Global,
+    stage: &mut Stage,
+    line: &str,
+) -> Result<Option<String>, Fault> {
     let (word, rest) = first_word(line);
     match word {
+        "socket" => tell_received(rt, alloc, stage),
         "takes" => tell(alloc, stage, Calls::Takes, number(rest)?),
         "gives" => tell(alloc, stage, Calls::Gives, number(rest)?),
         "flushes" => tell(alloc, stage, Calls::Flushes, number(rest)?),
