@@ -6,8 +6,8 @@ SUITES = site office audit surplus
 
 # How many messages the fuzz sends at least, how many answers spoiled ones have to get, how many pairs of lists are audited
 # that are equal and that are apart, how often a server is killed, how many rows a lot file has, and the seed that chooses
-# them; that each EVERYth call on files stops, or has a power cut behind it; and the crates whose wrong bodies make wrong
-# tries, all where there are none.
+# them; that each EVERYth call on files stops, or has a power cut behind it; the crates whose wrong bodies make wrong
+# tries, all where there are none; and the bodies that make giving puts in, eight where there are none.
 MESSAGES ?= 5000
 MUTATED ?= 100000
 KILLS ?= 200
@@ -16,9 +16,10 @@ ROWS ?= 20000
 PAIRS ?= 1000
 SEED ?= 2026
 CRATES ?=
+BODIES ?=
 
-.PHONY: help demo session test auction program cases rows fuzz mutated twins memory statement random file office kills \
-	stops cuts stalls wrong documents
+.PHONY: help demo session test auction program cases rows fuzz mutated twins memory allocations statement random file \
+	office kills stops cuts stalls wrong giving documents
 
 help:
 	@echo "For a newcomer"
@@ -30,6 +31,7 @@ help:
 	@echo "  make test      proves everything, runs the crates' tests and the wrong bodies in must-fail/ (rt ci), and says how far"
 	@echo "                 it is; out/ has all lines, and the minutes by crate and step"
 	@echo "  make wrong     tries the wrong bodies that make test leaves out, of the crates CRATES=\"a b\" or of all"
+	@echo "  make giving    puts in bodies that give up, those named in BODIES=\"a b\", and looks whether the tests find them"
 	@echo "  make documents reads the documents, and plays what they show on the program"
 	@echo
 	@echo "Tests of the program that make test or make auction has left"
@@ -50,7 +52,8 @@ help:
 	@echo "  make rows      plays the cases and random lists message by message and as runs, in memory and in databases"
 	@echo "  make random    compares houses with plain lists, on random commands and on long lists, and with one another"
 	@echo "  make statement compares statements with those that Python makes"
-	@echo "  make memory    refuses each allocation of the program and of the crates below it (needs cc)"
+	@echo "  make memory    refuses each allocation of the program and of the crates below it, over SQLite one in so many (needs cc)"
+	@echo "  make allocations  refuses each over SQLite (needs cc)"
 
 # What a target needs, named where it is missing.
 .PHONY: has-kit has-program has-bin has-cases has-cc has-curl has-tests
@@ -76,12 +79,12 @@ has-curl:
 has-tests:
 	@test -x crates/store_tests/out/store_tests || { echo "no crates/store_tests/out: run make test first"; exit 1; }
 
-demo test auction wrong: has-kit
+demo test auction wrong giving: has-kit
 session: has-bin has-curl
-program cases fuzz mutated twins memory file office kills stops cuts stalls documents: has-program
-rows random file statement memory: has-tests
+program cases fuzz mutated twins memory allocations file office kills stops cuts stalls documents: has-program
+rows random file statement memory allocations: has-tests
 cases: has-cases
-memory stops cuts: has-cc
+memory allocations stops cuts: has-cc
 documents: has-curl
 
 demo:
@@ -132,18 +135,25 @@ twins:
 
 memory:
 	python3 tests/refused_memory.py crates/auction/out/auction
-	python3 tests/refused_routes.py crates/auction/out/auction 1 200 50
+	python3 tests/refused_routes.py crates/auction/out/auction 1 40 10
 	python3 tests/refused_office.py crates/auction/out/auction 400 100 100
 	python3 tests/refused_statement.py crates/settle_bench/out/settle_bench
 	python3 tests/refused_asks.py crates/test_messages/out/test_messages
 	python3 tests/refused_inbox.py crates/wire_bench/out/wire_bench
 	python3 tests/refused_house.py crates/store_tests/out/store_tests 1 memory
-	python3 tests/refused_house.py crates/store_tests/out/store_tests 5
+	python3 tests/refused_house.py crates/store_tests/out/store_tests 4
 	python3 tests/refused_pages.py crates/pages_tests/out/pages_tests
-	python3 tests/refused_store.py crates/store_tests/out/store_tests 11
-	python3 tests/refused_rows.py crates/run_tests/out/run_tests 7
+	python3 tests/refused_store.py crates/store_tests/out/store_tests 4 1
+	python3 tests/refused_rows.py crates/run_tests/out/run_tests 1
 	python3 tests/refused_device.py crates/test_values/out/test_values
 	python3 tests/refused_bands.py crates/test_values/out/test_values
+
+allocations:
+	python3 tests/refused_rows.py crates/run_tests/out/run_tests 1
+	python3 tests/refused_store.py crates/store_tests/out/store_tests 1 1
+	python3 tests/refused_house.py crates/store_tests/out/store_tests 1
+	python3 tests/refused_routes.py crates/auction/out/auction 1 1 1
+	python3 tests/refused_office.py crates/auction/out/auction 1 1 1
 
 statement:
 	python3 tests/compared_statements.py crates/settle_bench/out/settle_bench
@@ -184,3 +194,6 @@ documents:
 
 wrong:
 	python3 tests/wrong.py $(CRATES)
+
+giving:
+	python3 tests/giving_up.py $(BODIES)

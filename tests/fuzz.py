@@ -11,11 +11,11 @@ in EVERY, 5 without it and none where it is 0, is sent over TCP too, to a house 
 same, and the house that is served again has to show every page as the plain site does. The last line is 'N messages,
 M accepted, K wrong'; COUNT messages are sent at least, 5,000 without it.
 
-Seed 2026, on a program that was built without proofs: 5,066 messages, of which 1,978 were accepted; every refusal was
-told; 34 pairs of twin runs, with 2,580 answers compared. None was wrong. A stand-in for the program that told another
-price, a key by another name, another phrase, no `connection: close`, another clock in the record, or a floor over the
-leader's maximum to who bid too low, was found wrong each time, the last by twin runs alone too. plain_site.py gives
-the answers of 418 of the conformance cases too; the others have another band table or zone, or what is no head.
+Seed 2026, on the proved program: 5,106 messages, of which 1,933 were accepted; every refusal was told; 32 pairs of twin
+runs, with 2,951 answers compared. None was wrong. A stand-in for the program that told another price, a key by another
+name, another phrase, no `connection: close`, another clock in the record, or a floor over the leader's maximum to who
+bid too low, was found wrong each time, the last by twin runs alone too. plain_site.py gives the answers of 418 of the
+conformance cases too; the others have another band table or zone, or what is no head.
 """
 import collections
 import dataclasses

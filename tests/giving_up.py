@@ -1,0 +1,175 @@
+#!/usr/bin/env python3
+"""Puts in bodies that give up, and looks whether the tests find them: `giving_up.py [NAME..]`.
+
+A body that always tells want of memory, or that the store failed, is proved under any contract: memory may be refused at
+any call, and a contract shows no cause. So only tests find it. Each is put into a copy of the checkout and built without
+proofs, by `rt try`; then the stored run of `serve_tests`, `pages_tests` or `run_tests` has to come out otherwise, or
+tests/office.py has to fail on the program. With nothing put in they have to pass. NAMEs choose among the bodies, `all`
+takes all, none those that are MAIN. It needs the kit, with its `rt` on the path. The last line is 'N bodies, M not
+found'.
+"""
+import contextlib
+import dataclasses
+import os
+import pathlib
+import shutil
+import subprocess
+import sys
+import tempfile
+import time
+
+from refusal import in_turn
+
+ROOT = pathlib.Path(__file__).resolve().parent.parent
+ENGINE, DECIDING, READING = "site/src/engine.rt", "house/src/decision.rt", "pages/src/reading.rt"
+KEEP, ACCOUNT, IMPORTS = "store/src/keep.rt", "office/src/account.rt", "office/src/imports.rt"
+MEMORY, STORE = "Err(KeepFault::Memory)", "Err(KeepFault::Store)"
+# What finds a body: the stored run of a crate's program, or a script that is given the house's program.
+STREAMS, SHOWN, RUNS, OFFICE = "serve_tests", "pages_tests", "run_tests", "office.py"
+
+
+@dataclasses.dataclass(frozen=True)
+class Body:
+    """A body that gives up: its name, its file, the text that stands there once, the new one, and what finds it."""
+    name: str
+    file: str
+    old: str
+    new: str
+    finder: str
+
+
+RECORD = "append_record(self.alloc, &mut self.keep, &mut text)?;"
+ACT = "act(&mut self.keep, &mut self.writer, &asked, out)"
+CALLS = {"register": "register(keep, moment, caller, name)", "add_category": "add_category(keep, moment, caller, name)",
+         "list": "list(keep, moment, caller, &offer)", "bid": "bid(keep, moment, caller, *item, *maximum)",
+         "buy": "buy(keep, moment, caller, *item)", "close": "close(keep, moment, caller)",
+         "settle": "settle(keep, moment, caller, *item)", "watch": "=> watch(keep, moment, caller, *item)",
+         "unwatch": "unwatch(keep, moment, caller, *item)", "ask": "ask(keep, moment, caller, *item, text)",
+         "answer": "answer(keep, moment, caller, *item, *asker, *number, text)",
+         "feedback": "feedback(keep, moment, caller, *item, *rating, text)"}
+PAGES = {"house": "house(alloc, keep)", "bands": "bands(alloc, keep)", "categories": "categories(keep)",
+         "items": "items_in(alloc, keep, category, from)", "item": "item(keep, number)",
+         "published": "published(keep, item, from)", "member": "member(keep, number)",
+         "ratings": "feedback_to(keep, member, from)", "bids": "bids(keep, caller, from)",
+         "watches": "watches(alloc, keep, caller)", "questions": "=> questions(keep, caller, from)",
+         "waiting": "waiting(keep, caller)", "account": "statement(keep, caller, from, to)"}
+
+
+def with_arrow(call, new):
+    return ("=> " if call.startswith("=> ") else "") + new
+
+
+BODIES = [
+    Body("everything-503", ENGINE, ACT, MEMORY, STREAMS),
+    Body("everything-500", ENGINE, ACT, STORE, STREAMS),
+    Body("record", ENGINE, RECORD, f"{RECORD}\n        if !text.is_empty() {{\n            return {MEMORY};\n        }}", STREAMS),
+    Body("look-up", KEEP, "told!(self, item_at(&mut self.conn, &self.settings.bands, item))", STORE, RUNS),
+    Body("statement", ACCOUNT, "Ok(statement) => Ok(statement),", "Ok(_) => Err(StatementFault::Memory),", OFFICE),
+    Body("import", IMPORTS, "Ok(lot) => list(room, site, by, &lot, number, output),", "Ok(_) => Err(ImportFault::Memory),",
+         OFFICE),
+    *(Body(f"command-{name}", DECIDING, call, with_arrow(call, MEMORY), RUNS if name == "unwatch" else SHOWN)
+      for name, call in CALLS.items()),
+    *(Body(f"page-{name}", READING, call, with_arrow(call, MEMORY), SHOWN) for name, call in PAGES.items()),
+]
+MAIN = ["everything-503", "everything-500", "command-bid", "page-items", "look-up", "record", "statement", "import"]
+
+
+def put_in(copy, body):
+    path = copy / "crates" / body.file
+    text = path.read_text()
+    if text.count(body.old) != 1:
+        sys.exit(f"{body.name}: its text stands {text.count(body.old)} times in {body.file}")
+    path.write_text(text.replace(body.old, body.new))
+
+
+def passes(copy, finder):
+    """Whether a copy passes what finds a body, or None where it can't be built."""
+    if finder != OFFICE:
+        crate = copy / "crates" / finder
+        with open(crate / "stdin", "rb") as script:
+            ran = subprocess.run(["rt", "try"], cwd=crate, stdin=script, capture_output=True)
+        return ran.stdout == (crate / "stdout").read_bytes() if is_run(ran.stderr) else None
+    program = built(copy)
+    return program and subprocess.run([sys.executable, copy / "tests" / finder, program],
+                                      capture_output=True).returncode == 0
+
+
+def is_run(told):
+    """Whether `rt try` tells that a program was built and ended by itself."""
+    if b"\nrun=ended " in b"\n" + told:
+        return True
+    print(told.decode(errors="replace")[-2000:])
+    return False
+
+
+def built(copy):
+    """The house's program of a copy, or None; `rt try` doesn't keep it, so it is taken while it waits for its bands."""
+    program, bands = copy / "auction", copy / "bands.csv"
+    os.mkfifo(bands)
+    with tempfile.TemporaryFile() as told:
+        trying = subprocess.Popen(["rt", "try", "--", "replay", "--bands", str(bands)], cwd=copy / "crates" / "auction",
+                                  stdin=subprocess.DEVNULL, stdout=subprocess.DEVNULL, stderr=told)
+        while trying.poll() is None:
+            for path in [] if program.exists() else replaying(str(trying.pid)):
+                shutil.copy(path, program)
+            if program.exists():
+                give(bands)
+            time.sleep(0.05)
+        told.seek(0)
+        return program if is_run(told.read()) and program.exists() else None
+
+
+def give(bands):
+    """Writes a table of bands to who waits for it, if somebody does yet."""
+    with contextlib.suppress(OSError):
+        pipe = os.open(bands, os.O_WRONLY | os.O_NONBLOCK)
+        os.write(pipe, b"at,step\n0,5\n")
+        os.close(pipe)
+
+
+def replaying(above):
+    """The programs that replay below a process."""
+    parents, found = {}, []
+    for path in pathlib.Path("/proc").glob("[0-9]*"):
+        with contextlib.suppress(OSError):
+            parents[path.name] = (path / "stat").read_text().rpartition(")")[2].split()[1]
+            if (path / "cmdline").read_bytes().split(b"\0")[1:2] == [b"replay"]:
+                found.append(path.name)
+    for number in found:
+        one = number
+        while one in parents and one != above:
+            one = parents[one]
+        if one == above:
+            yield f"/proc/{number}/exe"
+
+
+def tried(body):
+    """Whether what finds a body passes on a copy with it, or None where that can't be built; and in how many seconds."""
+    begun = time.monotonic()
+    with tempfile.TemporaryDirectory() as folder:
+        copy = pathlib.Path(folder) / "house"
+        shutil.copytree(ROOT, copy, ignore=shutil.ignore_patterns("out", "bin", "target", ".git"))
+        if body.file:
+            put_in(copy, body)
+        return body, passes(copy, body.finder), time.monotonic() - begun
+
+
+def main():
+    names = sys.argv[1:] or MAIN
+    bodies = [body for body in BODIES if body.name in names or names == ["all"]]
+    unknown = set(names) - {body.name for body in BODIES} - {"all"}
+    if unknown:
+        sys.exit(f"no body: {' '.join(sorted(unknown))}")
+    finders = dict.fromkeys(body.finder for body in bodies)
+    missed = 0
+    for body, passed, seconds in in_turn(tried, [*(Body("nothing", "", "", "", finder) for finder in finders), *bodies]):
+        is_right = passed is (not body.file)
+        missed += not is_right
+        end = {True: "passes", False: "is found", None: "can't be built"}[passed]
+        print(f"{body.name} {end} by {body.finder}, {seconds:.0f} s" + ("" if is_right else ": WRONG"), flush=True)
+    print(f"{len(bodies)} bodies, {missed} not found")
+    return 1 if missed else 0
+
+
+if __name__ == "__main__":
+    sys.exit(main())
