@@ -23,8 +23,8 @@ def asked(item, member, moment, text="Is it signed?"):
     return command(f"/items/{item}/questions", member, moment, compact({"text": text}))
 
 
-def answered(item, member, moment, asker):
-    return command(f"/items/{item}/questions/{asker}/1/answer", member, moment, compact({"text": "1952"}))
+def answered(item, member, moment, asker, number=1):
+    return command(f"/items/{item}/questions/{asker}/{number}/answer", member, moment, compact({"text": "1952"}))
 
 
 def rated(item, member, moment, rating):

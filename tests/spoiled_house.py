@@ -7,7 +7,8 @@ row of a house's. Then every page is asked by everybody, and commands name each 
 on the same connection, and so it is when the house is served again. The last line is 'N answers, M wrong'.
 
 19 rows are spoiled: a standing that no bids leave, a leader who is the seller, a purchase at another price, texts with
-control characters; a close goes over it.
+control characters; a close goes over it. Of lists of fifty from sixty rows and more those that end before the row are
+answered as if it were sound.
 """
 import dataclasses
 import pathlib
@@ -18,8 +19,8 @@ import tempfile
 
 from plain_house import BANDS
 from plain_site import READS, Site, setup
-from routes import asked, bid, commands, rated
-from sent import answers_in, command, read
+from routes import answered, asked, bid, commands, listed, rated
+from sent import answers_in, command, compact, read
 from served import Program, served
 
 DAMAGED = (b"HTTP/1.1 500 Internal Server Error\r\ncontent-type: application/json\r\ncontent-length: 19\r\n\r\n"
@@ -90,6 +91,73 @@ SPOILED = [
 ]
 
 
+@dataclasses.dataclass(frozen=True)
+class Reached:
+    """A change of a house of long lists: the lists that end before the row, and those that reach it."""
+    change: str
+    before: tuple
+    reached: tuple
+
+
+BIDS = "/me/bids/"
+ASKED = "/me/questions/"
+PUBLISHED = "/items/1/questions/"
+GIVEN = "/members/1/feedback/"
+MAPS = "/categories/1/items/"
+
+
+def reached(change, path, before, at):
+    """Lists of one path that begin at some numbers: those that end before the row, and those that reach it."""
+    return Reached(change, tuple((2, f"{path}{number}") for number in before),
+                   tuple((2, f"{path}{number}") for number in at))
+
+
+# By `long_lists`. A list of fifty from item 1 ends at item 50, Ben's questions at item 31, the published questions at
+# the tenth of asker 4, the feedback at item 110. A row with a number or a rating that is none of ours may stand
+# elsewhere: a rating of none behind all items, a question's number below 0 before all others of its asker.
+REACHED = [
+    reached("UPDATE bid SET maximum = -1 WHERE item = 60", BIDS, (1, 10), (11, 60)),
+    reached("UPDATE bid SET maximum = -1 WHERE item = 51", BIDS, (1, 52), (2, 51)),
+    reached("UPDATE bid SET maximum = -1 WHERE item = 50", BIDS, (51,), (1, 50)),
+    reached("UPDATE bid SET no = -1 WHERE item = 60", BIDS, (1, 10), (11, 60)),
+    reached("UPDATE item SET top = 499 WHERE id = 60", BIDS, (1, 10), (11, 60)),
+    reached("UPDATE item SET top = 499 WHERE id = 51", BIDS, (1, 52), (2, 51)),
+    reached("UPDATE item SET top = 499 WHERE id = 50", BIDS, (51,), (1, 50)),
+    reached("UPDATE item SET title = char(10) WHERE id = 60", MAPS, (1, 10), (11, 60)),
+    reached("UPDATE item SET title = char(10) WHERE id = 51", MAPS, (1, 52), (2, 51)),
+    reached("UPDATE item SET title = char(10) WHERE id = 50", MAPS, (51,), (1, 50)),
+    reached("UPDATE item SET title = char(10) WHERE id = 50", BIDS, (1, 50), ()),
+    reached("UPDATE question SET body = '' WHERE item = 60", ASKED, (1, 10), (11, 60)),
+    reached("UPDATE question SET body = '' WHERE item = 32", ASKED, (1, 33), (2, 32)),
+    reached("UPDATE question SET body = '' WHERE item = 31", ASKED, (32,), (1, 31)),
+    reached("UPDATE question SET answer = '' WHERE item = 1 AND asker = 4 AND n = 20", PUBLISHED, (1, 2), (3, 4)),
+    reached("UPDATE question SET answer = '' WHERE item = 1 AND asker = 4 AND n = 11", PUBLISHED, (1, 2), (3, 4)),
+    reached("UPDATE question SET answer = '' WHERE item = 1 AND asker = 4 AND n = 10", PUBLISHED, (), (1, 2, 4)),
+    reached("UPDATE question SET n = -1 WHERE item = 1 AND asker = 2 AND n = 20", PUBLISHED, (3, 4), (1, 2)),
+    reached("UPDATE question SET n = -1 WHERE item = 60", ASKED, (1, 10), (11, 60)),
+    reached("UPDATE feedback SET body = char(10) WHERE item = 120", GIVEN, (1, 61, 70), (71, 120)),
+    reached("UPDATE feedback SET body = char(10) WHERE item = 111", GIVEN, (1, 61, 112), (62, 111)),
+    reached("UPDATE feedback SET body = char(10) WHERE item = 110", GIVEN, (111,), (1, 61, 110)),
+    reached("UPDATE feedback SET rating = 5 WHERE item = 120", GIVEN, (1, 61, 70), (71, 120)),
+    reached("UPDATE feedback SET rating = 5 WHERE item = 61", GIVEN, (62, 71), (1, 61, 72, 120)),
+]
+
+
+def long_lists():
+    """Sixty items in category 1, Ben's bids and questions on each, sixty published questions on item 1 by three askers,
+    and sixty ratings of Ana for her sales of items 61 to 120."""
+    yield command("/members", 0, 1000, compact({"name": "Dora"}))
+    yield command("/categories", 0, 1000, compact({"name": "Maps"}))
+    yield from (listed(1, 1000, f"L{number}", 5000) for number in range(2, 61))
+    yield from (bid(number, 2, 1001, 500) for number in range(1, 61))
+    yield from (asked(number, 2, 1001) for number in range(2, 61))
+    yield from (asked(1, asker, 1001) for asker in (2, 3, 4) for _ in range(20))
+    yield from (answered(1, 1, 1002, asker, number) for asker in (2, 3, 4) for number in range(1, 21))
+    yield from (listed(1, 1002, f"L{number}", 5000, category=2, buy_now=900) for number in range(61, 121))
+    yield from (command(f"/items/{number}/purchase", 3, 1003) for number in range(61, 121))
+    yield from (rated(number, 3, 1004, 1) for number in range(61, 121))
+
+
 def pages():
     """Every page, by everybody."""
     for path in READS.values():
@@ -126,6 +194,14 @@ def is_among(request, targets, fits):
     return any(member in (None, caller) and fits(request.target, target) for member, target in targets)
 
 
+def answering(requests):
+    """The plain site behind some messages."""
+    site = Site(preset=True)
+    for request in requests:
+        site.answer(request)
+    return site
+
+
 class Houses:
     """Spoiled houses, and what was wrong."""
 
@@ -136,26 +212,46 @@ class Houses:
     def make(self):
         """The house before anything of it is spoiled."""
         init = ["--bands", "bands.csv", "--rate", "1000", "--zone", "UTC0"]
-        self.program.ended("init", "whole", *init)
-        self.program.answers("whole", [b"".join(request.text() for request in (*setup(), *commands()))])
+        for name, requests in (("whole", commands()), ("long", long_lists())):
+            self.program.ended("init", name, *init)
+            self.program.answers(name, [b"".join(request.text() for request in (*setup(), *requests))])
+
+    def change(self, name, change):
+        """A copy of a house, changed."""
+        shutil.copy(self.folder / name, self.folder / "spoiled")
+        tables = sqlite3.connect(self.folder / "spoiled")
+        tables.execute(change)
+        tables.commit()
+        tables.close()
 
     def spoil(self, spoiled):
         """Serves the house with a row spoiled, twice."""
-        shutil.copy(self.folder / "whole", self.folder / "spoiled")
-        tables = sqlite3.connect(self.folder / "spoiled")
-        tables.execute(spoiled.change)
-        tables.commit()
-        tables.close()
-        site = Site(preset=True)
-        for request in commands():
-            site.answer(request)
+        self.change("whole", spoiled.change)
+        site = answering(commands())
         for requests in (MESSAGES, list(pages())):
-            told, ending = self.program.answers("spoiled", [b"".join(request.text() for request in requests)])
-            texts, rest = answers_in(told[0])
-            if (len(texts), rest, ending) != (len(requests), b"", served(1)):
-                self.fail(spoiled, "all", len(requests), (len(texts), rest, ending))
-            for request, text in zip(requests, texts):
+            for request, text in self.texts(spoiled, requests):
                 self.judge(spoiled, site, request, text)
+
+    def reach(self, reached):
+        """Serves the house of long lists with a row spoiled."""
+        self.change("long", reached.change)
+        site = answering(long_lists())
+        before = [read(target, caller) for caller, target in reached.before]
+        requests = [*before, *(read(target, caller) for caller, target in reached.reached), *before]
+        for request, text in self.texts(reached, requests):
+            self.count += 1
+            self.damaged += text == DAMAGED
+            wanted = site.answer(request).text() if request in before else DAMAGED
+            if text != wanted:
+                self.fail(reached, request.text(), wanted, text)
+
+    def texts(self, spoiled, requests):
+        """The requests with the answers to them over one connection."""
+        told, ending = self.program.answers("spoiled", [b"".join(request.text() for request in requests)])
+        texts, rest = answers_in(told[0])
+        if (len(texts), rest, ending) != (len(requests), b"", served(1)):
+            self.fail(spoiled, "all", len(requests), (len(texts), rest, ending))
+        return zip(requests, texts)
 
     def judge(self, spoiled, site, request, text):
         """Compares one answer; the plain site isn't asked what was answered `damaged`."""
@@ -186,7 +282,9 @@ def main():
         # A house that isn't spoiled answers everything.
         for spoiled in [Spoiled("UPDATE item SET id = 1 WHERE id = 1", ()), *SPOILED]:
             houses.spoil(spoiled)
-    print(f"{len(SPOILED)} spoiled houses, {houses.damaged} answers of 500")
+        for reached in REACHED:
+            houses.reach(reached)
+    print(f"{len(SPOILED) + len(REACHED)} spoiled houses, {houses.damaged} answers of 500")
     print(f"{houses.count} answers, {houses.wrong} wrong")
     return 1 if houses.wrong else 0
 

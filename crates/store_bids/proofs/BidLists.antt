@@ -73,10 +73,25 @@ module _ (member item : ℕ) (low : member < 2 ^ 32) (small : item < 2 ^ 32) (ol
   fits_alone : (b : BidRow) → BidRowFits b → BidFits b.bid
   fits_alone b fits = record { member = fits.member; maximum = fits.maximum; number = fits.number }
 
-  pub bids_fit : AllByRecursion BidRowFits (bids_in old.now.trees) → AllByRecursion BidFits (map bid_alone answer)
+  abbrev IsHere : BidRow → Type 0
+  IsHere b = b.bid.member ≡ member → b.item ≡ item → BidRowFits b
+
+  abbrev IsHereBid : Row → Type 0
+  IsHereBid r = IsBid r × IsHere (bid_in r)
+
+  one_fits : (r : Row) → IsHereBid r → passes by_member_on_item params r ≡ true → BidFits (bid_in r).bid
+  one_fits r is p =
+      let both = sym (tests r is.0) ∙ p in
+      let mine = same_number (number_in (column r 3)) member (first_of_both (eqb (number_in (column r 3)) member) (eqb (number_in (column r 1)) item) both) in
+      let here = same_number (number_in (column r 1)) item (second_of_both (eqb (number_in (column r 3)) member) (eqb (number_in (column r 1)) item) both) in
+      fits_alone (bid_in r) (is.1 mine here)
+
+  pub bids_fit : AllByRecursion IsHere (bids_in old.now.trees) → AllByRecursion BidFits (map bid_alone answer)
   bids_fit fits =
+      let passing = passes by_member_on_item params in
+      let here = all_both IsBid (λ r. IsHere (bid_in r)) IsHereBid (λ r is fit. (is, fit)) table (are_bids old.now house) (all_unmap IsHere bid_in table fits) in
       shown_fits by_member_on_item bid_shown two_columns params table answer listing bid_alone (λ r. (bid_in r).bid) (λ r. refl) BidFits
-      (all-filter (λ r. BidFits (bid_in r).bid) (passes by_member_on_item params) table (all_weaker (λ r. BidRowFits (bid_in r)) (λ r. BidFits (bid_in r).bid) (λ r. fits_alone (bid_in r)) table (all_unmap BidRowFits bid_in table fits)))
+      (all_both IsHereBid (λ r. passing r ≡ true) (λ r. BidFits (bid_in r).bid) one_fits (filter passing table) (all-filter IsHereBid passing table here) (numbered_passes passing table))
 
   item_low : (r : Row) → IsBid r → passes by_member_on_item params r ≡ true → number_in (column r 1) < 2 ^ 32
   item_low r is p =

@@ -8,6 +8,9 @@ pub mod BidMeaning
 pub mod BidLemmas
 pub mod BidLists
 pub mod BidStanding
+pub mod InTurn
+pub mod ItemsBid
+pub mod Numbers
 pub mod OwnBidItems
-pub mod OwnBids
+pub mod ListedBids
 pub mod Written

@@ -1,17 +1,18 @@
 -- A member's bids taken together by item are what it has bid on each.
-use Rattle.std.proofs.Common.{◌≡◌, ◌≤◌, ◌<◌, ◌+◌, ◌^◌, ℕ, suc, Bool, true, false, ◌&&◌, List, [], ◌∷◌, ◌++◌, map, filter, find, flat_map, length, option_map, take, Option, Some, None, refl, ap, sym, ◌∙◌, arith, inl, inr}
+use Rattle.std.proofs.Common.{◌≡◌, ◌≤◌, ◌<◌, ◌^◌, ℕ, suc, Bool, true, false, not, ◌&&◌, List, [], ◌∷◌, ◌++◌, append_assoc, map, filter, find, flat_map, length, option_map, take, Option, Some, None, refl, ap, sym, subst, ◌∙◌, arith, inl, inr}
 use Rattle.std.specs.Prelude.{◌==◌, nat_le, nat_lt}
 use Rattle.std.specs.List.{AllByRecursion, list_any}
 use Rattle.std.proofs.lemmas.Bool.Decides.{nat_tests}
-use Rattle.std.proofs.lemmas.List.{take_all, take-append-le}
+use Rattle.std.proofs.lemmas.List.{append-nil, length-append, length-take, map-append, take-append-le}
+use Rattle.std.proofs.lemmas.List.Concat.{flat_map-append}
 use Rattle.std.proofs.lemmas.List.Elements.{filter-append}
 use Rattle.sqlite_trees.specs.Tree.{IsAscending, Trees}
-use Rattle.sqlite_keyed.proofs.ListLemmas.{all_weaker, ascending-filter, filter-map, filter_same, map-map}
-use Rattle.sqlite.specs.Effect.{Database}
-use Rattle.house_rows.specs.Bids.{BidRow, bid_key}
+use Rattle.sqlite_keyed.proofs.ListLemmas.{all-append, all-filter, all_weaker, ascending-filter, ascending-map, filter-map, filter_all, filter_none, filter_same, map-map}
+use Rattle.sqlite_keyed.proofs.RuleLemmas.{second_of_both}
+use Rattle.house_rows.specs.Bids.{BidRow}
 use Rattle.house_rows.specs.Changed.{is_item}
-use Rattle.house_rows.specs.Fits.{BidRowFits}
-use Rattle.house_rows.specs.Found.{best_of, own_bid, own_bids}
+use Rattle.house_rows.specs.Found.{all_items, best_of, own_bid, own_bids}
+use Rattle.house_rows.specs.History.{counted}
 use Rattle.house_rows.specs.Limits.{most_shown}
 use Rattle.house_rows.specs.Tables.{ItemRow, Tables}
 use Rattle.house_rows.specs.declared.item.OwnBest.{OwnBest}
@@ -19,92 +20,27 @@ use Rattle.house_rows.specs.declared.item.OwnBid.{OwnBid}
 use Rattle.house_rows.specs.declared.item.Terms.{Terms}
 use Rattle.house_rows.proofs.Put.{by_test}
 use Rattle.house_rows.proofs.Every.{found_is}
-use Rattle.store_rows.specs.House.{IsHouse}
 use Rattle.store_rows.specs.ItemRows.{items_in}
-use Rattle.store_rows.specs.Rows.{bids_in}
-use Rattle.store_rows.specs.Sorted.{sorted_bids}
 use Rattle.store_rows.specs.Tables.{tables_in}
-use Rattle.store_rows.proofs.Grouped.{firsts_rise}
-use Rattle.store_rows.proofs.Sorting.{sorted_in_order}
 use Rattle.store_rows.proofs.Tested.{filter_both}
 use Rattle.store_rows.specs.Joined.{found_of}
-use Rattle.store_bids.specs.OwnBids.{bid_told, numbers_from, own_found}
-use Rattle.store_items.proofs.ItemRising.{items_rise, number_of}
-use Rattle.store_rows.proofs.Joined.{among, found_part, joined}
+use Rattle.store_rows.proofs.Joined.{IsRisingBy, among, found_part, joined}
+use Rattle.store_items.proofs.Behind.{parts}
+use Rattle.store_items.proofs.ItemRising.{number_of}
+use Rattle.store_bids.specs.OwnBids.{bid_told, items_bid_on, numbers_from, own_found}
+use Rattle.store_bids.specs.Reached.{FitInTurn, FitsSoFar, IsReached}
+use Rattle.store_bids.proofs.ItemsBid.{low_items}
+use Rattle.store_bids.proofs.Numbers.{has, none_both, numbers_above, numbers_all, numbers_have, numbers_up}
 
--- ---- the numbers
-
-numbers_above : (least : ℕ) (bids : List BidRow) → AllByRecursion (λ n. least ≤ n) (numbers_from least bids)
-numbers_above least [] = tt
-numbers_above least (b ∷ bids) =
-    elim (by_test (nat_le least b.item)) [
-      | inl is ↦ (let low : least ≤ b.item = grind (arith, nat_tests, is) in
-          rw is (low, all_weaker (λ n. b.item + 1 ≤ n) (λ n. least ≤ n) (λ n up. omega (arith, up, low)) (numbers_from (b.item + 1) bids) (numbers_above (b.item + 1) bids)))
-      | inr not ↦ rw not (numbers_above least bids)
-    ]
-
-numbers_up : (least : ℕ) (bids : List BidRow) → IsAscending (λ m n. m < n) (numbers_from least bids)
-numbers_up least [] = tt
-numbers_up least (b ∷ bids) =
-    elim (by_test (nat_le least b.item)) [
-      | inl is ↦ rw is (all_weaker (λ n. b.item + 1 ≤ n) (λ n. b.item < n) (λ n up. omega (arith, up)) (numbers_from (b.item + 1) bids) (numbers_above (b.item + 1) bids), numbers_up (b.item + 1) bids)
-      | inr not ↦ rw not (numbers_up least bids)
-    ]
-
-numbers_low : (least : ℕ) (bids : List BidRow) → AllByRecursion BidRowFits bids → AllByRecursion (λ n. n < 2 ^ 64) (numbers_from least bids)
-numbers_low least [] fits = tt
-numbers_low least (b ∷ bids) fits =
-    elim (by_test (nat_le least b.item)) [
-      | inl is ↦ rw is (omega (arith, fits.0.item.1), numbers_low (b.item + 1) bids fits.1)
-      | inr not ↦ rw not (numbers_low least bids fits.1)
-    ]
+-- ---- on which items a member has bid
 
 abbrev has_item : ℕ → List BidRow → Bool
 has_item n bids = list_any (λ b. b.item == n) bids
 
-some_later : (m n : ℕ) (bids : List BidRow) → AllByRecursion (λ b. m ≤ b.item) bids → has_item n bids ≡ true → m ≤ n
-some_later m n [] above some = absurd (let e : false ≡ true = some in cc)
-some_later m n (b ∷ bids) above some =
-    elim (by_test (b.item == n)) [
-      | inl is ↦ (let low = above.0 in grind (arith, nat_tests, is, low))
-      | inr other ↦ some_later m n bids above.1 (rw other at some)
-    ]
-
-none_both : (a b : Bool) → (a && false) ≡ (b && false)
-none_both true true = refl
-none_both true false = refl
-none_both false true = refl
-none_both false false = refl
-
-numbers_have : (n least : ℕ) (bids : List BidRow) → IsAscending (λ a b. a.item ≤ b.item) bids → list_any (λ m. n == m) (numbers_from least bids) ≡ (nat_le least n && has_item n bids)
-numbers_have n least [] up = none_both false (nat_le least n)
-numbers_have n least (b ∷ bids) up =
-    elim (by_test (nat_le least b.item)) [
-      | inl is ↦ (let rest = numbers_have n (b.item + 1) bids up.1 in
-          elim (by_test (b.item == n)) [
-            | inl here ↦ (let there : (n == b.item) ≡ true = grind (arith, nat_tests, here) in
-                let low : nat_le least n ≡ true = grind (arith, nat_tests, here, is) in
-                rw (is, there, here, low) refl)
-            | inr other ↦ (let apart : (n == b.item) ≡ false = grind (arith, nat_tests, other) in
-                rw (is, apart, other) (rest ∙ elim (by_test (has_item n bids)) [
-                  | inl some ↦ (let later = some_later b.item n bids up.0 some in
-                      let more : nat_le (b.item + 1) n ≡ true = grind (arith, nat_tests, later, other) in
-                      let low : nat_le least n ≡ true = grind (arith, nat_tests, later, is) in
-                      rw (more, low) refl)
-                  | inr none ↦ rw none (none_both (nat_le (b.item + 1) n) (nat_le least n))
-                ]))
-          ])
-      | inr not ↦ (let rest = numbers_have n least bids up.1 in
-          elim (by_test (b.item == n)) [
-            | inl here ↦ (let below : nat_le least n ≡ false = grind (arith, nat_tests, here, not) in rw (not, here, below) (rest ∙ rw below refl))
-            | inr other ↦ rw (not, other) rest
-          ])
-    ]
-
 positive : (n : ℕ) → nat_lt 0 (suc n) ≡ true
 positive n = grind (arith, nat_tests)
 
--- a member has bid on an item where one of its bids is on it
+-- where one of its bids is on the item
 has_bid : (member n : ℕ) (bids : List BidRow) → nat_lt 0 (length (filter (λ b. (b.bid.member == member) && (b.item == n)) bids)) ≡ has_item n (filter (λ b. b.bid.member == member) bids)
 has_bid member n [] = refl
 has_bid member n (b ∷ bids) =
@@ -117,44 +53,176 @@ has_bid member n (b ∷ bids) =
       | inr not ↦ rw not rest
     ]
 
--- ---- what is found by the numbers
+-- which has a number of ours
+has_low : (member n : ℕ) (bids : List BidRow) → has n (items_bid_on bids member) ≡ (nat_lt n (2 ^ 32) && has_item n (filter (λ b. b.bid.member == member) bids))
+has_low member n [] = none_both false (nat_lt n (2 ^ 32))
+has_low member n (b ∷ bids) =
+    let rest = has_low member n bids in
+    elim (by_test (b.bid.member == member)) [
+      | inl is ↦ elim (by_test (nat_lt b.item (2 ^ 32))) [
+        | inl low ↦ elim (by_test (b.item == n)) [
+          | inl here ↦ (let also : nat_lt n (2 ^ 32) ≡ true = grind (arith, nat_tests, low, here) in rw (is, low, here, also) refl)
+          | inr other ↦ rw (is, low, other) rest
+        ]
+        | inr far ↦ elim (by_test (b.item == n)) [
+          | inl here ↦ (let also : nat_lt n (2 ^ 32) ≡ false = grind (arith, nat_tests, far, here) in rw (is, far, here, also) (rest ∙ rw also refl))
+          | inr other ↦ rw (is, far, other) rest
+        ]
+      ]
+      | inr not ↦ rw not rest
+    ]
+
+-- ---- what is found by their numbers
 
 filter_each : {A B : Type 0} (p : B → Bool) (f : A → List B) (xs : List A) → flat_map (λ x. filter p (f x)) xs ≡ filter p (flat_map f xs)
 filter_each p f [] = refl
 filter_each p f (x ∷ xs) = ap (λ l. filter p (f x) ++ l) (filter_each p f xs) ∙ sym (filter-append p (f x) (flat_map f xs))
 
-turned_about : (l a : Bool) → ((l && a) && a) ≡ (a && l)
-turned_about true true = refl
-turned_about true false = refl
-turned_about false true = refl
-turned_about false false = refl
+turned_about : (from low here : Bool) → ((from && (low && here)) && here) ≡ (low && (here && from))
+turned_about true true true = refl
+turned_about true true false = refl
+turned_about true false true = refl
+turned_about true false false = refl
+turned_about false true true = refl
+turned_about false true false = refl
+turned_about false false true = refl
+turned_about false false false = refl
 
-pub own_bids_found : (db : Database) (member from : ℕ) (bids : List BidRow) (numbers : List ℕ) → IsHouse db → bids ≡ filter (λ b. b.bid.member == member) (sorted_bids db.trees) → numbers ≡ numbers_from from bids → AllByRecursion BidRowFits bids
-    → take most_shown (flat_map (own_found (tables_in db.trees) member) numbers) ≡ own_bids (tables_in db.trees) member from
-unfolding tables_in
-own_bids_found db member from bids numbers house are listed fits =
-    let t = tables_in db.trees in
-    let rows = items_in db.trees in
-    let sorted = sorted_bids db.trees in
-    let mine : BidRow → Bool = λ b. b.bid.member == member in
-    let bid = λ (row : ItemRow). own_bid t member row.item in
-    let has : OwnBid → Bool = λ b. nat_lt 0 b.mine in
-    let rise : IsAscending (λ a b. a.item ≤ b.item) bids =
-    rw are (ascending-filter (λ (a : BidRow) (b : BidRow). a.item ≤ b.item) mine sorted (firsts_rise bid_key sorted (sorted_in_order bid_key (bids_in db.trees)))) in
-    let same = λ (row : ItemRow).
-    (ap (λ l. list_any (λ m. number_of row == m) l && has (bid row)) listed
-    ∙ ap (λ b. b && has (bid row)) (numbers_have (number_of row) from bids rise)
-    ∙ ap (λ b. (nat_le from (number_of row) && has_item (number_of row) bids) && b) (has_bid member (number_of row) sorted ∙ sym (ap (has_item (number_of row)) are))
-    ∙ turned_about (nat_le from (number_of row)) (has_item (number_of row) bids)
-    ∙ ap (λ b. b && nat_le from (number_of row)) (ap (has_item (number_of row)) are ∙ sym (has_bid member (number_of row) sorted))) in
-    ap (take most_shown) (
-    filter_each has (found_part number_of bid rows) numbers
-    ∙ ap (filter has) (joined number_of bid numbers rows (rw listed (numbers_up from bids)) (rw listed (numbers_low from bids fits)) (items_rise db house))
-    ∙ filter-map has bid (filter (among number_of numbers) rows)
-    ∙ ap (map bid) (filter_both (among number_of numbers) (λ row. has (bid row)) rows ∙ filter_same (λ row. among number_of numbers row && has (bid row)) (λ row. has (bid row) && nat_le from (number_of row)) same rows)
-    ∙ sym (filter-map (λ b. nat_lt 0 b.mine && nat_le from b.item) bid rows)
-    ∙ ap (filter (λ b. nat_lt 0 b.mine && nat_le from b.item)) (sym (map-map (own_bid t member) (λ (row : ItemRow). row.item) rows))
-    )
+all_found : {A : Type 0} (P : OwnBid → Type 0) (Q : A → Type 0) (f : A → List OwnBid) → ((x : A) → Q x → AllByRecursion P (f x)) → (xs : List A) → AllByRecursion Q xs → AllByRecursion P (flat_map f xs)
+all_found P Q f each [] all = tt
+all_found P Q f each (x ∷ xs) all = all-append P (f x) (flat_map f xs) (each x all.0) (all_found P Q f each xs all.1)
+
+all_front : {A : Type 0} (P : A → Type 0) (xs ys : List A) → AllByRecursion P (xs ++ ys) → AllByRecursion P xs × AllByRecursion P ys
+all_front P [] ys all = (tt, all)
+all_front P (x ∷ xs) ys all = let more = all_front P xs ys all.1 in ((all.0, more.0), more.1)
+
+-- of numbers that rise those before one are under it, and those behind it over it
+around : (before : List ℕ) (n : ℕ) (rest : List ℕ) → IsAscending (λ a b. a < b) (before ++ n ∷ rest) → AllByRecursion (λ m. m < n) before × AllByRecursion (λ m. n < m) rest
+around [] n rest up = (tt, up.0)
+around (m ∷ before) n rest up = let more = around before n rest up.1 in let here = all_front (λ k. m < k) before (n ∷ rest) up.0 in ((here.1.0, more.0), more.1)
+
+some_there : (n : ℕ) (before rest : List ℕ) → list_any (λ m. n == m) (before ++ n ∷ rest) ≡ true
+some_there n [] rest = let here : (n == n) ≡ true = grind (arith, nat_tests) in rw here refl
+some_there n (m ∷ before) rest = elim (by_test (n == m)) [ inl is ↦ rw is refl | inr other ↦ rw other (some_there n before rest) ]
+
+module _ (t : Tables) (member from : ℕ) (rising : IsRisingBy number_of t.items) (ordered : IsAscending (λ (a : BidRow) (b : BidRow). a.item ≤ b.item) t.bids) where
+  abbrev bid : ItemRow → OwnBid
+  bid row = own_bid t member row.item
+
+  abbrev is_bid : OwnBid → Bool
+  is_bid b = nat_lt 0 b.mine
+
+  abbrev shows : OwnBid → Bool
+  shows b = is_bid b && nat_le from b.item
+
+  abbrev listed : List ℕ
+  listed = items_bid_on t.bids member
+
+  abbrev numbers : List ℕ
+  numbers = numbers_from from listed
+
+  abbrev found : ℕ → List OwnBid
+  found = own_found t member
+
+  abbrev is_low : ItemRow → Bool
+  is_low row = nat_lt (number_of row) (2 ^ 32)
+
+  listed_up : IsAscending (λ m n. m ≤ n) listed
+  listed_up =
+      ascending-map (λ m n. m ≤ n) (λ (b : BidRow). b.item) (filter (λ b. (b.bid.member == member) && nat_lt b.item (2 ^ 32)) t.bids)
+      (ascending-filter (λ (a : BidRow) (b : BidRow). a.item ≤ b.item) (λ b. (b.bid.member == member) && nat_lt b.item (2 ^ 32)) t.bids ordered)
+
+  there : (n : ℕ) → list_any (λ m. n == m) numbers ≡ (nat_le from n && (nat_lt n (2 ^ 32) && nat_lt 0 (best_of t member n).mine))
+  there n = numbers_have n from listed listed_up ∙ ap (λ b. nat_le from n && b) (has_low member n t.bids ∙ ap (λ b. nat_lt n (2 ^ 32) && b) (sym (has_bid member n t.bids)))
+
+  same : (row : ItemRow) → (among number_of numbers row && is_bid (bid row)) ≡ (is_low row && shows (bid row))
+  same row = ap (λ b. b && is_bid (bid row)) (there (number_of row)) ∙ turned_about (nat_le from (number_of row)) (is_low row) (is_bid (bid row))
+
+  -- what is found by the numbers is the list's part of the items with a number of ours
+  low_part : flat_map found numbers ≡ filter shows (map bid (filter is_low t.items))
+  low_part =
+      filter_each is_bid (found_part number_of bid t.items) numbers
+      ∙ ap (filter is_bid) (joined number_of bid numbers t.items (numbers_up from listed) (all_weaker (λ n. n < 2 ^ 32) (λ n. n < 2 ^ 64) (λ n low. omega (arith, low)) numbers (numbers_all (λ n. n < 2 ^ 32) from listed (low_items t.bids member))) rising)
+      ∙ filter-map is_bid bid (filter (among number_of numbers) t.items)
+      ∙ ap (map bid) (filter_both (among number_of numbers) (λ row. is_bid (bid row)) t.items ∙ filter_same (λ row. among number_of numbers row && is_bid (bid row)) (λ row. is_low row && shows (bid row)) same t.items
+      ∙ sym (filter_both is_low (λ row. shows (bid row)) t.items))
+      ∙ sym (filter-map shows bid (filter is_low t.items))
+
+  each_bid : map bid t.items ≡ map (own_bid t member) (all_items t)
+  each_bid = sym (map-map (own_bid t member) (λ (row : ItemRow). row.item) t.items)
+
+  -- a full list shows nothing of what has no number of ours, and lies behind
+  pub full : (shown : List OwnBid) → IsAscending (λ a b. number_of a ≤ number_of b) t.items → shown ≡ take most_shown (flat_map found numbers) → most_shown ≤ length shown → shown ≡ own_bids t member from
+  full shown up are many =
+      let low = filter is_low t.items in
+      let high = filter (λ row. not (is_low row)) t.items in
+      let rest = filter shows (map bid high) in
+      let whole : filter shows (map bid t.items) ≡ flat_map found numbers ++ rest =
+      ap (λ l. filter shows (map bid l)) (parts number_of (2 ^ 32) t.items up) ∙ ap (filter shows) (map-append bid low high) ∙ filter-append shows (map bid low) (map bid high) ∙ ap (λ l. l ++ rest) (sym low_part) in
+      let long : most_shown ≤ length (flat_map found numbers) = (let l = length-take most_shown (flat_map found numbers) in let e = rw are at many in omega (arith, l, e)) in
+      are ∙ sym (take-append-le most_shown (flat_map found numbers) rest long) ∙ ap (take most_shown) (sym whole ∙ ap (filter shows) each_bid)
+
+  module _ (ours : AllByRecursion (λ row. number_of row < 2 ^ 32) t.items) where
+    all_low : filter is_low t.items ≡ t.items
+    all_low = filter_all is_low t.items (all_weaker (λ row. number_of row < 2 ^ 32) (λ row. is_low row ≡ true) (λ row low. grind (arith, nat_tests, low)) t.items ours)
+
+    whole : flat_map found numbers ≡ filter shows (map (own_bid t member) (all_items t))
+    whole = low_part ∙ ap (λ l. filter shows (map bid l)) all_low ∙ ap (filter shows) each_bid
+
+    pub fewer : (shown : List OwnBid) → shown ≡ take most_shown (flat_map found numbers) → shown ≡ own_bids t member from
+    fewer shown are = are ∙ ap (take most_shown) whole
+
+    -- ---- how far the list reaches
+
+    found_there : (n : ℕ) (row : Option ItemRow) → find (is_item n) t.items ≡ row → AllByRecursion (λ (b : OwnBid). b.item ≡ n) (found_of (option_map (λ (r : ItemRow). own_bid t member r.item) row))
+    found_there n None is = tt
+    found_there n (Some row) is = (let passes = found_is (is_item n) t.items row is in let e : row.item.terms.item ≡ n = grind (arith, nat_tests, passes) in (e, tt))
+
+    found_here : (n : ℕ) → AllByRecursion (λ (b : OwnBid). b.item ≡ n) (found n)
+    found_here n = all-filter (λ (b : OwnBid). b.item ≡ n) is_bid (found_of (option_map (λ (r : ItemRow). own_bid t member r.item) (find (is_item n) t.items))) (found_there n (find (is_item n) t.items) refl)
+
+    abbrev is_before : ℕ → OwnBid → Bool
+    is_before n b = nat_lt b.item n
+
+    before_it : (n m : ℕ) → m < n → AllByRecursion (λ b. is_before n b ≡ true) (found m)
+    before_it n m less = all_weaker (λ (b : OwnBid). b.item ≡ m) (λ b. is_before n b ≡ true) (λ b is. grind (arith, nat_tests, is, less)) (found m) (found_here m)
+
+    not_before : (n m : ℕ) → n ≤ m → AllByRecursion (λ b. is_before n b ≡ false) (found m)
+    not_before n m le = all_weaker (λ (b : OwnBid). b.item ≡ m) (λ b. is_before n b ≡ false) (λ b is. grind (arith, nat_tests, is, le)) (found m) (found_here m)
+
+    -- as many are shown before an item as were found on those before it
+    so_many : (before : List ℕ) (n : ℕ) (rest : List ℕ) → numbers ≡ before ++ n ∷ rest → counted (λ b. shows b && is_before n b) (map (own_bid t member) (all_items t)) ≡ length (flat_map found before)
+    so_many before n rest is =
+        let sides = around before n rest (subst (IsAscending (λ a b. a < b)) is (numbers_up from listed)) in
+        let front = all_found (λ b. is_before n b ≡ true) (λ m. m < n) found (before_it n) before sides.0 in
+        let back = all-append (λ b. is_before n b ≡ false) (found n) (flat_map found rest) (not_before n n (omega arith)) (all_found (λ b. is_before n b ≡ false) (λ m. n < m) found (λ m less. not_before n m (omega (arith, less))) rest sides.1) in
+        let split : flat_map found numbers ≡ flat_map found before ++ (found n ++ flat_map found rest) = ap (flat_map found) is ∙ flat_map-append found before (n ∷ rest) in
+        ap length (sym (filter_both shows (is_before n) (map (own_bid t member) (all_items t))) ∙ ap (filter (is_before n)) (sym whole ∙ split) ∙ filter-append (is_before n) (flat_map found before) (found n ++ flat_map found rest))
+        ∙ ap length (ap (λ l. l ++ filter (is_before n) (found n ++ flat_map found rest)) (filter_all (is_before n) (flat_map found before) front) ∙ ap (λ l. flat_map found before ++ l) (filter_none (is_before n) (found n ++ flat_map found rest) back) ∙ append-nil (flat_map found before))
+
+    reached : (before : List ℕ) (n : ℕ) (rest : List ℕ) → numbers ≡ before ++ n ∷ rest → length (flat_map found before) < most_shown → IsReached t member from n
+    reached before n rest is few =
+        let known = sym (there n) ∙ ap (list_any (λ m. n == m)) is ∙ some_there n before rest in
+        let low = second_of_both (nat_le from n) (nat_lt n (2 ^ 32) && nat_lt 0 (best_of t member n).mine) known in
+        record {
+          bid_on = second_of_both (nat_lt n (2 ^ 32)) (nat_lt 0 (best_of t member n).mine) low;
+          begun = (all_front (λ m. from ≤ m) before (n ∷ rest) (subst (AllByRecursion (λ m. from ≤ m)) is (numbers_above from listed))).1.0;
+          few = subst (λ k. k < most_shown) (sym (so_many before n rest is)) few;
+        }
+
+    in_turn : (bands : List (ℕ × ℕ)) → FitsSoFar bands t member from → (before rest : List ℕ) → numbers ≡ before ++ rest → FitInTurn bands t member (length (flat_map found before)) rest
+    in_turn bands fit before [] is = tt
+    in_turn bands fit before (n ∷ rest) is =
+        let one : flat_map found (before ++ n ∷ []) ≡ flat_map found before ++ found n = flat_map-append found before (n ∷ []) ∙ ap (λ l. flat_map found before ++ l) (append-nil (found n)) in
+        let more = in_turn bands fit (before ++ n ∷ []) rest (is ∙ sym (append_assoc before (n ∷ []) rest)) in (
+          λ few. fit.reached n (reached before n rest is few),
+          subst (λ many. FitInTurn bands t member many rest) (ap length one ∙ length-append (flat_map found before) (found n)) more,
+        )
+
+    pub all_in_turn : (bands : List (ℕ × ℕ)) → FitsSoFar bands t member from → FitInTurn bands t member 0 numbers
+    all_in_turn bands fit = in_turn bands fit [] numbers refl
+
+-- ---- one item
 
 -- the terms of an item with a number and the member's best bid on that number
 told : (t : Tables) (member n : ℕ) (found : Option ItemRow) → find (is_item n) t.items ≡ found
@@ -177,10 +245,3 @@ bid_found db member item terms best terms_are best_is =
     ap (λ b. shown (option_map (bid_told member b) terms)) best_is
     ∙ ap (λ o. shown (option_map (bid_told member (best_of t member item)) o)) terms_are
     ∙ ap shown (bid_is t member item)
-
--- fifty are all that is shown
-pub shown_full : {A : Type 0} (found rest whole : List A) → found ++ rest ≡ whole → most_shown ≤ length found → length found ≤ most_shown → found ≡ take most_shown whole
-shown_full found rest whole is many few = sym (take_all most_shown found few) ∙ sym (take-append-le most_shown found rest many) ∙ ap (take most_shown) is
-
-pub shown_all : {A : Type 0} (found whole : List A) → found ≡ whole → length found ≤ most_shown → found ≡ take most_shown whole
-shown_all found whole is few = sym (take_all most_shown found few) ∙ ap (take most_shown) is

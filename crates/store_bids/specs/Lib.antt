@@ -1,1 +1,3 @@
 pub mod OwnBids
+pub mod Reached
+pub mod Strays

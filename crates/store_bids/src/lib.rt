@@ -9,13 +9,13 @@
 #![tactic(auto)]
 
 mod bid_lists;
+mod bid_pages;
 mod bidding;
 mod look_ups;
 mod member_bids;
 mod own;
-mod placed;
 mod rows;
 
-pub use bid_lists::own_bids;
+pub use bid_pages::own_bids;
 pub use bidding::bid;
 pub use own::own_best;

@@ -1,20 +1,23 @@
 //! Bids, by item and number.
-ghost use Rattle.std.specs.Prelude.{◌≡◌, ◌==◌, ◌&&◌, filter, IfOk, IsErrOf};
-ghost use Rattle.std.specs.List.{AllByRecursion, list_any};
-ghost use Rattle.sqlite.specs.State.{HasCleanDisk};
+ghost use Rattle.std.specs.Prelude.{◌≡◌, ◌==◌, ◌&&◌, [], filter, nat_le, take, IfOk, IsErrOf, OnOk};
+ghost use Rattle.std.specs.List.{list_any};
+ghost use Rattle.sqlite.specs.State.{HasCleanDisk, Shown};
+ghost use Rattle.sqlite.specs.Given.{IsPlain};
+ghost use Rattle.sqlite.specs.Listing.{understood};
 ghost use Rattle.sqlite.specs.Held.{state};
-ghost use Rattle.house_rows.specs.Fits.{BidRowFits};
+ghost use Rattle.house_rows.specs.Limits.{most_shown};
 ghost use Rattle.house_rows.specs.declared.fault.KeepFault.TheVariants.{Damaged};
 ghost use Rattle.store_rows.specs.House.{Serves};
-ghost use Rattle.store_rows.specs.Rows.{bids_in};
+ghost use Rattle.store_rows.specs.Schema.{house_schema};
+ghost use Rattle.store_rows.specs.First.{IsFinite, ShowsSome};
 ghost use Rattle.store_rows.specs.Sorted.{sorted_bids};
 ghost use Rattle.store_rows.specs.Frames.{OnlyReads};
+ghost use Rattle.store_bids.specs.OwnBids.{items_bid_on};
 
-use crate::placed::PlacedBid;
-use house_rows::KeepFault;
+use house_rows::{KeepFault, MOST_SHOWN};
 use sqlite::{Alter, Connection, params};
 use std::alloc::Global;
-use store_rows::{all_of, rows_shown};
+use store_rows::{all_of, first_rows, rows_shown};
 
 /// Whether an item has a bid with a number.
 pub(crate) fn has_bid<S: Alter>(
@@ -37,26 +40,50 @@ pub(crate) fn has_bid<S: Alter>(
     Ok(!rows.is_empty())
 }
 
-/// A member's bids on all items, by item and number.
-pub(crate) fn own_bid_rows<S: Alter>(
+/// The items of a member's bids, from a number on, as often as it has bid on each; at most fifty.
+pub(crate) fn items_bid_on<S: Alter>(
     alloc: Global,
     conn: &mut Connection<S>,
     member: u32,
-) -> Result<Vec<PlacedBid>, KeepFault>
+    from: u32,
+) -> Result<Vec<u32>, KeepFault>
     requires { Serves (state S.Store conn.old) }
-    ensures bids { HasCleanDisk (state S.Store conn.new)
-        → IfOk result (λ bids. bids.items ≡ filter (λ b. b.bid.member == member)
-        (sorted_bids (state S.Store conn.old).now.trees)) }
-    ensures fits { IfOk result (λ bids. AllByRecursion BidRowFits bids.items) }
-    ensures damaged { HasCleanDisk (state S.Store conn.new)
-        → AllByRecursion BidRowFits (bids_in (state S.Store conn.old).now.trees)
-        → ¬ (IsErrOf result Damaged) }
+    ensures items { HasCleanDisk (state S.Store conn.new)
+        → IfOk result (λ items. items.items ≡ take most_shown (filter (nat_le from)
+        (items_bid_on (sorted_bids (state S.Store conn.old).now.trees) member))) }
+    ensures sound { HasCleanDisk (state S.Store conn.new) → ¬ (IsErrOf result Damaged) }
     ensures read { OnlyReads (state S.Store conn.old) (state S.Store conn.new) result }
 {
-    let rows = rows_shown(
+    let rows = first_rows(
+        alloc,
         conn,
-        "SELECT item, no, member, maximum FROM bid WHERE member = ?1 ORDER BY item, no",
-        params![member],
+        "SELECT item FROM bid WHERE member = ?1 AND item >= ?2 AND item <= 4294967295 ORDER BY item",
+        params![member, from],
+        MOST_SHOWN,
     )?;
     all_of(alloc, &rows)
+}
+
+/// Tells that a query shows no item. Where it shows one the answer is `Damaged`.
+pub(crate) fn no_item<S: Alter>(
+    alloc: Global,
+    conn: &mut Connection<S>,
+    sql: &str,
+) -> Result<(), KeepFault>
+    requires serves { Serves (state S.Store conn.old) }
+    requires plain { IsPlain (understood house_schema sql.now) }
+    requires finite { IsFinite (understood house_schema sql.now) }
+    ensures none { HasCleanDisk (state S.Store conn.new)
+        → OnOk result (Shown sql.now [] (state S.Store conn.old) (state S.Store conn.new) []) }
+    ensures damaged { HasCleanDisk (state S.Store conn.new)
+        → IsErrOf result Damaged
+        → ShowsSome sql.now [] (state S.Store conn.old) (state S.Store conn.new) }
+    ensures read { OnlyReads (state S.Store conn.old) (state S.Store conn.new) result }
+{
+    let shown = first_rows(alloc, conn, sql, &[], 1)?;
+    if shown.is_empty() {
+        Ok(())
+    } else {
+        Err(KeepFault::Damaged)
+    }
 }

@@ -8,7 +8,6 @@ ghost use Rattle.house_rows.specs.Fits.{BidRowFits};
 ghost use Rattle.house_rows.specs.declared.fault.KeepFault.TheVariants.{Damaged};
 ghost use Rattle.store_rows.specs.Fitting.{BidFits};
 ghost use Rattle.store_rows.specs.House.{Serves};
-ghost use Rattle.store_rows.specs.Rows.{bids_in};
 ghost use Rattle.store_rows.specs.Sorted.{sorted_bids};
 ghost use Rattle.store_rows.specs.Frames.{OnlyReads};
 
@@ -18,7 +17,7 @@ use sqlite::{Alter, Connection, params};
 use std::alloc::Global;
 use store_rows::{all_of, rows_shown};
 
-/// A member's bids on an item.
+/// A member's bids on an item. They are damaged only where one of them doesn't fit.
 pub(crate) fn bids_of_on<S: Alter>(
     alloc: Global,
     conn: &mut Connection<S>,
@@ -31,8 +30,9 @@ pub(crate) fn bids_of_on<S: Alter>(
         (filter (λ b. (b.bid.member == member) && (b.item == item))
         (sorted_bids (state S.Store conn.old).now.trees))) }
     ensures fits { IfOk result (λ bids. AllByRecursion BidFits bids.items) }
-    ensures damaged { HasCleanDisk (state S.Store conn.new)
-        → AllByRecursion BidRowFits (bids_in (state S.Store conn.old).now.trees)
+    ensures here { HasCleanDisk (state S.Store conn.new)
+        → AllByRecursion (λ b. b.bid.member ≡ member → b.item ≡ item → BidRowFits b)
+        (sorted_bids (state S.Store conn.old).now.trees)
         → ¬ (IsErrOf result Damaged) }
     ensures read { OnlyReads (state S.Store conn.old) (state S.Store conn.new) result }
 {

@@ -1,8 +1,10 @@
 //! What a member has bid on an item.
 ghost use Rattle.std.specs.Prelude.{◌≡◌, IfOk, IsErrOf};
+ghost use Rattle.std.specs.List.{AllByRecursion};
 ghost use Rattle.sqlite.specs.State.{HasCleanDisk};
 ghost use Rattle.sqlite.specs.Held.{state};
 ghost use Rattle.proxy.specs.Bids.{greatest_of, maxima};
+ghost use Rattle.house_rows.specs.Fits.{BidRowFits};
 ghost use Rattle.house_rows.specs.Found.{best_of};
 ghost use Rattle.house_rows.specs.Keeping.{AreSound};
 ghost use Rattle.house_rows.specs.declared.fault.KeepFault.TheVariants.{Damaged};
@@ -28,7 +30,8 @@ fn greatest(bids: &[Bid]) -> Cents
     greatest
 }
 
-/// A member's greatest maximum on an item, or 0, and the number of its bids there.
+/// A member's greatest maximum on an item, or 0, and the number of its bids there. They are damaged
+/// only where one of these bids doesn't fit.
 pub fn own_best<S: Alter>(
     alloc: Global,
     conn: &mut Connection<S>,
@@ -41,6 +44,10 @@ pub fn own_best<S: Alter>(
         (tables_in (state S.Store conn.old).now.trees) member item) }
     ensures damaged { HasCleanDisk (state S.Store conn.new)
         → AreSound (tables_in (state S.Store conn.old).now.trees)
+        → ¬ (IsErrOf result Damaged) }
+    ensures here { HasCleanDisk (state S.Store conn.new)
+        → AllByRecursion (λ b. b.bid.member ≡ member → b.item ≡ item → BidRowFits b)
+        (tables_in (state S.Store conn.old).now.trees).bids
         → ¬ (IsErrOf result Damaged) }
     ensures read { OnlyReads (state S.Store conn.old) (state S.Store conn.new) result }
 {

@@ -1,5 +1,5 @@
 -- What a query shows of items whose rows fit holds items that stand.
-use Rattle.std.proofs.Common.{◌≡◌, ◌∙◌, ℕ, pos, Bool, true, false, ◌&&◌, ◌||◌, List, [], ◌∷◌, map, filter, slice_get, Option, Some, None, IfSome, refl, sym, ap, subst, arith, ◌⊎◌, inl, inr, true≢false}
+use Rattle.std.proofs.Common.{◌≡◌, ◌<◌, ◌^◌, ◌∙◌, ℕ, pos, Bool, true, false, ◌&&◌, ◌||◌, List, [], ◌∷◌, map, filter, slice_get, Option, Some, None, IfSome, refl, sym, ap, subst, arith, ◌⊎◌, inl, inr, true≢false}
 use Rattle.std.specs.Prelude.{is_none}
 use Rattle.std.specs.List.{AllByRecursion}
 use Rattle.std.proofs.lemmas.Bool.Decides.{nat_tests}
@@ -7,20 +7,23 @@ use Rattle.sqlite_value.specs.declared.value.Value.TheVariants.{Null, Int}
 use Rattle.sqlite_value.specs.Order.{Row, column}
 use Rattle.sqlite_sql.specs.Program.{overlay}
 use Rattle.sqlite_sql.specs.Term.{Term}
-use Rattle.sqlite_keyed.proofs.ListLemmas.{all-filter, all_map, all_unmap, all_weaker}
+use Rattle.sqlite_keyed.proofs.ListLemmas.{all-filter, all_both, all_map, all_unmap, all_weaker}
 use Rattle.sqlite.specs.State.{State, Shown}
 use Rattle.sqlite.proofs.Callers.{reads_as}
 use Rattle.proxy.specs.Rows.{is_standing}
 use Rattle.house_rows.specs.declared.item.Terms.{Terms}
 use Rattle.house_rows.specs.Keeping.{IsPurchase, ItemRowFits}
+use Rattle.house_rows.specs.Tables.{ItemRow}
 use Rattle.store_rows.specs.House.{IsHouse}
 use Rattle.store_rows.specs.ItemRows.{item_row_in, items_in, kept_from}
 use Rattle.store_rows.specs.Plain.{passes, shown_by}
 use Rattle.store_rows.specs.Rows.{maybe_number_in, number_in}
 use Rattle.store_rows.specs.Schema.{house_schema}
 use Rattle.store_rows.proofs.Select.{by_rowid, equals, in_order, listed}
+use Rattle.store_rows.proofs.Update.{numbered_passes}
 use Rattle.store_items.specs.Standing.{ItemHolds, TermsHold, is_bought, is_price, stands}
-use Rattle.store_items.proofs.ItemLemmas.{kept_start}
+use Rattle.store_items.proofs.Behind.{kept_number}
+use Rattle.store_items.proofs.ItemLemmas.{IsRow, are_rows, kept_start}
 use Rattle.store_items.proofs.ItemMeaning.{all_items_is, all_items_text, item_at_is, item_at_text, item_shown, terms_at_is, terms_at_text, terms_shown}
 use Rattle.store_items.proofs.StandingLemmas.{are_standing, counts, first}
 
@@ -94,3 +97,29 @@ module _ (old new : State) (answer : List Row) (house : IsHouse old.now) (bands 
       let read = reads_as all_items_text [] old new house_schema house.schema _ all_items_is.0 all_items_is.2 all_items_is.1 answer h in
       let order = in_order [] item_shown [] (old.now.trees 6) answer house.shaped.1.1.1.1.0.0 (listed 6 [] item_shown by_rowid (overlay old.now.trees []) [] answer (read.answer Null)) in
       rows_hold bands (ItemHolds bands) item_shown [] [] (old.now.trees 6) answer (item_row bands []) order fit
+
+-- the row of an item, where it fits
+module _ (bands : List (ℕ × ℕ)) (n : ℕ) (low : n < 2 ^ 32) (rows : List Row) where
+  abbrev IsHere : Row → Type 0
+  IsHere r = (item_row_in r).item.terms.item ≡ n → ItemRowFits bands (item_row_in r)
+
+  here_fits : (r : Row) → IsRow r × IsHere r → passes (equals 0 ∷ []) (Int (pos n) ∷ []) r ≡ true → ItemRowFits bands (item_row_in r)
+  here_fits r is p = is.1 (kept_number 0 n low [] [] r is.0.number p)
+
+  kept_fit : AllByRecursion IsRow rows → AllByRecursion IsHere rows → AllByRecursion (λ r. ItemRowFits bands (item_row_in r)) (filter (passes (equals 0 ∷ []) (Int (pos n) ∷ [])) rows)
+  kept_fit are here =
+      let passing = passes (equals 0 ∷ []) (Int (pos n) ∷ []) in
+      all_both (λ r. IsRow r × IsHere r) (λ r. passing r ≡ true) (λ r. ItemRowFits bands (item_row_in r)) here_fits (filter passing rows)
+      (all-filter (λ r. IsRow r × IsHere r) passing rows (all_both IsRow IsHere (λ r. IsRow r × IsHere r) (λ r is also. (is, also)) rows are here)) (numbered_passes passing rows)
+
+pub terms_here : (old new : State) (answer : List Row) → IsHouse old.now → (bands : List (ℕ × ℕ)) (n : ℕ) → n < 2 ^ 32 → Shown terms_at_text (Int (pos n) ∷ []) old new answer
+    → AllByRecursion (λ (row : ItemRow). row.item.terms.item ≡ n → ItemRowFits bands row) (items_in old.now.trees) → IfSome (slice_get answer 0) (TermsHold bands)
+terms_here old new answer house bands n low h fit =
+    let params = Int (pos n) ∷ [] in
+    let table = old.now.trees 6 in
+    let kept = filter (passes (equals 0 ∷ []) params) table in
+    let read = reads_as terms_at_text params old new house_schema house.schema _ terms_at_is.0 terms_at_is.2 terms_at_is.1 answer h in
+    let order = in_order (equals 0 ∷ []) terms_shown params table answer house.shaped.1.1.1.1.0.0 (listed 6 (equals 0 ∷ []) terms_shown by_rowid (overlay old.now.trees []) params answer (read.answer Null)) in
+    let fits = kept_fit bands n low table (are_rows old.now house) (all_unmap (λ (row : ItemRow). row.item.terms.item ≡ n → ItemRowFits bands row) item_row_in table fit) in
+    let hold = all_map (TermsHold bands) (shown_by terms_shown params) kept (all_weaker (λ r. ItemRowFits bands (item_row_in r)) (λ r. TermsHold bands (shown_by terms_shown params r)) (terms_row bands params) kept fits) in
+    first (TermsHold bands) answer (subst (AllByRecursion (TermsHold bands)) (sym order) hold)

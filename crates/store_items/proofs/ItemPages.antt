@@ -1,12 +1,18 @@
 -- What the list of a category's items means and finds.
-use Rattle.std.proofs.Common.{◌≡◌, ◌==◌, ◌<◌, ◌^◌, ◌&&◌, ℕ, pos, Bool, false, List, [], ◌∷◌, map, filter, take, codes, eqb, refl, sym, ap, subst, ◌∙◌, arith}
+use Rattle.std.proofs.Common.{◌≡◌, ◌==◌, ◌<◌, ◌^◌, ◌&&◌, ℕ, suc, pos, negsuc, Bool, true, false, List, [], ◌∷◌, map, filter, take, codes, eqb, refl, sym, ap, subst, ◌∙◌, arith, inl, inr, Less, true≢false}
 use Rattle.std.specs.Prelude.{nat_le}
 use Rattle.std.specs.List.{AllByRecursion}
+use Rattle.std.proofs.lemmas.Bool.Decides.{nat_tests}
+use Rattle.std.proofs.lemmas.Int.{ints}
 use Rattle.std.proofs.lemmas.List.{take-map}
-use Rattle.sqlite_value.specs.declared.value.Value.TheVariants.{Int}
-use Rattle.sqlite_value.specs.Order.{Row, column}
-use Rattle.sqlite_trees.specs.Tree.{rowid}
-use Rattle.sqlite_keyed.proofs.ListLemmas.{all_both, all_unmap, filter-map}
+use Rattle.sqlite_value.specs.declared.value.Value.{Value}
+use Rattle.sqlite_value.specs.declared.value.Value.TheVariants.{Null, Int, Real, Text, Blob}
+use Rattle.sqlite_value.specs.Order.{Row, column, value_cmp}
+use Rattle.sqlite_value.proofs.OrderLemmas.{value_cmp-Int}
+use Rattle.sqlite_trees.specs.Tree.{IsTable, rowid}
+use Rattle.sqlite_trees.specs.View.{is_int}
+use Rattle.sqlite_keyed.proofs.KeyedLemmas.{lt_from_Less}
+use Rattle.sqlite_keyed.proofs.ListLemmas.{all_both, all_map, all_unmap, all_weaker, filter-map}
 use Rattle.sqlite_tied.specs.Compute.{everything}
 use Rattle.sqlite.specs.Term.{Term, col}
 use Rattle.sqlite.specs.Listing.{understood}
@@ -16,11 +22,13 @@ use Rattle.house_rows.specs.Found as found
 use Rattle.house_rows.specs.Keeping.{ItemRowFits}
 use Rattle.house_rows.specs.Tables.{ItemRow}
 use Rattle.house_rows.specs.declared.item.Item.{Item}
+use Rattle.house_rows.proofs.Put.{by_test}
 use Rattle.store_rows.specs.House.{IsHouse}
 use Rattle.store_rows.specs.ItemRows.{item_of, item_row_in, items_in}
-use Rattle.store_rows.specs.Plain.{passes}
+use Rattle.store_rows.specs.Plain.{passes, shown_by}
 use Rattle.store_rows.specs.Rows.{number_in}
 use Rattle.store_rows.specs.Schema.{house_schema}
+use Rattle.store_rows.proofs.RowLemmas.{filter_same_on}
 use Rattle.store_rows.proofs.Select.{in_order, typed_part, by_rowid, equals}
 use Rattle.store_items.specs.Standing.{ItemHolds}
 use Rattle.store_items.proofs.Holding.{item_row, rows_hold}
@@ -64,6 +72,34 @@ stray_items_finite = refl
 abbrev pub keeps_item : ℕ → ℕ → Item → Bool
 keeps_item category from it = (it.terms.category == category) && nat_le from it.terms.item
 
+-- what is over a number that isn't negative isn't either
+not_negative : (v w : Value) → is_int v ≡ true → is_int w ≡ true → value_cmp v w ≡ Less → is_negative v ≡ false → is_negative w ≡ false
+not_negative (Int (negsuc a)) w p q less none = absurd (true≢false none)
+not_negative (Int (pos a)) (Int (pos b)) p q less none = refl
+not_negative (Int (pos a)) (Int (negsuc b)) p q less none = let h = lt_from_Less (pos a) (negsuc b) (sym (value_cmp-Int (pos a) (negsuc b)) ∙ less) in absurd (omega (arith, ints, h))
+not_negative (Int (pos a)) Null p q less none = absurd (true≢false (sym q))
+not_negative (Int (pos a)) (Real x) p q less none = absurd (true≢false (sym q))
+not_negative (Int (pos a)) (Text x) p q less none = absurd (true≢false (sym q))
+not_negative (Int (pos a)) (Blob x) p q less none = absurd (true≢false (sym q))
+not_negative Null w p q less none = absurd (true≢false (sym p))
+not_negative (Real x) w p q less none = absurd (true≢false (sym p))
+not_negative (Text x) w p q less none = absurd (true≢false (sym p))
+not_negative (Blob x) w p q less none = absurd (true≢false (sym p))
+
+-- and what is negative is over each number of ours
+negative_over : (v : Value) (n : ℕ) → n < 2 ^ 32 → is_negative v ≡ true → nat_le n (number_in v) ≡ true
+negative_over (Int (negsuc a)) n low is = grind (arith, nat_tests)
+negative_over (Int (pos a)) n low is = absurd (true≢false (sym is))
+negative_over Null n low is = absurd (true≢false (sym is))
+negative_over (Real x) n low is = absurd (true≢false (sym is))
+negative_over (Text x) n low is = absurd (true≢false (sym is))
+negative_over (Blob x) n low is = absurd (true≢false (sym is))
+
+not_kept : (here negative over : Bool) → (negative ≡ true → over ≡ true) → (here && over) ≡ false → (here && negative) ≡ false
+not_kept true true over is none = absurd (true≢false (sym (is refl) ∙ none))
+not_kept true false over is none = refl
+not_kept false negative over is none = refl
+
 module _ (category from : ℕ) (category_low : category < 2 ^ 32) (from_low : from < 2 ^ 32) (old new : State) (house : IsHouse old.now) where
   abbrev table : List Row
   table = old.now.trees 6
@@ -101,6 +137,53 @@ module _ (category from : ℕ) (category_low : category < 2 ^ 32) (from_low : fr
   items_held rows first bands fit =
       let order = in_order test item_shown params table first.all house.shaped.1.1.1.1.0.0 (lists items_text 6 test item_shown by_rowid _ items_is (λ db. refl) old new params first.all house first.shown) in
       subst (AllByRecursion (ItemHolds bands)) (sym first.are) (all-take (ItemHolds bands) 50 first.all (rows_hold bands (ItemHolds bands) item_shown test params table first.all (item_row bands params) order fit))
+
+  abbrev keeps_row : ItemRow → Bool
+  keeps_row row = keeps_item category from row.item
+
+  -- the rows that are shown, where these fit
+  pub shown_held : (rows : List Row) → Shown stray_items_text here old new [] → ShowsFirst 50 items_text params old new rows → (bands : List (ℕ × ℕ))
+      → AllByRecursion (ItemRowFits bands) (take 50 (filter keeps_row (items_in old.now.trees))) → AllByRecursion (ItemHolds bands) rows
+  shown_held rows none first bands fit =
+      let kept = filter (passes test params) table in
+      let show = shown_by item_shown params in
+      let no_stray = none_passes stray_test (col 1 0 ∷ []) by_rowid here table [] (lists stray_items_text 6 stray_test (col 1 0 ∷ []) by_rowid _ stray_items_is (λ db. refl) old new here [] house none) refl in
+      let are = all_both IsRow (λ r. passes stray_test here r ≡ false) (λ r. IsRow r × (passes stray_test here r ≡ false)) (λ r is no. (is, no)) table (are_rows old.now house) no_stray in
+      let order = in_order test item_shown params table first.all house.shaped.1.1.1.1.0.0 (lists items_text 6 test item_shown by_rowid _ items_is (λ db. refl) old new params first.all house first.shown) in
+      let typed : filter keeps_row (map item_row_in table) ≡ map item_row_in kept =
+      filter-map keeps_row item_row_in table
+      ∙ ap (map item_row_in) (sym (filter_same_on (λ r. IsRow r × (passes stray_test here r ≡ false)) (passes test params) (λ r. keeps_row (item_row_in r)) (λ r is. passing r is.0 is.1) table are)) in
+      let front = all_unmap (ItemRowFits bands) item_row_in (take 50 kept) (subst (AllByRecursion (ItemRowFits bands)) (ap (take 50) typed ∙ take-map item_row_in 50 kept) fit) in
+      let held = all_map (ItemHolds bands) show (take 50 kept) (all_weaker (λ r. ItemRowFits bands (item_row_in r)) (λ r. ItemHolds bands (show r)) (item_row bands params) (take 50 kept) front) in
+      subst (AllByRecursion (ItemHolds bands)) (sym (first.are ∙ ap (take 50) order ∙ take-map show 50 kept)) held
+
+  not_stray : (r : Row) → IsRow r → is_negative (rowid r) ≡ false → passes stray_test here r ≡ false
+  not_stray r is none = stray_passes 3 0 category category_low r is.category is.number ∙ never (eqb (number_in (column r 3)) category) (is_negative (rowid r)) none
+
+  -- a stray would be the first that is shown
+  no_stray_first : (bands : List (ℕ × ℕ)) (n : ℕ) (rows : List Row) → IsTable rows → AllByRecursion IsRow rows → AllByRecursion (ItemRowFits bands) (take (suc n) (filter keeps_row (map item_row_in rows)))
+      → AllByRecursion (λ r. passes stray_test here r ≡ false) rows
+  no_stray_first bands n [] up are fit = tt
+  no_stray_first bands n (r ∷ rows) up are fit =
+      elim (by_test (keeps_row (item_row_in r))) [
+        | inl kept ↦ (let fits = (rw kept at fit).0 in
+            let low : number_in (rowid r) < 2 ^ 32 = omega (arith, fits.item.terms.item.1) in
+            let none = fits_not_negative (rowid r) low in (
+              not_stray r are.0 none,
+              all_both (λ s. value_cmp (rowid r) (rowid s) ≡ Less) IsRow (λ s. passes stray_test here s ≡ false) (λ s less is. not_stray s is (not_negative (rowid r) (rowid s) are.0.number is.number less none)) rows up.0 are.1,
+            ))
+        | inr other ↦ (
+          stray_passes 3 0 category category_low r are.0.category are.0.number
+              ∙ not_kept (eqb (number_in (column r 3)) category) (is_negative (rowid r)) (nat_le from (number_in (rowid r))) (negative_over (rowid r) from from_low) other,
+          no_stray_first bands n rows up.1 are.1 (rw other at fit),
+        )
+      ]
+
+  -- where all that is shown fits, there is no stray
+  pub no_stray_shown : ShowsSome stray_items_text here old new → (bands : List (ℕ × ℕ)) → AllByRecursion (ItemRowFits bands) (take 50 (filter keeps_row (items_in old.now.trees))) → ⊥
+  no_stray_shown some bands fit =
+      some_passes stray_test (col 1 0 ∷ []) by_rowid here table (some.first ∷ some.others) (lists stray_items_text 6 stray_test (col 1 0 ∷ []) by_rowid _ stray_items_is (λ db. refl) old new here _ house some.shown) some.first some.others refl
+      (no_stray_first bands 49 table house.shaped.1.1.1.1.0.0 (are_rows old.now house) fit)
 
   -- where all fit, there is no stray
   pub no_stray_item : ShowsSome stray_items_text here old new → AllByRecursion (λ (row : ItemRow). ItemFits row.item) (items_in old.now.trees) → ⊥

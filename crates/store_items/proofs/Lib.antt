@@ -2,6 +2,7 @@ pub mod ItemMeaning
 pub mod MaybeLemmas
 pub mod ItemLemmas
 pub mod Rows
+pub mod Behind
 pub mod Closed
 pub mod CountMeaning
 pub mod CountLemmas

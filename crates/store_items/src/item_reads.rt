@@ -63,6 +63,10 @@ pub fn terms_at<S: Alter>(
     ensures damaged { HasCleanDisk (state S.Store conn.new)
         → AllByRecursion (ItemRowFits bands.now) (items_in (state S.Store conn.old).now.trees)
         → ¬ (IsErrOf result Damaged) }
+    ensures here { HasCleanDisk (state S.Store conn.new)
+        → AllByRecursion (λ row. row.item.terms.item ≡ number → ItemRowFits bands.now row)
+        (items_in (state S.Store conn.old).now.trees)
+        → ¬ (IsErrOf result Damaged) }
     ensures read { OnlyReads (state S.Store conn.old) (state S.Store conn.new) result }
 {
     let rows = rows_shown(

@@ -21,7 +21,8 @@ use std::alloc::Global;
 use steps::Bands;
 use store_rows::{bound_of, page_rows};
 
-// The items of a category, from a number on; at most fifty.
+// The items of a category, from a number on; at most fifty. It is damaged only where one of the rows
+// that it shows doesn't fit.
 fn items_from<S: Alter>(
     alloc: Global,
     conn: &mut Connection<S>,
@@ -41,6 +42,11 @@ fn items_from<S: Alter>(
     ensures damaged { HasCleanDisk (state S.Store conn.new)
         → AllByRecursion (ItemRowFits bands.now)
         (stored.items_in (state S.Store conn.old).now.trees)
+        → ¬ (IsErrOf result Damaged) }
+    ensures reached { HasCleanDisk (state S.Store conn.new)
+        → AllByRecursion (ItemRowFits bands.now) (take most_shown
+        (filter (λ row. (row.item.terms.category == category) && nat_le from row.item.terms.item)
+        (stored.items_in (state S.Store conn.old).now.trees)))
         → ¬ (IsErrOf result Damaged) }
     ensures read { OnlyReads (state S.Store conn.old) (state S.Store conn.new) result }
 {

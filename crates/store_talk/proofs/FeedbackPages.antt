@@ -1,10 +1,11 @@
 -- What the pages of feedback mean and find.
-use Rattle.std.proofs.Common.{◌≡◌, ◌==◌, ◌≤◌, ◌<◌, ◌^◌, ◌&&◌, ◌||◌, ℕ, pos, negsuc, Bool, true, false, not, cond, None, Some, List, [], ◌∷◌, map, filter, take, drop, codes, eqb, refl, sym, ap, ap₂, subst, ◌∙◌, arith, is_eq, Less, Equal, Greater, Ordering, true≢false}
-use Rattle.std.specs.Prelude.{nat_le}
+use Rattle.std.proofs.Common.{◌≡◌, ◌==◌, ◌≤◌, ◌<◌, ◌^◌, ◌&&◌, ◌||◌, ℕ, pos, negsuc, Bool, true, false, not, cond, None, Some, List, [], ◌∷◌, length, map, filter, take, drop, codes, eqb, refl, sym, ap, ap₂, subst, ◌∙◌, arith, inl, inr, is_eq, Less, Equal, Greater, Ordering, true≢false}
+use Rattle.std.specs.Prelude.{nat_le, nat_lt}
 use Rattle.std.specs.List.{AllByRecursion}
 use Rattle.std.specs.Ordering.{int_cmp, is_gt, is_lt, ordering_then}
 use Rattle.std.proofs.lemmas.Bool.Decides.{nat_tests}
 use Rattle.std.proofs.lemmas.Int.{ints}
+use Rattle.std.proofs.lemmas.List.{length-map}
 use Rattle.std.proofs.lemmas.Grind.{common_steps}
 use Rattle.sqlite_value.specs.declared.value.Value.{Value}
 use Rattle.sqlite_value.specs.declared.value.Value.TheVariants.{Null, Int, Real, Text, Blob}
@@ -20,9 +21,9 @@ use Rattle.sqlite_sql.specs.declared.ops.BinaryOp.TheVariants.{Compare, Or}
 use Rattle.sqlite_sql.specs.declared.ops.CompareOp.TheVariants.{Gt, Lt}
 use Rattle.sqlite_sql.specs.Ops.{binary, from_truth, is_true}
 use Rattle.sqlite_sql.specs.Query.{output_cmp}
-use Rattle.sqlite_trees.specs.Tree.{Trees}
+use Rattle.sqlite_trees.specs.Tree.{IsAscending, Trees}
 use Rattle.sqlite_trees.specs.View.{is_int}
-use Rattle.sqlite_keyed.proofs.ListLemmas.{all-filter, all_both, all_unmap}
+use Rattle.sqlite_keyed.proofs.ListLemmas.{all-filter, all_both, all_unmap, all_weaker}
 use Rattle.sqlite_keyed.proofs.RuleLemmas.{first_of_both}
 use Rattle.sqlite_tied.specs.Compute.{everything}
 use Rattle.sqlite.specs.Effect.{Database}
@@ -34,15 +35,17 @@ use Rattle.house_rows.specs.Found as found
 use Rattle.house_rows.specs.History.{is_less}
 use Rattle.house_rows.specs.Ratings.{feedback_key}
 use Rattle.house_rows.specs.declared.talk.Feedback.{Feedback}
+use Rattle.house_rows.proofs.Put.{by_test}
 use Rattle.store_rows.specs.House.{IsHouse}
 use Rattle.store_rows.specs.Plain.{plain_query, passes}
 use Rattle.store_rows.specs.Rows.{feedback_in, feedback_of, is_rating, number_in, one_feedback_in}
 use Rattle.store_rows.specs.Schema.{feedback_table, house_schema}
 use Rattle.store_rows.proofs.ColumnLemmas.{holds_all}
 use Rattle.store_rows.proofs.RowLemmas.{equals_number, int_if, truth_back}
-use Rattle.store_rows.proofs.Select.{equals}
+use Rattle.store_rows.proofs.Select.{IsListOf, equals}
+use Rattle.store_talk.specs.Texts.{given_text, stray_feedback_text}
 use Rattle.store_talk.proofs.TalkMeaning.{talk_shown}
-use Rattle.store_rows.specs.Sorted.{sorted_feedback}
+use Rattle.store_rows.specs.Sorted.{sorted_by, sorted_feedback}
 use Rattle.store_rows.specs.Tables.{tables_in}
 use Rattle.store_rows.proofs.PairKeys.{two_columns}
 use Rattle.store_rows.proofs.Shown.{output_row}
@@ -50,17 +53,14 @@ use Rattle.store_rows.specs.First.{IsFinite, ShowsFirst, ShowsSome}
 use Rattle.store_rows.proofs.Asked.{Asks, from_second, lists, under_zero}
 use Rattle.store_rows.proofs.Bounds.{bound_of, from_bound}
 use Rattle.store_rows.proofs.Compared.{at_least, fits_not_negative, is_negative, told_at_least}
-use Rattle.store_rows.proofs.Firsts.{first_by_key, first_fit, none_passes, some_passes}
+use Rattle.store_rows.proofs.Firsts.{first_by_key, first_fit, first_kept, none_passes, some_passes}
+use Rattle.store_rows.proofs.Grouped.{firsts_rise}
+use Rattle.store_rows.proofs.Sorting.{filter-sorted, sorted_in_order}
 use Rattle.store_rows.proofs.Ties.{none_tie, three_rise, tied_equal}
 use Rattle.store_talk.proofs.FeedbackLists.{unique}
+use Rattle.store_talk.proofs.Full.{Rises, fewer, is_low, negative_high, none_both, page_low, same_first, same_low, so_many_rows}
 
 -- ---- the queries
-
-abbrev pub given_text : List ℕ
-given_text = codes "SELECT item, giver, receiver, rating, body FROM feedback WHERE receiver = ?1 AND item >= ?2 ORDER BY item, giver"
-
-abbrev pub strays_text : List ℕ
-strays_text = codes "SELECT item FROM feedback WHERE receiver = ?1 AND item < ?2 AND (item < 0 OR rating < -1 OR rating > 1) ORDER BY item, giver"
 
 abbrev feedback_names : List (List ℕ)
 feedback_names = codes "item" ∷ codes "giver" ∷ codes "receiver" ∷ codes "rating" ∷ codes "body" ∷ []
@@ -83,11 +83,11 @@ pub given_finite : IsFinite (understood house_schema given_text)
 unfolding understood everything
 given_finite = refl
 
-pub strays_is : Asks strays_text 14 stray_test (col 1 1 ∷ []) two_columns (codes "item" ∷ [])
+pub strays_is : Asks stray_feedback_text 14 stray_test (col 1 1 ∷ []) two_columns (codes "item" ∷ [])
 unfolding understood everything
 strays_is = (refl, refl, (refl, refl))
 
-pub strays_finite : IsFinite (understood house_schema strays_text)
+pub strays_finite : IsFinite (understood house_schema stray_feedback_text)
 unfolding understood everything
 strays_finite = refl
 
@@ -200,6 +200,12 @@ given_bits true false false from n low none = go (nat_le from n) none ∙ sym (f
     go true e = refl
     go false e = absurd (true≢false e)
 
+-- of the rows with an item of ours WHERE decides as the typed row does
+given_low : (a negative rated : Bool) (from n : ℕ) → (negative ≡ true → nat_lt n (2 ^ 64) ≡ false)
+    → ((a && ((not negative && nat_le from n) && true)) && nat_lt (cond rated n (2 ^ 64)) (2 ^ 64)) ≡ ((a && nat_le from (cond rated n (2 ^ 64))) && nat_lt (cond rated n (2 ^ 64)) (2 ^ 64))
+given_low a negative true from n high = page_low a negative (nat_le from n) (nat_lt n (2 ^ 64)) high
+given_low a negative false from n high = none_both (a && ((not negative && nat_le from n) && true)) (a && nat_le from (2 ^ 64))
+
 fitting_bits : (a under negative rated : Bool) → negative ≡ false → rated ≡ true → (a && (under && ((negative || not rated) && true))) ≡ false
 fitting_bits a under negative rated e f = rw (e, f) (go a under)
   where
@@ -238,6 +244,12 @@ stays_less : (b : Bool) (a c a' c' : ℕ) → a < 2 ^ 32 → is_less (record { f
     → is_less (record { first = a; second = c; third = 0 }) (record { first = cond b a' (2 ^ 64); second = c'; third = 0 }) ≡ true
 stays_less true a c a' c' low less = less
 stays_less false a c a' c' low less = grind (arith, nat_tests)
+
+abbrev item_of : Feedback → ℕ
+item_of f = f.item
+
+item_is_low : (f : Feedback) → FeedbackFits f → is_low item_of f ≡ true
+item_is_low f fit = let low = fit.item.1 in grind (arith, nat_tests, low)
 
 -- ---- what is found
 
@@ -281,28 +293,65 @@ module _ (member from : ℕ) (low : member < 2 ^ 32) (small : from < 2 ^ 32) (ol
       let later = stays_less (is_rating (column s 4)) (number_in (column r 1)) (number_in (column r 2)) (number_in (column s 1)) (number_in (column s 2)) (item_low r fits) by_numbers in
       rw (rating_is r fits).0 later
 
-  pub given_shown : (rows : List Row) → Shown strays_text params old new [] → ShowsFirst 50 given_text params old new rows → AllByRecursion FeedbackFits (map feedback_of rows)
+  low_passing : (r : Row) → IsGiven r → (passes given_test params r && is_low item_of (one_feedback_in r)) ≡ (keeps member from (one_feedback_in r) && is_low item_of (one_feedback_in r))
+  low_passing r is =
+      rw (equals_number (column r 3) member is.receiver low, at_least (column r 1) from is.item small)
+      (given_low (eqb (number_in (column r 3)) member) (is_negative (column r 1)) (is_rating (column r 4)) from (number_in (column r 1)) (negative_high (column r 1)))
+
+  listing : (rows : List Row) (first : ShowsFirst 50 given_text params old new rows) → IsListOf table given_test talk_shown two_columns params first.all
+  listing rows first = lists given_text 14 given_test talk_shown two_columns feedback_names given_is (λ db. refl) old new params first.all house first.shown
+
+  apart : IsAscending (λ r s. tied params r s ≡ false) (filter (passes given_test params) table)
+  apart = none_tie (tied params) (1 ∷ 2 ∷ []) IsGiven agrees table house.shaped.1.1.1.1.1.1.1.1.0 (unique old.now house) (passes given_test params) (all-filter IsGiven (passes given_test params) table (are_given old.now house))
+
+  -- a full list, where what has no item of ours lies behind
+  given_full : (rows : List Row) → ShowsFirst 50 given_text params old new rows → length rows ≡ 50 → AllByRecursion FeedbackFits (map feedback_of rows)
+      → map feedback_of rows ≡ take 50 (filter (keeps member from) (sorted_feedback old.now.trees))
+  given_full rows first full fits =
+      let given = are_given old.now house in
+      let typed = feedback_in old.now.trees in
+      let some = map one_feedback_in (filter (passes given_test params) table) in
+      let kept = sorted_by feedback_key some in
+      let told : map feedback_of rows ≡ take 50 kept =
+      ap (map feedback_of) first.are
+      ∙ first_kept given_test talk_shown two_columns params table first.all (listing rows first) feedback_key feedback_of one_feedback_in (λ r. refl) FeedbackFits IsGiven apart (all-filter IsGiven (passes given_test params) table given) rises
+      50 (subst (λ l. AllByRecursion FeedbackFits (map feedback_of l)) first.are fits) in
+      told ∙ same_first item_of 50 kept (filter (keeps member from) (sorted_feedback old.now.trees))
+      (firsts_rise feedback_key kept (sorted_in_order feedback_key some))
+      (subst (Rises item_of) (sym (filter-sorted feedback_key (keeps member from) typed)) (firsts_rise feedback_key (sorted_by feedback_key (filter (keeps member from) typed)) (sorted_in_order feedback_key (filter (keeps member from) typed))))
+      (same_low item_of feedback_key one_feedback_in (passes given_test params) (keeps member from) IsGiven low_passing table given)
+      (all_weaker FeedbackFits (λ f. is_low item_of f ≡ true) item_is_low (take 50 kept) (subst (AllByRecursion FeedbackFits) told fits))
+      (ap length (sym told) ∙ length-map rows feedback_of ∙ full)
+
+  given_shown : (rows : List Row) → Shown stray_feedback_text params old new [] → ShowsFirst 50 given_text params old new rows → AllByRecursion FeedbackFits (map feedback_of rows)
       → map feedback_of rows ≡ take 50 (filter (keeps member from) (sorted_feedback old.now.trees))
   given_shown rows none first fits =
       let given = are_given old.now house in
-      let no_stray = none_passes stray_test (col 1 1 ∷ []) two_columns params table [] (lists strays_text 14 stray_test (col 1 1 ∷ []) two_columns _ strays_is (λ db. refl) old new params [] house none) refl in
+      let no_stray = none_passes stray_test (col 1 1 ∷ []) two_columns params table [] (lists stray_feedback_text 14 stray_test (col 1 1 ∷ []) two_columns _ strays_is (λ db. refl) old new params [] house none) refl in
       let kept = all-filter IsGiven (passes given_test params) table given in
-      let apart = none_tie (tied params) (1 ∷ 2 ∷ []) IsGiven agrees table house.shaped.1.1.1.1.1.1.1.1.0 (unique old.now house) (passes given_test params) kept in
       ap (map feedback_of) first.are
-      ∙ first_by_key given_test talk_shown two_columns params table first.all (lists given_text 14 given_test talk_shown two_columns feedback_names given_is (λ db. refl) old new params first.all house first.shown)
+      ∙ first_by_key given_test talk_shown two_columns params table first.all (listing rows first)
       feedback_key feedback_of one_feedback_in (λ r. refl) FeedbackFits IsGiven apart kept rises (keeps member from) IsNoStray passing
       (all_both IsGiven (λ r. passes stray_test params r ≡ false) IsNoStray (λ r is no. (is, no)) table given no_stray) 50 (subst (λ l. AllByRecursion FeedbackFits (map feedback_of l)) first.are fits)
+
+  pub given_either : (rows : List Row) → (length rows < 50 → Shown stray_feedback_text params old new []) → ShowsFirst 50 given_text params old new rows → AllByRecursion FeedbackFits (map feedback_of rows)
+      → map feedback_of rows ≡ take 50 (filter (keeps member from) (sorted_feedback old.now.trees))
+  given_either rows none first fits =
+      elim (by_test (nat_lt (length rows) 50)) [
+        | inl few ↦ given_shown rows (none (fewer (length rows) 50 few)) first fits
+        | inr many ↦ given_full rows first (so_many_rows 50 rows first.all first.are many) fits
+      ]
 
   pub given_fit : (rows : List Row) → ShowsFirst 50 given_text params old new rows → AllByRecursion FeedbackFits (feedback_in old.now.trees) → AllByRecursion FeedbackFits (map feedback_of rows)
   given_fit rows first fits =
       subst (λ l. AllByRecursion FeedbackFits (map feedback_of l)) (sym first.are)
-      (first_fit given_test talk_shown two_columns params table first.all (lists given_text 14 given_test talk_shown two_columns feedback_names given_is (λ db. refl) old new params first.all house first.shown)
+      (first_fit given_test talk_shown two_columns params table first.all (listing rows first)
       feedback_of one_feedback_in (λ r. refl) FeedbackFits (all_unmap FeedbackFits one_feedback_in table fits) 50)
 
-  pub no_stray_given : ShowsSome strays_text params old new → AllByRecursion FeedbackFits (feedback_in old.now.trees) → ⊥
-  no_stray_given some fits =
+  pub no_stray_given : (end : State) → ShowsSome stray_feedback_text params old end → AllByRecursion FeedbackFits (feedback_in old.now.trees) → ⊥
+  no_stray_given end some fits =
       some_passes stray_test (col 1 1 ∷ []) two_columns params table (some.first ∷ some.others)
-      (lists strays_text 14 stray_test (col 1 1 ∷ []) two_columns _ strays_is (λ db. refl) old new params _ house some.shown) some.first some.others refl
+      (lists stray_feedback_text 14 stray_test (col 1 1 ∷ []) two_columns _ strays_is (λ db. refl) old end params _ house some.shown) some.first some.others refl
       (all_both IsGiven Fits (λ r. passes stray_test params r ≡ false)
       (λ r is fit. stray_is r is ∙ fitting_bits (eqb (number_in (column r 3)) member) (not (not (is_negative (column r 1)) && nat_le from (number_in (column r 1)))) (is_negative (column r 1)) (is_rating (column r 4))
       (fits_not_negative (column r 1) (item_low r fit)) (rating_is r fit).1)

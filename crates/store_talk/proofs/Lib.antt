@@ -6,6 +6,7 @@ pub mod FindMeaning
 pub mod FeedbackFinds
 pub mod FeedbackLists
 pub mod FeedbackPages
+pub mod Full
 pub mod QuestionFinds
 pub mod QuestionMeaning
 pub mod QuestionLists

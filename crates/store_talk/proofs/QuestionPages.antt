@@ -1,7 +1,10 @@
 -- What the pages of questions mean and find.
-use Rattle.std.proofs.Common.{◌≡◌, ◌==◌, ◌<◌, ◌^◌, ◌&&◌, ℕ, pos, Bool, true, false, not, List, [], ◌∷◌, map, filter, take, codes, eqb, refl, sym, ap, subst, ◌∙◌, arith, is_eq, Less}
-use Rattle.std.specs.Prelude.{is_some, nat_le}
+use Rattle.std.proofs.Common.{◌≡◌, ◌==◌, ◌<◌, ◌^◌, ◌&&◌, ℕ, pos, Bool, true, false, not, List, [], ◌∷◌, length, map, filter, take, codes, eqb, refl, sym, ap, subst, ◌∙◌, arith, inl, inr, is_eq, Less, true≢false}
+use Rattle.std.specs.Prelude.{is_some, nat_le, nat_lt}
 use Rattle.std.specs.List.{AllByRecursion}
+use Rattle.std.proofs.lemmas.Bool.Decides.{nat_tests}
+use Rattle.std.proofs.lemmas.List.{length-map}
+use Rattle.std.proofs.lemmas.List.Sorted.{IsPermutation-sym}
 use Rattle.sqlite_value.specs.declared.value.Value.TheVariants.{Int}
 use Rattle.sqlite_value.specs.declared.keys.Key.{Key as Sorting}
 use Rattle.sqlite_value.specs.Keys as keys
@@ -10,7 +13,8 @@ use Rattle.sqlite_value.specs.Order.{Row, column, value_cmp}
 use Rattle.sqlite_schema.specs.Rules.{agree}
 use Rattle.sqlite_sql.specs.Query.{output_cmp}
 use Rattle.sqlite_trees.specs.Tree.{Trees}
-use Rattle.sqlite_keyed.proofs.ListLemmas.{all-filter, all_both, all_unmap}
+use Rattle.sqlite_keyed.proofs.ListLemmas.{all-filter, all_both, all_map, all_unmap, all_weaker}
+use Rattle.sqlite_keyed.proofs.RuleLemmas.{first_of_both}
 use Rattle.sqlite_tied.specs.Compute.{everything}
 use Rattle.sqlite.specs.Listing.{understood}
 use Rattle.sqlite.specs.State.{State, Shown}
@@ -20,27 +24,34 @@ use Rattle.house_rows.specs.Fits.{QuestionFits}
 use Rattle.house_rows.specs.Found as found
 use Rattle.house_rows.specs.History.{is_less}
 use Rattle.house_rows.specs.declared.talk.Question.{Question}
+use Rattle.house_rows.proofs.Put.{by_test}
 use Rattle.store_rows.specs.House.{IsHouse}
 use Rattle.store_rows.specs.Plain.{plain_query, passes}
 use Rattle.store_rows.specs.Rows.{maybe_text_in, number_in, question_in, question_of, questions_in}
 use Rattle.store_rows.specs.Schema.{house_schema}
 use Rattle.store_rows.proofs.RowLemmas.{equals_number}
 use Rattle.store_rows.proofs.Select.{equals}
+use Rattle.store_talk.specs.Texts.{published_text, stray_askers_text, questions_text, stray_asked_text}
 use Rattle.store_talk.proofs.TalkMeaning.{question_shown}
 use Rattle.store_talk.proofs.TalkReads.{IsTalk, are_questions}
 use Rattle.store_rows.proofs.Update.{numbered_passes}
-use Rattle.store_rows.specs.Sorted.{sorted_questions}
+use Rattle.store_rows.specs.Sorted.{sorted_by, sorted_questions}
 use Rattle.store_rows.specs.Tables.{tables_in}
 use Rattle.store_rows.proofs.ByKey.{by_columns}
 use Rattle.store_talk.proofs.QuestionLists.{waiting_test, asker_low, item_low, place_low, unique}
 use Rattle.store_talk.proofs.QuestionMeaning.{question_order, waiting_on_is, waiting_on_text, waits, was_answered}
-use Rattle.store_rows.proofs.Shown.{output_row}
+use Rattle.store_rows.proofs.Grouped.{firsts_rise}
+use Rattle.store_rows.proofs.Shown.{moved, output_row}
+use Rattle.store_rows.proofs.Sorting.{filter-sorted, sorted_in_order, sorted_moves}
+use Rattle.store_rows.proofs.TextLemmas.{same_number}
 use Rattle.store_rows.proofs.Tested.{filter_both, filter_regrouped, is_there}
 use Rattle.store_rows.specs.First.{IsFinite, ShowsFirst, ShowsSome}
 use Rattle.store_rows.proofs.Asked.{Asks, first_passes, from_second, lists, never, page_passes, stray_passes, under_zero}
 use Rattle.store_rows.proofs.Bounds.{bound_of, from_bound}
-use Rattle.store_rows.proofs.Compared.{at_least, fits_not_negative, is_negative}
-use Rattle.store_rows.proofs.Firsts.{first_by_key, first_fit, none_passes, some_passes}
+use Rattle.store_rows.proofs.Compared.{at_least, below_zero, fits_not_negative, is_negative}
+use Rattle.store_rows.proofs.Firsts.{first_by_key, first_fit, first_kept, none_passes, some_passes}
+use Rattle.store_items.proofs.Behind.{kept_number}
+use Rattle.store_talk.proofs.Full.{Rises, fewer, is_low, kept_all, negative_high, none_both, page_low, same_first, same_low, seconds_rise, so_many_rows}
 use Rattle.store_rows.proofs.Ties.{none_tie, second_fixed_rise, three_rise, tied_equal, ties_of_three}
 
 -- ---- the queries
@@ -52,18 +63,6 @@ by_asker = by_columns (2 ∷ 1 ∷ 3 ∷ [])
 abbrev question_names : List (List ℕ)
 question_names = codes "item" ∷ codes "asker" ∷ codes "n" ∷ codes "answer" ∷ codes "body" ∷ []
 
-abbrev pub published_text : List ℕ
-published_text = codes "SELECT item, asker, n, answer, body FROM question WHERE item = ?1 AND answer IS NOT NULL AND asker >= ?2 ORDER BY item, asker, n"
-
-abbrev pub stray_askers_text : List ℕ
-stray_askers_text = codes "SELECT asker FROM question WHERE item = ?1 AND asker < 0 ORDER BY item, asker, n"
-
-abbrev pub questions_text : List ℕ
-questions_text = codes "SELECT item, asker, n, answer, body FROM question WHERE asker = ?1 AND item >= ?2 ORDER BY asker, item, n"
-
-abbrev pub stray_asked_text : List ℕ
-stray_asked_text = codes "SELECT item FROM question WHERE asker = ?1 AND item < 0 ORDER BY asker, item, n"
-
 abbrev published_test : List Term
 published_test = equals 1 ∷ was_answered ∷ from_second 2 ∷ []
 
@@ -71,7 +70,7 @@ abbrev questions_test : List Term
 questions_test = equals 2 ∷ from_second 1 ∷ []
 
 abbrev stray_askers : List Term
-stray_askers = equals 1 ∷ under_zero 2 ∷ []
+stray_askers = equals 1 ∷ was_answered ∷ under_zero 2 ∷ []
 
 abbrev stray_asked : List Term
 stray_asked = equals 2 ∷ under_zero 1 ∷ []
@@ -145,6 +144,26 @@ module _ (test : List Term) (order : List (Term × Sorting)) (params : Row) (sql
       ∙ first_by_key test question_shown order params table first.all (lists sql 12 test question_shown order question_names is (λ db. refl) old new params first.all house first.shown)
       question_key question_of question_in (λ r. refl) QuestionFits Is apart are rises keep P tests all_p 50 (subst (λ l. AllByRecursion QuestionFits (map question_of l)) first.are fits)
 
+  -- the same of a full list, where what has no number of ours lies behind
+  first_full : (agrees : (r s : Row) → IsTalk r → IsTalk s → tied test order params r s ≡ true → agree keys.plain (1 ∷ 2 ∷ 3 ∷ []) r (1 ∷ 2 ∷ 3 ∷ []) s ≡ true)
+      → (Is : Row → Type 0) → AllByRecursion Is (filter (passes test params) table)
+      → ((r s : Row) → Is r → Is s → Fits r → rise test order params r s → is_less (question_key (question_in r)) (question_key (question_in s)) ≡ true)
+      → (number : Question → ℕ) → ((q : Question) → QuestionFits q → is_low number q ≡ true)
+      → (keep : Question → Bool) → ((r : Row) → IsTalk r → (passes test params r && is_low number (question_in r)) ≡ (keep (question_in r) && is_low number (question_in r)))
+      → Rises number (sorted_by question_key (map question_in (filter (passes test params) table))) → Rises number (filter keep (sorted_questions old.now.trees))
+      → AllByRecursion QuestionFits (map question_of rows) → length rows ≡ 50 → map question_of rows ≡ take 50 (filter keep (sorted_questions old.now.trees))
+  first_full agrees Is are rises number lows keep tests up also_up fits full =
+      let talk = are_questions old.now house in
+      let kept = sorted_by question_key (map question_in (filter (passes test params) table)) in
+      let apart = none_tie (tied test order params) (1 ∷ 2 ∷ 3 ∷ []) IsTalk agrees table house.shaped.1.1.1.1.1.1.1.0 (unique old.now house) (passes test params) (all-filter IsTalk (passes test params) table talk) in
+      let told : map question_of rows ≡ take 50 kept =
+      ap (map question_of) first.are
+      ∙ first_kept test question_shown order params table first.all (lists sql 12 test question_shown order question_names is (λ db. refl) old new params first.all house first.shown)
+      question_key question_of question_in (λ r. refl) QuestionFits Is apart are rises 50 (subst (λ l. AllByRecursion QuestionFits (map question_of l)) first.are fits) in
+      told ∙ same_first number 50 kept (filter keep (sorted_questions old.now.trees)) up also_up (same_low number question_key question_in (passes test params) keep IsTalk tests table talk)
+      (all_weaker QuestionFits (λ q. is_low number q ≡ true) lows (take 50 kept) (subst (AllByRecursion QuestionFits) told fits))
+      (ap length (sym told) ∙ length-map rows question_of ∙ full)
+
   pub questions_fit : AllByRecursion QuestionFits (questions_in old.now.trees) → AllByRecursion QuestionFits (map question_of rows)
   questions_fit fits =
       subst (λ l. AllByRecursion QuestionFits (map question_of l)) (sym first.are)
@@ -186,16 +205,44 @@ module _ (item : ℕ) (low : item < 2 ^ 32) (old new : State) (house : IsHouse o
   pub waiting_fit : AllByRecursion QuestionFits (questions_in old.now.trees) → AllByRecursion QuestionFits (map question_of rows)
   waiting_fit = questions_fit waiting_terms question_order on_item waiting_on_text waiting_on_is old new house rows first
 
+abbrev asker_of : Question → ℕ
+asker_of q = q.asker
+
+abbrev item_of : Question → ℕ
+item_of q = q.item
+
+asker_is_low : (q : Question) → QuestionFits q → is_low asker_of q ≡ true
+asker_is_low q fit = let low = fit.asker.1 in grind (arith, nat_tests, low)
+
+item_is_low : (q : Question) → QuestionFits q → is_low item_of q ≡ true
+item_is_low q fit = let low = fit.item.1 in grind (arith, nat_tests, low)
+
 -- ---- the published questions on an item
 
-published_bits : (a b negative over : Bool) → (a && negative) ≡ false → (a && (b && ((not negative && over) && true))) ≡ ((a && b) && over)
-published_bits true true negative true none = rw none refl
-published_bits true true negative false none = rw none refl
+published_bits : (a b negative over : Bool) → (a && (b && (negative && true))) ≡ false → (a && (b && ((not negative && over) && true))) ≡ ((a && b) && over)
+published_bits true true true over none = absurd (true≢false none)
+published_bits true true false true none = refl
+published_bits true true false false none = refl
 published_bits true false negative over none = refl
 published_bits false b negative over none = refl
 
+published_low : (a b negative over low : Bool) → (negative ≡ true → low ≡ false) → ((a && (b && ((not negative && over) && true))) && low) ≡ (((a && b) && over) && low)
+published_low a b true over low high = rw (high refl) (none_both (a && (b && ((false && over) && true))) ((a && b) && over))
+published_low true true false true low high = refl
+published_low true true false false low high = refl
+published_low true false false over low high = refl
+published_low false b false over low high = refl
+
+stray_bits : (a b negative : Bool) → negative ≡ false → (a && (b && (negative && true))) ≡ false
+stray_bits true true negative none = rw none refl
+stray_bits true false negative none = refl
+stray_bits false b negative none = refl
+
 abbrev pub keeps_published : ℕ → ℕ → Question → Bool
 keeps_published item from q = ((q.item == item) && is_some q.answer) && nat_le from q.asker
+
+kept_on : (item from : ℕ) (q : Question) → keeps_published item from q ≡ true → q.item ≡ item
+kept_on item from q p = same_number q.item item (first_of_both (q.item == item) (is_some q.answer) (first_of_both ((q.item == item) && is_some q.answer) (nat_le from q.asker) p))
 
 module _ (item from : ℕ) (low : item < 2 ^ 32) (small : from < 2 ^ 32) (old new : State) (house : IsHouse old.now) where
   abbrev here : Row
@@ -210,12 +257,42 @@ module _ (item from : ℕ) (low : item < 2 ^ 32) (small : from < 2 ^ 32) (old ne
   abbrev IsNoStray : Row → Type 0
   IsNoStray r = IsTalk r × (passes stray_askers here r ≡ false)
 
+  stray_is : (r : Row) → IsTalk r → passes stray_askers here r ≡ (eqb (number_in (column r 1)) item && (is_some (maybe_text_in (column r 5)) && (is_negative (column r 2) && true)))
+  stray_is r is = rw (equals_number (column r 1) item is.first low, is_there (column r 5), below_zero (column r 2) is.second) refl
+
   passing : (r : Row) → IsNoStray r → passes published_test params r ≡ keeps_published item from (question_in r)
   passing r is =
       rw (equals_number (column r 1) item is.0.first low, is_there (column r 5), at_least (column r 2) from is.0.second small)
-      (published_bits (eqb (number_in (column r 1)) item) (is_some (maybe_text_in (column r 5))) (is_negative (column r 2)) (nat_le from (number_in (column r 2))) (sym (stray_passes 1 2 item low r is.0.first is.0.second) ∙ is.1))
+      (published_bits (eqb (number_in (column r 1)) item) (is_some (maybe_text_in (column r 5))) (is_negative (column r 2)) (nat_le from (number_in (column r 2))) (sym (stray_is r is.0) ∙ is.1))
 
-  pub published_shown : (rows : List Row) → Shown stray_askers_text here old new [] → ShowsFirst 50 published_text params old new rows → AllByRecursion QuestionFits (map question_of rows)
+  low_passing : (r : Row) → IsTalk r → (passes published_test params r && is_low asker_of (question_in r)) ≡ (keeps_published item from (question_in r) && is_low asker_of (question_in r))
+  low_passing r is =
+      rw (equals_number (column r 1) item is.first low, is_there (column r 5), at_least (column r 2) from is.second small)
+      (published_low (eqb (number_in (column r 1)) item) (is_some (maybe_text_in (column r 5))) (is_negative (column r 2)) (nat_le from (number_in (column r 2))) (nat_lt (number_in (column r 2)) (2 ^ 64)) (negative_high (column r 2)))
+
+  -- the questions that WHERE keeps are on the item
+  are_here : AllByRecursion (λ (q : Question). q.item ≡ item) (map question_in (filter (passes published_test params) asked))
+  are_here =
+      all_map (λ (q : Question). q.item ≡ item) question_in (filter (passes published_test params) asked)
+      (all_both IsTalk (λ r. passes published_test params r ≡ true) (λ r. number_in (column r 1) ≡ item) (λ r is p. kept_number 1 item low (was_answered ∷ from_second 2 ∷ []) (Int (pos from) ∷ []) r is.first p) (filter (passes published_test params) asked)
+      (all-filter IsTalk (passes published_test params) asked (are_questions old.now house)) (numbered_passes (passes published_test params) asked))
+
+  published_full : (rows : List Row) → ShowsFirst 50 published_text params old new rows → length rows ≡ 50 → AllByRecursion QuestionFits (map question_of rows)
+      → map question_of rows ≡ take 50 (filter (λ q. (q.item == item) && nat_le from q.asker) (filter (λ q. is_some q.answer) (sorted_questions old.now.trees)))
+  published_full rows first full fits =
+      let talk = are_questions old.now house in
+      let kept = map question_in (filter (passes published_test params) asked) in
+      let keep = keeps_published item from in
+      let typed = questions_in old.now.trees in
+      let on_item : AllByRecursion (λ (q : Question). q.item ≡ item) (filter keep typed) = kept_all keep (λ (q : Question). q.item ≡ item) (kept_on item from) typed in
+      let up = seconds_rise question_key item (sorted_by question_key kept) (moved (λ (q : Question). q.item ≡ item) kept (sorted_by question_key kept) (IsPermutation-sym (sorted_by question_key kept) kept (sorted_moves question_key kept)) are_here) (sorted_in_order question_key kept) in
+      let also_up = seconds_rise question_key item (sorted_by question_key (filter keep typed)) (moved (λ (q : Question). q.item ≡ item) (filter keep typed) (sorted_by question_key (filter keep typed)) (IsPermutation-sym (sorted_by question_key (filter keep typed)) (filter keep typed) (sorted_moves question_key (filter keep typed))) on_item) (sorted_in_order question_key (filter keep typed)) in
+      let shown = first_full published_test question_order params published_text published_is old new house rows first (agrees published_test params) IsTalk (all-filter IsTalk (passes published_test params) asked talk) (rises published_test params)
+      asker_of asker_is_low keep low_passing up (subst (Rises asker_of) (sym (filter-sorted question_key keep typed)) also_up) fits full in
+      shown ∙ ap (take 50) (sym (filter_both (λ q. (q.item == item) && is_some q.answer) (λ q. nat_le from q.asker) (sorted_questions old.now.trees))
+      ∙ filter_regrouped (λ q. q.item == item) (λ q. is_some q.answer) (λ q. nat_le from q.asker) (sorted_questions old.now.trees))
+
+  published_shown : (rows : List Row) → Shown stray_askers_text here old new [] → ShowsFirst 50 published_text params old new rows → AllByRecursion QuestionFits (map question_of rows)
       → map question_of rows ≡ take 50 (filter (λ q. (q.item == item) && nat_le from q.asker) (filter (λ q. is_some q.answer) (sorted_questions old.now.trees)))
   published_shown rows none first fits =
       let no_stray = none_passes stray_askers (col 1 2 ∷ []) question_order here asked [] (lists stray_askers_text 12 stray_askers (col 1 2 ∷ []) question_order _ stray_askers_is (λ db. refl) old new here [] house none) refl in
@@ -225,12 +302,20 @@ module _ (item from : ℕ) (low : item < 2 ^ 32) (small : from < 2 ^ 32) (old ne
       shown ∙ ap (take 50) (sym (filter_both (λ q. (q.item == item) && is_some q.answer) (λ q. nat_le from q.asker) (sorted_questions old.now.trees))
       ∙ filter_regrouped (λ q. q.item == item) (λ q. is_some q.answer) (λ q. nat_le from q.asker) (sorted_questions old.now.trees))
 
-  pub no_stray_asker : ShowsSome stray_askers_text here old new → AllByRecursion QuestionFits (questions_in old.now.trees) → ⊥
-  no_stray_asker some fits =
+  pub published_either : (rows : List Row) → (length rows < 50 → Shown stray_askers_text here old new []) → ShowsFirst 50 published_text params old new rows → AllByRecursion QuestionFits (map question_of rows)
+      → map question_of rows ≡ take 50 (filter (λ q. (q.item == item) && nat_le from q.asker) (filter (λ q. is_some q.answer) (sorted_questions old.now.trees)))
+  published_either rows none first fits =
+      elim (by_test (nat_lt (length rows) 50)) [
+        | inl few ↦ published_shown rows (none (fewer (length rows) 50 few)) first fits
+        | inr many ↦ published_full rows first (so_many_rows 50 rows first.all first.are many) fits
+      ]
+
+  pub no_stray_asker : (end : State) → ShowsSome stray_askers_text here old end → AllByRecursion QuestionFits (questions_in old.now.trees) → ⊥
+  no_stray_asker end some fits =
       some_passes stray_askers (col 1 2 ∷ []) question_order here asked (some.first ∷ some.others)
-      (lists stray_askers_text 12 stray_askers (col 1 2 ∷ []) question_order _ stray_askers_is (λ db. refl) old new here _ house some.shown) some.first some.others refl
+      (lists stray_askers_text 12 stray_askers (col 1 2 ∷ []) question_order _ stray_askers_is (λ db. refl) old end here _ house some.shown) some.first some.others refl
       (all_both IsTalk Fits (λ r. passes stray_askers here r ≡ false)
-      (λ r is fit. stray_passes 1 2 item low r is.first is.second ∙ never (eqb (number_in (column r 1)) item) (is_negative (column r 2)) (fits_not_negative (column r 2) (asker_low r fit))) asked (are_questions old.now house)
+      (λ r is fit. stray_is r is ∙ stray_bits (eqb (number_in (column r 1)) item) (is_some (maybe_text_in (column r 5))) (is_negative (column r 2)) (fits_not_negative (column r 2) (asker_low r fit))) asked (are_questions old.now house)
       (all_unmap QuestionFits question_in asked fits))
 
 pub published_fit : (item from : ℕ) (old new : State) → IsHouse old.now → (rows : List Row) → ShowsFirst 50 published_text (Int (pos item) ∷ Int (pos from) ∷ []) old new rows
@@ -278,7 +363,22 @@ module _ (asker from : ℕ) (low : asker < 2 ^ 32) (small : from < 2 ^ 32) (old 
   asker_rises r s r_is s_is fits less =
       second_fixed_rise (column r 1) (column r 2) (column r 3) (column s 1) (column s 2) (column s 3) (item_low r fits) (asker_low r fits) (place_low r fits) s_is.0.first s_is.0.second s_is.0.third (r_is.1 ∙ sym s_is.1) less
 
-  pub questions_shown : (rows : List Row) → Shown stray_asked_text of_asker old new [] → ShowsFirst 50 questions_text with_from old new rows → AllByRecursion QuestionFits (map question_of rows)
+  asked_low : (r : Row) → IsTalk r → (passes questions_test with_from r && is_low item_of (question_in r)) ≡ (((question_in r).asker == asker) && nat_le from (question_in r).item) && is_low item_of (question_in r)
+  asked_low r is =
+      rw (equals_number (column r 2) asker is.second low, at_least (column r 1) from is.first small)
+      (page_low (eqb (number_in (column r 2)) asker) (is_negative (column r 1)) (nat_le from (number_in (column r 1))) (nat_lt (number_in (column r 1)) (2 ^ 64)) (negative_high (column r 1)))
+
+  questions_full : (rows : List Row) → ShowsFirst 50 questions_text with_from old new rows → length rows ≡ 50 → AllByRecursion QuestionFits (map question_of rows)
+      → map question_of rows ≡ take 50 (filter (λ q. (q.asker == asker) && nat_le from q.item) (sorted_questions old.now.trees))
+  questions_full rows first full fits =
+      let kept = map question_in (filter (passes questions_test with_from) all_asked) in
+      let keep : Question → Bool = λ q. (q.asker == asker) && nat_le from q.item in
+      let typed = questions_in old.now.trees in
+      first_full questions_test by_asker with_from questions_text questions_is old new house rows first asker_agrees IsOf are_of asker_rises
+      item_of item_is_low keep asked_low (firsts_rise question_key (sorted_by question_key kept) (sorted_in_order question_key kept))
+      (subst (Rises item_of) (sym (filter-sorted question_key keep typed)) (firsts_rise question_key (sorted_by question_key (filter keep typed)) (sorted_in_order question_key (filter keep typed)))) fits full
+
+  questions_shown : (rows : List Row) → Shown stray_asked_text of_asker old new [] → ShowsFirst 50 questions_text with_from old new rows → AllByRecursion QuestionFits (map question_of rows)
       → map question_of rows ≡ take 50 (filter (λ q. (q.asker == asker) && nat_le from q.item) (sorted_questions old.now.trees))
   questions_shown rows none first fits =
       let no_stray = none_passes stray_asked (col 1 1 ∷ []) by_asker of_asker all_asked [] (lists stray_asked_text 12 stray_asked (col 1 1 ∷ []) by_asker _ stray_asked_is (λ db. refl) old new of_asker [] house none) refl in
@@ -286,10 +386,18 @@ module _ (asker from : ℕ) (low : asker < 2 ^ 32) (small : from < 2 ^ 32) (old 
       (λ q. (q.asker == asker) && nat_le from q.item) HasNoStray (λ r is. page_passes 2 1 asker low r is.0.second is.0.first from small is.1)
       (all_both IsTalk (λ r. passes stray_asked of_asker r ≡ false) HasNoStray (λ r is no. (is, no)) all_asked (are_questions old.now house) no_stray) fits
 
-  pub no_stray_question : ShowsSome stray_asked_text of_asker old new → AllByRecursion QuestionFits (questions_in old.now.trees) → ⊥
-  no_stray_question some fits =
+  pub questions_either : (rows : List Row) → (length rows < 50 → Shown stray_asked_text of_asker old new []) → ShowsFirst 50 questions_text with_from old new rows → AllByRecursion QuestionFits (map question_of rows)
+      → map question_of rows ≡ take 50 (filter (λ q. (q.asker == asker) && nat_le from q.item) (sorted_questions old.now.trees))
+  questions_either rows none first fits =
+      elim (by_test (nat_lt (length rows) 50)) [
+        | inl few ↦ questions_shown rows (none (fewer (length rows) 50 few)) first fits
+        | inr many ↦ questions_full rows first (so_many_rows 50 rows first.all first.are many) fits
+      ]
+
+  pub no_stray_question : (end : State) → ShowsSome stray_asked_text of_asker old end → AllByRecursion QuestionFits (questions_in old.now.trees) → ⊥
+  no_stray_question end some fits =
       some_passes stray_asked (col 1 1 ∷ []) by_asker of_asker all_asked (some.first ∷ some.others)
-      (lists stray_asked_text 12 stray_asked (col 1 1 ∷ []) by_asker _ stray_asked_is (λ db. refl) old new of_asker _ house some.shown) some.first some.others refl
+      (lists stray_asked_text 12 stray_asked (col 1 1 ∷ []) by_asker _ stray_asked_is (λ db. refl) old end of_asker _ house some.shown) some.first some.others refl
       (all_both IsTalk Fits (λ r. passes stray_asked of_asker r ≡ false)
       (λ r is fit. stray_passes 2 1 asker low r is.second is.first ∙ never (eqb (number_in (column r 2)) asker) (is_negative (column r 1)) (fits_not_negative (column r 1) (item_low r fit))) all_asked (are_questions old.now house)
       (all_unmap QuestionFits question_in all_asked fits))

@@ -15,6 +15,7 @@ mod feedback_list;
 mod feedback_pages;
 mod given;
 mod giving;
+mod listed;
 mod question_lists;
 mod question_pages;
 mod questions;

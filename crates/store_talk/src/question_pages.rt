@@ -1,22 +1,26 @@
 //! Lists of questions.
-ghost use Rattle.std.specs.Prelude.{◌≡◌, ◌==◌, ◌&&◌, filter, is_some, nat_le, not, take, IfOk, IsErrOf};
+ghost use Rattle.std.specs.Prelude.{◌≡◌, ◌==◌, ◌&&◌, pos, [], ◌∷◌, filter, is_some, nat_le, not, take, IfOk, IsErrOf};
 ghost use Rattle.std.specs.List.{AllByRecursion};
 ghost use Rattle.house_rows.specs.Fits.{QuestionFits};
 ghost use Rattle.house_rows.specs.Found.{published_on, questions_of};
 ghost use Rattle.house_rows.specs.Limits.{most_shown};
 ghost use Rattle.house_rows.specs.declared.fault.KeepFault.TheVariants.{Damaged};
+ghost use Rattle.sqlite_value.specs.declared.value.Value.TheVariants.{Int};
 ghost use Rattle.sqlite.specs.State.{HasCleanDisk};
 ghost use Rattle.sqlite.specs.Held.{state};
 ghost use Rattle.store_rows.specs.House.{Serves};
-ghost use Rattle.store_rows.specs.Rows.{questions_in};
+ghost use Rattle.store_rows.specs.Rows.{question_of, questions_in};
 ghost use Rattle.store_rows.specs.Sorted.{sorted_questions};
 ghost use Rattle.store_rows.specs.Tables.{tables_in};
 ghost use Rattle.store_rows.specs.Frames.{OnlyReads};
+ghost use Rattle.store_talk.specs.Spoiled.{IsSpoiled};
+ghost use Rattle.store_talk.specs.Texts.{published_text, questions_text, stray_asked_text, stray_askers_text};
 
+use crate::listed::listed_rows;
 use house_rows::{KeepFault, MOST_SHOWN, Question};
 use sqlite::{Alter, Connection, params};
 use std::alloc::Global;
-use store_rows::{all_of, bound_of, first_rows, page_rows};
+use store_rows::{all_of, bound_of, first_rows};
 
 // The published questions on an item, from an asker on; at most fifty.
 fn published_from<S: Alter>(
@@ -35,15 +39,20 @@ fn published_from<S: Alter>(
     ensures damaged { HasCleanDisk (state S.Store conn.new)
         → AllByRecursion QuestionFits (questions_in (state S.Store conn.old).now.trees)
         → ¬ (IsErrOf result Damaged) }
+    ensures spoiled { HasCleanDisk (state S.Store conn.new)
+        → IsErrOf result Damaged
+        → IsSpoiled question_of QuestionFits published_text (Int (pos item) ∷ Int (pos from) ∷ [])
+        stray_askers_text (Int (pos item) ∷ [])
+        (state S.Store conn.old) (state S.Store conn.new) }
     ensures read { OnlyReads (state S.Store conn.old) (state S.Store conn.new) result }
 {
-    let rows = page_rows(
+    let rows = listed_rows(
         alloc,
         conn,
-        "SELECT asker FROM question WHERE item = ?1 AND asker < 0 ORDER BY item, asker, n",
-        params![item],
         "SELECT item, asker, n, answer, body FROM question WHERE item = ?1 AND answer IS NOT NULL AND asker >= ?2 ORDER BY item, asker, n",
         params![item, from],
+        "SELECT asker FROM question WHERE item = ?1 AND answer IS NOT NULL AND asker < 0 ORDER BY item, asker, n",
+        params![item],
     )?;
     all_of(alloc, &rows)
 }
@@ -112,15 +121,20 @@ fn questions_from<S: Alter>(
     ensures damaged { HasCleanDisk (state S.Store conn.new)
         → AllByRecursion QuestionFits (questions_in (state S.Store conn.old).now.trees)
         → ¬ (IsErrOf result Damaged) }
+    ensures spoiled { HasCleanDisk (state S.Store conn.new)
+        → IsErrOf result Damaged
+        → IsSpoiled question_of QuestionFits questions_text (Int (pos asker) ∷ Int (pos from) ∷ [])
+        stray_asked_text (Int (pos asker) ∷ [])
+        (state S.Store conn.old) (state S.Store conn.new) }
     ensures read { OnlyReads (state S.Store conn.old) (state S.Store conn.new) result }
 {
-    let rows = page_rows(
+    let rows = listed_rows(
         alloc,
         conn,
-        "SELECT item FROM question WHERE asker = ?1 AND item < 0 ORDER BY asker, item, n",
-        params![asker],
         "SELECT item, asker, n, answer, body FROM question WHERE asker = ?1 AND item >= ?2 ORDER BY asker, item, n",
         params![asker, from],
+        "SELECT item FROM question WHERE asker = ?1 AND item < 0 ORDER BY asker, item, n",
+        params![asker],
     )?;
     all_of(alloc, &rows)
 }

@@ -1,17 +1,30 @@
-use Rattle.std.proofs.Common.{◌∙◌, ap, rules}
+use Rattle.std.proofs.Common.{◌≡◌, ◌∙◌, ap, rules, subst, sym}
+use Rattle.std.specs.List.{AllByRecursion}
 use Rattle.sqlite.specs.Effect.{Database}
 use Rattle.sqlite.specs.Held.{state}
+use Rattle.house_rows.specs.Bids.{BidRow}
+use Rattle.house_rows.specs.Fits.{BidRowFits}
 use Rattle.house_rows.specs.Found.{best_of}
 use Rattle.store_rows.specs.Tables.{tables_in}
 use Rattle.store_bids.proofs.OwnBidItems.{bid_found}
-use Rattle.store_rows.proofs.Sound.{rows_fit}
+use Rattle.store_bids.proofs.InTurn.{items_are}
 use Rattle.store_bids.proofs.BidStanding.{bid_stands}
 use Rattle.store_items.proofs.RowsStanding.{terms_in}
 use Rattle.store_rows.proofs.Steps.{clean_before}
 use Rattle.store_bids.proofs.bid_lists.own_bid_at.Goals as goal
 
-pub returns-in_err-terms-clause-damaged : goal.returns-in_err-terms-clause-damaged
-returns-in_err-terms-clause-damaged g c clean sound is = c.in_err-terms.ensures.damaged clean (rows_fit (state g.S.Store c.args.conn.now).now.trees c.args.bands.now sound) (search rules)
+pub returns-in_err-terms-clause-here : goal.returns-in_err-terms-clause-here
+returns-in_err-terms-clause-here g c clean fits is =
+    let db = (state g.S.Store c.args.conn.now).now.trees in
+    c.in_err-terms.ensures.here clean (rw (items_are db) fits.row) (search rules)
+
+pub returns-in_err-best-clause-here : goal.returns-in_err-best-clause-here
+returns-in_err-best-clause-here g c clean fits is =
+    let mid = state g.S.Store c.terms_at.new.conn in
+    let before = clean_before mid (state g.S.Store c.own_best.new.conn) c.own_best.ensures.read.crash clean in
+    let same = (c.in_ok-terms.ensures.read.same before).0.now_is in
+    let here = subst (λ (db : Database). AllByRecursion (λ (b : BidRow). b.bid.member ≡ c.args.member → b.item ≡ c.args.item → BidRowFits b) (tables_in db.trees).bids) (sym same) fits.bids in
+    c.own_best.ensures.here clean here (search rules)
 
 pub returns-clause-value : goal.returns-clause-value
 returns-clause-value g c clean =

@@ -1,8 +1,12 @@
 use Rattle.std.proofs.Common.{◌≡◌, ◌<◌, ◌^◌, ◌∙◌, ap, sym, subst, arith, rules, map}
 use Rattle.std.specs.List.{AllByRecursion}
 use Rattle.sqlite.specs.Held.{state}
+use Rattle.house_rows.specs.Bids.{BidRow, bid_key}
+use Rattle.house_rows.specs.Fits.{BidRowFits}
 use Rattle.store_rows.specs.Fitting.{BidFits}
+use Rattle.store_rows.specs.Rows.{bids_in}
 use Rattle.store_rows.proofs.Both.{ok_both}
+use Rattle.store_rows.proofs.Shown.{every_stored}
 use Rattle.store_bids.proofs.BidLists.{bid_alone, bids_fit, bids_is, bids_shown}
 use Rattle.store_bids.proofs.member_bids.bids_of_on.Goals as goal
 
@@ -20,12 +24,14 @@ returns-clause-bids g c clean =
     let told = e ∙ ap (map bid_alone) same in
     told ∙ bids_shown c.args.member c.args.item low small (state g.S.Store c.args.conn.now) (state g.S.Store c.rows_shown.new.conn) items (c.rows_shown.ensures.house clean) shown (subst (AllByRecursion BidFits) told fits))
 
-pub returns-clause-damaged : goal.returns-clause-damaged
-returns-clause-damaged g c clean fits =
+pub returns-clause-here : goal.returns-clause-here
+returns-clause-here g c clean fits =
     let low : c.args.member < 2 ^ 32 = omega (arith, c.ranges.member) in
     let small : c.args.item < 2 ^ 32 = omega (arith, c.ranges.item) in
     let items = c.in_ok-rows.rows.items in
     let same : c.deref.result.now ≡ items = search rules in
     let shown = rw (c.params-to_sql.ensures, c.params-to_sql-2.ensures) at (c.in_ok-rows.ensures.rows clean) in
+    let db = (state g.S.Store c.args.conn.now).now.trees in
+    let stored = every_stored bid_key (λ (b : BidRow). b.bid.member ≡ c.args.member → b.item ≡ c.args.item → BidRowFits b) (bids_in db) fits in
     c.all_of.ensures.damaged (subst (AllByRecursion BidFits) (sym (ap (map bid_alone) same))
-    (bids_fit c.args.member c.args.item low small (state g.S.Store c.args.conn.now) (state g.S.Store c.rows_shown.new.conn) items (c.rows_shown.ensures.house clean) shown fits))
+    (bids_fit c.args.member c.args.item low small (state g.S.Store c.args.conn.now) (state g.S.Store c.rows_shown.new.conn) items (c.rows_shown.ensures.house clean) shown stored))

@@ -8,7 +8,7 @@ use Rattle.house_rows.proofs.Every.{every_as}
 use Rattle.store_items.specs.Standing.{ItemHolds}
 use Rattle.store_rows.specs.ItemRows.{item_of}
 use Rattle.store_rows.proofs.StateLemmas.{ok_then}
-use Rattle.store_items.proofs.ItemPages.{items_is, items_finite, items_held, items_shown, no_stray_item, stray_items_is, stray_items_finite}
+use Rattle.store_items.proofs.ItemPages.{items_is, items_finite, items_held, items_shown, no_stray_item, no_stray_shown, shown_held, stray_items_is, stray_items_finite}
 use Rattle.store_items.proofs.pages.items_from.Goals as goal
 
 pub page_rows-requires-clause-plain : goal.page_rows-requires-clause-plain
@@ -48,3 +48,20 @@ returns-in_err-rows-clause-damaged g c clean fits is =
     let from_low : c.args.from < 2 ^ 32 = omega (arith, c.ranges.from) in
     let some = rw c.params-to_sql.ensures at (c.page_rows.ensures.damaged clean (search rules)) in
     no_stray_item c.args.category c.args.from category_low from_low (state g.S.Store c.args.conn.now) (state g.S.Store c.page_rows.new.conn) (c.page_rows.ensures.house clean) some (every_as (ItemRowFits c.args.bands.now) (λ (row : ItemRow). ItemFits row.item) _ (λ row fit. fit.item) fits)
+
+pub returns-clause-reached : goal.returns-clause-reached
+returns-clause-reached g c clean fits =
+    let category_low : c.args.category < 2 ^ 32 = omega (arith, c.ranges.category) in
+    let from_low : c.args.from < 2 ^ 32 = omega (arith, c.ranges.from) in
+    let none = rw c.params-to_sql.ensures at (c.in_ok-rows.ensures.no_stray clean) in
+    let first = rw (c.params-to_sql-2.ensures, c.params-to_sql-3.ensures) at (c.in_ok-rows.ensures.rows clean) in
+    let same : c.deref.result.now ≡ c.in_ok-rows.rows.items = search rules in
+    let held = shown_held c.args.category c.args.from category_low from_low (state g.S.Store c.args.conn.now) (state g.S.Store c.page_rows.new.conn) (c.page_rows.ensures.house clean) c.in_ok-rows.rows.items none first c.args.bands.now fits in
+    c.item_list.ensures.damaged (subst (AllByRecursion (ItemHolds c.args.bands.now)) (sym same) held)
+
+pub returns-in_err-rows-clause-reached : goal.returns-in_err-rows-clause-reached
+returns-in_err-rows-clause-reached g c clean fits is =
+    let category_low : c.args.category < 2 ^ 32 = omega (arith, c.ranges.category) in
+    let from_low : c.args.from < 2 ^ 32 = omega (arith, c.ranges.from) in
+    let some = rw c.params-to_sql.ensures at (c.page_rows.ensures.damaged clean (search rules)) in
+    no_stray_shown c.args.category c.args.from category_low from_low (state g.S.Store c.args.conn.now) (state g.S.Store c.page_rows.new.conn) (c.page_rows.ensures.house clean) some c.args.bands.now fits
