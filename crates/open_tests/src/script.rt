@@ -116,7 +116,7 @@ fn answer_of_opening<S: Alter + Drop>(
 fn opened<S: Alter + Drop>(alloc: Global, conn: Connection<S>) -> Result<String, Fault> {
     match open_house(alloc, conn) {
         Ok(house) => told(alloc, &house),
-        Err(fault) => name(alloc, fault),
+        Err((fault, _)) => name(alloc, fault),
     }
 }
 

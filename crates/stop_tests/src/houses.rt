@@ -12,6 +12,9 @@ use store::SqlKeep;
 pub(crate) trait Connects<S: Alter> {
     /// A connection.
     fn connection(&self) -> Result<Connection<S>, KeepFault>;
+
+    /// The keep of the house that is there.
+    fn keep(&self) -> Result<SqlKeep<S>, KeepFault>;
 }
 
 // What the salts of the logs are drawn from.
@@ -60,6 +63,20 @@ impl<'p> Connects<FileStore<Stopping<'p>>> for Place<'p> {
     fn connection(&self) -> Result<Connection<FileStore<Stopping<'p>>>, KeepFault> {
         connect(self.alloc, self.pair.files(), self.room)
     }
+
+    fn keep(&self) -> Result<SqlKeep<FileStore<Stopping<'p>>>, KeepFault> {
+        open_files(self.alloc, self.pair.files(), self.room)
+    }
+}
+
+// The options of a connection with such room.
+fn options(room: Room) -> Options {
+    Options {
+        cache_pages: room.read,
+        spill_pages: room.written,
+        checkpoint_frames: room.logged,
+        seed: SEED,
+    }
 }
 
 // A connection with the database on files.
@@ -71,15 +88,21 @@ fn connect<D: Disk + Drop>(
     if !files.may_be_used() {
         return Err(KeepFault::Store);
     }
-    let options = Options {
-        cache_pages: room.read,
-        spill_pages: room.written,
-        checkpoint_frames: room.logged,
-        seed: SEED,
-    };
-    match Connection::open_files(alloc, files, options) {
+    match Connection::open_files(alloc, files, options(room)) {
         Ok(conn) => Ok(conn),
         Err(_) => Err(KeepFault::Store),
+    }
+}
+
+// The keep of the house on files.
+fn open_files<D: Disk + Drop>(
+    alloc: Global,
+    files: Files<D>,
+    room: Room,
+) -> Result<SqlKeep<FileStore<D>>, KeepFault> {
+    match SqlKeep::open_files(alloc, files, options(room)) {
+        Ok(keep) => Ok(keep),
+        Err((fault, _)) => Err(fault),
     }
 }
 
@@ -90,12 +113,4 @@ pub(crate) fn create<S: Alter + Drop, C: Connects<S>>(
 ) -> Result<SqlKeep<S>, KeepFault> {
     let settings = settings(alloc).map_err(|_| KeepFault::Memory)?;
     SqlKeep::create(alloc, place.connection()?, settings)
-}
-
-/// The keep of the house that is there.
-pub(crate) fn open<S: Alter + Drop, C: Connects<S>>(
-    alloc: Global,
-    place: &C,
-) -> Result<SqlKeep<S>, KeepFault> {
-    SqlKeep::open(alloc, place.connection()?)
 }

@@ -1,14 +1,15 @@
 //! Stops a house in files at each call of its store, and looks what is left of it.
 //!
-//! `stdin` has the life of a house, behind the mark of `transcript`: `create READ WRITTEN LOGGED`, with the room of its
-//! connections, and then a command a line, as `house_script` says; an empty line, and one that begins with `--`, is
-//! none. The making of the house and each command in turn is done again and again, with a stop of the log and then of
-//! the database file behind one call more each time, until a run ends with no stop. Behind each stop nothing, all, or
-//! every other sector of what wasn't synced is lost, and the files are opened again. What is right is told on
-//! standard output, behind its line, how many stops there were on standard error. Read `stops` first.
+//! `stdin` has the life of a house, after the mark of `transcript`: `create READ WRITTEN LOGGED`, with the room of its
+//! connections, and then a message a line, `post MEMBER MOMENT TARGET BODY`, which the site answers; an empty line, and
+//! one that begins with `--`, is none. The making of the house and each message in turn is done again and again, with a
+//! stop of the log and then of the database file after one call more each time, until a run ends with no stop. After
+//! each stop nothing, all, or every other sector of what wasn't synced is lost, and the files are opened again. What is
+//! right is told on standard output, after its line, how many stops there were on standard error. Read `stops` first.
 #![tactic(auto)]
 
 mod houses;
+mod messages;
 mod sessions;
 mod stops;
 mod tally;
@@ -20,14 +21,14 @@ use std::process::ExitCode;
 use stops::Case;
 use transcript::echoed;
 
-// The name of what a line does: its first word that is no number.
+// The name of what a line does: its target, or its first word where it has none.
 fn name(line: &str) -> &str {
     for word in line.split_whitespace() {
-        if word.parse::<u64>().is_err() {
+        if word.starts_with('/') {
             return word;
         }
     }
-    line
+    line.split_whitespace().next().unwrap_or(line)
 }
 
 // Stops what is to be stopped, and tells what came of it.

@@ -1,15 +1,17 @@
-//! What is done in a house while its files are open.
+//! What is done in a house while its files are open: messages are answered over it.
 //!
 //! What owns a keep has one end alone, and hands it on: each end more takes the prover longer.
-use crate::houses::{Connects, create, open};
-use house::decide;
+use crate::houses::{Connects, create};
+use crate::messages::message;
 use house_rows::{Keep, KeepFault};
-use house_script::{Fault, Order, answer};
+use house_script::{Fault, answer};
+use site::Site;
 use sqlite::Alter;
-use std::alloc::Global;
+use std::alloc::{AllocError, Global};
 use stop_files::{Pair, Side};
 
-// What is shown of a house: what it answers to these questions, and to these of each number of a member or an item.
+// What is shown of a house beside its record: what it answers to these questions, and to these of each number of a
+// member or an item.
 const SHOWN: [&str; 6] = [
     "clock",
     "members",
@@ -63,16 +65,27 @@ pub(crate) enum Answer {
     Other,
 }
 
+// The site over a house.
+fn site_over<K: Keep + Drop>(
+    alloc: Global,
+    house: Result<K, KeepFault>,
+) -> Result<Site<K>, KeepFault> {
+    match house {
+        Ok(keep) => Site::new(alloc, keep),
+        Err(fault) => Err(fault),
+    }
+}
+
 /// What a house shows after a session.
 pub(crate) fn view<S: Alter + Drop, C: Connects<S>>(
     alloc: Global,
     place: &C,
     session: Session<'_>,
-) -> Result<String, Fault> {
+) -> Result<Vec<u8>, Fault> {
     if session.is_new {
         view_of(alloc, create(alloc, place), session)
     } else {
-        view_of(alloc, open(alloc, place), session)
+        view_of(alloc, place.keep(), session)
     }
 }
 
@@ -80,33 +93,44 @@ fn view_of<K: Keep + Drop>(
     alloc: Global,
     house: Result<K, KeepFault>,
     session: Session<'_>,
-) -> Result<String, Fault> {
-    let mut keep = house?;
-    view_after(alloc, &mut keep, session)
+) -> Result<Vec<u8>, Fault> {
+    let mut site = site_over(alloc, house)?;
+    view_after(alloc, &mut site, session)
 }
 
-fn view_after<K: Keep>(alloc: Global, keep: &mut K, session: Session<'_>) -> Result<String, Fault> {
-    take(alloc, keep, session.earlier)?;
-    take(alloc, keep, session.last)?;
-    let mut text = String::new(alloc);
-    match add_view(alloc, keep, &mut text) {
-        Ok(()) => Ok(text),
+fn view_after<K: Keep + Drop>(
+    alloc: Global,
+    site: &mut Site<K>,
+    session: Session<'_>,
+) -> Result<Vec<u8>, Fault> {
+    take(alloc, site, session.earlier)?;
+    take(alloc, site, session.last)?;
+    let mut shown = site.record()?;
+    match add_view(alloc, site.keep_mut(), &mut shown) {
+        Ok(()) => Ok(shown),
         Err(fault) => Err(fault),
     }
 }
 
-// Adds all that the house shows.
-fn add_view<K: Keep>(alloc: Global, keep: &mut K, text: &mut String) -> Result<(), Fault> {
+// Adds all that the house shows beside its record.
+fn add_view<K: Keep>(alloc: Global, keep: &mut K, shown: &mut Vec<u8>) -> Result<(), Fault> {
     for question in SHOWN {
-        add_answer(alloc, keep, text, question)?;
+        add_answer(alloc, keep, shown, question)?;
     }
     let counts = keep.counts()?;
     for number in 1..=counts.members.max(counts.items) {
         for name in SHOWN_BY_NUMBER {
             let question = format!(in alloc; "{name} {number}")?;
-            add_answer(alloc, keep, text, question.as_str())?;
+            add_answer(alloc, keep, shown, question.as_str())?;
         }
     }
+    Ok(())
+}
+
+// Adds a line.
+fn add_line(shown: &mut Vec<u8>, line: &[u8]) -> Result<(), AllocError> {
+    shown.extend_from_slice(line)?;
+    shown.push(b'\n')?;
     Ok(())
 }
 
@@ -114,37 +138,45 @@ fn add_view<K: Keep>(alloc: Global, keep: &mut K, text: &mut String) -> Result<(
 fn add_answer<K: Keep>(
     alloc: Global,
     keep: &mut K,
-    text: &mut String,
+    shown: &mut Vec<u8>,
     question: &str,
 ) -> Result<(), Fault> {
     let answer = answer(alloc, keep, question)?;
-    text.push_str(answer.as_str())?;
-    text.push('\n')?;
-    Ok(())
+    Ok(add_line(shown, answer.as_bytes())?)
 }
 
-// Gives a command: whether it is accepted.
-fn give<K: Keep>(keep: &mut K, order: &Order) -> Result<bool, KeepFault> {
-    match decide(keep, order.moment, order.caller, &order.command) {
-        Err(fault) => Err(fault),
-        Ok(Err(_)) => Ok(false),
-        Ok(Ok(change)) => {
-            keep.apply(&change)?;
-            Ok(true)
-        }
+// What a reply tells.
+fn told(reply: &[u8]) -> Result<Answer, Fault> {
+    if reply.starts_with(b"HTTP/1.1 503 ") {
+        Err(Fault::Memory)
+    } else if reply.starts_with(b"HTTP/1.1 20") {
+        Ok(Answer::Done)
+    } else if reply.starts_with(b"HTTP/1.1 500 ") && reply.ends_with(b"\"store\"}") {
+        Ok(Answer::Store)
+    } else {
+        Ok(Answer::Other)
     }
 }
 
+// What is answered to a message.
+fn give<K: Keep + Drop>(site: &mut Site<K>, message: &[u8]) -> Result<Answer, Fault> {
+    let reply = site.answer(message);
+    told(&reply)
+}
+
 // Gives a command, if there is one, which has to be accepted.
-fn take<K: Keep>(alloc: Global, keep: &mut K, command: Option<&str>) -> Result<(), Fault> {
+fn take<K: Keep + Drop>(
+    alloc: Global,
+    site: &mut Site<K>,
+    command: Option<&str>,
+) -> Result<(), Fault> {
     let Some(line) = command else {
         return Ok(());
     };
-    let order = Order::of_line(alloc, line)?;
-    match give(keep, &order) {
-        Ok(true) => Ok(()),
-        Ok(false) => Err(Fault::Keep),
-        Err(fault) => Err(fault.into()),
+    let message = message(alloc, line)?;
+    match give(site, message.as_bytes())? {
+        Answer::Done => Ok(()),
+        _ => Err(Fault::Keep),
     }
 }
 
@@ -160,7 +192,7 @@ pub(crate) fn answer_at_stop<S: Alter + Drop, C: Connects<S>>(
         stop.begin();
         return answer_to_making(create(alloc, place));
     };
-    answer_in(alloc, open(alloc, place), session.earlier, last, stop)
+    answer_in(alloc, place.keep(), session.earlier, last, stop)
 }
 
 // What is answered to the making of a house.
@@ -178,31 +210,30 @@ fn answer_in<K: Keep + Drop>(
     last: &str,
     stop: Stop<'_>,
 ) -> Result<Answer, Fault> {
-    let mut keep = house?;
-    answer_after(alloc, &mut keep, earlier, last, stop)
+    let mut site = site_over(alloc, house)?;
+    answer_after(alloc, &mut site, earlier, last, stop)
 }
 
-fn answer_after<K: Keep>(
+fn answer_after<K: Keep + Drop>(
     alloc: Global,
-    keep: &mut K,
+    site: &mut Site<K>,
     earlier: Option<&str>,
     last: &str,
     stop: Stop<'_>,
 ) -> Result<Answer, Fault> {
-    take(alloc, keep, earlier)?;
-    let order = Order::of_line(alloc, last)?;
+    take(alloc, site, earlier)?;
+    let message = message(alloc, last)?;
     stop.begin();
-    answer_to(keep, &order)
+    answer_to(site, message.as_bytes())
 }
 
-// What is answered to a command. Where that is Store, so is every later call.
-fn answer_to<K: Keep>(keep: &mut K, order: &Order) -> Result<Answer, Fault> {
-    match give(keep, order) {
-        Ok(true) => Ok(Answer::Done),
-        Ok(false) => Ok(Answer::Other),
-        Err(KeepFault::Store) if !is_shut(keep, order) => Ok(Answer::Other),
-        Err(fault) => answer_to_fault(fault),
+// What is answered to a command. Where that is Store, so is all that is asked later.
+fn answer_to<K: Keep + Drop>(site: &mut Site<K>, message: &[u8]) -> Result<Answer, Fault> {
+    let answer = give(site, message)?;
+    if answer != Answer::Store || is_shut(site, message)? {
+        return Ok(answer);
     }
+    Ok(Answer::Other)
 }
 
 // What a fault is as an answer.
@@ -214,8 +245,12 @@ fn answer_to_fault(fault: KeepFault) -> Result<Answer, Fault> {
     }
 }
 
-// Whether a read and a command are answered Store.
-fn is_shut<K: Keep>(keep: &mut K, order: &Order) -> bool {
-    matches!(keep.items(), Err(KeepFault::Store))
-        && matches!(give(keep, order), Err(KeepFault::Store))
+// Whether the record, a look-up and a command are answered Store.
+fn is_shut<K: Keep + Drop>(site: &mut Site<K>, message: &[u8]) -> Result<bool, Fault> {
+    let again = give(site, message)?;
+    Ok(
+        again == Answer::Store
+            && matches!(site.record(), Err(KeepFault::Store))
+            && matches!(site.keep_mut().items(), Err(KeepFault::Store)),
+    )
 }

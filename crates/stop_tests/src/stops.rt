@@ -19,7 +19,7 @@ const THERE: Session = Session {
 
 impl Place<'_> {
     // What the house shows after a session.
-    fn view(&self, session: Session<'_>) -> Result<String, Fault> {
+    fn view(&self, session: Session<'_>) -> Result<Vec<u8>, Fault> {
         view(self.alloc, self, session)
     }
 
@@ -38,8 +38,8 @@ pub(crate) struct Case<'s> {
     base: Image,
     session: Session<'s>,
     // What the house shows; of no house that is nothing.
-    before: String,
-    after: String,
+    before: Vec<u8>,
+    after: Vec<u8>,
 }
 
 // What a house in files shows after a session.
@@ -48,7 +48,7 @@ fn view_in(
     image: &Image,
     room: Room,
     session: Session<'_>,
-) -> Result<String, Fault> {
+) -> Result<Vec<u8>, Fault> {
     let pair = &Pair::of(alloc, image)?;
     Place { alloc, pair, room }.view(session)
 }
@@ -66,7 +66,7 @@ impl<'s> Case<'s> {
             room,
             base,
             session,
-            before: String::new(alloc),
+            before: Vec::new(alloc),
             after,
         })
     }
@@ -86,7 +86,7 @@ impl<'s> Case<'s> {
     }
 
     // What was synced before the next session, and what the house shows after it.
-    fn next(&self, alloc: Global, session: Session<'_>) -> Result<(Image, String), Fault> {
+    fn next(&self, alloc: Global, session: Session<'_>) -> Result<(Image, Vec<u8>), Fault> {
         let base = self.next_base(alloc)?;
         let after = view_in(alloc, &base, self.room, session)?;
         if after == self.after {
@@ -123,7 +123,7 @@ impl<'s> Case<'s> {
         }
         // A house that can't be opened shows nothing.
         let there = match place.view(THERE) {
-            Err(Fault::Keep) => String::new(alloc),
+            Err(Fault::Keep) => Vec::new(alloc),
             there => there?,
         };
         Ok(if there == self.after {

@@ -30,7 +30,7 @@ no_damage : (fault told : KeepFault) (failed : Bool) → (failed ≡ false → t
 no_damage fault told true same store none is = let e : Store ≡ Damaged = sym (store.1 refl) ∙ is in cc
 no_damage fault told false same store none is = none (sym (same refl) ∙ is)
 
-the_fault : {A : Type 0} {a b : KeepFault} → IsErrOf {T = A} {E = KeepFault} (Err a) b → a ≡ b
+pub the_fault : {A : Type 0} {a b : KeepFault} → IsErrOf {T = A} {E = KeepFault} (Err a) b → a ≡ b
 the_fault is = cc
 
 pub told_sound : {A : Type 0} (fault told : KeepFault) (failed : Bool) (honest : Type 0) (t : Tables)

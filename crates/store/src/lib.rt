@@ -4,11 +4,11 @@
 //! what its definition in `house_rows` finds in the tables that the connection holds, and a change is
 //! made whole or not at all. After Memory or Damaged the tables are as before. Once a call has answered
 //! Store every call does, and what a crash then leaves is the tables as they were before that call or
-//! as its change makes them.
+//! as its change makes them. An opening of the files that a crash has left finds such tables.
 //!
 //! Read `specs/Kept.antt` first, which says what the tables of a keep are and what it knows of them
 //! without asking: settings, counts and the clock are kept beside the connection. Then read `keep`,
-//! and `changes` for what a change leaves.
+//! `changes` for what a change leaves, and `reopening` for what a crash does.
 #![tactic(auto)]
 
 mod after;
@@ -18,6 +18,8 @@ mod keep;
 mod making;
 mod numbers;
 mod opening;
+mod reopening;
 mod settled;
 
 pub use keep::SqlKeep;
+pub use reopening::openings_find_what_crashes_leave;

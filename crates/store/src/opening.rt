@@ -1,14 +1,16 @@
 //! How a keep begins: in an empty database, or over a house that is there.
-ghost use Rattle.std.specs.Prelude.{◌≡◌, ◌≢◌, ◌↔◌, ◌⊎◌, [], true, false, IfOk, OnErr, IsErrOf};
+ghost use Rattle.std.specs.Prelude.{◌≡◌, ◌≢◌, ◌↔◌, ◌⊎◌, [], true, false, IfErr, IfOk, IsErrAnd, IsErrOf, OnErr};
 ghost use Rattle.sqlite.specs.Held.{state};
+ghost use Rattle.sqlite_trees.specs.View.{IsClean};
 ghost use Rattle.house_rows.specs.Tables.{Tables, tables_of};
 ghost use Rattle.house_rows.specs.Text.{is_plain};
 ghost use Rattle.house_rows.specs.declared.fault.KeepFault.TheVariants.{Damaged};
 ghost use Rattle.store_rows.specs.Fitting.{HouseRowFits};
 ghost use Rattle.store_rows.specs.Schema.{no_schema};
 ghost use Rattle.store_rows.specs.Tables.{house_row_in, tables_in};
-ghost use Rattle.store_open.specs.Opening.{AreNumbered, IsSoundHouse, Leaves, LeavesMade, LeavesStore};
+ghost use Rattle.store_open.specs.Opening.{AreNumbered, Follows, IsBackOrNew, IsSoundHouse};
 ghost use Rattle.store.specs.Kept.{IsHonest, MayLeave, content};
+ghost use Rattle.store.specs.Opening.{Leaves, LeavesMade, LeavesStore};
 
 use crate::keep::SqlKeep;
 use house_rows::{Counts, KeepFault, Settings};
@@ -24,7 +26,45 @@ impl<S: Alter + Drop> SqlKeep<S> {
     /// no control characters.
     ///
     /// `Damaged` where the database lists a table, an index or a view, and where a transaction is open.
-    /// After an error the database is as it was, or holds the new house where the disk failed.
+    /// After an error the connection is given back: the database is as it was, or holds the new house
+    /// where the disk failed.
+    pub fn create_or_return(
+        alloc: Global,
+        conn: Connection<S>,
+        settings: Settings,
+    ) -> Result<SqlKeep<S>, (KeepFault, Connection<S>)>
+        ensures empty { IfOk result (λ k. IsHonest S.Store k
+            → content S.Store k ≡ tables_of settings []) }
+        ensures opens { IfOk result (λ k. IsHonest S.Store k → is_plain settings.zone ≡ true
+            → IsSoundHouse (state S.Store k.conn).now) }
+        ensures only { IfOk result (λ k. IsHonest S.Store k → (tables : Tables)
+            → MayLeave S.Store k tables → tables ≡ content S.Store k) }
+        ensures works { IfOk result (λ k. k.failed ≡ false) }
+        ensures left { IfErr result (λ e. IsBackOrNew S.Store conn e.1 settings) }
+        ensures same { IfErr result (λ e. e.0 ≡ Damaged → e.1 ≡ conn) }
+        ensures damaged { IsErrAnd result (λ e. e.0 ≡ Damaged) ↔ ((conn.in_transaction ≡ true)
+            ⊎ ((state S.Store conn).now.schema ≢ no_schema)) }
+    {
+        let mut conn = conn;
+        match make_house(&mut conn, &settings) {
+            Ok(()) => Ok(SqlKeep {
+                alloc,
+                conn,
+                settings,
+                counts: Counts {
+                    members: 0,
+                    categories: 0,
+                    items: 0,
+                },
+                clock: 0,
+                failed: false,
+            }),
+            Err(fault) => Err((fault, conn)),
+        }
+    }
+
+    /// As `create_or_return`, and after an error the connection is dropped. So a clause says that there
+    /// is such a connection then, and none says which.
     pub fn create(
         alloc: Global,
         conn: Connection<S>,
@@ -41,26 +81,44 @@ impl<S: Alter + Drop> SqlKeep<S> {
         ensures damaged { IsErrOf result Damaged ↔ ((conn.in_transaction ≡ true)
             ⊎ ((state S.Store conn).now.schema ≢ no_schema)) }
     {
-        let mut conn = conn;
-        make_house(&mut conn, &settings)?;
-        Ok(SqlKeep {
-            alloc,
-            conn,
-            settings,
-            counts: Counts {
-                members: 0,
-                categories: 0,
-                items: 0,
-            },
-            clock: 0,
-            failed: false,
-        })
+        match SqlKeep::create_or_return(alloc, conn, settings) {
+            Ok(keep) => Ok(keep),
+            Err((fault, _)) => Err(fault),
+        }
     }
 
     /// The keep of the house that a connection holds. What the connection has not committed is undone.
     ///
     /// `Damaged` where it holds no house of this version, or one whose settings or numbers don't fit.
-    /// After an error a crash finds what it could find before, or what was committed then.
+    /// After an error the store is given back as it was: a crash finds what it could find before.
+    pub fn open_or_return(alloc: Global, conn: Connection<S>) -> Result<SqlKeep<S>, (KeepFault, S)>
+        ensures same { IfOk result (λ k. IsHonest S.Store k
+            → (state S.Store k.conn).now.trees ≡ (state S.Store conn).committed.trees) }
+        ensures follows { IfOk result (λ k. Follows S.Store conn k.conn.store) }
+        ensures only { IfOk result (λ k. IsHonest S.Store k → (tables : Tables)
+            → MayLeave S.Store k tables → tables ≡ content S.Store k) }
+        ensures works { IfOk result (λ k. k.failed ≡ false) }
+        ensures row { IfOk result (λ k. IsHonest S.Store k
+            → HouseRowFits (house_row_in (state S.Store k.conn).now.trees)) }
+        ensures numbered { IfOk result (λ k. IsHonest S.Store k
+            → AreNumbered (state S.Store k.conn).now.trees) }
+        ensures left { IfErr result (λ e. Follows S.Store conn e.1) }
+        ensures damaged { IfErr result (λ e. e.0 ≡ Damaged → IsClean (S.Store.view e.1)
+            → ¬ (IsSoundHouse (state S.Store conn).committed)) }
+    {
+        let house = open_house(alloc, conn)?;
+        Ok(SqlKeep {
+            alloc,
+            conn: house.conn,
+            settings: house.settings,
+            counts: house.counts,
+            clock: house.clock,
+            failed: false,
+        })
+    }
+
+    /// As `open_or_return`, and after an error the store is dropped. So a clause says that there is such
+    /// a store then, and none says which.
     pub fn open(alloc: Global, conn: Connection<S>) -> Result<SqlKeep<S>, KeepFault>
         ensures same { IfOk result (λ k. IsHonest S.Store k
             → content S.Store k ≡ tables_in (state S.Store conn).committed.trees) }
@@ -75,15 +133,10 @@ impl<S: Alter + Drop> SqlKeep<S> {
         ensures damaged { IsErrOf result Damaged
             → Leaves S.Store conn (¬ (IsSoundHouse (state S.Store conn).committed)) }
     {
-        let house = open_house(alloc, conn)?;
-        Ok(SqlKeep {
-            alloc,
-            conn: house.conn,
-            settings: house.settings,
-            counts: house.counts,
-            clock: house.clock,
-            failed: false,
-        })
+        match SqlKeep::open_or_return(alloc, conn) {
+            Ok(keep) => Ok(keep),
+            Err((fault, _)) => Err(fault),
+        }
     }
 }
 

@@ -1,9 +1,9 @@
 -- From a store that was just opened to a house.
-use Rattle.std.proofs.Common.{◌≡◌, ◌∙◌, ℕ, sym, subst, refl, List, [], ◌∷◌, Bool, true, false, true≢false, IsTrue, inl, inr, arith}
+use Rattle.std.proofs.Common.{◌≡◌, ◌≤◌, ◌∙◌, ℕ, ap, sym, subst, refl, List, [], ◌∷◌, Bool, true, false, true≢false, IsTrue, inl, inr, arith}
 use Rattle.std.specs.List.{AllByRecursion}
 use Rattle.sqlite_value.specs.Order.{Row}
 use Rattle.sqlite_trees.specs.Tree.{Trees}
-use Rattle.sqlite_trees.specs.View.{View, IsQuiet, IsShaped, IsOrdered}
+use Rattle.sqlite_trees.specs.View.{View, IsClean, IsQuiet, IsRolledBack as IsUndone, IsShaped, IsOrdered, doubt}
 use Rattle.sqlite_trees.specs.declared.error.StoreError.{StoreError}
 use Rattle.sqlite_trees.specs.declared.error.StoreError.TheVariants.{OutOfMemory, Io, Corrupt, Full, Broken, Unstorable}
 use Rattle.sqlite_schema.specs.declared.schema.Schema.{Schema}
@@ -16,7 +16,7 @@ use Rattle.sqlite_catalog.proofs.ReadLemmas.{lists_once}
 use Rattle.sqlite.specs.declared.error.Error.{Error}
 use Rattle.sqlite.specs.declared.error.Error.TheVariants.{SqliteFailure}
 use Rattle.sqlite.specs.declared.error.ErrorCode.TheVariants.{NotADatabase}
-use Rattle.sqlite.specs.State.{IsNotRun, State, Survives, store_error}
+use Rattle.sqlite.specs.State.{HasCleanDisk, IsNotRun, State, Survives, store_error}
 use Rattle.sqlite.specs.Steps.{FailsToOpen}
 use Rattle.sqlite.specs.Effect.{Database, IsDatabase}
 use Rattle.sqlite_trees.specs.declared.store.Store.{Ghosts}
@@ -68,22 +68,71 @@ pub kept_where_not_run : (sql : List ℕ) (old new : State) (e : Error) → ((pa
 unfolding IsNotRun
 kept_where_not_run sql old new e h = elim (h []) [ inl refused ↦ inl refused.1 | inr failed ↦ inr failed.3 ]
 
--- what survives a call follows as well
-pub follows_on : {S : Type 0} (g : Ghosts S) (conn old new : Held S) → Follows g conn old.store → Survives (state g old) (state g new) (λ _. ⊥) → Follows g conn new.store
-follows_on g conn old new follows survives = record {
-  clean = omega (arith, follows.clean, survives.clean);
-  shield = λ h. survives.shield (follows.shield h);
-  crash = λ clean db left. elim (survives.crash clean db left) [ inl may ↦ follows.crash (omega (arith, survives.clean, clean)) db may | inr none ↦ absurd none ];
+-- what was committed before is so still, while the connection is open
+kept_commit : (old new : State) → KeepsCommitted old new → IsTrue new.is_open → IsTrue old.is_open × (new.committed ≡ old.committed)
+kept_commit old new (inl same) is_open = (same.0.was_open, same.0.committed_is)
+kept_commit old new (inr undone) is_open = (undone.was_open is_open, (undone.undone is_open).1)
+
+-- nothing was committed on the way from one connection to another
+pub record Leads {S : Type 0} (g : Ghosts S) (conn last : Held S) : Type 0 where
+  pub clean : doubt (state g conn).is_clean ≤ doubt (state g last).is_clean
+  pub shield : g.is_shielded conn.store → g.is_shielded last.store
+  pub committed : HasCleanDisk (state g last) → IsTrue (state g last).is_open → (state g last).committed.trees ≡ (state g conn).committed.trees
+  pub crash : HasCleanDisk (state g last) → (db : Trees) → g.recovers last.store db → g.recovers conn.store db
+
+pub leads_self : {S : Type 0} (g : Ghosts S) (conn : Held S) → Leads g conn conn
+leads_self g conn = record { clean = omega arith; shield = λ h. h; committed = λ clean is_open. refl; crash = λ clean db left. left }
+
+-- a connection that was made anew shows what is committed
+pub leads_made : {S : Type 0} (g : Ghosts S) (conn again : Held S) → Follows g conn again.store
+    → (HasCleanDisk (state g again) → (state g again).now ≡ (state g again).committed) → Leads g conn again
+leads_made g conn again follows rests = record {
+  clean = follows.clean;
+  shield = follows.shield;
+  committed = λ clean is_open. sym (ap (λ (d : Database). d.trees) (rests clean)) ∙ follows.shown clean is_open;
+  crash = follows.crash;
 }
 
--- and so does a quiet call on its store
-pub quiet_on : {S : Type 0} (g : Ghosts S) (conn : Held S) (old new : S) → Follows g conn old → IsQuiet g.view g.faults g.recovers g.is_shielded old new → Follows g conn new
-quiet_on g conn old new follows quiet = record {
+-- a call that only reads leads on
+pub leads_on : {S : Type 0} (g : Ghosts S) (conn old new : Held S) → Leads g conn old → Survives (state g old) (state g new) (λ _. ⊥)
+    → (HasCleanDisk (state g new) → KeepsCommitted (state g old) (state g new)) → Leads g conn new
+leads_on g conn old new leads survives kept = record {
+  clean = omega (arith, leads.clean, survives.clean);
+  shield = λ h. survives.shield (leads.shield h);
+  committed = λ clean is_open.
+      let early : HasCleanDisk (state g old) = omega (arith, survives.clean, clean) in
+      let same = kept_commit (state g old) (state g new) (kept clean) is_open in
+      ap (λ (d : Database). d.trees) same.1 ∙ leads.committed early same.0;
+  crash = λ clean db left.
+      let early : HasCleanDisk (state g old) = omega (arith, survives.clean, clean) in
+      elim (survives.crash clean db left) [ inl may ↦ leads.crash early db may | inr none ↦ absurd none ];
+}
+
+-- the store that such a connection gives back, rolled back
+pub gives_back : {S : Type 0} (g : Ghosts S) (conn last : Held S) (store : S) → Leads g conn last → IsUndone (g.view last.store) (g.view store)
+    → IsQuiet g.view g.faults g.recovers g.is_shielded last.store store → Follows g conn store
+gives_back g conn last store leads undone quiet = record {
+  clean = omega (arith, leads.clean, quiet.clean);
+  shield = λ h. quiet.shield (leads.shield h);
+  shown = λ clean is_open.
+      let early : HasCleanDisk (state g last) = omega (arith, quiet.clean, clean) in
+      (undone.undone is_open).0 ∙ leads.committed early ((undone.kept clean).was_open is_open);
+  crash = λ clean db left.
+      let early : HasCleanDisk (state g last) = omega (arith, quiet.clean, clean) in
+      leads.crash early db (quiet.outcomes db left);
+}
+
+-- and the store that an opening of it refused
+pub refuses : {S : Type 0} (g : Ghosts S) (conn : Held S) (store left : S) → Follows g conn store → (IsClean (g.view store) → IsTrue (g.view store).is_open)
+    → IsQuiet g.view g.faults g.recovers g.is_shielded store left
+    → (IsClean (g.view left) → IsTrue (g.view left).is_open → (g.view left).trees ≡ (g.view store).trees) → Follows g conn left
+refuses g conn store left follows works quiet same = record {
   clean = omega (arith, follows.clean, quiet.clean);
   shield = λ h. quiet.shield (follows.shield h);
-  crash = λ clean db left. follows.crash (omega (arith, quiet.clean, clean)) db (quiet.outcomes db left);
+  shown = λ clean is_open.
+      let early : IsClean (g.view store) = omega (arith, quiet.clean, clean) in
+      same clean is_open ∙ follows.shown early (works early);
+  crash = λ clean db may.
+      let early : IsClean (g.view store) = omega (arith, quiet.clean, clean) in
+      follows.crash early db (quiet.outcomes db may);
 }
-
--- a connection follows itself
-pub follows_self : {S : Type 0} (g : Ghosts S) (conn : Held S) → Follows g conn conn.store
-follows_self g conn = record { clean = omega arith; shield = λ h. h; crash = λ clean db left. inl left }

@@ -75,7 +75,7 @@ clock_of : (db : Trees) → (tables_in db).clock ≡ (house_row_in db).clock
 unfolding tables_in
 clock_of db = refl
 
--- a house that was read twice, and is as it was
+-- a house that was read, and is as it was
 pub record WasRead (was is : State) (s : Settings) (clock : ℕ) (counts : Counts) : Type 0 where
   pub rests : IsAtRest is
   pub settings_are : settings_in is.now.trees ≡ s
@@ -86,15 +86,15 @@ pub record WasRead (was is : State) (s : Settings) (clock : ℕ) (counts : Count
   pub same : is.now ≡ was.now
   pub committed : is.committed ≡ is.now
 
-pub was_read : (was middle is : State) (s : Settings) (clock : ℕ) (counts : Counts) → IsTrue was.is_open × IsHouse was.now → was.now ≡ was.committed → IsUnchanged was middle → IsUnchanged middle is
-    → HasSettings was.now.trees s clock → HaveNumbers middle.now.trees counts → WasRead was is s clock counts
-was_read was middle is s clock counts house settled first second set have =
-    let now = second.0.now_is ∙ first.0.now_is in
-    let committed = second.0.committed_is ∙ first.0.committed_is in
+pub was_read : (was is : State) (s : Settings) (clock : ℕ) (counts : Counts) → IsTrue was.is_open × IsHouse was.now → was.now ≡ was.committed → IsUnchanged was is
+    → HasSettings was.now.trees s clock → HaveNumbers was.now.trees counts → WasRead was is s clock counts
+was_read was is s clock counts house settled unchanged set have =
+    let now = unchanged.0.now_is in
+    let committed = unchanged.0.committed_is in
     let set_now = subst (λ (d : Database). HasSettings d.trees s clock) (sym now) set in
-    let have_now = subst (λ (d : Database). HaveNumbers d.trees counts) (sym second.0.now_is) have in
+    let have_now = subst (λ (d : Database). HaveNumbers d.trees counts) (sym now) have in
     record {
-      rests = record { is_open = second.0.is_open; house = subst IsHouse (sym now) house.1; settled = now ∙ settled ∙ sym committed; numbered = numbered is.now.trees s clock set_now have_now.numbered };
+      rests = record { is_open = unchanged.0.is_open; house = subst IsHouse (sym now) house.1; settled = now ∙ settled ∙ sym committed; numbered = numbered is.now.trees s clock set_now have_now.numbered };
       settings_are = set_now.settings_are;
       counts_are = counts_are is.now.trees counts have_now;
       clock_is = clock_of is.now.trees ∙ set_now.clock_is;

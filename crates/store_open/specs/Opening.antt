@@ -1,5 +1,5 @@
 -- What is read of a house as it is opened, and which houses are taken.
-use Rattle.std.specs.Prelude.{◌≡◌, ◌⊎◌, ◌≤◌, ◌<◌, ◌^◌, ◌==◌, ℕ, [], IsTrue, false, true, find, is_some, length, map}
+use Rattle.std.specs.Prelude.{◌≡◌, ◌≤◌, ◌<◌, ◌^◌, ◌==◌, ℕ, [], IsTrue, false, true, find, is_some, length, map}
 use Rattle.std.specs.List.{AllByRecursion}
 use Rattle.sqlite_trees.specs.declared.store.Store.{Ghosts}
 use Rattle.sqlite_trees.specs.Tree.{Trees}
@@ -60,31 +60,20 @@ pub record IsSoundHouse (db : Database) : Type 0 where
 abbrev pub NewHouse : Settings → Trees → Type 0
 NewHouse settings trees = (db : Database) × IsHouse db × (tables_in db.trees ≡ tables_of settings []) × (trees ≡ db.trees)
 
--- ---- a call that takes a connection and hands none out
+-- ---- what a call that failed has left
 
--- The connection that a creation has left was not handed out: it shows what was committed before, and a crash finds what it
--- could find before, or the new house.
-pub record LeavesMade {S : Type 0} (g : Ghosts S) (conn : Held S) (settings : Settings) : Type 0 where
-  pub last : Held S
+-- A making has left the connection so: it shows what was committed before, and a crash finds what it could find before, or the
+-- new house.
+pub record IsBackOrNew {S : Type 0} (g : Ghosts S) (conn last : Held S) (settings : Settings) : Type 0 where
   pub back : HasCleanDisk (state g last) → IsTrue (state g last).is_open
       → conn.in_transaction ≡ false → IsBack (state g conn) (state g last)
   pub survives : Survives (state g conn) (state g last) (NewHouse settings)
 
--- What the store of a connection may become: that a wrong answer of the disk was taken as true is not forgotten, a shield is
--- kept, and a crash finds what it could find before, or what was committed then.
+-- The store of a connection to which nothing was written: that a wrong answer of the disk was taken as true is not forgotten, a
+-- shield is kept, what is shown is what was committed then, and a crash finds what it could find before.
 pub record Follows {S : Type 0} (g : Ghosts S) (conn : Held S) (store : S) : Type 0 where
   pub clean : doubt (state g conn).is_clean ≤ doubt (g.view store).is_clean
   pub shield : g.is_shielded conn.store → g.is_shielded store
-  pub crash : IsClean (g.view store) → (db : Trees) → g.recovers store db
-      → g.recovers conn.store db ⊎ (db ≡ (state g conn).committed.trees)
-
--- The store that the call has left was not handed out.
-pub record LeavesStore {S : Type 0} (g : Ghosts S) (conn : Held S) : Type 0 where
-  pub store : S
-  pub follows : Follows g conn store
-
--- The store that the call has left was not handed out; where the disk was honest until then, something is so.
-pub record Leaves {S : Type 0} (g : Ghosts S) (conn : Held S) (Fact : Type 0) : Type 0 where
-  pub store : S
-  pub follows : Follows g conn store
-  pub honest : IsClean (g.view store) → Fact
+  pub shown : IsClean (g.view store) → IsTrue (g.view store).is_open
+      → (g.view store).trees ≡ (state g conn).committed.trees
+  pub crash : IsClean (g.view store) → (db : Trees) → g.recovers store db → g.recovers conn.store db

@@ -1,13 +1,16 @@
 //! A connection made anew, which has read its whole file.
-ghost use Rattle.std.specs.Prelude.{◌≡◌, ◌↔◌, false, IfOk, OnErr, OnOk, IsErrOf, IsTrue};
+ghost use Rattle.std.specs.Prelude.{◌≡◌, ◌↔◌, false, IfErr, IfOk, OnOk, IsErrOf, IsTrue};
+ghost use Rattle.sqlite_trees.specs.View.{IsClean};
 ghost use Rattle.sqlite.specs.Held.{state};
 ghost use Rattle.sqlite.specs.State.{HasCleanDisk};
 ghost use Rattle.sqlite.specs.Steps.{over_memory};
+ghost use Rattle.sqlite.specs.declared.error.Error.TheVariants.{SqliteFailure};
+ghost use Rattle.sqlite.specs.declared.error.ErrorCode.TheVariants.{NotADatabase};
 ghost use Rattle.house_rows.specs.declared.fault.KeepFault.TheVariants.{Damaged};
 ghost use Rattle.store_rows.specs.House.{IsHouse};
 ghost use Rattle.store_rows.specs.Making.{IsBlank};
 ghost use Rattle.store_rows.specs.Schema.{house_schema};
-ghost use Rattle.store_open.specs.Opening.{Follows, Leaves, LeavesStore};
+ghost use Rattle.store_open.specs.Opening.{Follows};
 
 use crate::same::is_same_schema;
 use house_rows::KeepFault;
@@ -18,12 +21,22 @@ use sqlite_trees::store::Store;
 use std::alloc::Global;
 use store_rows::{fault_of, make_tables};
 
+// Why a store is refused: it holds no database, memory was wanted, or it failed.
+fn refusal(error: Error) -> KeepFault
+    ensures { result ≡ Damaged → error ≡ SqliteFailure NotADatabase }
+{
+    match error {
+        Error::SqliteFailure(ErrorCode::NotADatabase) => KeepFault::Damaged,
+        other => fault_of(other),
+    }
+}
+
 // The connection made anew over its store: what wasn't committed is undone, and each tree is tested
 // against the schema, so its rows lie in their order.
 fn made_anew<S: Alter + Drop>(
     alloc: Global,
     conn: Connection<S>,
-) -> Result<Connection<S>, KeepFault>
+) -> Result<Connection<S>, (KeepFault, S)>
     ensures house { IfOk result (λ c. HasCleanDisk (state S.Store c)
         → (state S.Store c).now.schema ≡ house_schema → IsHouse (state S.Store c).now) }
     ensures rests { IfOk result (λ c. HasCleanDisk (state S.Store c)
@@ -33,18 +46,17 @@ fn made_anew<S: Alter + Drop>(
         → (state S.Store c).now.trees ≡ (state S.Store conn).committed.trees) }
     ensures mode { IfOk result (λ c. c.in_transaction ≡ false) }
     ensures follows { IfOk result (λ c. Follows S.Store conn c.store) }
-    ensures left { OnErr result (LeavesStore S.Store conn) }
-    ensures damaged { IsErrOf result Damaged
-        → Leaves S.Store conn (¬ (IsHouse (state S.Store conn).committed)) }
+    ensures left { IfErr result (λ e. Follows S.Store conn e.1) }
+    ensures damaged { IfErr result (λ e. e.0 ≡ Damaged → IsClean (S.Store.view e.1)
+        → ¬ (IsHouse (state S.Store conn).committed)) }
 {
     let store = conn.into_store();
     if store.is_broken() {
-        return Err(KeepFault::Store);
+        return Err((KeepFault::Store, store));
     }
     match Connection::over(alloc, store) {
         Ok(again) => Ok(again),
-        Err((Error::SqliteFailure(ErrorCode::NotADatabase), _)) => Err(KeepFault::Damaged),
-        Err((error, _)) => Err(fault_of(error)),
+        Err((error, left)) => Err((refusal(error), left)),
     }
 }
 
@@ -85,11 +97,12 @@ fn is_house_schema(alloc: Global, schema: &Schema) -> Result<bool, KeepFault>
     Ok(is_same_schema(schema, house.schema()))
 }
 
-/// The connection made anew, if it holds the tables of a house; `Damaged` where it doesn't.
+/// The connection made anew, if it holds the tables of a house; `Damaged` where it doesn't. After an
+/// error its store is given back as it was.
 pub fn house_anew<S: Alter + Drop>(
     alloc: Global,
     conn: Connection<S>,
-) -> Result<Connection<S>, KeepFault>
+) -> Result<Connection<S>, (KeepFault, S)>
     ensures house { IfOk result (λ c. HasCleanDisk (state S.Store c)
         → IsTrue (state S.Store c).is_open × IsHouse (state S.Store c).now) }
     ensures rests { IfOk result (λ c. HasCleanDisk (state S.Store c)
@@ -98,14 +111,18 @@ pub fn house_anew<S: Alter + Drop>(
         → (state S.Store c).now.trees ≡ (state S.Store conn).committed.trees) }
     ensures mode { IfOk result (λ c. c.in_transaction ≡ false) }
     ensures follows { IfOk result (λ c. Follows S.Store conn c.store) }
-    ensures left { OnErr result (LeavesStore S.Store conn) }
-    ensures damaged { IsErrOf result Damaged
-        → Leaves S.Store conn (¬ (IsHouse (state S.Store conn).committed)) }
+    ensures left { IfErr result (λ e. Follows S.Store conn e.1) }
+    ensures damaged { IfErr result (λ e. e.0 ≡ Damaged → IsClean (S.Store.view e.1)
+        → ¬ (IsHouse (state S.Store conn).committed)) }
 {
     let again = made_anew(alloc, conn)?;
-    if is_house_schema(alloc, again.schema())? {
+    let is_house = match is_house_schema(alloc, again.schema()) {
+        Ok(is_house) => is_house,
+        Err(fault) => return Err((fault, again.into_store())),
+    };
+    if is_house {
         Ok(again)
     } else {
-        Err(KeepFault::Damaged)
+        Err((KeepFault::Damaged, again.into_store()))
     }
 }

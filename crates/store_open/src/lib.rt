@@ -6,7 +6,7 @@
 //! version 1 whose row fits, with what its settings, its counts and its clock are; it is never
 //! `Damaged` of a sound house, which `specs/Opening.antt` defines. Read `open.rt` first, then `make.rt`.
 //!
-//! Everything is said wherever the disk was honest, also of an opening that hands out no connection.
+//! Everything is said wherever the disk was honest. An opening that fails gives the store back as it was.
 //! Not promised: when an error is `Memory` or `Store`, and that rows of other tables than the house
 //! and its bands fit: an opening does not read them.
 #![tactic(auto)]

@@ -1,8 +1,9 @@
 //! A house is opened: whatever a connection holds is tested until it is a house.
-ghost use Rattle.std.specs.Prelude.{◌≡◌, ◌≤◌, false, map, IfOk, OnErr, IsErrOf};
+ghost use Rattle.std.specs.Prelude.{◌≡◌, ◌≤◌, false, map, IfErr, IfOk, IsErrOf};
 ghost use Rattle.sqlite.specs.Held.{state};
 ghost use Rattle.sqlite.specs.State.{HasCleanDisk};
 ghost use Rattle.sqlite_trees.specs.Tree.{Trees};
+ghost use Rattle.sqlite_trees.specs.View.{IsClean};
 ghost use Rattle.house_rows.specs.Fits.{IsMoment};
 ghost use Rattle.house_rows.specs.Found.{counts_of};
 ghost use Rattle.house_rows.specs.declared.fault.KeepFault.TheVariants.{Damaged};
@@ -10,13 +11,13 @@ ghost use Rattle.steps.specs.Table.{IsBandTable};
 ghost use Rattle.store_rows.specs.Fitting.{HouseRowFits};
 ghost use Rattle.store_rows.specs.House.{Serves};
 ghost use Rattle.store_rows.specs.Tables.{IsAtRest, house_row_in, settings_in, tables_in};
-ghost use Rattle.store_open.specs.Opening.{AreNumbered, HasSettings, IsSetUp, IsSoundHouse, Leaves, LeavesStore};
+ghost use Rattle.store_open.specs.Opening.{AreNumbered, Follows, HasSettings, HaveNumbers, IsSetUp, IsSoundHouse};
 ghost use Rattle.store_rows.specs.Frames.{OnlyReads};
 
 use crate::anew::house_anew;
 use crate::house::Opened;
 use crate::numbers::read_counts;
-use house_rows::{KeepFault, Rate, Settings};
+use house_rows::{Counts, KeepFault, Rate, Settings};
 use sqlite::{Alter, Connection};
 use std::alloc::Global;
 use steps::{Bands, BandsFault};
@@ -92,15 +93,38 @@ fn read_settings<S: Alter>(
     Ok((settings, clock))
 }
 
+// All that is read of a house as it is opened; Damaged where what it is set up with or a number
+// doesn't fit.
+fn read_house<S: Alter>(
+    alloc: Global,
+    conn: &mut Connection<S>,
+) -> Result<(Settings, u64, Counts), KeepFault>
+    requires { Serves (state S.Store conn.old) }
+    ensures settings { HasCleanDisk (state S.Store conn.new)
+        → IfOk result (λ read. HasSettings (state S.Store conn.old).now.trees read.0 read.1) }
+    ensures moment { IfOk result (λ read. IsMoment read.1) }
+    ensures counts { HasCleanDisk (state S.Store conn.new)
+        → IfOk result (λ read. HaveNumbers (state S.Store conn.old).now.trees read.2) }
+    ensures damaged { HasCleanDisk (state S.Store conn.new)
+        → IsSetUp (state S.Store conn.old).now.trees
+        → AreNumbered (state S.Store conn.old).now.trees
+        → ¬ (IsErrOf result Damaged) }
+    ensures read { OnlyReads (state S.Store conn.old) (state S.Store conn.new) result }
+{
+    let (settings, clock) = read_settings(alloc, conn)?;
+    let counts = read_counts(conn)?;
+    Ok((settings, clock, counts))
+}
+
 /// Opens the house that a connection holds. What it has not committed is undone.
 ///
 /// `Damaged` where it holds no house of version 1: other tables than those of a house, a row of the
 /// house or bands that don't fit, or a member, a category or an item with a number that is 0 or over
-/// how many there are.
+/// how many there are. After an error the store is given back as it was: nothing was written.
 pub fn open_house<S: Alter + Drop>(
     alloc: Global,
     conn: Connection<S>,
-) -> Result<Opened<S>, KeepFault>
+) -> Result<Opened<S>, (KeepFault, S)>
     ensures rests { IfOk result (λ o. HasCleanDisk (state S.Store o.conn)
         → IsAtRest (state S.Store o.conn)) }
     ensures settings { IfOk result (λ o. HasCleanDisk (state S.Store o.conn)
@@ -119,17 +143,19 @@ pub fn open_house<S: Alter + Drop>(
     ensures mode { IfOk result (λ o. o.conn.in_transaction ≡ false) }
     ensures same { IfOk result (λ o. HasCleanDisk (state S.Store o.conn)
         → (state S.Store o.conn).now.trees ≡ (state S.Store conn).committed.trees) }
-    ensures left { OnErr result (LeavesStore S.Store conn) }
-    ensures damaged { IsErrOf result Damaged
-        → Leaves S.Store conn (¬ (IsSoundHouse (state S.Store conn).committed)) }
+    ensures follows { IfOk result (λ o. Follows S.Store conn o.conn.store) }
+    ensures left { IfErr result (λ e. Follows S.Store conn e.1) }
+    ensures damaged { IfErr result (λ e. e.0 ≡ Damaged → IsClean (S.Store.view e.1)
+        → ¬ (IsSoundHouse (state S.Store conn).committed)) }
 {
     let mut conn = house_anew(alloc, conn)?;
-    let (settings, clock) = read_settings(alloc, &mut conn)?;
-    let counts = read_counts(&mut conn)?;
-    Ok(Opened {
-        conn,
-        settings,
-        counts,
-        clock,
-    })
+    match read_house(alloc, &mut conn) {
+        Ok((settings, clock, counts)) => Ok(Opened {
+            conn,
+            settings,
+            counts,
+            clock,
+        }),
+        Err(fault) => Err((fault, conn.into_store())),
+    }
 }

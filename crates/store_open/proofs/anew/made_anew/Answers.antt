@@ -1,11 +1,9 @@
-use Rattle.std.proofs.Common.{◌≡◌, false, ap, subst, sym, ◌∙◌, arith, inr, IsTrue}
+use Rattle.std.proofs.Common.{◌≡◌, false, ap, subst, sym, ◌∙◌, arith, IsTrue}
 use Rattle.sqlite_trees.specs.View.{IsClean}
 use Rattle.sqlite_catalog.specs.Listing.{IsSound}
 use Rattle.sqlite.specs.Effect.{Database}
 use Rattle.sqlite.specs.Held.{state}
-use Rattle.sqlite.specs.declared.error.Error.TheVariants.{SqliteFailure}
-use Rattle.sqlite.specs.declared.error.ErrorCode.TheVariants.{NotADatabase}
-use Rattle.store_open.proofs.OpenLemmas.{follows_self, house_from, no_database, not_shut, quiet_on}
+use Rattle.store_open.proofs.OpenLemmas.{gives_back, house_from, leads_self, no_database, not_shut, refuses}
 use Rattle.store_open.proofs.anew.made_anew.Goals as goal
 
 pub returns-in-Ok-clause-house : goal.returns-in-Ok-clause-house
@@ -29,31 +27,42 @@ pub returns-in-Ok-clause-follows : goal.returns-in-Ok-clause-follows
 returns-in-Ok-clause-follows g c =
     let store = c.into_store-store.result in
     let quiet = c.into_store-store.ensures.quiet in
+    let undone = c.into_store-store.ensures.undone in
+    let early : IsClean (g.S.Store.view c.in-Ok.again.store) → IsClean (g.S.Store.view store) = λ clean. omega (arith, c.in-Ok.ensures.clean, clean) in
+    let works : IsClean (g.S.Store.view store) → IsTrue (g.S.Store.view store).is_open = λ clean.
+    not_shut _ _ (g.met.S.Store.broken_if_shut store) (sym (c.is_broken.ensures clean) ∙ c.if-is_broken.false) in
     record {
       clean = omega (arith, quiet.clean, c.in-Ok.ensures.clean);
       shield = λ h. c.in-Ok.ensures.shield (quiet.shield h);
+      shown = λ clean is_open. c.in-Ok.ensures.trees clean ∙ (undone.undone (works (early clean))).0;
       crash = λ clean db left.
-          let early : IsClean (g.S.Store.view store) = omega (arith, c.in-Ok.ensures.clean, clean) in
-          let whole : (g.S.Store.view store).is_broken ≡ false = sym (c.is_broken.ensures early) ∙ c.if-is_broken.false in
-          let is_open : IsTrue (g.S.Store.view store).is_open = not_shut _ _ (g.met.S.Store.broken_if_shut store) whole in
+          let before = works (early clean) in
           let opens = (c.in-Ok.ensures.opens clean).0 in
-          inr (g.met.S.Store.settled c.in-Ok.again.store db opens.is_open left ∙ sym (ap (λ (d : Database). d.trees) opens.clean) ∙ c.in-Ok.ensures.trees clean ∙ (c.into_store-store.ensures.undone.undone is_open).0);
+          let found = g.met.S.Store.settled c.in-Ok.again.store db opens.is_open left ∙ sym (ap (λ (d : Database). d.trees) opens.clean) ∙ c.in-Ok.ensures.trees clean ∙ (undone.undone before).0 in
+          subst (g.S.Store.recovers c.args.conn.store) (sym found) (g.met.S.Store.stays c.args.conn.store ((undone.kept (early clean)).was_open before));
     }
 
-pub returns-in-Err-SqliteFailure-NotADatabase-default-clause-damaged : goal.returns-in-Err-SqliteFailure-NotADatabase-default-clause-damaged
-returns-in-Err-SqliteFailure-NotADatabase-default-clause-damaged g c is =
+-- an error gives the store back
+
+pub returns-then-is_broken-clause-left : goal.returns-then-is_broken-clause-left
+returns-then-is_broken-clause-left g c =
+    let store = c.into_store-store in
+    gives_back g.S.Store c.args.conn c.args.conn store.result (leads_self g.S.Store c.args.conn) store.ensures.undone store.ensures.quiet
+
+pub returns-in-Err-clause-left : goal.returns-in-Err-clause-left
+returns-in-Err-clause-left g c =
+    let store = c.into_store-store in
+    let refused = c.in-Err.ensures in
+    let works : IsClean (g.S.Store.view store.result) → IsTrue (g.S.Store.view store.result).is_open = λ clean.
+    not_shut _ _ (g.met.S.Store.broken_if_shut store.result) (sym (c.is_broken.ensures clean) ∙ c.if-is_broken.false) in
+    let back = gives_back g.S.Store c.args.conn c.args.conn store.result (leads_self g.S.Store c.args.conn) store.ensures.undone store.ensures.quiet in
+    refuses g.S.Store c.args.conn store.result c.in-Err.left back works refused.unharmed refused.rows
+
+pub returns-in-Err-clause-damaged : goal.returns-in-Err-clause-damaged
+returns-in-Err-clause-damaged g c is clean house =
     let store = c.into_store-store.result in
-    let quiet = c.into_store-store.ensures.quiet in
-    let refused = c.in-Err-SqliteFailure-NotADatabase-default in
-    let left = refused.ensures.unharmed in
-    record {
-      store = refused.field-0-1;
-      follows = quiet_on g.S.Store c.args.conn store refused.field-0-1 (quiet_on g.S.Store c.args.conn c.args.conn.store store (follows_self g.S.Store c.args.conn) quiet) left;
-      honest = λ clean house.
-          let early : IsClean (g.S.Store.view store) = omega (arith, left.clean) in
-          let whole : (g.S.Store.view store).is_broken ≡ false = sym (c.is_broken.ensures early) ∙ c.if-is_broken.false in
-          let is_open : IsTrue (g.S.Store.view store).is_open = not_shut _ _ (g.met.S.Store.broken_if_shut store) whole in
-          let trees = (c.into_store-store.ensures.undone.undone is_open).0 in
-          let named : refused.field-0-0 ≡ SqliteFailure NotADatabase = refused.field-0-0-is ∙ ap SqliteFailure refused.field-0-0-0-is in
-          no_database _ _ _ named (refused.ensures.err clean) _ (subst (IsSound _) (sym trees) house.sound);
-    }
+    let early : IsClean (g.S.Store.view store) = omega (arith, c.in-Err.ensures.unharmed.clean, clean) in
+    let whole : (g.S.Store.view store).is_broken ≡ false = sym (c.is_broken.ensures early) ∙ c.if-is_broken.false in
+    let is_open : IsTrue (g.S.Store.view store).is_open = not_shut _ _ (g.met.S.Store.broken_if_shut store) whole in
+    let trees = (c.into_store-store.ensures.undone.undone is_open).0 in
+    no_database _ _ _ (c.refusal.ensures is) (c.in-Err.ensures.err clean) _ (subst (IsSound _) (sym trees) house.sound)

@@ -1,21 +1,11 @@
-use Rattle.std.proofs.Common.{arith}
-use Rattle.store.proofs.Begins.{known_new}
-use Rattle.store_rows.proofs.StateLemmas.{on_error}
+use Rattle.std.proofs.Common.{Err, ap}
+use Rattle.store.proofs.Known.{the_fault}
 use Rattle.store.proofs.keep.SqlKeep.create.Goals as goal
 
-pub invariant_of-result : goal.invariant_of-result
-invariant_of-result g c = record {
-  idle = c.make_house.ensures.mode c.in_ok-make_house.ensures.blank.0;
-  moment = omega arith;
-  rests = λ going honest. (c.in_ok-make_house.ensures.ok honest).0;
-  known = λ going honest. known_new _ _ (c.in_ok-make_house.ensures.ok honest).1;
-}
+pub returns-clause-left : goal.returns-clause-left
+returns-clause-left g c = record { last = c.in-Err.field-0-1; is = c.in-Err.ensures.left }
 
--- an error leaves what is so
-
-pub returns-in_err-make_house-clause-left : goal.returns-in_err-make_house-clause-left
-returns-in_err-make_house-clause-left g c = on_error c.from_residual.result (record {
-  last = c.make_house.new.conn;
-  back = c.in_err-make_house.ensures.err;
-  survives = c.make_house.ensures.crash;
-})
+pub returns-clause-damaged : goal.returns-clause-damaged
+returns-clause-damaged g c =
+    let why = c.in-Err.ensures.damaged in
+    (λ is. why.0 (the_fault is), λ listed. ap Err (why.1 listed))

@@ -1,12 +1,12 @@
-use Rattle.store.proofs.Begins.{known_read}
+use Rattle.store.proofs.Known.{the_fault}
 use Rattle.store.proofs.keep.SqlKeep.open.Goals as goal
 
-pub invariant_of-result : goal.invariant_of-result
-invariant_of-result g c =
-    let ensures = c.in_ok-house.ensures in
-    record {
-      idle = ensures.mode;
-      moment = ensures.moment;
-      rests = λ going honest. ensures.rests honest;
-      known = λ going honest. known_read _ _ _ _ (ensures.settings honest) (ensures.counts honest) (ensures.clock honest);
-    }
+pub returns-clause-left : goal.returns-clause-left
+returns-clause-left g c = record { store = c.in-Err.field-0-1; follows = c.in-Err.ensures.left }
+
+pub returns-clause-damaged : goal.returns-clause-damaged
+returns-clause-damaged g c is = record {
+  store = c.in-Err.field-0-1;
+  follows = c.in-Err.ensures.left;
+  honest = c.in-Err.ensures.damaged (the_fault is);
+}

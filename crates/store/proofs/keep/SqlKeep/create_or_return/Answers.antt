@@ -1,0 +1,19 @@
+use Rattle.std.proofs.Common.{arith}
+use Rattle.store.proofs.Begins.{known_new}
+use Rattle.store.proofs.keep.SqlKeep.create_or_return.Goals as goal
+
+pub invariant_of-result : goal.invariant_of-result
+invariant_of-result g c = record {
+  idle = c.make_house.ensures.mode c.in-Ok.ensures.blank.0;
+  moment = omega arith;
+  rests = λ going honest. (c.in-Ok.ensures.ok honest).0;
+  known = λ going honest. known_new _ _ (c.in-Ok.ensures.ok honest).1;
+}
+
+-- an error leaves what is so
+
+pub returns-in-Err-clause-left : goal.returns-in-Err-clause-left
+returns-in-Err-clause-left g c = record {
+  back = c.in-Err.ensures.err;
+  survives = c.make_house.ensures.crash;
+}
