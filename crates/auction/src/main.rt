@@ -19,6 +19,7 @@ mod houses;
 mod import;
 mod init;
 mod input;
+mod listener;
 mod program;
 mod replay;
 mod serve;

@@ -14,6 +14,7 @@ use crate::houses::{KeepInFile, KeepInMemory};
 use crate::import::import_run;
 use crate::init::init_run;
 use crate::input::{open_input, open_source};
+use crate::listener::Listener;
 use crate::replay::replay_run;
 use crate::serve::{answer_each, serve_run};
 use crate::statement::{Inquiry, statement_run};
@@ -158,12 +159,12 @@ fn open_file<K: KeepInFile>(
     alloc: Global,
     path: &str,
     port: u16,
-) -> Result<(Site<K>, TcpListener), Fault>
+) -> Result<(Site<K>, Listener), Fault>
     ensures { IfErr result (λ fault. (fault ≡ Fault.Socket) ⊎ IsOfKeep fault) }
 {
     let site = open_site::<K>(rt, alloc, path)?;
     match TcpListener::bind(rt, (Ipv4Addr::LOCALHOST, port)) {
-        Ok(listener) => Ok((site, listener)),
+        Ok(listener) => Ok((site, Listener::new(listener))),
         Err(_) => Err(Fault::Socket),
     }
 }
@@ -175,8 +176,8 @@ fn answer_file<K: KeepInFile>(
     path: &str,
     asked: Serve,
 ) -> Result<K, Fault> {
-    let (site, listener) = open_file::<K>(rt, alloc, path, asked.port)?;
-    answer_each(alloc, &listener, asked.count, &mut rt.stdout(), site)
+    let (site, mut listener) = open_file::<K>(rt, alloc, path, asked.port)?;
+    answer_each(alloc, &mut listener, asked.count, &mut rt.stdout(), site)
 }
 
 // Answers connections over the house in a file, and ends it.

@@ -1,31 +1,24 @@
 //! `serve`: the answers to the messages of connections, one connection after the other.
-ghost use Rattle.std.specs.Prelude.{◌≡◌, ◌≤◌, IfErr, IfOk, IsOk, OnOk};
+ghost use Rattle.std.specs.Prelude.{◌≡◌, ◌≤◌, ◌⊎◌, IfErr, IfOk, IsOk, OnOk};
 ghost use Rattle.std.specs.Io.KnownBytes.{Appends};
 ghost use Rattle.auction.specs.Faults.{IsOfKeep};
 ghost use Rattle.auction.specs.Printed.{listening, served};
 ghost use Rattle.settle.specs.Zoned.{IsZoneOf};
+ghost use Rattle.settle.specs.declared.zone.Zone.{Zone};
 ghost use Rattle.site.specs.Answers.{zone_of};
+ghost use Rattle.site_connections.specs.Turns.{ServesOne, TakesEach, TakesOne};
 ghost use Rattle.site_serve.specs.Serving.{keep_of};
 
 use crate::ends::Ends;
 use crate::fault::{Fault, ended};
-use device::{Reading, Writing};
 use house_rows::Keep;
 use site::Site;
-use site_serve::serve;
+use site_connections::{Connections, serve_each};
 use std::alloc::Global;
-use std::io::{Read, Write};
-use std::net::{Shutdown, TcpListener, TcpStream};
-use std::time::Duration;
+use std::io::Write;
 
 // How many messages of a connection are answered.
 const MOST: u64 = 10_000;
-
-// How many seconds a connection may be still before it is given up.
-const STILL: u64 = 30;
-
-// How many pieces are thrown away of what comes behind the last answer.
-const PIECES: u32 = 64;
 
 /// The site over a keep.
 pub fn begun<K: Keep + Drop>(alloc: Global, keep: K) -> Result<Site<K>, Fault>
@@ -40,44 +33,19 @@ pub fn begun<K: Keep + Drop>(alloc: Global, keep: K) -> Result<Site<K>, Fault>
 /// The keep, once a site could begin over it: so what is wrong with a house is told before what else
 /// is asked of it.
 pub fn sound<K: Keep + Drop>(alloc: Global, keep: K) -> Result<K, Fault>
-    ensures { IfOk result (λ same. same ≡ keep) }
+    ensures same { IfOk result (λ same. same ≡ keep) }
+    ensures zone { K.is_honest keep → IfOk result (λ same. (zone : Zone)
+        × IsZoneOf (K.content same).settings.zone zone) }
 {
     let site = begun(alloc, keep)?;
     Ok(site.end())
 }
 
-// Lets the peer read its answers: one whose connection is closed over bytes that were not read may
-// lose them (RFC 9112, 9.6).
-fn hang_up(stream: &TcpStream) {
-    let mut reader = stream;
-    let mut piece = [0; 4096];
-    if stream.shutdown(Shutdown::Write).is_err() {
-        return;
-    }
-    for _ in 0..PIECES {
-        match reader.read(&mut piece) {
-            Ok(count) if count > 0 => {}
-            _ => return,
-        }
-    }
-}
-
-// Answers the messages of a connection. A fault of the connection ends it, and nothing else.
-fn answer<K: Keep + Drop>(alloc: Global, stream: &TcpStream, site: &mut Site<K>) {
-    let still = Some(Duration::from_secs(STILL));
-    if stream.set_read_timeout(still).is_err() || stream.set_write_timeout(still).is_err() {
-        return;
-    }
-    let mut source = Reading::new(stream);
-    let mut sink = Writing::new(stream);
-    if serve(alloc, &mut source, &mut sink, site, MOST).is_ok() {
-        hang_up(stream);
-    }
-}
-
 // Tells that connections are waited for.
 fn tell_listening<W: Write>(output: &mut W) -> Result<(), Fault>
-    ensures { OnOk result (Appends (W.contents output.old) (W.contents output.new) listening) }
+    ensures told { OnOk result
+        (Appends (W.contents output.old) (W.contents output.new) listening) }
+    ensures fault { IfErr result (λ fault. fault ≡ Fault.Write) }
 {
     match writeln!(output, "listening") {
         Ok(()) => Ok(()),
@@ -95,38 +63,66 @@ fn tell_served<W: Write>(output: &mut W, count: u64) -> Result<(), Fault>
     }
 }
 
-// Answers so many connections, one after the other.
-fn answer_connections<K: Keep + Drop>(
+// Serves so many connections, one after the other.
+fn serve_all<C: Connections, K: Keep + Drop>(
     alloc: Global,
-    listener: &TcpListener,
+    connections: &mut C,
     count: u64,
     site: &mut Site<K>,
-) -> Result<(), Fault> {
-    for _ in 0..count {
-        match listener.accept() {
-            Ok((stream, _)) => answer(alloc, &stream, site),
-            Err(_) => return Err(Fault::Socket),
-        }
+) -> Result<(), Fault>
+    ensures each { OnOk result (TakesEach (TakesOne
+        (ServesOne K.content K.is_failed K.is_honest K.may_leave (zone_of site.old)
+        C.Input.left C.Input.has_failed C.Output.taken C.Output.handed_on C.Output.has_failed MOST)
+        C.accepts C.ends) count
+        (connections.old, keep_of site.old) (connections.new, keep_of site.new)) }
+    ensures fault { IfErr result (λ fault. fault ≡ Fault.Socket) }
+{
+    match serve_each(alloc, connections, count, site, MOST) {
+        Ok(()) => Ok(()),
+        Err(_) => Err(Fault::Socket),
     }
-    Ok(())
 }
 
-/// Tells that connections are waited for, answers so many of them, one after the other, and gives
-/// the keep back.
-pub fn answer_each<W: Write, K: Keep + Drop>(
+// Tells that connections are waited for, and serves so many.
+fn listen<W: Write, C: Connections, K: Keep + Drop>(
     alloc: Global,
-    listener: &TcpListener,
+    connections: &mut C,
+    count: u64,
+    output: &mut W,
+    site: &mut Site<K>,
+) -> Result<(), Fault>
+    ensures told { OnOk result
+        (Appends (W.contents output.old) (W.contents output.new) listening) }
+    ensures each { OnOk result (TakesEach (TakesOne
+        (ServesOne K.content K.is_failed K.is_honest K.may_leave (zone_of site.old)
+        C.Input.left C.Input.has_failed C.Output.taken C.Output.handed_on C.Output.has_failed MOST)
+        C.accepts C.ends) count
+        (connections.old, keep_of site.old) (connections.new, keep_of site.new)) }
+    ensures fault { IfErr result (λ fault. (fault ≡ Fault.Write) ⊎ (fault ≡ Fault.Socket)) }
+{
+    tell_listening(output)?;
+    serve_all(alloc, connections, count, site)
+}
+
+/// Tells that connections are waited for, serves so many of them, one after the other, each by at
+/// most 10000 messages, and gives the keep back, which nothing else has changed.
+pub fn answer_each<W: Write, C: Connections, K: Keep + Drop>(
+    alloc: Global,
+    connections: &mut C,
     count: u64,
     output: &mut W,
     site: Site<K>,
 ) -> Result<K, Fault>
-    ensures { OnOk result (Appends (W.contents output.old) (W.contents output.new) listening) }
+    ensures told { OnOk result
+        (Appends (W.contents output.old) (W.contents output.new) listening) }
+    ensures each { IfOk result (λ keep. TakesEach (TakesOne
+        (ServesOne K.content K.is_failed K.is_honest K.may_leave (zone_of site)
+        C.Input.left C.Input.has_failed C.Output.taken C.Output.handed_on C.Output.has_failed MOST)
+        C.accepts C.ends) count (connections.old, keep_of site) (connections.new, keep)) }
+    ensures fault { IfErr result (λ fault. (fault ≡ Fault.Write) ⊎ (fault ≡ Fault.Socket)) }
 {
     let mut site = site;
-    let answered = match tell_listening(output) {
-        Ok(()) => answer_connections(alloc, listener, count, &mut site),
-        Err(fault) => Err(fault),
-    };
+    let answered = listen(alloc, connections, count, output, &mut site);
     let keep = site.end();
     match answered {
         Ok(()) => Ok(keep),

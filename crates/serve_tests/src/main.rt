@@ -1,4 +1,5 @@
-//! Plays a script of streams over new houses in memory, over devices that fail, and over a connection.
+//! Plays a script of streams over new houses in memory, over devices that fail, over a connection, and as
+//! connections in turn.
 //!
 //! The stored run is a test of what no clause says: that calls succeed, and that a fault is told where a
 //! device failed and nowhere else. `stdin` has the script, `stdout` its transcript, in which what has to be told
@@ -11,6 +12,7 @@ mod script;
 mod serving;
 mod socket;
 mod stream;
+mod turns;
 
 use script::{Fault, Stage};
 use std::alloc::Global;

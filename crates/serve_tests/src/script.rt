@@ -4,10 +4,12 @@
 //! adds bytes. `house` makes what the stream holds the messages by which each house begins, and empties
 //! it, as `clear` does. `takes N`, `gives N` and `flushes N` serve the stream over houses of their own, in
 //! pieces of N bytes, with each such call failing in turn. `socket` serves it over a connection, and tells what the
-//! other end reads. An empty line, and one that begins with `--`, tells nothing.
+//! other end reads. `connect` makes what the stream holds a connection that waits, and empties it; `connections N`
+//! serves the first N of them in turn over one house. An empty line, and one that begins with `--`, tells nothing.
 use crate::failing::{Calls, tell};
 use crate::socket::tell_received;
 use crate::stream::Stream;
+use crate::turns::tell_each;
 use house_rows::KeepFault;
 use std::alloc::{AllocError, Global};
 use std::io;
@@ -65,6 +67,8 @@ pub(crate) struct Stage {
     pub(crate) setup: Stream,
     /// The stream that is served.
     pub(crate) stream: Stream,
+    /// The connections that wait.
+    pub(crate) connections: Vec<Stream>,
 }
 
 impl Stage {
@@ -73,12 +77,27 @@ impl Stage {
         Stage {
             setup: Stream::new(alloc),
             stream: Stream::new(alloc),
+            connections: Vec::new(alloc),
         }
+    }
+
+    // What the stream holds, which is then empty.
+    fn take(&mut self, alloc: Global) -> Stream {
+        std::mem::replace(&mut self.stream, Stream::new(alloc))
     }
 
     // What the stream holds is how each house begins.
     fn begin(&mut self, alloc: Global) {
-        self.setup = std::mem::replace(&mut self.stream, Stream::new(alloc));
+        self.setup = self.take(alloc);
+    }
+
+    // What the stream holds is a connection that waits.
+    fn connect(&mut self, alloc: Global) -> Result<(), Fault> {
+        let stream = self.take(alloc);
+        match self.connections.push(stream) {
+            Ok(()) => Ok(()),
+            Err(_) => Err(Fault::Memory),
+        }
     }
 
     // Empties the stream.
@@ -113,6 +132,7 @@ pub(crate) fn play(
         "takes" => tell(alloc, stage, Calls::Takes, number(rest)?),
         "gives" => tell(alloc, stage, Calls::Gives, number(rest)?),
         "flushes" => tell(alloc, stage, Calls::Flushes, number(rest)?),
+        "connections" => tell_each(alloc, stage, number(rest)? as u64),
         _ => {
             prepare(alloc, stage, word, rest)?;
             Ok(None)
@@ -135,6 +155,7 @@ fn prepare(alloc: Global, stage: &mut Stage, word: &str, rest: &str) -> Result<(
             stage.clear(alloc);
             Ok(())
         }
+        "connect" => stage.connect(alloc),
         _ => Err(Fault::Script),
     }
 }

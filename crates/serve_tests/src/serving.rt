@@ -42,6 +42,13 @@ fn begin<K: Keep + Drop>(alloc: Global, site: &mut Site<K>, setup: &Stream) -> R
     }
 }
 
+/// A new house behind the messages of a setup.
+pub(crate) fn begun(alloc: Global, setup: &Stream) -> Result<Site<ListKeep>, Fault> {
+    let mut site = new_site(alloc)?;
+    begin(alloc, &mut site, setup)?;
+    Ok(site)
+}
+
 // Serves over a house behind its setup, and then looks at the record.
 fn serve_behind<K: Keep + Drop, R: Source, W: Sink>(
     alloc: Global,

@@ -12,7 +12,7 @@ returns-clause-ended g c =
     taken k.content k.is_failed k.is_honest k.may_leave g.K.Ends.is_ended c.args.by
     c.args.keep c.in_ok-keep.keep c.known.new.keep (keep_of c.in_ok-site.site)
     (keep_of c.import-imported.new.site) c.end.result (zone_of c.in_ok-site.site)
-    c.in_ok-keep.ensures c.in_ok-lots.ensures.known.read
+    c.in_ok-keep.ensures.same c.in_ok-lots.ensures.known.read
     c.in_ok-lots.ensures.known.known c.in_ok-site.ensures.keep
     c.in_ok-site.ensures.zone c.import-imported.ensures.ordered c.end.ensures ended)
 
@@ -27,7 +27,7 @@ returns-clause-listed g c =
     g.R.Read.remaining c.args.by c.args.keep (keep_of site)
     (taken k.content k.is_failed k.is_honest k.may_leave g.K.Ends.is_ended c.args.by
     c.args.keep c.in_ok-keep.keep c.known.new.keep (keep_of site) (keep_of after)
-    c.end.result (zone_of site) c.in_ok-keep.ensures c.in_ok-lots.ensures.known.read
+    c.end.result (zone_of site) c.in_ok-keep.ensures.same c.in_ok-lots.ensures.known.read
     c.in_ok-lots.ensures.known.known c.in_ok-site.ensures.keep
     c.in_ok-site.ensures.zone c.import-imported.ensures.ordered c.end.ensures ended)
     c.args.lots c.in_ok-lots.lots (g.W.Write.contents c.args.output.now)

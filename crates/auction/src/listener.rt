@@ -1,0 +1,100 @@
+//! The connections of a listener.
+ghost use Rattle.std.specs.Prelude.{⊤};
+
+use device::{Failure, Reading, Writing};
+use site_connections::{Connection, Connections};
+use site_serve::{ServeFault, Served};
+use std::io::{self, Read};
+use std::net::{Shutdown, TcpListener, TcpStream};
+use std::time::Duration;
+
+// How many seconds a connection may be still before it is given up.
+const STILL: u64 = 30;
+
+// How many pieces are thrown away of what comes behind the last answer.
+const PIECES: u32 = 60;
+
+/// The connections of a listener. None of them tells its bytes.
+#[derive(Drop)]
+pub struct Listener {
+    listener: TcpListener,
+    // The one that is served.
+    stream: Option<TcpStream>,
+}
+
+impl Listener {
+    /// Those that come to it.
+    pub fn new(listener: TcpListener) -> Listener {
+        Listener {
+            listener,
+            stream: None,
+        }
+    }
+}
+
+// A connection that is given up where it is still, for reading and for writing.
+fn set_up(stream: &TcpStream) -> io::Result<Connection<Reading<TcpStream>, Writing<TcpStream>>> {
+    let still = Some(Duration::from_secs(STILL));
+    stream.set_read_timeout(still)?;
+    stream.set_write_timeout(still)?;
+    Ok(Connection {
+        source: Reading::new(stream.try_clone()?),
+        sink: Writing::new(stream.try_clone()?),
+    })
+}
+
+// Lets the peer read its answers: one whose connection is closed over bytes that were not read may
+// lose them (RFC 9112, 9.6).
+fn hang_up(stream: &TcpStream) {
+    let mut reader = stream;
+    let mut piece = [0; 4096];
+    let waits = stream.set_read_timeout(Some(Duration::from_secs(1)));
+    if waits.is_err() || stream.shutdown(Shutdown::Write).is_err() {
+        return;
+    }
+    for _ in 0..PIECES {
+        match reader.read(&mut piece) {
+            Ok(count) if count > 0 => {}
+            _ => return,
+        }
+    }
+}
+
+impl Connections for Listener {
+    type Input = Reading<TcpStream>;
+
+    type Output = Writing<TcpStream>;
+
+    ghost accepts = { λ _ _ _. ⊤ };
+
+    ghost ends = { λ _ _ _ _. ⊤ };
+
+    fn accept(
+        &mut self,
+    ) -> Result<Option<Connection<Reading<TcpStream>, Writing<TcpStream>>>, Failure> {
+        let Ok((stream, _)) = self.listener.accept() else {
+            return Err(Failure);
+        };
+        match set_up(&stream) {
+            Ok(connection) => {
+                self.stream = Some(stream);
+                Ok(Some(connection))
+            }
+            Err(_) => Ok(None),
+        }
+    }
+
+    fn end(
+        &mut self,
+        _connection: Connection<Reading<TcpStream>, Writing<TcpStream>>,
+        told: Result<Served, ServeFault>,
+    )
+        ensures { ⊤ }
+    {
+        if let Some(stream) = self.stream.take()
+            && told.is_ok()
+        {
+            hang_up(&stream);
+        }
+    }
+}

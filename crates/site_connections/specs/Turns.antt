@@ -1,0 +1,84 @@
+-- What serving connections in turn does. Start here.
+use Rattle.std.specs.Prelude.{◌≡◌, ◌⊎◌, ℕ, ◌<◌, zero, suc, List, Bool, true, Option, Some, None, Result, Ok, Err, IfOk, IfSome, OnOk}
+use Rattle.device.specs.declared.failure.Failure.{Failure}
+use Rattle.house_rows.specs.Tables.{Tables}
+use Rattle.settle.specs.declared.zone.Zone.{Zone}
+use Rattle.site.specs.Answers.{IsStep}
+use Rattle.site_serve.specs.Ends.{HasEnded}
+use Rattle.site_serve.specs.Serving.{HasRead, HasServed, HasWritten, IsFlushed}
+use Rattle.site_serve.specs.declared.serving.ServeFault.{ServeFault}
+use Rattle.site_serve.specs.declared.serving.ServeFault.TheVariants.{Memory, Read, Write}
+use Rattle.site_serve.specs.declared.serving.Served.{Served}
+use Rattle.site_connections.specs.declared.connection.Connection.{Connection}
+
+-- what `serve` says of one connection: as it came and as it ended, what was told of it, and the keep
+-- before and after
+pub record ServesOne {K R W : Type 0} (content : K → Tables) (is_failed : K → Bool)
+    (is_honest : K → Type 0) (may_leave : K → Tables → Type 0) (zone : Zone)
+    (left : R → Option (List ℕ)) (source_has_failed : R → Bool)
+    (taken handed_on : W → Option (List ℕ)) (sink_has_failed : W → Bool) (most : ℕ)
+    (came ended : Connection R W) (told : Result Served ServeFault) (old new : K) : Type 0 where
+  pub served : IfOk told (λ served. IfSome (left came.source) (λ stream.
+      HasServed (IsStep content is_failed is_honest may_leave zone) stream most
+      (taken came.sink) (taken ended.sink) old new served))
+  pub read : told ≡ Err Read → (source_has_failed ended.source ≡ true)
+      × HasRead (IsStep content is_failed is_honest may_leave zone)
+      (left came.source) (left ended.source) most (taken came.sink) (taken ended.sink) old new
+  pub write : told ≡ Err Write → (sink_has_failed ended.sink ≡ true)
+      × IfSome (left came.source) (λ stream.
+      HasWritten (IsStep content is_failed is_honest may_leave zone) stream most
+      (taken came.sink) (taken ended.sink) old new)
+  pub memory : told ≡ Err Memory
+      → (ended.source ≡ came.source) × (ended.sink ≡ came.sink) × (new ≡ old)
+  pub crash : HasEnded content is_failed is_honest may_leave zone
+      (left came.source) (left ended.source) most (taken came.sink) (taken ended.sink) old new
+  pub flushed : OnOk told (IsFlushed handed_on taken came.sink ended.sink)
+  pub waits : told ≡ Err Read → IsFlushed handed_on taken came.sink ended.sink
+  pub source : source_has_failed ended.source ≡ true
+      → (source_has_failed came.source ≡ true) ⊎ (told ≡ Err Read)
+
+-- a connection came, was served, and ended
+pub record HasAnswered {C K R W : Type 0}
+    (Serves : Connection R W → Connection R W → Result Served ServeFault → K → K → Type 0)
+    (accepts : C → Result (Option (Connection R W)) Failure → C → Type 0)
+    (ends : C → Connection R W → Result Served ServeFault → C → Type 0)
+    (old new : C × K) : Type 0 where
+  pub came : Connection R W
+  pub between : C
+  pub accepted : accepts old.0 (Ok (Some came)) between
+  pub ended : Connection R W
+  pub told : Result Served ServeFault
+  pub served : Serves came ended told old.1 new.1
+  pub left : ends between ended told new.0
+
+-- one that came was given up: nothing of it was answered, and the keep is as it was
+pub record HasGivenUp {C K R W : Type 0}
+    (accepts : C → Result (Option (Connection R W)) Failure → C → Type 0)
+    (old new : C × K) : Type 0 where
+  pub accepted : accepts old.0 (Ok None) new.0
+  pub same : new.1 ≡ old.1
+
+-- one connection is taken
+abbrev pub TakesOne : {C K R W : Type 0}
+    → (Connection R W → Connection R W → Result Served ServeFault → K → K → Type 0)
+    → (C → Result (Option (Connection R W)) Failure → C → Type 0)
+    → (C → Connection R W → Result Served ServeFault → C → Type 0)
+    → C × K → C × K → Type 0
+TakesOne Serves accepts ends old new =
+    HasAnswered Serves accepts ends old new ⊎ HasGivenUp accepts old new
+
+-- so many are taken in turn, each over what the one before left, and nothing comes between them
+abbrev pub TakesEach : {S : Type 0} → (S → S → Type 0) → ℕ → S → S → Type 0
+TakesEach Takes zero old new = new ≡ old
+TakesEach {S} Takes (suc n) old new = (mid : S) × Takes old mid × TakesEach Takes n mid new
+
+-- fewer were taken, and then accepting failed
+pub record HasStopped {C K R W : Type 0} (Takes : C × K → C × K → Type 0)
+    (accepts : C → Result (Option (Connection R W)) Failure → C → Type 0) (count : ℕ)
+    (old new : C × K) (failure : Failure) : Type 0 where
+  pub taken : ℕ
+  pub fewer : taken < count
+  pub last : C × K
+  pub each : TakesEach Takes taken old last
+  pub failed : accepts last.0 (Err failure) new.0
+  pub same : new.1 ≡ last.1

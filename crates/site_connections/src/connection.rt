@@ -1,0 +1,20 @@
+//! A connection, and what became of it.
+use site_serve::{ServeFault, Served};
+
+/// A connection.
+#[derive(Drop)]
+pub struct Connection<R, W> {
+    /// Where its messages come from.
+    pub source: R,
+    /// Where its answers go.
+    pub sink: W,
+}
+
+/// A connection that was served.
+#[derive(Drop)]
+pub struct Ended<R, W> {
+    /// What is left of it.
+    pub connection: Connection<R, W>,
+    /// What was told of serving it.
+    pub told: Result<Served, ServeFault>,
+}
