@@ -163,7 +163,8 @@ def read_all(connection, may_reset=False):
 
 
 def send(connection, stream):
-    with contextlib.suppress(ConnectionError):
+    # A server that has ended takes no more.
+    with contextlib.suppress(OSError):
         connection.sendall(stream)
         connection.shutdown(socket.SHUT_WR)
 
