@@ -3,10 +3,12 @@
 
 Connections are served one after the other, so who sends nothing, or reads none of its answers, holds up all others
 until nothing has moved for 30 seconds; then the next is answered. What a write had taken by then counts as a move, so
-the second may hold them up for some times 30 seconds. The last line is 'N checks, M wrong'.
+the second may hold them up for some times 30 seconds. Who goes on sending after its last answer, a byte now and then,
+holds up the others for a minute at most. The last line is 'N checks, M wrong'.
 
-The first took 30 seconds, the second 94.
+The first took 30 seconds, the second 94, the third a second.
 """
+import contextlib
 import pathlib
 import socket
 import sys
@@ -17,8 +19,9 @@ import time
 from sent import PATIENCE
 from served import CHECKS, MESSAGES, Program, check, exchange, message, served
 
-# For how long a connection may be still, and how long one of these may hold up the others, in seconds.
-STILL, LONGEST = 30, 240
+# For how long a connection may be still, how long one of these may hold up the others, and how long one that has had its
+# last answer, with some seconds for the rest; in seconds.
+STILL, LONGEST, LONGEST_AFTER = 30, 240, 75
 # A page of twenty items, so that the answers to all messages of a connection find no room in the system's buffers.
 FILLING = MESSAGES[:3] + [
     message("POST", "/items", 1, 1000, '{"category":1,"end":5000,"lot":"A%d","start":500,"text":"","title":"Atlas"}'
@@ -40,8 +43,25 @@ def read_nothing(connection):
         pass
 
 
+def dribble(connection):
+    """Has its last answer, to what is no message, and sends a byte each five seconds."""
+    connection.sendall(b"GET\r\n\r\n")
+    threading.Thread(target=drip, args=(connection,), daemon=True).start()
+
+
+def drip(connection):
+    with contextlib.suppress(OSError):
+        while True:
+            time.sleep(5)
+            connection.sendall(b"x")
+
+
+# Each with the least and the most seconds for which it may hold up the next.
+WAYS = {send_nothing: (STILL - 1, LONGEST), read_nothing: (STILL - 1, LONGEST), dribble: (0, LONGEST_AFTER)}
+
+
 def stall(program, file, way):
-    """What the client is answered that comes behind one that stalls."""
+    """What the client is answered that comes after one that stalls."""
     init = ["--bands", "bands.csv", "--rate", "1000", "--zone", "UTC0"]
     check(f"{file} made", program.ended("init", file, *init), (0, b"created\n", b""))
     with program.serving(file, 3) as server:
@@ -53,7 +73,8 @@ def stall(program, file, way):
             way(first)
             check(f"{file} answered", wanted.endswith(exchange(server.port, READ)), True)
             waited = time.monotonic() - began
-        check(f"{file} waited", STILL - 1 <= waited <= LONGEST, True)
+        least, most = WAYS[way]
+        check(f"{file} waited", least <= waited <= most, True)
         print(f"{file}: {waited:.0f} s")
     check(f"{file} ended", server.ending, served(3))
 
@@ -62,14 +83,13 @@ def main():
     with tempfile.TemporaryDirectory() as folder:
         (pathlib.Path(folder) / "bands.csv").write_text("at,step\n0,5\n100,25\n500,50\n")
         program = Program(str(pathlib.Path(sys.argv[1]).resolve()), folder)
-        stalls = [threading.Thread(target=stall, args=(program, way.__name__, way))
-                  for way in (send_nothing, read_nothing)]
+        stalls = [threading.Thread(target=stall, args=(program, way.__name__, way)) for way in WAYS]
         for thread in stalls:
             thread.start()
         for thread in stalls:
             thread.join()
     print(f"{len(CHECKS)} checks, {CHECKS.count(False)} wrong")
-    return 1 if len(CHECKS) != 8 or not all(CHECKS) else 0
+    return 1 if len(CHECKS) != 4 * len(WAYS) or not all(CHECKS) else 0
 
 
 if __name__ == "__main__":
