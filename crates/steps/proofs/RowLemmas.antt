@@ -21,7 +21,7 @@ each_at : (bands more : List (ℕ × ℕ)) (band : ℕ × ℕ) → AllByRecursio
 each_at [] more band each = each.0
 each_at (b ∷ bands) more band each = each_at bands more band each.1
 
-is_within : (band : ℕ × ℕ) → IsBand band → is_band band ≡ true
+pub is_within : (band : ℕ × ℕ) → IsBand band → is_band band ≡ true
 is_within band is = let a = is.0 in let b = is.1 in let c = is.2 in grind (arith, nat_tests)
 
 -- each band of a valid table is taken

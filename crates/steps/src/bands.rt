@@ -5,6 +5,7 @@ ghost use Rattle.steps.specs.Records.{IsJudged};
 ghost use Rattle.steps.specs.Reading.{records_of};
 ghost use Rattle.steps.specs.Rows.{AreJudged};
 ghost use Rattle.steps.specs.Example.{example_table};
+ghost use Rattle.steps.specs.Valid.{is_band_table};
 
 use crate::fault::BandsFault;
 use crate::{judged, reading};
@@ -96,6 +97,14 @@ impl Bands {
             Ok(rows) => Ok(Bands { rows }),
             Err(_) => Err(BandsFault::Memory),
         }
+    }
+
+    /// Whether rows, each as (at, step), are a table: whether `of_rows` takes them, memory aside.
+    #[tactic(auto, using(crate::proofs::Tested::table_tested, crate::proofs::Tested::fault_tested))]
+    pub fn are_rows(rows: &[(u64, u64)]) -> bool
+        ensures { result ≡ is_band_table rows.now }
+    {
+        judged::table(rows).is_ok()
     }
 
     /// The bands in order, each as (at, step) in cents.

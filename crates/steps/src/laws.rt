@@ -1,6 +1,7 @@
 //! What holds of every valid table.
-ghost use Rattle.std.specs.Prelude.{◌≤◌, ◌<◌, ℕ, List};
+ghost use Rattle.std.specs.Prelude.{◌≡◌, ◌≤◌, ◌<◌, ◌↔◌, ℕ, List, true};
 ghost use Rattle.steps.specs.Table.{IsBandTable, over, step_at};
+ghost use Rattle.steps.specs.Valid.{is_band_table};
 
 /// Over a valid table a step is at least 1 and never falls, and the least next amount rises
 /// strictly.
@@ -12,4 +13,10 @@ pub fn valid_tables_rise()
         step_at bands low ≤ step_at bands high }
     ensures strictly { (bands : List (ℕ × ℕ)) (low high : ℕ) → IsBandTable bands → low < high →
         over bands low < over bands high }
+{}
+
+/// The test of rows tells exactly the valid tables.
+#[tactic(auto, using(crate::proofs::Tested::tested))]
+pub fn valid_tables_are_told()
+    ensures { (bands : List (ℕ × ℕ)) → (is_band_table bands ≡ true) ↔ IsBandTable bands }
 {}

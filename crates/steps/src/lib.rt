@@ -13,4 +13,4 @@ mod reading;
 
 pub use bands::Bands;
 pub use fault::BandsFault;
-pub use laws::valid_tables_rise;
+pub use laws::{valid_tables_are_told, valid_tables_rise};

@@ -22,6 +22,9 @@ pub(crate) enum Fault {
     /// The standing kept from bid to bid isn't that of the list of accepted bids.
     #[error("a standing isn't that of its bids")]
     Standing,
+    /// Rows are a table by the one look, and none by the other.
+    #[error("rows are a table, and are none")]
+    Table,
     /// What is answered couldn't be printed.
     #[error("the answers can't be written")]
     Output,

@@ -82,7 +82,11 @@ pub(crate) fn rows(alloc: Global, good: u64, line: &str) -> Result<String, Fault
             None => at = Some(number(word)?),
         }
     }
-    outcome(alloc, Bands::of_rows(alloc, &rows))
+    let table = Bands::of_rows(alloc, &rows);
+    if table.is_ok() != Bands::are_rows(&rows) {
+        return Err(Fault::Table);
+    }
+    outcome(alloc, table)
 }
 
 /// The step at an amount, and the least amount above it that may be bid.
