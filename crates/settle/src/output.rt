@@ -1,5 +1,6 @@
 //! Statements written into sinks, a record at a time.
 ghost use Rattle.std.specs.Prelude.{◌≡◌, IfOk, false, string_bytes};
+ghost use Rattle.cents.specs.Spelling.{amount_text};
 ghost use Rattle.settle.specs.Text.{fields_of, head, record_text, records_text, statement_csv, statement_text, table_text, totals_text};
 ghost use Rattle.settle.specs.Written.{IsWritten};
 
@@ -94,19 +95,37 @@ fn line_record(alloc: Global, form: Form, line: &Line) -> Result<Vec<u8>, AllocE
     let day = format!(in alloc; "{}", line.day)?;
     let item = format!(in alloc; "{}", line.item)?;
     let other = format!(in alloc; "{}", line.other)?;
-    let price = format!(in alloc; "{}", line.price)?;
-    let fee = format!(in alloc; "{}", show(line.fee))?;
-    let net = format!(in alloc; "{}", show(line.net))?;
+    let amounts = amounts_of(alloc, line)?;
     let columns = Columns {
         day: &day,
         item: &item,
         role: if line.sell { "sell" } else { "buy" },
         other: &other,
-        price: &price,
-        fee: &fee,
-        net: &net,
+        price: &amounts.price,
+        fee: &amounts.fee,
+        net: &amounts.net,
     };
     columns.record(alloc, form)
+}
+
+// The amounts of a line, as texts.
+#[derive(Drop)]
+struct Amounts {
+    price: String,
+    fee: String,
+    net: String,
+}
+
+// The texts of the amounts of a line.
+fn amounts_of(alloc: Global, line: &Line) -> Result<Amounts, AllocError>
+    ensures price { IfOk result (λ a. string_bytes a.price ≡ amount_text line.now.price) }
+    ensures fee { IfOk result (λ a. string_bytes a.fee ≡ amount_text line.now.fee) }
+    ensures net { IfOk result (λ a. string_bytes a.net ≡ amount_text line.now.net) }
+{
+    let price = format!(in alloc; "{}", line.price)?;
+    let fee = format!(in alloc; "{}", show(line.fee))?;
+    let net = format!(in alloc; "{}", show(line.net))?;
+    Ok(Amounts { price, fee, net })
 }
 
 // The lines of the totals.
