@@ -5,7 +5,8 @@ use Rattle.std.specs.List.{AllByRecursion, list_any}
 use Rattle.std.proofs.lemmas.Bool.Decides.{nat_tests}
 use Rattle.std.proofs.lemmas.List.{append-nil, length-append}
 use Rattle.proxy.specs.Bids.{greatest, is_leader, one_more, refusal, standing_of}
-use Rattle.proxy.specs.Kept.{Kept}
+use Rattle.proxy.specs.Opening.{Opening}
+use Rattle.proxy.specs.Kept.{Kept, opening_of}
 use Rattle.proxy.specs.Rules.{first_failing}
 use Rattle.proxy.specs.declared.bid.Bid as bid
 use Rattle.proxy.specs.declared.bid.BidRefusal.TheVariants as no_bid
@@ -26,11 +27,11 @@ use Rattle.house_rows.specs.History.{History, clock}
 use Rattle.house_rows.specs.Items.{closings, floor_of, is_bought, is_open, is_settled, is_taken, item_now, leader_of, purchase_of, shown, state_of, terms_now}
 use Rattle.house_rows.specs.Keeping.{AreSound, ItemRowFits}
 use Rattle.house_rows.specs.Limits.{most_bids, most_cents}
-use Rattle.house_rows.specs.Listings.{Listing, listing_at, listings}
+use Rattle.house_rows.specs.Listings.{Listing, listed_opening, listing_at, listings}
 use Rattle.house_rows.specs.People.{members}
 use Rattle.house_rows.specs.Questions.{questions}
 use Rattle.house_rows.specs.Runs.{entry}
-use Rattle.house_rows.specs.Tables.{ItemRow, Tables, row_now, tables_of}
+use Rattle.house_rows.specs.Tables.{ItemRow, Tables, row_now, row_opening, tables_of}
 use Rattle.house_rows.specs.Verdict.{IsHistory, Rule, bid_rules, common_rules, open_rules, verdict}
 use Rattle.house_rows.proofs.AcceptedBids.{floor_is, more_accepted}
 use Rattle.house_rows.proofs.Every.{every_as, every_put, found_has, found_is}
@@ -105,14 +106,14 @@ as_by_bids false false false f = refl
 
 -- the later rules are those of the item's bids
 later_is : (bands : List (ℕ × ℕ)) (h : History) (caller maximum : ℕ) (l : Listing) → Biddable h l
-    → first_failing (later_rules caller maximum (greatest (bids_on h l.item) caller) (floor_of bands (terms_now bands h l)) (terms_now bands h l)) ≡ option_map as_refusal (refusal bands l.start (bids_on h l.item) caller maximum)
+    → first_failing (later_rules caller maximum (greatest (bids_on h l.item) caller) (floor_of bands (terms_now bands h l)) (terms_now bands h l)) ≡ option_map as_refusal (refusal bands (listed_opening l) (bids_on h l.item) caller maximum)
 later_is bands h caller maximum l can =
-    rw (can.is_open, can.unsold) (rw (floor_is bands l.start (bids_on h l.item)) (as_by_bids _ _ _ _))
+    rw (can.is_open, can.unsold) (rw (floor_is bands (listed_opening l) (bids_on h l.item)) (as_by_bids _ _ _ _))
 
 -- the verdict on a bid whose first rules pass
 judged : (settings : Settings) (h : History) (moment caller maximum : ℕ) (l : Listing) → listing_at (listings h) l.item ≡ Some l
     → first_failing (common_rules (clock h) (length (members h)) moment caller false) ≡ None → first_failing (first_rules moment caller maximum (terms_now settings.bands h l)) ≡ None
-    → verdict settings h moment caller (Bid l.item maximum) ≡ option_map as_refusal (refusal settings.bands l.start (bids_on h l.item) caller maximum)
+    → verdict settings h moment caller (Bid l.item maximum) ≡ option_map as_refusal (refusal settings.bands (listed_opening l) (bids_on h l.item) caller maximum)
 unfolding verdict
 judged settings h moment caller maximum l listed common first =
     let own : ℕ = greatest (bids_on h l.item) caller in
@@ -125,7 +126,7 @@ judged settings h moment caller maximum l listed common first =
 
 -- the row of the item after the bid
 row_bid : (bands : List (ℕ × ℕ)) (h : History) (moment caller maximum : ℕ) (l : Listing) → Biddable h l
-    → with_standing l.item (standing_of bands l.start (one_more (bids_on h l.item) caller maximum)) (row_now bands h l) ≡ row_now bands (entry moment caller (Bid l.item maximum) ∷ h) l
+    → with_standing l.item (standing_of bands (listed_opening l) (one_more (bids_on h l.item) caller maximum)) (row_now bands h l) ≡ row_now bands (entry moment caller (Bid l.item maximum) ∷ h) l
 row_bid bands h moment caller maximum l can =
     let here : (l.item == l.item) ≡ true = grind (arith, nat_tests) in
     rw here (simp append-nil (rw (can.unsold, can.untaken, can.unsettled) refl))
@@ -133,13 +134,13 @@ row_bid bands h moment caller maximum l can =
 -- the rows of items after the bid
 rows_bid : (bands : List (ℕ × ℕ)) (h : History) (moment caller maximum : ℕ) (l : Listing) (ls : List Listing) → Biddable h l
     → AllByRecursion (λ a. (a.item == l.item) ≡ true → a ≡ l) ls
-    → map (with_standing l.item (standing_of bands l.start (one_more (bids_on h l.item) caller maximum))) (map (row_now bands h) ls)
+    → map (with_standing l.item (standing_of bands (listed_opening l) (one_more (bids_on h l.item) caller maximum))) (map (row_now bands h) ls)
     ≡ map (row_now bands (entry moment caller (Bid l.item maximum) ∷ h)) ls
 rows_bid bands h moment caller maximum l [] can all = refl
 rows_bid bands h moment caller maximum l (a ∷ ls) can all =
     rw (rows_bid bands h moment caller maximum l ls can all.1) (ap (λ row. row ∷ map (row_now bands (entry moment caller (Bid l.item maximum) ∷ h)) ls) (one a all.0)) where
       one : (a : Listing) → ((a.item == l.item) ≡ true → a ≡ l)
-          → with_standing l.item (standing_of bands l.start (one_more (bids_on h l.item) caller maximum)) (row_now bands h a) ≡ row_now bands (entry moment caller (Bid l.item maximum) ∷ h) a
+          → with_standing l.item (standing_of bands (listed_opening l) (one_more (bids_on h l.item) caller maximum)) (row_now bands h a) ≡ row_now bands (entry moment caller (Bid l.item maximum) ∷ h) a
       one a same = elim (by_test (a.item == l.item)) [
         | inl here ↦ rw (same here) (row_bid bands h moment caller maximum l can)
         | inr other ↦ (let other' : (l.item == a.item) ≡ false = grind (arith, nat_tests, other) in rw (other, other') (simp append-nil))
@@ -156,7 +157,7 @@ own_listing h l listed =
 
 bid_leads : (settings : Settings) (h : History) (moment caller maximum : ℕ) (l : Listing) → listing_at (listings h) l.item ≡ Some l → Biddable h l
     → changed (tables_of settings h) (change.Bid moment l.item (record { member = caller; maximum = maximum; no = length (bids_on h l.item) + 1 })
-    (standing_of settings.bands l.start (one_more (bids_on h l.item) caller maximum))) ≡ tables_of settings (entry moment caller (Bid l.item maximum) ∷ h)
+    (standing_of settings.bands (listed_opening l) (one_more (bids_on h l.item) caller maximum))) ≡ tables_of settings (entry moment caller (Bid l.item maximum) ∷ h)
 unfolding changed tables_of questions
 bid_leads settings h moment caller maximum l listed can =
     rw (rows_bid settings.bands h moment caller maximum l (listings h) can (own_listing h l listed)) (simp append-nil)
@@ -213,7 +214,7 @@ record Listed (settings : Settings) (h : History) (item : ℕ) (terms : Terms) (
   numbered_so : listing.item ≡ item
   listed : listing_at (listings h) listing.item ≡ Some listing
   terms_are : terms ≡ terms_now settings.bands h listing
-  stands : kept ≡ standing_of settings.bands listing.start (bids_on h listing.item)
+  stands : kept ≡ standing_of settings.bands (listed_opening listing) (bids_on h listing.item)
 
 found_listing : (settings : Settings) (h : History) (item : ℕ) (terms : Terms) (kept : Kept)
     → terms_at (tables_of settings h) item ≡ Some terms → standing_at (tables_of settings h) item ≡ Some kept → Listed settings h item terms kept
@@ -230,7 +231,7 @@ found_listing settings h item terms kept found stands =
             numbered_so = at';
             listed = subst (λ (i : ℕ). listing_at (listings h) i ≡ Some l) (sym at') is;
             terms_are = sym (some_is (terms_now settings.bands h l) terms some);
-            stands = sym (some_is (standing_of settings.bands l.start (bids_on h l.item)) kept stands);
+            stands = sym (some_is (standing_of settings.bands (listed_opening l) (bids_on h l.item)) kept stands);
           }
 
 -- what is refused before the item's rules are asked
@@ -264,7 +265,7 @@ settings_are t settings given h e so = rw e at so
 pub bid_refused : (t : Tables) (settings given : Settings) (h : History) (moment caller item maximum : ℕ) (terms : Terms) (kept : Kept) (member amount : ℕ) (told : Refusal) → t ≡ tables_of settings h
     → terms_at t item ≡ Some terms → None ≡ first_failing (common_rules t.clock (length t.members) moment caller false) → None ≡ first_failing (first_rules moment caller maximum terms)
     → standing_at t item ≡ Some kept → given ≡ t.settings → member ≡ caller → amount ≡ maximum
-    → ((bids : List bid.Bid) → kept ≡ standing_of given.bands kept.start bids → Some told ≡ option_map as_refusal (refusal given.bands kept.start bids member amount))
+    → ((bids : List bid.Bid) → kept ≡ standing_of given.bands (opening_of kept) bids → Some told ≡ option_map as_refusal (refusal given.bands (opening_of kept) bids member amount))
     → verdict settings h moment caller (Bid item maximum) ≡ Some told
 bid_refused t settings given h moment caller item maximum terms kept member amount told e found common first stands bands same equal so =
     let f = found_listing settings h item terms kept (rw e at found) (rw e at stands) in
@@ -272,7 +273,7 @@ bid_refused t settings given h moment caller item maximum terms kept member amou
     let now = by_history t settings h moment caller e common in
     let first' : first_failing (first_rules moment caller maximum (terms_now settings.bands h l)) ≡ None = sym (rw f.terms_are at first) in
     let bands' : given ≡ settings = settings_are t settings given h e bands in
-    let answer : Some told ≡ option_map as_refusal (refusal settings.bands l.start (bids_on h l.item) caller maximum) =
+    let answer : Some told ≡ option_map as_refusal (refusal settings.bands (listed_opening l) (bids_on h l.item) caller maximum) =
     (rw (bands', same, equal, f.stands) at so) (bids_on h l.item) refl in
     rw f.numbered_so at (judged settings h moment caller maximum l f.listed now first' ∙ sym answer)
 
@@ -280,16 +281,16 @@ bid_refused t settings given h moment caller item maximum terms kept member amou
 pub bid_fits : (t : Tables) (given : Settings) (moment caller item maximum : ℕ) (terms : Terms) (kept after : Kept) (member amount count : ℕ) → AreSound t
     → terms_at t item ≡ Some terms → None ≡ first_failing (common_rules t.clock (length t.members) moment caller false) → None ≡ first_failing (first_rules moment caller maximum terms)
     → standing_at t item ≡ Some kept → given ≡ t.settings → member ≡ caller → amount ≡ maximum → count ≡ after.count
-    → ((bids : List bid.Bid) → kept ≡ standing_of given.bands kept.start bids
-    → (refusal given.bands kept.start bids member amount ≡ None) × (after ≡ standing_of given.bands kept.start (one_more bids member amount)))
+    → ((bids : List bid.Bid) → kept ≡ standing_of given.bands (opening_of kept) bids
+    → (refusal given.bands (opening_of kept) bids member amount ≡ None) × (after ≡ standing_of given.bands (opening_of kept) (one_more bids member amount)))
     → BidFits t moment terms.item (record { member = member; maximum = amount; no = count }) after
 bid_fits t given moment caller item maximum terms kept after member amount count sound found common first stands bands same equal counts so =
     let row = row_there t item terms found in
-    let start : ℕ = row.row.item.terms.start in
+    let opening : Opening = row_opening row.row in
     let fits : ItemRowFits t.settings.bands row.row = found_has (ItemRowFits t.settings.bands) (is_item item) t.items row.row sound.items row.there in
     let bids : List bid.Bid = fits.bids in
-    let kept_is : kept ≡ standing_of t.settings.bands start bids = standing_same t item row.row kept row.there stands ∙ fits.stands in
-    let answer : (refusal t.settings.bands start bids caller maximum ≡ None) × (after ≡ standing_of t.settings.bands start (one_more bids caller maximum)) =
+    let kept_is : kept ≡ standing_of t.settings.bands opening bids = standing_same t item row.row kept row.there stands ∙ fits.stands in
+    let answer : (refusal t.settings.bands opening bids caller maximum ≡ None) × (after ≡ standing_of t.settings.bands opening (one_more bids caller maximum)) =
     (rw (bands, same, equal, kept_is) at so) bids refl in
     let caller_is = caller_fits t moment caller false (sym common) in
     let pass = first_passed (terms.seller == caller) (is_open terms.state) (nat_le terms.end moment) (nat_lt most_cents maximum) (sym first) in
@@ -304,7 +305,7 @@ bid_fits t given moment caller item maximum terms kept after member amount count
       maximum_fits = grind (arith, nat_tests, range);
       bids = bids;
       stands = fits.stands;
-      accepted = more_accepted t.settings.bands start bids (record { member = caller; maximum = maximum; no = length bids + 1 }) fits.accepted (record { accepted = answer.0; numbered = refl });
+      accepted = more_accepted t.settings.bands opening bids (record { member = caller; maximum = maximum; no = length bids + 1 }) fits.accepted (record { accepted = answer.0; numbered = refl });
       numbered = counts ∙ ap (λ (k : Kept). k.count) answer.1 ∙ length-append bids (record { member = caller; maximum = maximum; no = length bids + 1 } ∷ []);
       stands_after = answer.1;
     })
@@ -321,8 +322,8 @@ renamed settings h moment caller i item named maximum amount member number count
 pub bid_accepts : (t : Tables) (settings given : Settings) (h : History) (moment caller item maximum : ℕ) (terms : Terms) (kept after : Kept) (member amount count : ℕ) → IsHistory settings h → t ≡ tables_of settings h
     → terms_at t item ≡ Some terms → None ≡ first_failing (common_rules t.clock (length t.members) moment caller false) → None ≡ first_failing (first_rules moment caller maximum terms)
     → standing_at t item ≡ Some kept → given ≡ t.settings → member ≡ caller → amount ≡ maximum → count ≡ after.count
-    → ((bids : List bid.Bid) → kept ≡ standing_of given.bands kept.start bids
-    → (refusal given.bands kept.start bids member amount ≡ None) × (after ≡ standing_of given.bands kept.start (one_more bids member amount)))
+    → ((bids : List bid.Bid) → kept ≡ standing_of given.bands (opening_of kept) bids
+    → (refusal given.bands (opening_of kept) bids member amount ≡ None) × (after ≡ standing_of given.bands (opening_of kept) (one_more bids member amount)))
     → IsAccepted settings h moment caller (Bid item maximum) (change.Bid moment terms.item (record { member = member; maximum = amount; no = count }) after)
 bid_accepts t settings given h moment caller item maximum terms kept after member amount count is e found common first stands bands same equal counts so =
     let f = found_listing settings h item terms kept (rw e at found) (rw e at stands) in
@@ -331,13 +332,13 @@ bid_accepts t settings given h moment caller item maximum terms kept after membe
     let first' : first_failing (first_rules moment caller maximum (terms_now settings.bands h l)) ≡ None = sym (rw f.terms_are at first) in
     let bands' : given ≡ settings = settings_are t settings given h e bands in
     let bids : List bid.Bid = bids_on h l.item in
-    let answer : (refusal settings.bands l.start bids caller maximum ≡ None) × (after ≡ standing_of settings.bands l.start (one_more bids caller maximum)) =
+    let answer : (refusal settings.bands (listed_opening l) bids caller maximum ≡ None) × (after ≡ standing_of settings.bands (listed_opening l) (one_more bids caller maximum)) =
     (rw (bands', same, equal, f.stands) at so) bids refl in
     let counted : count ≡ length bids + 1 = counts ∙ ap (λ (k : Kept). k.count) answer.1 ∙ length-append bids (record { member = caller; maximum = maximum; no = length bids + 1 } ∷ []) in
     let can = biddable settings.bands h moment caller maximum l first' in
     let named : terms.item ≡ l.item = ap (λ (x : Terms). x.item) f.terms_are in
     let accepted : verdict settings h moment caller (Bid l.item maximum) ≡ None = judged settings h moment caller maximum l f.listed now first' ∙ ap (option_map as_refusal) answer.0 in
-    let whole : IsAccepted settings h moment caller (Bid l.item maximum) (change.Bid moment l.item (record { member = caller; maximum = maximum; no = length bids + 1 }) (standing_of settings.bands l.start (one_more bids caller maximum))) =
+    let whole : IsAccepted settings h moment caller (Bid l.item maximum) (change.Bid moment l.item (record { member = caller; maximum = maximum; no = length bids + 1 }) (standing_of settings.bands (listed_opening l) (one_more bids caller maximum))) =
     record {
       accepted = accepted;
       fits = rw (e, named, same, equal, counted, answer.1) at
@@ -345,5 +346,5 @@ bid_accepts t settings given h moment caller item maximum terms kept after membe
       free = number_free settings h l.item;
       leads = bid_leads settings h moment caller maximum l f.listed can;
     } in
-    renamed settings h moment caller l.item item terms.item maximum amount member (length bids + 1) count (standing_of settings.bands l.start (one_more bids caller maximum)) after
+    renamed settings h moment caller l.item item terms.item maximum amount member (length bids + 1) count (standing_of settings.bands (listed_opening l) (one_more bids caller maximum)) after
     f.numbered_so named same equal counted answer.1 whole

@@ -1,5 +1,6 @@
 //! Bidding.
 ghost use Rattle.std.specs.Prelude.{◌≡◌, ◌++◌, ◌∷◌, [], List, IfOk, MatchResult, None, Some, nat_lt, option_map};
+ghost use Rattle.proxy.specs.Kept.{opening_of};
 ghost use Rattle.proxy.specs.declared.bid.Bid.{Bid as TheBid};
 ghost use Rattle.proxy.specs.Bids.{one_more, refusal, standing_of};
 ghost use Rattle.proxy.specs.Rules.{first_failing};
@@ -84,11 +85,11 @@ fn placed(
     member: u32,
     maximum: Cents,
 ) -> Result<Standing, Refusal>
-    ensures { (bids : List TheBid) → standing ≡ standing_of bands.now standing.start bids
+    ensures { (bids : List TheBid) → standing ≡ standing_of bands.now (opening_of standing) bids
         → MatchResult result
-        (λ after. (refusal bands.now standing.start bids member maximum ≡ None)
-        × (after ≡ standing_of bands.now standing.start (one_more bids member maximum)))
-        (λ told. Some told ≡ option_map as_refusal (refusal bands.now standing.start bids member maximum)) }
+        (λ after. (refusal bands.now (opening_of standing) bids member maximum ≡ None)
+        × (after ≡ standing_of bands.now (opening_of standing) (one_more bids member maximum)))
+        (λ told. Some told ≡ option_map as_refusal (refusal bands.now (opening_of standing) bids member maximum)) }
 {
     match standing.place(bands, member, maximum) {
         Ok(()) => Ok(standing),

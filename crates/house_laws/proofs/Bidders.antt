@@ -5,14 +5,16 @@ use Rattle.std.proofs.lemmas.Bool.{cases_eq}
 use Rattle.std.proofs.lemmas.Bool.Decides.{nat_tests}
 use Rattle.steps.specs.Table.{over}
 use Rattle.proxy.specs.declared.bid.Bid.{Bid}
-use Rattle.proxy.specs.Bids.{bids_by, bids_not_by, greatest, greatest_of, leader, maxima, price, price_from, second, top}
+use Rattle.proxy.specs.Opening.{Opening}
+use Rattle.proxy.specs.Bids.{bids_by, bids_not_by, greatest, greatest_of, leader, maxima, price, price_by_bids, price_from, second, top}
 use Rattle.proxy.proofs.Leads.{or_zero, others_below, somebody_leads}
+use Rattle.proxy.proofs.Prices.{reserve_raises}
 use Rattle.proxy.proofs.Rises.{price_covered}
 use Rattle.house_rows.specs.declared.settings.Settings.{Settings}
 use Rattle.house_rows.specs.Bids.{bids_on}
 use Rattle.house_rows.specs.History.{History}
 use Rattle.house_rows.specs.Items.{is_bought, leader_of, price_of, purchase_of}
-use Rattle.house_rows.specs.Listings.{Listing, listing_at, listings}
+use Rattle.house_rows.specs.Listings.{Listing, listed_opening, listing_at, listings}
 use Rattle.house_rows.specs.Verdict.{IsHistory}
 use Rattle.house_rows.proofs.AcceptedBids.{bids_are_accepted}
 use Rattle.house_rows.proofs.OpenItems.{not_bought}
@@ -33,41 +35,47 @@ others_include (b ∷ bids) l k apart =
     ]
 
 -- a second is at most the price, as long as it is at most the top
-price_over : (bands : List (ℕ × ℕ)) (start t x : ℕ) (o : Option ℕ) → unwrap_or o 0 ≤ t → x ≤ unwrap_or o 0 → x ≤ price_from bands start t o
-price_over bands start t x None le most = omega arith
-price_over bands start t x (Some s) le most = omega arith
+bids_over : (bands : List (ℕ × ℕ)) (start t x : ℕ) (o : Option ℕ) → unwrap_or o 0 ≤ t → x ≤ unwrap_or o 0 → x ≤ price_by_bids bands start t o
+bids_over bands start t x None le most = omega arith
+bids_over bands start t x (Some s) le most = omega arith
+
+price_over : (bands : List (ℕ × ℕ)) (opening : Opening) (t x : ℕ) (o : Option ℕ) → unwrap_or o 0 ≤ t → x ≤ unwrap_or o 0 → x ≤ price_from bands opening t o
+price_over bands opening t x o le most =
+    let by_bids = bids_over bands opening.start t x o le most in
+    let raises = reserve_raises opening.reserve t (price_by_bids bands opening.start t o) in
+    omega arith
 
 second_below : (bids : List Bid) (l : ℕ) → leader bids ≡ Some l → unwrap_or (second bids) 0 ≡ greatest_of (maxima (bids_not_by l bids))
 unfolding second
 second_below bids l led = rw led (or_zero (bids_not_by l bids))
 
 -- whoever doesn't lead has offered at most the price
-others_pay : (bands : List (ℕ × ℕ)) (start : ℕ) (bids : List Bid) (l k : ℕ) → leader bids ≡ Some l → l ≢ k → greatest bids k ≤ price bands start bids
+others_pay : (bands : List (ℕ × ℕ)) (opening : Opening) (bids : List Bid) (l k : ℕ) → leader bids ≡ Some l → l ≢ k → greatest bids k ≤ price bands opening bids
 unfolding greatest price top
-others_pay bands start bids l k led apart =
+others_pay bands opening bids l k led apart =
     let second_is = second_below bids l led in
     let below = others_below bids l in
     let most = others_include bids l k apart in
-    price_over bands start (greatest_of (maxima bids)) (greatest_of (maxima (bids_by k bids))) (second bids) (omega arith) (omega arith)
+    price_over bands opening (greatest_of (maxima bids)) (greatest_of (maxima (bids_by k bids))) (second bids) (omega arith) (omega arith)
 
-nobody : (bands : List (ℕ × ℕ)) (start k : ℕ) → price bands start [] < greatest [] k → leader [] ≡ Some k
+nobody : (bands : List (ℕ × ℕ)) (opening : Opening) (k : ℕ) → price bands opening [] < greatest [] k → leader [] ≡ Some k
 unfolding greatest
-nobody bands start k above = absurd (omega arith)
+nobody bands opening k above = absurd (omega arith)
 
-above_leads : (bands : List (ℕ × ℕ)) (start : ℕ) (bids : List Bid) (k : ℕ) → price bands start bids < greatest bids k → leader bids ≡ Some k
-above_leads bands start [] k above = nobody bands start k above
-above_leads bands start (a ∷ bids) k above =
+above_leads : (bands : List (ℕ × ℕ)) (opening : Opening) (bids : List Bid) (k : ℕ) → price bands opening bids < greatest bids k → leader bids ≡ Some k
+above_leads bands opening [] k above = nobody bands opening k above
+above_leads bands opening (a ∷ bids) k above =
     let some = somebody_leads a bids in
     elim (cases_eq some.0 k) [
       | inl e ↦ some.1 ∙ ap Some e
-      | inr apart ↦ absurd (let most = others_pay bands start (a ∷ bids) some.0 k some.1 apart in omega arith)
+      | inr apart ↦ absurd (let most = others_pay bands opening (a ∷ bids) some.0 k some.1 apart in omega arith)
     ]
 
 -- of an item that wasn't bought, whoever offered more than the price leads
 pub above_price_leads : (bands : List (ℕ × ℕ)) (h : History) (l : Listing) (k : ℕ) → is_bought h l.item ≡ false → price_of bands h l < greatest (bids_on h l.item) k → leader_of h l ≡ Some k
 above_price_leads bands h l k not above =
     let free : purchase_of h l.item ≡ None = not_bought h l.item (purchase_of h l.item) refl not in
-    rw free (above_leads bands l.start (bids_on h l.item) k (rw not at above))
+    rw free (above_leads bands (listed_opening l) (bids_on h l.item) k (rw not at above))
 
 -- and the leader has offered at least the price
 pub leader_covers : (settings : Settings) (h : History) (l : Listing) (k : ℕ) → IsHistory settings h → listing_at (listings h) l.item ≡ Some l → is_bought h l.item ≡ false
@@ -75,17 +83,18 @@ pub leader_covers : (settings : Settings) (h : History) (l : Listing) (k : ℕ) 
 leader_covers settings h l k is listed not led =
     let free : purchase_of h l.item ≡ None = not_bought h l.item (purchase_of h l.item) refl not in
     let by_bids : leader (bids_on h l.item) ≡ Some k = rw free at led in
-    rw not (price_covered settings.bands l.start (bids_on h l.item) k (bids_are_accepted settings h is l listed) by_bids)
+    rw not (price_covered settings.bands (listed_opening l) (bids_on h l.item) k (bids_are_accepted settings h is l listed) by_bids)
 
-from_step : (bands : List (ℕ × ℕ)) (start t : ℕ) (o : Option ℕ) → MatchOption o (price_from bands start t o ≡ start) (λ s. price_from bands start t o ≤ max start (over bands s))
+from_step : (bands : List (ℕ × ℕ)) (start t : ℕ) (o : Option ℕ) → MatchOption o (price_by_bids bands start t o ≡ start) (λ s. price_by_bids bands start t o ≤ max start (over bands s))
 from_step bands start t None = refl
 from_step bands start t (Some s) = omega arith
 
-by_step : (bands : List (ℕ × ℕ)) (start : ℕ) (bids : List Bid) → MatchOption (second bids) (price bands start bids ≡ start) (λ s. price bands start bids ≤ max start (over bands s))
+by_step : (bands : List (ℕ × ℕ)) (l : Listing) (bids : List Bid)
+    → MatchOption (second bids) (price bands (listed_opening l) bids ≡ l.start) (λ s. price bands (listed_opening l) bids ≤ max l.start (over bands s))
 unfolding price
-by_step bands start bids = from_step bands start (top bids) (second bids)
+by_step bands l bids = from_step bands l.start (top bids) (second bids)
 
 -- and pays the start, or at most one step over the others
 pub price_one_step : (bands : List (ℕ × ℕ)) (h : History) (l : Listing) → is_bought h l.item ≡ false
     → MatchOption (second (bids_on h l.item)) (price_of bands h l ≡ l.start) (λ s. price_of bands h l ≤ max l.start (over bands s))
-price_one_step bands h l not = rw not (by_step bands l.start (bids_on h l.item))
+price_one_step bands h l not = rw not (by_step bands l (bids_on h l.item))

@@ -5,6 +5,7 @@ use Rattle.std.proofs.lemmas.Bool.Decides.{nat_tests}
 use Rattle.std.proofs.lemmas.List.{append_assoc, map-append}
 use Rattle.std.proofs.lemmas.List.Elements.{filter-append}
 use Rattle.steps.specs.Table.{IsBandTable}
+use Rattle.proxy.specs.Opening.{Opening}
 use Rattle.proxy.specs.Accepted.{AreAccepted}
 use Rattle.proxy.specs.declared.bid.Bid as bid
 use Rattle.proxy.specs.Bids.{bids_by, bids_not_by, greatest, leader, second, top}
@@ -20,7 +21,7 @@ use Rattle.house_rows.specs.declared.settings.Settings.{Settings}
 use Rattle.house_rows.specs.Bids.{bids_on}
 use Rattle.house_rows.specs.History.{Entry, History}
 use Rattle.house_rows.specs.Items.{item_now, items_shown, shown, shown_at}
-use Rattle.house_rows.specs.Listings.{Listing, listing_at, listings}
+use Rattle.house_rows.specs.Listings.{Listing, listed_opening, listing_at, listings}
 use Rattle.house_rows.specs.Limits.{most_cents}
 use Rattle.house_rows.specs.Runs.{Agrees, AreTwins, AreTwinsFrom, entered, entry, history_from, history_of, next}
 use Rattle.house_rows.specs.Verdict.{IsHistory, Rule, bid_rules, verdict}
@@ -119,16 +120,16 @@ none_by w (b ∷ bids) none =
     ]
 
 -- where a bidder's bid is still the top in the end, it has bid no more
-is_last : (bands : List (ℕ × ℕ)) (start w x number : ℕ) (before more : List bid.Bid) → IsBandTable bands
-    → AreAccepted bands start (before ++ record { member = w; maximum = x; no = number } ∷ more) → top (before ++ record { member = w; maximum = x; no = number } ∷ more) ≡ x
+is_last : (bands : List (ℕ × ℕ)) (opening : Opening) (w x number : ℕ) (before more : List bid.Bid) → IsBandTable bands
+    → AreAccepted bands opening (before ++ record { member = w; maximum = x; no = number } ∷ more) → top (before ++ record { member = w; maximum = x; no = number } ∷ more) ≡ x
     → bids_by w more ≡ []
-is_last bands start w x number before more valid each is =
+is_last bands opening w x number before more valid each is =
     let one : bid.Bid = record { member = w; maximum = x; no = number } in
     none_by w more (λ middle b rest e me.
     let parts : (before ++ one ∷ middle) ++ b ∷ rest ≡ before ++ (one ∷ (middle ++ b ∷ rest)) = append_assoc before (one ∷ middle) (b ∷ rest) in
-    let each' : AreAccepted bands start (before ++ (one ∷ (middle ++ b ∷ rest))) = subst (λ bs. AreAccepted bands start (before ++ one ∷ bs)) e each in
+    let each' : AreAccepted bands opening (before ++ (one ∷ (middle ++ b ∷ rest))) = subst (λ bs. AreAccepted bands opening (before ++ one ∷ bs)) e each in
     let is' : top (before ++ (one ∷ (middle ++ b ∷ rest))) ≡ x = subst (λ bs. top (before ++ one ∷ bs) ≡ x) e is in
-    let above : x < b.maximum = maxima_rise bands start before middle rest one b valid (subst (AreAccepted bands start) (sym parts) each') (sym me) in
+    let above : x < b.maximum = maxima_rise bands opening before middle rest one b valid (subst (AreAccepted bands opening) (sym parts) each') (sym me) in
     let below : b.maximum ≤ top (before ++ (one ∷ (middle ++ b ∷ rest))) = subst (λ bs. b.maximum ≤ top bs) parts (maximum_below (before ++ one ∷ middle) b rest) in
     omega (arith, above, below, is'))
 
@@ -163,11 +164,11 @@ no_more_bids settings b h ms valid is accepted by =
     let listed : listing_at (listings last) i ≡ Some l = listed_along settings (e ∷ h) ms i l (listed_more h e i l pass.listed) in
     let listed' : listing_at (listings last) l.item ≡ Some l = subst (λ (j : ℕ). listing_at (listings last) j ≡ Some l) (sym me) listed in
     let history : IsHistory settings last = run_is_history settings (e ∷ h) ms (accepted, is) in
-    let each : AreAccepted settings.bands l.start (bids_on last l.item) = bids_are_accepted settings last history l listed' in
-    let each' : AreAccepted settings.bands l.start (bids ++ one ∷ more.0) =
-    subst (AreAccepted settings.bands l.start) (ap (bids_on last) me ∙ all) each in
+    let each : AreAccepted settings.bands (listed_opening l) (bids_on last l.item) = bids_are_accepted settings last history l listed' in
+    let each' : AreAccepted settings.bands (listed_opening l) (bids ++ one ∷ more.0) =
+    subst (AreAccepted settings.bands (listed_opening l)) (ap (bids_on last) me ∙ all) each in
     let by' : top (bids ++ one ∷ more.0) ≡ x = rw all at by in
-    let none : bids_by w more.0 ≡ [] = is_last settings.bands l.start w x (length bids + 1) bids more.0 valid each' by' in
+    let none : bids_by w more.0 ≡ [] = is_last settings.bands (listed_opening l) w x (length bids + 1) bids more.0 valid each' by' in
     ap (λ bs. length (bids_by w bs)) all ∙ by_one w x (length bids + 1) bids more.0 none
 
 -- a run in two parts
@@ -231,7 +232,7 @@ covered_led meant settings c place y b xs other valid raises is =
     let follows = after_bid meant settings y b h is.here other is.later valid is.means raises covered in
     let near = last_near meant settings b.member b.item b.maximum y (next settings h (meant is.here)) (next settings h (meant other)) is.later follows.below follows.near follows.none follows.last in
     let s = near.surplus in
-    let tops = surplus_tops settings.bands b.member b.maximum y _ _ follows.below s in
+    let tops = surplus_tops settings.bands None b.member b.maximum y _ _ follows.below s in
     record {
       before = is.before;
       here = is.here;

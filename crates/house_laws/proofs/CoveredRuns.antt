@@ -25,7 +25,7 @@ use Rattle.house_rows.specs.Bids.{bid_in, bids_on}
 use Rattle.house_rows.specs.History.{Entry, History, clock}
 use Rattle.house_rows.specs.Items.{items_shown, shown_at}
 use Rattle.house_rows.specs.Limits.{most_cents}
-use Rattle.house_rows.specs.Listings.{Listing, listing_at, listings}
+use Rattle.house_rows.specs.Listings.{Listing, listed_opening, listing_at, listings}
 use Rattle.house_rows.specs.People.{members}
 use Rattle.house_rows.specs.Runs.{AreTwins, AreTwinsFrom, entered, entry, history_from, history_of, is_of, next}
 use Rattle.house_rows.specs.Verdict.{Rule, bid_rules, common_rules, of_item, verdict}
@@ -159,7 +159,7 @@ verdict_easier settings w i x y h k t z le near lower none =
 
 lower_own : (bands : List (ℕ × ℕ)) (w i x y : ℕ) (h k : History) → x ≤ y → Near bands w i x y h k → greatest (bids_on h i) w ≤ greatest (bids_on k i) w
 lower_own bands w i x y h k le near =
-    let own = surplus_own bands w x y (bids_on h i) (bids_on k i) near.surplus in rw (own.0, own.1) le
+    let own = surplus_own bands None w x y (bids_on h i) (bids_on k i) near.surplus in rw (own.0, own.1) le
 
 raised_accepted : (settings : Settings) (w i t x y : ℕ) (h : History) → x ≤ y → y ≤ most_cents → verdict settings h t w (Bid i x) ≡ None → verdict settings h t w (Bid i y) ≡ None
 unfolding verdict
@@ -258,7 +258,7 @@ own_rises settings h t w i x none led =
     let listed : listing_at (listings h) l.item ≡ Some l = subst (λ (j : ℕ). listing_at (listings h) j ≡ Some l) (sym same) pass.listed in
     let none' : verdict settings h t w (Bid l.item x) ≡ None = subst (λ (j : ℕ). verdict settings h t w (Bid j x) ≡ None) (sym same) none in
     let led' : leader (bids_on h l.item) ≡ Some w = subst (λ (j : ℕ). leader (bids_on h j) ≡ Some w) (sym same) led in
-    let above : top (bids_on h l.item) < x = accepted_above settings.bands l.start (bids_on h l.item) w x (bid_accepted settings h t w x l listed none') led' in
+    let above : top (bids_on h l.item) < x = accepted_above settings.bands (listed_opening l) (bids_on h l.item) w x (bid_accepted settings h t w x l listed none') led' in
     let above' : top (bids_on h i) < x = subst (λ (j : ℕ). top (bids_on h j) < x) same above in
     rw (leader_greatest (bids_on h i) w led) above'
 
@@ -286,7 +286,7 @@ after_bid {F = F} meant settings y b h here other later valid is raises covered 
     let lt = covered.above in
     let le : x ≤ y = omega arith in
     let last : AreCovered settings.bands x (bids_not_by w (bids_on (history_from settings h (map meant (here ∷ later))) i)) =
-    others_covered settings.bands w x (bids_on (history_from settings h (map meant (here ∷ later))) i) valid covered.leads covered.covers in
+    others_covered settings.bands w x (bids_on (history_from settings h (map meant (here ∷ later))) i) valid covered.leads covered.covers.0 in
     let all : AreCovered settings.bands x (bids_not_by w (bids_on h i)) = others_before settings w i x h (map meant (here ∷ later)) last in
     let raised = raised_accepted settings w i t x y h le covered.fits covered.accepted in
     let leads = first_or_above settings.bands w x (bids_on h i) (leader (bids_on h i)) refl valid (own_rises settings h t w i x covered.accepted) all in

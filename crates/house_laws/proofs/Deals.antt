@@ -9,7 +9,7 @@ use Rattle.house_rows.specs.declared.command.Command.TheVariants.{Bid, Buy}
 use Rattle.house_rows.specs.Bids.{bid_in, bids_on}
 use Rattle.house_rows.specs.History.{History}
 use Rattle.house_rows.specs.Items.{Purchase as Bought, leader_from, leader_of, price_of, purchase_in, purchase_of, purchases}
-use Rattle.house_rows.specs.Listings.{Listing}
+use Rattle.house_rows.specs.Listings.{Listing, listed_opening}
 use Rattle.house_rows.proofs.Put.{by_test}
 use Rattle.house_laws.specs.Deals.{Deal, Offer, Purchase, deal_in, deals_on}
 
@@ -113,7 +113,7 @@ leads_is (Some p) by_bids = refl
 
 -- by these the price is the same wherever start, buy-now price and deals are
 price_by_deals : (bands : List (ℕ × ℕ)) (h : History) (l : Listing)
-    → price_of bands h l ≡ (if is_some (buyer_of (deals_on h l.item)) then unwrap_or l.buy_now 0 else price bands l.start (bids_from 0 (deals_on h l.item)))
+    → price_of bands h l ≡ (if is_some (buyer_of (deals_on h l.item)) then unwrap_or l.buy_now 0 else price bands (listed_opening l) (bids_from 0 (deals_on h l.item)))
 price_by_deals bands h l = rw (bought_is (purchase_of h l.item), buyer_is h l.item, bids_are h l.item) refl
 
 leader_by_deals : (h : History) (l : Listing) → leader_of h l ≡ first_of (buyer_of (deals_on h l.item)) (leader (bids_from 0 (deals_on h l.item)))

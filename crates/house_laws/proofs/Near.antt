@@ -18,7 +18,7 @@ use Rattle.house_rows.specs.declared.talk.Feedback as row
 use Rattle.house_rows.specs.Bids.{bid_in, bids_on}
 use Rattle.house_rows.specs.History.{Entry, History, clock}
 use Rattle.house_rows.specs.Items.{closings, item_now, items, items_shown, leader_of, price_of, purchases, settlements}
-use Rattle.house_rows.specs.Listings.{Listing, listing_at, listings}
+use Rattle.house_rows.specs.Listings.{Listing, listed_opening, listing_at, listings}
 use Rattle.house_rows.specs.People.{categories, members}
 use Rattle.house_rows.specs.Questions.{answers, asked, published, questions, waiting}
 use Rattle.house_rows.specs.Ratings.{feedback, party_against, with_feedback}
@@ -54,7 +54,7 @@ pub record Near (bands : List (ℕ × ℕ)) (w i x y : ℕ) (h k : History) : Ty
   pub watched : watches h ≡ watches k
   pub rated : feedback h ≡ feedback k
   pub others : (j : ℕ) → (j == i) ≡ false → bids_on h j ≡ bids_on k j
-  pub surplus : IsSurplus bands w x y (bids_on h i) (bids_on k i)
+  pub surplus : IsSurplus bands None w x y (bids_on h i) (bids_on k i)
 
 near_leads : (bands : List (ℕ × ℕ)) (w i x y : ℕ) (h k : History) → Near bands w i x y h k → (j : ℕ) → leader (bids_on h j) ≡ leader (bids_on k j)
 near_leads bands w i x y h k near j =
@@ -70,19 +70,20 @@ near_counts bands w i x y h k near j =
       | inr other ↦ ap length (near.others j other)
     ]
 
-near_prices : (bands : List (ℕ × ℕ)) (w i x y : ℕ) (h k : History) → x ≤ y → Near bands w i x y h k → (start j : ℕ) → price bands start (bids_on h j) ≡ price bands start (bids_on k j)
-near_prices bands w i x y h k le near start j =
+near_prices : (bands : List (ℕ × ℕ)) (w i x y : ℕ) (h k : History) → x ≤ y → Near bands w i x y h k → (l : Listing) (j : ℕ)
+    → price bands (listed_opening l) (bids_on h j) ≡ price bands (listed_opening l) (bids_on k j)
+near_prices bands w i x y h k le near l j =
     elim (by_test (j == i)) [
       | inl is ↦ (let me : j ≡ i = grind (arith, nat_tests) in
-          rw me (tops_price bands start w (bids_on h i) (bids_on k i) (surplus_tops bands w x y (bids_on h i) (bids_on k i) le near.surplus)))
-      | inr other ↦ ap (price bands start) (near.others j other)
+          rw me (tops_price bands (listed_opening l) w (bids_on h i) (bids_on k i) (surplus_tops bands None w x y (bids_on h i) (bids_on k i) le near.surplus)))
+      | inr other ↦ ap (price bands (listed_opening l)) (near.others j other)
     ]
 
 near_leader : (bands : List (ℕ × ℕ)) (w i x y : ℕ) (h k : History) → Near bands w i x y h k → (l : Listing) → leader_of h l ≡ leader_of k l
 near_leader bands w i x y h k near l = rw (near.bought, near_leads bands w i x y h k near l.item) refl
 
 near_price : (bands : List (ℕ × ℕ)) (w i x y : ℕ) (h k : History) → x ≤ y → Near bands w i x y h k → (l : Listing) → price_of bands h l ≡ price_of bands k l
-near_price bands w i x y h k le near l = rw (near.bought, near_prices bands w i x y h k le near l.start l.item) refl
+near_price bands w i x y h k le near l = rw (near.bought, near_prices bands w i x y h k le near l l.item) refl
 
 near_item : (bands : List (ℕ × ℕ)) (w i x y : ℕ) (h k : History) → x ≤ y → Near bands w i x y h k → (l : Listing) → item_now bands h l ≡ item_now bands k l
 near_item bands w i x y h k le near l =
@@ -92,7 +93,7 @@ near_item bands w i x y h k le near l =
       near.settled,
       near_leads bands w i x y h k near l.item,
       near_counts bands w i x y h k near l.item,
-      near_prices bands w i x y h k le near l.start l.item,
+      near_prices bands w i x y h k le near l l.item,
     ) refl
 
 -- every item looks the same
@@ -122,7 +123,7 @@ near_greatest : (bands : List (ℕ × ℕ)) (w i x y : ℕ) (h k : History) (d j
 near_greatest bands w i x y h k d j differ near =
     elim (by_test (j == i)) [
       | inl is ↦ (let me : j ≡ i = grind (arith, nat_tests) in let ne : d ≢ w = grind (arith, nat_tests) in
-          rw me (surplus_greatest bands w x y d (bids_on h i) (bids_on k i) ne near.surplus))
+          rw me (surplus_greatest bands None w x y d (bids_on h i) (bids_on k i) ne near.surplus))
       | inr other ↦ rw (near.others j other) refl
     ]
 
@@ -185,11 +186,11 @@ rated_same bands w i x y h k rows d (Ask j text) near = refl
 rated_same bands w i x y h k rows d (Answer j asker number text) near = refl
 
 surplus_stays : (bands : List (ℕ × ℕ)) (w i x y : ℕ) (h k : History) (number d : ℕ) (command : Command) → x ≤ y → is_bid_by w i d command ≡ false → BidCovered bands i x command
-    → IsSurplus bands w x y (bids_on h i) (bids_on k i) → IsSurplus bands w x y (bids_on h i ++ bid_in i number d command) (bids_on k i ++ bid_in i number d command)
+    → IsSurplus bands None w x y (bids_on h i) (bids_on k i) → IsSurplus bands None w x y (bids_on h i ++ bid_in i number d command) (bids_on k i ++ bid_in i number d command)
 surplus_stays bands w i x y h k number d (Bid j maximum) le differ covered s =
     elim (by_test (j == i)) [
       | inl is ↦ (let me : j ≡ i = grind (arith, nat_tests) in let ne : d ≢ w = grind (arith, nat_tests) in
-          rw is (surplus_more bands w x y (bids_on h i) (bids_on k i) (record { member = d; maximum = maximum; no = number }) le ne (covered me) s))
+          rw is (surplus_more bands None w x y (bids_on h i) (bids_on k i) (record { member = d; maximum = maximum; no = number }) le ne (covered me) s))
       | inr other ↦ rw other (simp append-nil s)
     ]
 surplus_stays bands w i x y h k number d (Register name) le differ covered s = simp append-nil s
@@ -270,7 +271,7 @@ near_first bands w i t x y h le lt all =
       watched = refl;
       rated = refl;
       others = λ j other. (let there : (i == j) ≡ false = grind (arith, nat_tests) in rw there refl);
-      surplus = rw here (surplus_first bands w x y (bids_on h i) (length (bids_on h i) + 1) le lt all);
+      surplus = rw here (surplus_first bands None w x y (bids_on h i) (length (bids_on h i) + 1) tt le lt all);
     }
 
 pub near_raised : (F : Type 0) (settings : Settings) (w i t x y : ℕ) (h : History) → x ≤ y → verdict settings h t w (Bid i x) ≡ None → verdict settings h t w (Bid i y) ≡ None

@@ -14,7 +14,7 @@ use Rattle.house_rows.specs.Fits.{IsWithin}
 use Rattle.house_rows.specs.History.{Entry, History}
 use Rattle.house_rows.specs.Items.{Purchase, is_bought, price_of, purchase_in, purchase_of, purchases}
 use Rattle.house_rows.specs.Limits.{most_cents}
-use Rattle.house_rows.specs.Listings.{Listing, listing_at, listings}
+use Rattle.house_rows.specs.Listings.{Listing, listed_opening, listing_at, listings}
 use Rattle.house_rows.specs.Runs.{entry}
 use Rattle.house_rows.specs.Verdict.{IsHistory, verdict}
 use Rattle.house_rows.proofs.AcceptedBids.{bid_accepted, bought_known}
@@ -29,12 +29,12 @@ found_still i ps more (Some p) found some = rw (found_more (λ (q : Purchase). q
 
 -- the price by the bids, after one more entry
 bids_price : (settings : Settings) (h : History) (t c : ℕ) (command : Command) (l : Listing) → IsBandTable settings.bands → listing_at (listings h) l.item ≡ Some l → verdict settings h t c command ≡ None
-    → price settings.bands l.start (bids_on h l.item) ≤ price settings.bands l.start (bids_on (entry t c command ∷ h) l.item)
+    → price settings.bands (listed_opening l) (bids_on h l.item) ≤ price settings.bands (listed_opening l) (bids_on (entry t c command ∷ h) l.item)
 bids_price settings h t c (Bid j m) l valid listed none =
     elim (by_test (j == l.item)) [
       | inl here ↦ (let at : j ≡ l.item = grind (arith, nat_tests) in
           let accepted = bid_accepted settings h t c m l listed (rw at at none) in
-          rw here (price_rises settings.bands l.start (bids_on h l.item) (record { member = c; maximum = m; no = length (bids_on h l.item) + 1 }) valid accepted))
+          rw here (price_rises settings.bands (listed_opening l) (bids_on h l.item) (record { member = c; maximum = m; no = length (bids_on h l.item) + 1 }) valid accepted))
       | inr other ↦ rw other (simp append-nil (omega arith))
     ]
 bids_price settings h t c command l valid listed none = simp append-nil (omega arith)
@@ -45,7 +45,7 @@ at_least start (Some amount) within some = within.0
 
 -- of an item that was bought, the start is at most the price
 bought_start : (settings : Settings) (h : History) (l : Listing) → IsHistory settings h → listing_at (listings h) l.item ≡ Some l → is_bought h l.item ≡ true
-    → price settings.bands l.start (bids_on h l.item) ≤ unwrap_or l.buy_now 0
+    → price settings.bands (listed_opening l) (bids_on h l.item) ≤ unwrap_or l.buy_now 0
 bought_start settings h l is listed bought =
     let known = bought_known settings h l is listed bought in
     let least : l.start ≤ unwrap_or l.buy_now 0 = at_least l.start l.buy_now (ranges_of settings h l.item l is listed).buy_now known.1 in

@@ -38,7 +38,7 @@ pub record IsCoveredBid (settings : Settings) (y : ℕ) (b : Sealed) (before las
   pub accepted : verdict settings before b.moment b.member (Bid b.item b.maximum) ≡ None
   pub no_more : length (bids_by b.member (bids_on last b.item)) ≡ length (bids_by b.member (bids_on before b.item)) + 1
   pub leads : leader (bids_on last b.item) ≡ Some b.member
-  pub covers : Covers settings.bands (second (bids_on last b.item)) b.maximum
+  pub covers : Covers settings.bands None (second (bids_on last b.item)) b.maximum
   pub above : b.maximum < y
   pub fits : y ≤ most_cents
 
@@ -58,7 +58,7 @@ pub record IsCovered {A F : Type 0} (meant : A → Message F) (settings : Settin
 pub record LeadsBy (bands : List (ℕ × ℕ)) (w x : ℕ) (bids : List bid.Bid) : Type 0 where
   pub led : leader bids ≡ Some w
   pub by : top bids ≡ x
-  pub covers : Covers bands (second bids) x
+  pub covers : Covers bands None (second bids) x
 
 -- the element in that place of a run means a bid that isn't the member's, an amount above it fits, and the run in which that amount
 -- stands in its place is a twin for the member; and in the end the bidder leads by its maximum in the one and by that amount in the

@@ -44,7 +44,7 @@ price_by_old_step bands old second = second + step_at bands old
 
 abbrev pub StepsAreTakenAtTheSecond : Type 0
 StepsAreTakenAtTheSecond =
-    (price example_table 500 (bids_on (and_bid 1002 3 2500 (and_bid 1001 2 9000 setup)) 1) ≡ 2600)
+    (price example_table (record { start = 500; reserve = None }) (bids_on (and_bid 1002 3 2500 (and_bid 1001 2 9000 setup)) 1) ≡ 2600)
     × (price_by_old_step example_table 500 2500 ≡ 2550)
 
 -- a question's number among all on its item

@@ -5,6 +5,7 @@ use Rattle.std.specs.List.{AllByRecursion}
 use Rattle.std.proofs.lemmas.Bool.{cases_lt}
 use Rattle.std.proofs.lemmas.Bool.Decides.{nat_tests}
 use Rattle.std.proofs.lemmas.List.{length-append}
+use Rattle.proxy.specs.Opening.{Opening}
 use Rattle.proxy.specs.Accepted.{AreAccepted}
 use Rattle.proxy.specs.Bids.{greatest_if_any, greatest_of, leader, maxima, one_more, refusal, standing_of, top}
 use Rattle.proxy.specs.Kept.{Kept}
@@ -17,13 +18,13 @@ use Rattle.house_rows.specs.declared.change.NewItem.{NewItem}
 use Rattle.house_rows.specs.declared.item.Terms.{Terms}
 use Rattle.house_rows.specs.declared.state.State.{State}
 use Rattle.house_rows.specs.declared.state.State.TheVariants.{Open, Sold, Unsold, Settled}
-use Rattle.house_rows.specs.Changed.{is_item, new_item, with_close, with_purchase, with_settlement, with_standing, with_terms}
+use Rattle.house_rows.specs.Changed.{is_item, new_item, new_opening, with_close, with_purchase, with_settlement, with_standing, with_terms}
 use Rattle.house_rows.specs.Fits.{IsItem, IsMember, IsMoment, IsWithin, TermsFit}
 use Rattle.house_rows.specs.Found.{row_at}
 use Rattle.house_rows.specs.Items.{close_sells, closed_state, is_due, is_open}
 use Rattle.house_rows.specs.Keeping.{AreInTurn, AreSound, IsBought, IsByBids, ItemRowFits}
 use Rattle.house_rows.specs.Limits.{most_bids, most_categories, most_cents}
-use Rattle.house_rows.specs.Tables.{ItemRow, Tables}
+use Rattle.house_rows.specs.Tables.{ItemRow, Tables, row_opening}
 use Rattle.house_rows.specs.Text.{is_lot, is_text}
 use Rattle.house_rows.specs.Verdict.{was_sold}
 use Rattle.house_rows.proofs.AcceptedBids.{none_accepted}
@@ -105,7 +106,7 @@ open_unsold Sold is sold = cc
 open_unsold Unsold is sold = cc
 open_unsold Settled is sold = cc
 
-bidders_may_lead : (bands : List (ℕ × ℕ)) (row : ItemRow) (bids : List bid.Bid) → ItemRowFits bands row → is_open row.item.terms.state ≡ true → row.standing ≡ standing_of bands row.item.terms.start bids
+bidders_may_lead : (bands : List (ℕ × ℕ)) (row : ItemRow) (bids : List bid.Bid) → ItemRowFits bands row → is_open row.item.terms.state ≡ true → row.standing ≡ standing_of bands (row_opening row) bids
     → IfSome (leader bids) (λ m. IsMember m × (m ≢ row.item.terms.seller))
 bidders_may_lead bands row bids fits is stands = by_told fits.told where
   by_told : IsByBids row ⊎ IsBought row → IfSome (leader bids) (λ m. IsMember m × (m ≢ row.item.terms.seller))
@@ -125,21 +126,21 @@ not_full : (raises low full : Bool) (f : ℕ) → first_failing ((raises, NotHig
 not_full raises low full f none = grind (arith, nat_tests, none)
 
 -- an accepted bid leaves at most as many as there may be
-pub room_for : (bands : List (ℕ × ℕ)) (start : ℕ) (bids : List bid.Bid) (m x : ℕ) → refusal bands start bids m x ≡ None → length bids < most_bids
-room_for bands start bids m x none = let room = not_full _ _ (nat_le 10000 (length bids)) _ none in grind (arith, nat_tests, room)
+pub room_for : (bands : List (ℕ × ℕ)) (opening : Opening) (bids : List bid.Bid) (m x : ℕ) → refusal bands opening bids m x ≡ None → length bids < most_bids
+room_for bands opening bids m x none = let room = not_full _ _ (nat_le 10000 (length bids)) _ none in grind (arith, nat_tests, room)
 
 -- the row of an item that stands as its bids do
 abbrev with_bids : Kept → ItemRow → ItemRow
 with_bids kept row = record (with_terms (record row.item.terms { price = kept.price; leader = kept.leader; count = kept.count }) row) { standing = kept }
 
-bid_row_fits : (bands : List (ℕ × ℕ)) (row : ItemRow) (bids : List bid.Bid) (m x : ℕ) → ItemRowFits bands row → is_open row.item.terms.state ≡ true → row.standing ≡ standing_of bands row.item.terms.start bids
-    → IsMember m → m ≢ row.item.terms.seller → x ≤ most_cents → AreAccepted bands row.item.terms.start (one_more bids m x)
-    → ItemRowFits bands (with_bids (standing_of bands row.item.terms.start (one_more bids m x)) row)
+bid_row_fits : (bands : List (ℕ × ℕ)) (row : ItemRow) (bids : List bid.Bid) (m x : ℕ) → ItemRowFits bands row → is_open row.item.terms.state ≡ true → row.standing ≡ standing_of bands (row_opening row) bids
+    → IsMember m → m ≢ row.item.terms.seller → x ≤ most_cents → AreAccepted bands (row_opening row) (one_more bids m x)
+    → ItemRowFits bands (with_bids (standing_of bands (row_opening row) (one_more bids m x)) row)
 bid_row_fits bands row bids m x fits is stands member apart within accepted =
     let b : bid.Bid = record { member = m; maximum = x; no = length bids + 1 } in
     let more : List bid.Bid = one_more bids m x in
     let old : TermsFit row.item.terms = fits.item.terms in
-    let room : length bids < most_bids = room_for bands row.item.terms.start bids m x (accepted bids b [] refl).accepted in
+    let room : length bids < most_bids = room_for bands (row_opening row) bids m x (accepted bids b [] refl).accepted in
     let few : length more ≤ most_bids = simp length-append (omega arith) in
     let may : IfSome (leader more) (λ n. IsMember n × (n ≢ row.item.terms.seller)) = leader_more (λ n. IsMember n × (n ≢ row.item.terms.seller)) bids b (bidders_may_lead bands row bids fits is stands) (member, apart) in
     let tops : IfSome (greatest_if_any (maxima bids)) (λ amount. amount ≤ most_cents) = subst (λ (k : Kept). IfSome k.top (λ amount. amount ≤ most_cents)) stands fits.top in
@@ -154,7 +155,7 @@ bid_row_fits bands row bids m x fits is stands member apart within accepted =
           buy_now = old.buy_now;
           end = old.end;
           closed = old.closed;
-          price = price_under bands row.item.terms.start most_cents more old.start.1 (greatest_most more top');
+          price = price_under bands (row_opening row) most_cents more old.start.1 (greatest_most more top');
           leader = leads_member (leader more) row.item.terms.seller may;
           apart = leads_not (leader more) row.item.terms.seller may;
           count = few;
@@ -170,6 +171,7 @@ bid_row_fits bands row bids m x fits is stands member apart within accepted =
       few = few;
       stands = refl;
       top = top';
+      reserve = fits.reserve;
       count = refl;
       told = inl (record { price = refl; leader = refl });
     }
@@ -182,8 +184,8 @@ standing_other i kept row other = rw other refl
 
 -- after a bid the row of its item fits
 pub standing_fits : (bands : List (ℕ × ℕ)) (i : ℕ) (kept : Kept) (row : ItemRow) (bids : List bid.Bid) (m x : ℕ) → is_item i row ≡ true → ItemRowFits bands row → row.item.terms.state ≡ Open
-    → row.standing ≡ standing_of bands row.item.terms.start bids → IsMember m → m ≢ row.item.terms.seller → x ≤ most_cents → AreAccepted bands row.item.terms.start (one_more bids m x)
-    → kept ≡ standing_of bands row.item.terms.start (one_more bids m x) → ItemRowFits bands (with_standing i kept row)
+    → row.standing ≡ standing_of bands (row_opening row) bids → IsMember m → m ≢ row.item.terms.seller → x ≤ most_cents → AreAccepted bands (row_opening row) (one_more bids m x)
+    → kept ≡ standing_of bands (row_opening row) (one_more bids m x) → ItemRowFits bands (with_standing i kept row)
 standing_fits bands i kept row bids m x is fits state stands member apart within accepted after =
     subst (λ (r : ItemRow). ItemRowFits bands r) (sym (standing_here i kept row is))
     (subst (λ (k : Kept). ItemRowFits bands (with_bids k row)) (sym after)
@@ -231,6 +233,7 @@ bought_fits bands buyer price moment row fits member apart moment_fits no_bid at
       few = fits.few;
       stands = fits.stands;
       top = fits.top;
+      reserve = fits.reserve;
       count = fits.count;
       told = inr (record { sold = refl; no_bid = count ∙ sym fits.count ∙ no_bid; price = at_price });
     }
@@ -290,6 +293,7 @@ closed_fits bands row is fits =
       few = fits.few;
       stands = fits.stands;
       top = fits.top;
+      reserve = fits.reserve;
       count = fits.count;
       told = by_told fits.told;
     } where
@@ -344,6 +348,7 @@ settled_fits bands row sold fits =
       few = fits.few;
       stands = fits.stands;
       top = fits.top;
+      reserve = fits.reserve;
       count = fits.count;
       told = by_told fits.told;
     } where
@@ -370,11 +375,11 @@ pub settlement_number : (i : ℕ) (row : ItemRow) → (with_settlement i row).it
 settlement_number i row = elim (by_test (is_item i row)) [ inl is ↦ rw is refl | inr other ↦ rw other refl ]
 
 -- nobody leads an item that has just come, and its price is the start
-new_price : (bands : List (ℕ × ℕ)) (start : ℕ) → start ≡ (standing_of bands start []).price
-new_price bands start = sym (ap (λ (k : Kept). k.price) (standing-none bands start))
+new_price : (bands : List (ℕ × ℕ)) (opening : Opening) → opening.start ≡ (standing_of bands opening []).price
+new_price bands opening = sym (ap (λ (k : Kept). k.price) (standing-none bands opening))
 
-new_leader : (bands : List (ℕ × ℕ)) (start : ℕ) → None ≡ (standing_of bands start []).leader
-new_leader bands start = sym (ap (λ (k : Kept). k.leader) (standing-none bands start))
+new_leader : (bands : List (ℕ × ℕ)) (opening : Opening) → None ≡ (standing_of bands opening []).leader
+new_leader bands opening = sym (ap (λ (k : Kept). k.leader) (standing-none bands opening))
 
 -- the row of a new item fits
 pub new_fits : (bands : List (ℕ × ℕ)) (number : ℕ) (item : NewItem) → IsItem number → IsMember item.seller → IsWithin 1 most_categories item.category
@@ -403,10 +408,11 @@ new_fits bands number item number_fits seller_fits category_fits lot_fits title_
     text = text_fits;
   };
   bids = [];
-  accepted = none_accepted bands item.start;
+  accepted = none_accepted bands (new_opening item);
   few = omega arith;
   stands = refl;
   top = tt;
+  reserve = refl;
   count = refl;
-  told = inl (record { price = new_price bands item.start; leader = new_leader bands item.start });
+  told = inl (record { price = new_price bands (new_opening item); leader = new_leader bands (new_opening item) });
 }

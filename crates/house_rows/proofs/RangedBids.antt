@@ -4,7 +4,8 @@ use Rattle.std.specs.Prelude.{◌==◌, ◌&&◌, if◌then◌else◌, nat_le, n
 use Rattle.std.specs.List.{AllByRecursion}
 use Rattle.std.proofs.lemmas.Bool.Decides.{nat_tests}
 use Rattle.std.proofs.lemmas.List.{append-nil, length-append}
-use Rattle.proxy.specs.Bids.{first_at, greatest, greatest_if_any, greatest_of, is_leader, leader, maxima, price, price_from, second, top}
+use Rattle.proxy.specs.Opening.{Opening}
+use Rattle.proxy.specs.Bids.{first_at, greatest, greatest_if_any, greatest_of, is_leader, leader, maxima, price, price_by_bids, second, top, with_reserve}
 use Rattle.proxy.specs.Rules.{first_failing}
 use Rattle.proxy.specs.declared.bid.Bid as bid
 use Rattle.house_rows.specs.declared.command.Command.{Command}
@@ -169,16 +170,21 @@ greatest_within : (most : ℕ) (bids : List bid.Bid) → AllByRecursion (λ b. b
 greatest_within most [] all = omega arith
 greatest_within most (b ∷ bids) all = let one = all.0 in let rest = greatest_within most bids all.1 in omega arith
 
-from_within : (bands : List (ℕ × ℕ)) (start top most : ℕ) (o : Option ℕ) → start ≤ most → top ≤ most → price_from bands start top o ≤ most
-from_within bands start top most None s t = s
-from_within bands start top most (Some second) s t = omega arith
+by_within : (bands : List (ℕ × ℕ)) (start top most : ℕ) (o : Option ℕ) → start ≤ most → top ≤ most → price_by_bids bands start top o ≤ most
+by_within bands start top most None s t = s
+by_within bands start top most (Some second) s t = omega arith
 
-pub price_under : (bands : List (ℕ × ℕ)) (start most : ℕ) (bids : List bid.Bid) → start ≤ most → greatest_of (maxima bids) ≤ most → price bands start bids ≤ most
+reserve_within : (r : Option ℕ) (top most p : ℕ) → top ≤ most → p ≤ most → with_reserve r top p ≤ most
+reserve_within None top most p t le = le
+reserve_within (Some r) top most p t le = grind (arith, nat_tests)
+
+pub price_under : (bands : List (ℕ × ℕ)) (opening : Opening) (most : ℕ) (bids : List bid.Bid) → opening.start ≤ most → greatest_of (maxima bids) ≤ most → price bands opening bids ≤ most
 unfolding price top
-price_under bands start most bids s t = from_within bands start (greatest_of (maxima bids)) most (second bids) s t
+price_under bands opening most bids s t =
+    reserve_within opening.reserve (greatest_of (maxima bids)) most _ t (by_within bands opening.start (greatest_of (maxima bids)) most (second bids) s t)
 
-pub price_within : (bands : List (ℕ × ℕ)) (start most : ℕ) (bids : List bid.Bid) → start ≤ most → AllByRecursion (λ b. b.maximum ≤ most) bids → price bands start bids ≤ most
-price_within bands start most bids s all = price_under bands start most bids s (greatest_within most bids all)
+pub price_within : (bands : List (ℕ × ℕ)) (opening : Opening) (most : ℕ) (bids : List bid.Bid) → opening.start ≤ most → AllByRecursion (λ b. b.maximum ≤ most) bids → price bands opening bids ≤ most
+price_within bands opening most bids s all = price_under bands opening most bids s (greatest_within most bids all)
 
 -- and so is the top
 pub top_within : (most : ℕ) (bids : List bid.Bid) → AllByRecursion (λ b. b.maximum ≤ most) bids → IfSome (greatest_if_any (maxima bids)) (λ amount. amount ≤ most)

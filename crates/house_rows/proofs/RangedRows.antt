@@ -10,7 +10,7 @@ use Rattle.house_rows.specs.Bids.{bids_on}
 use Rattle.house_rows.specs.Items.{is_bought, is_settled, is_taken, leader_of, purchase_of, state_from, terms_now}
 use Rattle.house_rows.specs.Keeping.{IsBought, IsByBids, ItemRowFits}
 use Rattle.house_rows.specs.Limits.{most_cents}
-use Rattle.house_rows.specs.Listings.{Listing, listing_at, listings}
+use Rattle.house_rows.specs.Listings.{Listing, listed_opening, listing_at, listings}
 use Rattle.house_rows.specs.Tables.{row_now}
 use Rattle.house_rows.specs.Verdict.{IsHistory, was_sold}
 use Rattle.house_rows.proofs.AcceptedBids.{bids_are_accepted, bought_known}
@@ -26,7 +26,7 @@ pub terms_fit : (settings : Settings) (h : History) (l : Listing) → IsHistory 
 terms_fit settings h l is ranges listed =
     let fits = bids_fit settings h l.item is in
     let may = leader_may settings h l is listed in
-    let by_bids = price_within settings.bands l.start most_cents (bids_on h l.item) ranges.start.1 (every_as (BidIn h l.item) (λ (b : bid.Bid). b.maximum ≤ most_cents) (bids_on h l.item) (λ b in'. in'.maximum) fits.all) in
+    let by_bids = price_within settings.bands (listed_opening l) most_cents (bids_on h l.item) ranges.start.1 (every_as (BidIn h l.item) (λ (b : bid.Bid). b.maximum ≤ most_cents) (bids_on h l.item) (λ b in'. in'.maximum) fits.all) in
     record {
       item = ranges.item;
       seller = ranges.seller;
@@ -76,6 +76,7 @@ row_fits settings h l is ranges listed =
       few = fits.room;
       stands = refl;
       top = top_within most_cents (bids_on h l.item) (every_as (BidIn h l.item) (λ (b : bid.Bid). b.maximum ≤ most_cents) (bids_on h l.item) (λ b in'. in'.maximum) fits.all);
+      reserve = refl;
       count = refl;
       told = told_by settings h l is listed (is_bought h l.item) refl;
     }

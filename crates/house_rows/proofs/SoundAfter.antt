@@ -24,7 +24,7 @@ use Rattle.house_rows.specs.Keeping.{AreInTurn, AreSound, ItemRowFits}
 use Rattle.house_rows.specs.Limits.{most_bids, most_categories, most_items, most_members, most_questions, most_watches}
 use Rattle.house_rows.specs.Questions.{is_question}
 use Rattle.house_rows.specs.Ratings.{feedback_key, other_party}
-use Rattle.house_rows.specs.Tables.{ItemRow, Tables}
+use Rattle.house_rows.specs.Tables.{ItemRow, Tables, row_opening}
 use Rattle.house_rows.specs.Text.{is_text}
 use Rattle.house_rows.specs.Watches.{WatchRow, unwatched, watch_key}
 use Rattle.house_rows.proofs.ChangedRows.{close_fits, close_number, new_fits, one_changed, purchase_fits, purchase_number, purchase_other, room_for, settlement_fits, settlement_number, settlement_other, standing_fits, standing_number, standing_other, there_fits, there_is, there_within}
@@ -251,7 +251,7 @@ bid_after t moment item placed standing sound fits =
     let bids : List bid.Bid = fits.bids in
     let member : IsMember placed.member = member_there t placed.member sound fits.bidder_there in
     let new : bid.Bid = record { member = placed.member; maximum = placed.maximum; no = length bids + 1 } in
-    let room : length bids < most_bids = room_for t.settings.bands row.item.terms.start bids placed.member placed.maximum (fits.accepted bids new [] refl).accepted in
+    let room : length bids < most_bids = room_for t.settings.bands (row_opening row) bids placed.member placed.maximum (fits.accepted bids new [] refl).accepted in
     let numbered : placed.no ≡ length bids + 1 = fits.numbered in
     let row_fits : ItemRowFits t.settings.bands (with_standing item standing row) =
     standing_fits t.settings.bands item standing row bids placed.member placed.maximum (there_is t item row fits.row_there) (there_fits t item row sound fits.row_there)

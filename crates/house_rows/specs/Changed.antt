@@ -1,5 +1,6 @@
 -- The tables after a change.
 use Rattle.std.specs.Prelude.{if◌then◌else◌, ℕ, ◌+◌, List, [], ◌∷◌, ◌++◌, Bool, ◌==◌, length, map, Option, Some, None}
+use Rattle.proxy.specs.Opening.{Opening}
 use Rattle.proxy.specs.Bids.{standing_of}
 use Rattle.proxy.specs.Kept.{Kept}
 use Rattle.house_rows.specs.declared.change.Change.{Change}
@@ -57,6 +58,10 @@ question_key q = record { first = q.item; second = q.asker; third = q.number }
 abbrev pub with_answer : ℕ → ℕ → ℕ → List ℕ → Question → Question
 with_answer i asker number text q = if is_question i asker number q then record q { answer = Some text } else q
 
+-- what bidding on a new item opens with
+abbrev pub new_opening : NewItem → Opening
+new_opening new = record { start = new.start; reserve = None }
+
 -- the row of a new item
 abbrev pub new_item : List (ℕ × ℕ) → ℕ → NewItem → ItemRow
 new_item bands number new = record {
@@ -78,7 +83,7 @@ new_item bands number new = record {
     title = new.title.now;
     text = new.text.now;
   };
-  standing = standing_of bands new.start [];
+  standing = standing_of bands (new_opening new) [];
 }
 
 -- the tables after a change

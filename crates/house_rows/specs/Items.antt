@@ -12,7 +12,7 @@ use Rattle.house_rows.specs.declared.settings.Settings.{Settings}
 use Rattle.house_rows.specs.declared.state.State.{State}
 use Rattle.house_rows.specs.declared.state.State.TheVariants.{Open, Sold, Unsold, Settled}
 use Rattle.house_rows.specs.History.{History}
-use Rattle.house_rows.specs.Listings.{Listing, listings}
+use Rattle.house_rows.specs.Listings.{Listing, listed_opening, listings}
 use Rattle.house_rows.specs.Bids.{bids_on}
 
 -- who bought an item at once, and when
@@ -83,7 +83,7 @@ leader_of h l = leader_from (purchase_of h l.item) (leader (bids_on h l.item))
 
 -- the price: the buy-now price of what was bought, else that of its bids
 abbrev pub price_of : List (ℕ × ℕ) → History → Listing → ℕ
-price_of bands h l = if is_bought h l.item then unwrap_or l.buy_now 0 else price bands l.start (bids_on h l.item)
+price_of bands h l = if is_bought h l.item then unwrap_or l.buy_now 0 else price bands (listed_opening l) (bids_on h l.item)
 
 -- whether a close sells an item, by its leader: somebody leads
 abbrev pub close_sells : Option ℕ → Bool

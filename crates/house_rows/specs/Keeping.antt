@@ -1,6 +1,6 @@
 -- What every call of a keep promises beside its answer. A keep that rests on a disk promises of its rows only while the disk
 -- has returned what was written: while it is honest.
-use Rattle.std.specs.Prelude.{◌≡◌, ◌≤◌, ◌+◌, ◌⊎◌, length, ◌↔◌, ℕ, List, [], ◌∷◌, Bool, true, false, Option, Some, IfSome, Result, OnOk, IsErrOf, ◌==◌, filter}
+use Rattle.std.specs.Prelude.{◌≡◌, ◌≤◌, ◌+◌, ◌⊎◌, length, ◌↔◌, ℕ, List, [], ◌∷◌, Bool, true, false, Option, Some, None, IfSome, Result, OnOk, IsErrOf, ◌==◌, filter}
 use Rattle.std.specs.List.{AllByRecursion}
 use Rattle.proxy.specs.Accepted.{AreAccepted}
 use Rattle.proxy.specs.Bids.{standing_of}
@@ -15,7 +15,7 @@ use Rattle.house_rows.specs.Fits.{BidRowFits, CategoryFits, FeedbackFits, IsMome
 use Rattle.house_rows.specs.Found.{terms_at}
 use Rattle.house_rows.specs.History.{counted}
 use Rattle.house_rows.specs.Limits.{most_bids, most_categories, most_cents, most_items, most_members, most_watches}
-use Rattle.house_rows.specs.Tables.{ItemRow, Tables}
+use Rattle.house_rows.specs.Tables.{ItemRow, Tables, row_opening}
 use Rattle.house_rows.specs.Verdict.{was_sold}
 
 -- price and leader are those of the bids
@@ -34,7 +34,7 @@ pub record IsByStanding (bands : List (ℕ × ℕ)) (t : Terms) : Type 0 where
   -- the sealed maxima: the greatest, and the second
   pub top : Option ℕ
   pub second : Option ℕ
-  pub shape : is_shape bands t.start t.price t.count t.leader top second ≡ true
+  pub shape : is_shape bands (record { start = t.start; reserve = None }) t.price t.count t.leader top second ≡ true
 
 -- or it was bought at once: nobody has bid, and the price is the buy-now price
 pub record IsPurchase (t : Terms) : Type 0 where
@@ -59,10 +59,12 @@ pub record ItemRowFits (bands : List (ℕ × ℕ)) (row : ItemRow) : Type 0 wher
   pub item : ItemFits row.item
   -- some bids of which the row keeps the standing, whichever they are
   pub bids : List Bid
-  pub accepted : AreAccepted bands row.item.terms.start bids
+  pub accepted : AreAccepted bands (row_opening row) bids
   pub few : length bids ≤ most_bids
-  pub stands : row.standing ≡ standing_of bands row.item.terms.start bids
+  pub stands : row.standing ≡ standing_of bands (row_opening row) bids
   pub top : IfSome row.standing.top (λ amount. amount ≤ most_cents)
+  -- no seller has a reserve
+  pub reserve : row.standing.reserve ≡ None
   pub count : row.item.terms.count ≡ length bids
   -- what everybody sees of the row
   pub told : IsByBids row ⊎ IsBought row

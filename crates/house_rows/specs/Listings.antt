@@ -1,5 +1,6 @@
 -- Items as they were listed.
 use Rattle.std.specs.Prelude.{ℕ, ◌+◌, List, [], ◌∷◌, ◌++◌, ◌==◌, Bool, false, length, find, Option, Some, None}
+use Rattle.proxy.specs.Opening.{Opening}
 use Rattle.house_rows.specs.declared.command.Command.{Command}
 use Rattle.house_rows.specs.declared.command.Command.TheVariants.{List as Listed}
 use Rattle.house_rows.specs.History.{History}
@@ -15,6 +16,10 @@ pub record Listing : Type 0 where
   pub start : ℕ
   pub buy_now : Option ℕ
   pub end : ℕ
+
+-- what bidding on it opens with
+abbrev pub listed_opening : Listing → Opening
+listed_opening l = record { start = l.start; reserve = None }
 
 -- the listing that a command makes, if it is one
 abbrev pub listing_in : ℕ → ℕ → Command → List Listing

@@ -1,5 +1,6 @@
 -- The tables that a history leaves: the rows of each, in the order of their keys.
 use Rattle.std.specs.Prelude.{ℕ, List, map}
+use Rattle.proxy.specs.Opening.{Opening}
 use Rattle.proxy.specs.Bids.{standing_of}
 use Rattle.proxy.specs.Kept.{Kept}
 use Rattle.house_rows.specs.declared.item.Item.{Item}
@@ -10,7 +11,7 @@ use Rattle.house_rows.specs.declared.talk.Feedback.{Feedback}
 use Rattle.house_rows.specs.declared.talk.Question.{Question}
 use Rattle.house_rows.specs.History.{History, clock}
 use Rattle.house_rows.specs.People.{categories, members}
-use Rattle.house_rows.specs.Listings.{Listing, listings}
+use Rattle.house_rows.specs.Listings.{Listing, listed_opening, listings}
 use Rattle.house_rows.specs.Bids.{BidRow, bid_rows, bids_on}
 use Rattle.house_rows.specs.Items.{item_now}
 use Rattle.house_rows.specs.Questions.{questions}
@@ -21,6 +22,10 @@ use Rattle.house_rows.specs.Watches.{WatchRow, watches}
 pub record ItemRow : Type 0 where
   pub item : Item
   pub standing : Kept
+
+-- what bidding on it opened with
+abbrev pub row_opening : ItemRow → Opening
+row_opening row = record { start = row.item.terms.start; reserve = row.standing.reserve }
 
 -- what a keep holds: the settings, the clock, and the rows of each table
 pub record Tables : Type 0 where
@@ -36,7 +41,7 @@ pub record Tables : Type 0 where
 
 -- the row of a listed item after a history
 abbrev pub row_now : List (ℕ × ℕ) → History → Listing → ItemRow
-row_now bands h l = record { item = item_now bands h l; standing = standing_of bands l.start (bids_on h l.item) }
+row_now bands h l = record { item = item_now bands h l; standing = standing_of bands (listed_opening l) (bids_on h l.item) }
 
 -- the tables of a history
 unfoldable pub tables_of : Settings → History → Tables

@@ -43,6 +43,6 @@ pub(crate) fn new_entry(
             title,
             text,
         },
-        standing: Standing::open(start),
+        standing: Standing::open(start, None),
     })
 }

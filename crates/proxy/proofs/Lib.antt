@@ -7,3 +7,4 @@ pub mod Ranks
 pub mod Prices
 pub mod Rises
 pub mod Surpluses
+pub mod Reserves

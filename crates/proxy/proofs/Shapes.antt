@@ -6,45 +6,46 @@ use Rattle.std.proofs.lemmas.Bool.{cases_eq}
 use Rattle.std.proofs.lemmas.Bool.Decides.{nat_tests}
 use Rattle.proxy.specs.declared.bid.Bid.{Bid}
 use Rattle.proxy.specs.Accepted.{AreAccepted}
+use Rattle.proxy.specs.Opening.{Opening}
 use Rattle.proxy.specs.Bids.{bids_by, bids_not_by, first_at, floor, greatest_if_any, greatest_of, leader, maxima, price, price_from, refusal, second, standing_of, top}
 use Rattle.proxy.specs.Rows.{is_shape, is_standing}
 use Rattle.proxy.proofs.Judged.{accepted_above, accepted_over, none_leader}
 use Rattle.proxy.proofs.Leads.{or_zero, others_below, somebody_leads, top-more}
-use Rattle.proxy.proofs.Prices.{price_starts}
+use Rattle.proxy.proofs.Prices.{price-none, price_starts}
 
 by_test : (b : Bool) → (b ≡ true) ⊎ (b ≡ false)
 by_test true = inl refl
 by_test false = inr refl
 
 -- the floor is at least the start
-floor_starts : (bands : List (ℕ × ℕ)) (start : ℕ) (bids : List Bid) → start ≤ floor bands start bids
-floor_starts bands start [] = omega arith
-floor_starts bands start (b ∷ bids) = let le = price_starts bands start (b ∷ bids) in omega arith
+floor_starts : (bands : List (ℕ × ℕ)) (opening : Opening) (bids : List Bid) → opening.start ≤ floor bands opening bids
+floor_starts bands opening [] = omega arith
+floor_starts bands opening (b ∷ bids) = let le = price_starts bands opening (b ∷ bids) in omega arith
 
 -- where earlier bids are at least the start, so is an accepted one
-bid_starts : (bands : List (ℕ × ℕ)) (start : ℕ) (before : List Bid) (b : Bid) → (before ≢ [] → start ≤ top before) → refusal bands start before b.member b.maximum ≡ None → start ≤ b.maximum
-bid_starts bands start before b early ok =
+bid_starts : (bands : List (ℕ × ℕ)) (opening : Opening) (before : List Bid) (b : Bid) → (before ≢ [] → opening.start ≤ top before) → refusal bands opening before b.member b.maximum ≡ None → opening.start ≤ b.maximum
+bid_starts bands opening before b early ok =
     by_leader (leader before) refl where
-      by_leader : (o : Option ℕ) → leader before ≡ o → start ≤ b.maximum
+      by_leader : (o : Option ℕ) → leader before ≡ o → opening.start ≤ b.maximum
       by_leader None none =
-          let over = accepted_over bands start before b.member b.maximum ok (λ led. let e : None ≡ Some b.member = sym none ∙ led in cc) in
-          let low = floor_starts bands start before in omega arith
+          let over = accepted_over bands opening before b.member b.maximum ok (λ led. let e : None ≡ Some b.member = sym none ∙ led in cc) in
+          let low = floor_starts bands opening before in omega arith
       by_leader (Some l) led = elim (cases_eq l b.member) [
         | inl same ↦ (let own : leader before ≡ Some b.member = led ∙ ap Some same in
-            let above = accepted_above bands start before b.member b.maximum ok own in
+            let above = accepted_above bands opening before b.member b.maximum ok own in
             let low = early (λ none. none_leader b.member (rw none at own)) in omega arith)
-        | inr other ↦ (let over = accepted_over bands start before b.member b.maximum ok (λ own. let e : Some l ≡ Some b.member = sym led ∙ own in other (let f : l ≡ b.member = cc in f)) in
-            let low = floor_starts bands start before in omega arith)
+        | inr other ↦ (let over = accepted_over bands opening before b.member b.maximum ok (λ own. let e : Some l ≡ Some b.member = sym led ∙ own in other (let f : l ≡ b.member = cc in f)) in
+            let low = floor_starts bands opening before in omega arith)
       ]
 
 -- each of the accepted bids is at least the start
-all_start : (bands : List (ℕ × ℕ)) (start : ℕ) (done rest : List Bid) → AreAccepted bands start (done ++ rest) → (done ≢ [] → start ≤ top done) → AllByRecursion (λ b. start ≤ b.maximum) rest
-all_start bands start done [] each early = tt
-all_start bands start done (b ∷ rest) each early =
+all_start : (bands : List (ℕ × ℕ)) (opening : Opening) (done rest : List Bid) → AreAccepted bands opening (done ++ rest) → (done ≢ [] → opening.start ≤ top done) → AllByRecursion (λ b. opening.start ≤ b.maximum) rest
+all_start bands opening done [] each early = tt
+all_start bands opening done (b ∷ rest) each early =
     let joined : (done ++ b ∷ []) ++ rest ≡ done ++ b ∷ rest = append_assoc done (b ∷ []) rest in
-    let first = bid_starts bands start done b early (each done b rest refl).accepted in
+    let first = bid_starts bands opening done b early (each done b rest refl).accepted in
     let more = top-more done b in
-    (first, all_start bands start (done ++ b ∷ []) rest (rw joined each) (λ some. let le = first in omega arith))
+    (first, all_start bands opening (done ++ b ∷ []) rest (rw joined each) (λ some. let le = first in omega arith))
 
 others_start : (start l : ℕ) (bids : List Bid) → AllByRecursion (λ b. start ≤ b.maximum) bids → IfSome (greatest_if_any (maxima (bids_not_by l bids))) (λ s. start ≤ s)
 others_start start l [] all = tt
@@ -88,17 +89,17 @@ second_below bids l s is =
 some_start : (start s : ℕ) (o : Option ℕ) → o ≡ Some s → IfSome o (λ x. start ≤ x) → start ≤ s
 some_start start s o is le = rw is at le
 
-shape_of : (bands : List (ℕ × ℕ)) (start l t count : ℕ) (o : Option ℕ) → 1 ≤ count → count ≤ 10000 → start ≤ t
-    → ((s : ℕ) → o ≡ Some s → (2 ≤ count) × (start ≤ s) × (s ≤ t)) → is_shape bands start (price_from bands start t o) count (Some l) (Some t) o ≡ true
-shape_of bands start l t count None some few starts each = grind (arith, nat_tests)
-shape_of bands start l t count (Some s) some few starts each = let is = each s refl in let a = is.0 in let b = is.1 in let c = is.2 in grind (arith, nat_tests)
+shape_of : (bands : List (ℕ × ℕ)) (opening : Opening) (l t count : ℕ) (o : Option ℕ) → 1 ≤ count → count ≤ 10000 → opening.start ≤ t
+    → ((s : ℕ) → o ≡ Some s → (2 ≤ count) × (opening.start ≤ s) × (s ≤ t)) → is_shape bands opening (price_from bands opening t o) count (Some l) (Some t) o ≡ true
+shape_of bands opening l t count None some few starts each = grind (arith, nat_tests)
+shape_of bands opening l t count (Some s) some few starts each = let is = each s refl in let a = is.0 in let b = is.1 in let c = is.2 in grind (arith, nat_tests)
 
-pub accepted_shape : (bands : List (ℕ × ℕ)) (start : ℕ) (bids : List Bid) → AreAccepted bands start bids → length bids ≤ 10000 → is_standing bands (standing_of bands start bids) ≡ true
+pub accepted_shape : (bands : List (ℕ × ℕ)) (opening : Opening) (bids : List Bid) → AreAccepted bands opening bids → length bids ≤ 10000 → is_standing bands (standing_of bands opening bids) ≡ true
 unfolding price second leader top
-accepted_shape bands start [] each few = grind (arith, nat_tests)
-accepted_shape bands start (b ∷ bids) each few =
+accepted_shape bands opening [] each few = let none : price bands opening [] ≡ opening.start = price-none bands opening in grind (arith, nat_tests)
+accepted_shape bands opening (b ∷ bids) each few =
     let led = somebody_leads b bids in
-    let all = all_start bands start [] (b ∷ bids) each (λ none. absurd (none refl)) in
+    let all = all_start bands opening [] (b ∷ bids) each (λ none. absurd (none refl)) in
     let low = all.0 in
-    rw led.1 (shape_of bands start led.0 (greatest_of (maxima (b ∷ bids))) (length (b ∷ bids)) (greatest_if_any (maxima (bids_not_by led.0 (b ∷ bids)))) (omega arith) few (omega arith)
-    (λ s is. (two_bids (b ∷ bids) led.0 s led.1 is, some_start start s _ is (others_start start led.0 (b ∷ bids) all), second_below (b ∷ bids) led.0 s is)))
+    rw led.1 (shape_of bands opening led.0 (greatest_of (maxima (b ∷ bids))) (length (b ∷ bids)) (greatest_if_any (maxima (bids_not_by led.0 (b ∷ bids)))) (omega arith) few (omega arith)
+    (λ s is. (two_bids (b ∷ bids) led.0 s led.1 is, some_start opening.start s _ is (others_start opening.start led.0 (b ∷ bids) all), second_below (b ∷ bids) led.0 s is)))

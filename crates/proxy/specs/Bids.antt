@@ -4,6 +4,7 @@ use Rattle.steps.specs.Table.{over}
 use Rattle.proxy.specs.declared.bid.Bid.{Bid}
 use Rattle.proxy.specs.declared.bid.BidRefusal.{BidRefusal}
 use Rattle.proxy.specs.declared.bid.BidRefusal.TheVariants.{Low, NotHigher, Full}
+use Rattle.proxy.specs.Opening.{Opening}
 use Rattle.proxy.specs.Kept.{Kept}
 use Rattle.proxy.specs.Rules.{first_failing}
 
@@ -55,25 +56,45 @@ others_than (Some l) bids = bids_not_by l bids
 unfoldable pub second : List Bid → Option ℕ
 second bids = greatest_if_any (maxima (others_than (leader bids) bids))
 
--- what the price is against the second's maximum
-abbrev pub price_from : List (ℕ × ℕ) → ℕ → ℕ → Option ℕ → ℕ
-price_from bands start top None = start
-price_from bands start top (Some second) = max start (min top (over bands second))
+-- what the price is against the second's maximum, by the bids alone
+abbrev pub price_by_bids : List (ℕ × ℕ) → ℕ → ℕ → Option ℕ → ℕ
+price_by_bids bands start top None = start
+price_by_bids bands start top (Some second) = max start (min top (over bands second))
 
--- the price: the start where fewer than two have bid
-unfoldable pub price : List (ℕ × ℕ) → ℕ → List Bid → ℕ
-price bands start bids = price_from bands start (top bids) (second bids)
+-- a reserve that the top meets raises the price to it
+abbrev pub with_reserve : Option ℕ → ℕ → ℕ → ℕ
+with_reserve None top price = price
+with_reserve (Some reserve) top price = if nat_le reserve top then max price reserve else price
+
+-- what the price is against the second's maximum
+abbrev pub price_from : List (ℕ × ℕ) → Opening → ℕ → Option ℕ → ℕ
+price_from bands opening top second = with_reserve opening.reserve top (price_by_bids bands opening.start top second)
+
+-- the price: where fewer than two have bid the start, or a reserve that is met
+unfoldable pub price : List (ℕ × ℕ) → Opening → List Bid → ℕ
+price bands opening bids = price_from bands opening (top bids) (second bids)
+
+-- whether the reserve is met: none without one, else whether there is a top of at least so much
+abbrev pub met_by : Option ℕ → Option ℕ → Option Bool
+met_by None top = None
+met_by (Some reserve) None = Some false
+met_by (Some reserve) (Some top) = Some (nat_le reserve top)
+
+-- whether bids meet the reserve
+abbrev pub met : Opening → List Bid → Option Bool
+met opening bids = met_by opening.reserve (greatest_if_any (maxima bids))
 
 -- the floor: the least that a bidder who doesn't lead may bid
-abbrev pub floor : List (ℕ × ℕ) → ℕ → List Bid → ℕ
-floor bands start [] = start
-floor bands start (b ∷ bids) = over bands (price bands start (b ∷ bids))
+abbrev pub floor : List (ℕ × ℕ) → Opening → List Bid → ℕ
+floor bands opening [] = opening.start
+floor bands opening (b ∷ bids) = over bands (price bands opening (b ∷ bids))
 
 -- all of it, as it is kept
-abbrev pub standing_of : List (ℕ × ℕ) → ℕ → List Bid → Kept
-standing_of bands start bids = record {
-  start = start;
-  price = price bands start bids;
+abbrev pub standing_of : List (ℕ × ℕ) → Opening → List Bid → Kept
+standing_of bands opening bids = record {
+  start = opening.start;
+  reserve = opening.reserve;
+  price = price bands opening bids;
   leader = leader bids;
   top = greatest_if_any (maxima bids);
   second = second bids;
@@ -90,10 +111,10 @@ abbrev pub leads : List Bid → ℕ → Bool
 leads bids member = is_leader (leader bids) member
 
 -- why a bid is refused: a leader has to raise its own maximum, anybody else has to meet the floor, and an item takes 10000 bids
-abbrev pub refusal : List (ℕ × ℕ) → ℕ → List Bid → ℕ → ℕ → Option BidRefusal
-refusal bands start bids member maximum = first_failing (
+abbrev pub refusal : List (ℕ × ℕ) → Opening → List Bid → ℕ → ℕ → Option BidRefusal
+refusal bands opening bids member maximum = first_failing (
     (leads bids member && nat_le maximum (greatest bids member), NotHigher)
-    ∷ (not (leads bids member) && nat_lt maximum (floor bands start bids), Low (floor bands start bids))
+    ∷ (not (leads bids member) && nat_lt maximum (floor bands opening bids), Low (floor bands opening bids))
     ∷ (nat_le 10000 (length bids), Full) ∷ [])
 
 -- the bids with one more, which takes the next number

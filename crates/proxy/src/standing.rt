@@ -1,7 +1,8 @@
 //! The standing of one item, kept from bid to bid.
 ghost use Rattle.std.specs.Prelude.{◌≡◌, ◌≤◌, ◌<◌, ℕ, List, [], length, IfSome, is_some, OnOk, OnErr, MatchResult};
 ghost use Rattle.proxy.specs.declared.bid.Bid.{Bid as TheBid};
-ghost use Rattle.proxy.specs.Bids.{refusal, standing_of, floor, one_more, price_from};
+ghost use Rattle.proxy.specs.Bids.{floor, met_by, one_more, price_by_bids, refusal, standing_of, with_reserve};
+ghost use Rattle.proxy.specs.Kept.{opening_of};
 ghost use Rattle.proxy.specs.Led.{kept_led};
 ghost use Rattle.proxy.specs.Rows.{is_shape};
 
@@ -19,6 +20,7 @@ pub const MOST_BIDS: u32 = 10_000;
 #[derive(Clone, Copy, Debug, PartialEq, Eq)]
 pub struct Standing {
     start: Cents,
+    reserve: Option<Cents>,
     price: Cents,
     leader: Option<u32>,
     top: Option<Cents>,
@@ -31,14 +33,14 @@ impl Model for Standing {
 
     ghost Value = { Kept };
 
-    ghost view = { λ s. record { start = s.start; price = s.price; leader = s.leader; top = s.top; second = s.second; count = s.count } };
+    ghost view = { λ s. record { start = s.start; reserve = s.reserve; price = s.price; leader = s.leader; top = s.top; second = s.second; count = s.count } };
 
-    ghost inverse = { λ k. record { start = k.start; price = k.price; leader = k.leader; top = k.top; second = k.second; count = k.count } };
+    ghost inverse = { λ k. record { start = k.start; reserve = k.reserve; price = k.price; leader = k.leader; top = k.top; second = k.second; count = k.count } };
 }
 
 // The price against the second: one step over it, but at most the top.
 fn price_against(bands: &Bands, start: Cents, top: Cents, second: Cents) -> Cents
-    ensures { result ≡ price_from bands.now start top (Some second) }
+    ensures { result ≡ price_by_bids bands.now start top (Some second) }
 {
     match Cents::new(bands.over(second)) {
         Some(over) => start.max(top.min(over)),
@@ -46,13 +48,24 @@ fn price_against(bands: &Bands, start: Cents, top: Cents, second: Cents) -> Cent
     }
 }
 
+// A price by the bids, or a reserve above it that the top meets.
+fn over_reserve(reserve: &Option<Cents>, top: Cents, by_bids: Cents) -> Cents
+    ensures { result ≡ with_reserve reserve.now top by_bids }
+{
+    match reserve {
+        Some(reserve) if *reserve <= top => by_bids.max(*reserve),
+        _ => by_bids,
+    }
+}
+
 impl Standing {
     /// The standing of an item on which nobody has bid.
-    pub fn open(start: Cents) -> Standing
-        ensures { (bands : List (ℕ × ℕ)) → result ≡ standing_of bands start [] }
+    pub fn open(start: Cents, reserve: Option<Cents>) -> Standing
+        ensures { (bands : List (ℕ × ℕ)) → result ≡ standing_of bands (record { start = start; reserve = reserve }) [] }
     {
         Standing {
             start,
+            reserve,
             price: start,
             leader: None,
             top: None,
@@ -62,17 +75,17 @@ impl Standing {
     }
 
     /// The standing of a list of bids in order, by two scans.
-    pub fn of_bids(start: Cents, bands: &Bands, bids: &[Bid]) -> Standing
+    pub fn of_bids(start: Cents, reserve: Option<Cents>, bands: &Bands, bids: &[Bid]) -> Standing
         requires { length bids.now ≤ MOST_BIDS }
-        ensures { result ≡ standing_of bands.now start bids.now }
+        ensures { result ≡ standing_of bands.now (record { start = start; reserve = reserve }) bids.now }
     {
         match leading(bids) {
             Some(best) => {
                 let second = other_greatest(bids, best.member);
                 let count = bids.len() as u32;
-                Standing::led(bands, start, best.member, best.maximum, second, count)
+                Standing::open(start, reserve).led(bands, best.member, best.maximum, second, count)
             }
-            None => Standing::open(start),
+            None => Standing::open(start, reserve),
         }
     }
 
@@ -80,13 +93,15 @@ impl Standing {
     ///
     /// Either nobody has bid, and the price is the start. Or one member has, and the price is the
     /// start. Or several have, the second lies between start and top, and the price is one step
-    /// over it, but at most the top.
+    /// over it, but at most the top. A reserve above that price is the price where the top meets
+    /// it.
     ///
     /// Accepted bids leave no other row, but they can't leave each of these, since the bids are not
     /// looked at. By the example bands, a start and second of 500 and a top of 510 fit; but behind
     /// any first bid another member's is accepted from 550 on.
     pub fn of_row(
         start: Cents,
+        reserve: Option<Cents>,
         bands: &Bands,
         price: Cents,
         leader: Option<u32>,
@@ -94,19 +109,22 @@ impl Standing {
         second: Option<Cents>,
         count: u32,
     ) -> Option<Standing>
-        ensures fits { is_some result ≡ is_shape bands.now start price count leader top second }
-        ensures value { IfSome result (λ s. s ≡ record { start = start; price = price; leader = leader; top = top; second = second; count = count }) }
+        ensures fits { is_some result ≡ is_shape bands.now (record { start = start; reserve = reserve }) price count leader top second }
+        ensures value { IfSome result (λ s. s ≡ record { start = start; reserve = reserve; price = price; leader = leader; top = top; second = second; count = count }) }
     {
         let fits = match (leader, top, second) {
             (None, None, None) => count == 0 && price == start,
             (Some(_), Some(top), None) => {
-                (1..=MOST_BIDS).contains(&count) && start <= top && price == start
+                (1..=MOST_BIDS).contains(&count)
+                    && start <= top
+                    && price == over_reserve(&reserve, top, start)
             }
             (Some(_), Some(top), Some(second)) => {
                 (2..=MOST_BIDS).contains(&count)
                     && start <= second
                     && second <= top
-                    && price == price_against(bands, start, top, second)
+                    && price
+                        == over_reserve(&reserve, top, price_against(bands, start, top, second))
             }
             _ => false,
         };
@@ -115,6 +133,7 @@ impl Standing {
         }
         Some(Standing {
             start,
+            reserve,
             price,
             leader,
             top,
@@ -128,6 +147,24 @@ impl Standing {
         ensures { result ≡ self.now.price }
     {
         self.price
+    }
+
+    /// Whether the reserve is met; none where there is none.
+    pub fn met(&self) -> Option<bool>
+        ensures { result ≡ met_by self.now.reserve self.now.top }
+    {
+        match (self.reserve, self.top) {
+            (Some(reserve), Some(top)) => Some(reserve <= top),
+            (Some(_), None) => Some(false),
+            (None, _) => None,
+        }
+    }
+
+    /// The least for which the seller sells, which is sealed.
+    pub fn reserve(&self) -> Option<Cents>
+        ensures { result ≡ self.now.reserve }
+    {
+        self.reserve
     }
 
     /// Who leads.
@@ -160,8 +197,8 @@ impl Standing {
 
     /// The least maximum that is taken of a bidder who doesn't lead, in cents.
     pub fn floor(&self, bands: &Bands) -> u64
-        ensures { (bids : List TheBid) → self.now ≡ standing_of bands.now self.now.start bids
-            → result ≡ floor bands.now self.now.start bids }
+        ensures { (bids : List TheBid) → self.now ≡ standing_of bands.now (opening_of self.now) bids
+            → result ≡ floor bands.now (opening_of self.now) bids }
     {
         if self.count == 0 {
             self.start.value()
@@ -175,11 +212,11 @@ impl Standing {
     /// The clauses speak of whatever accepted bids this is the standing of.
     pub fn place(&mut self, bands: &Bands, member: u32, maximum: Cents) -> Result<(), BidRefusal>
         // Low, NotHigher and Full come exactly by the rules, in their order.
-        ensures verdict { (bids : List TheBid) → self.old ≡ standing_of bands.now self.old.start bids
-            → MatchResult result (λ _. refusal bands.now self.old.start bids member maximum ≡ None)
-            (λ e. refusal bands.now self.old.start bids member maximum ≡ Some e) }
-        ensures placed { (bids : List TheBid) → self.old ≡ standing_of bands.now self.old.start bids
-            → OnOk result (self.new ≡ standing_of bands.now self.old.start (one_more bids member maximum)) }
+        ensures verdict { (bids : List TheBid) → self.old ≡ standing_of bands.now (opening_of self.old) bids
+            → MatchResult result (λ _. refusal bands.now (opening_of self.old) bids member maximum ≡ None)
+            (λ e. refusal bands.now (opening_of self.old) bids member maximum ≡ Some e) }
+        ensures placed { (bids : List TheBid) → self.old ≡ standing_of bands.now (opening_of self.old) bids
+            → OnOk result (self.new ≡ standing_of bands.now (opening_of self.old) (one_more bids member maximum)) }
         ensures err { OnErr result (self.new ≡ self.old) }
     {
         self.judge(bands, member, maximum)?;
@@ -189,9 +226,9 @@ impl Standing {
 
     // Whether a bid is accepted.
     fn judge(&self, bands: &Bands, member: u32, maximum: Cents) -> Result<(), BidRefusal>
-        ensures verdict { (bids : List TheBid) → self.now ≡ standing_of bands.now self.now.start bids
-            → MatchResult result (λ _. refusal bands.now self.now.start bids member maximum ≡ None)
-            (λ e. refusal bands.now self.now.start bids member maximum ≡ Some e) }
+        ensures verdict { (bids : List TheBid) → self.now ≡ standing_of bands.now (opening_of self.now) bids
+            → MatchResult result (λ _. refusal bands.now (opening_of self.now) bids member maximum ≡ None)
+            (λ e. refusal bands.now (opening_of self.now) bids member maximum ≡ Some e) }
         ensures raised { OnOk result (self.now.leader ≡ Some member → IfSome self.now.top (λ top. top < maximum)) }
         ensures room { OnOk result (self.now.count < MOST_BIDS) }
     {
@@ -215,45 +252,45 @@ impl Standing {
     fn with(&self, bands: &Bands, member: u32, maximum: Cents) -> Standing
         requires raised { self.now.leader ≡ Some member → IfSome self.now.top (λ top. top < maximum) }
         requires room { self.now.count < MOST_BIDS }
-        ensures { (bids : List TheBid) → self.now ≡ standing_of bands.now self.now.start bids
-            → result ≡ standing_of bands.now self.now.start (one_more bids member maximum) }
+        ensures { (bids : List TheBid) → self.now ≡ standing_of bands.now (opening_of self.now) bids
+            → result ≡ standing_of bands.now (opening_of self.now) (one_more bids member maximum) }
     {
-        let (start, count) = (self.start, self.count + 1);
+        let count = self.count + 1;
         match (self.leader, self.top) {
             (Some(leader), Some(top)) if leader != member => {
                 if top < maximum {
-                    Standing::led(bands, start, member, maximum, Some(top), count)
+                    self.led(bands, member, maximum, Some(top), count)
                 } else {
                     let second = greatest_with(self.second, maximum);
-                    Standing::led(bands, start, leader, top, Some(second), count)
+                    self.led(bands, leader, top, Some(second), count)
                 }
             }
-            _ => Standing::led(bands, start, member, maximum, self.second, count),
+            _ => self.led(bands, member, maximum, self.second, count),
         }
     }
 
     // The standing where somebody leads.
     fn led(
+        &self,
         bands: &Bands,
-        start: Cents,
         leader: u32,
         top: Cents,
         second: Option<Cents>,
         count: u32,
     ) -> Standing
-        ensures { result ≡ kept_led bands.now start leader top second count }
+        ensures { result ≡ kept_led bands.now (opening_of self.now) leader top second count }
     {
-        let price = match second {
-            Some(second) => price_against(bands, start, top, second),
-            None => start,
+        let by_bids = match second {
+            Some(second) => price_against(bands, self.start, top, second),
+            None => self.start,
         };
         Standing {
-            start,
-            price,
+            price: over_reserve(&self.reserve, top, by_bids),
             leader: Some(leader),
             top: Some(top),
             second,
             count,
+            ..*self
         }
     }
 }

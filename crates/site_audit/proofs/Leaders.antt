@@ -12,7 +12,7 @@ use Rattle.house_rows.specs.declared.settings.Settings.{Settings}
 use Rattle.house_rows.specs.Bids.{bids_on}
 use Rattle.house_rows.specs.Found.{standing_at}
 use Rattle.house_rows.specs.History.{History}
-use Rattle.house_rows.specs.Listings.{Listing, listing_at, listings}
+use Rattle.house_rows.specs.Listings.{Listing, listed_opening, listing_at, listings}
 use Rattle.house_rows.specs.Tables.{ItemRow, Tables, row_now, tables_of}
 use Rattle.house_rows.specs.Verdict.{IsHistory}
 use Rattle.house_rows.proofs.RangedBids.{BidIn, bids_fit}
@@ -32,11 +32,11 @@ led_top [] w led = absurd (none_leader w led)
 led_top (b ∷ bids) w led = ap Some (sym (top_is (b ∷ bids) _ refl))
 
 -- what is kept of bids tells who leads
-kept_led : (bands : List (ℕ × ℕ)) (start w x : ℕ) (bids : List bid.Bid) → IsLedKept bands w x (standing_of bands start bids) → LeadsBy bands w x bids
-kept_led bands start w x bids is = record { led = is.0; by = top_is bids x is.1; covers = is.2 }
+kept_led : (bands : List (ℕ × ℕ)) (l : Listing) (w x : ℕ) (bids : List bid.Bid) → IsLedKept bands w x (standing_of bands (listed_opening l) bids) → LeadsBy bands w x bids
+kept_led bands l w x bids is = record { led = is.0; by = top_is bids x is.1; covers = is.2 }
 
-led_kept : (bands : List (ℕ × ℕ)) (start w x : ℕ) (bids : List bid.Bid) → LeadsBy bands w x bids → IsLedKept bands w x (standing_of bands start bids)
-led_kept bands start w x bids is = (is.led, led_top bids w is.led ∙ ap Some is.by, is.covers)
+led_kept : (bands : List (ℕ × ℕ)) (l : Listing) (w x : ℕ) (bids : List bid.Bid) → LeadsBy bands w x bids → IsLedKept bands w x (standing_of bands (listed_opening l) bids)
+led_kept bands l w x bids is = (is.led, led_top bids w is.led ∙ ap Some is.by, is.covers)
 
 standing_by : (settings : Settings) (h : History) (i : ℕ) → standing_at (tables_of settings h) i ≡ option_map (λ (row : ItemRow). row.standing) (option_map (row_now settings.bands h) (listing_at (listings h) i))
 standing_by settings h i = ap (option_map (λ (row : ItemRow). row.standing)) (row_found settings h i)
@@ -50,12 +50,12 @@ standing_leads settings h t bands i w x k told e same found is =
       by_listing None none =
           let f : None ≡ Some k = sym (ap (option_map (λ (row : ItemRow). row.standing)) (ap (option_map (row_now settings.bands h)) none)) ∙ sym (standing_by settings h i) ∙ ap (λ (u : Tables). standing_at u i) (sym e) ∙ found in absurd cc
       by_listing (Some l) some =
-          let f : Some (standing_of settings.bands l.start (bids_on h l.item)) ≡ Some k =
+          let f : Some (standing_of settings.bands (listed_opening l) (bids_on h l.item)) ≡ Some k =
           sym (ap (option_map (λ (row : ItemRow). row.standing)) (ap (option_map (row_now settings.bands h)) some)) ∙ sym (standing_by settings h i) ∙ ap (λ (u : Tables). standing_at u i) (sym e) ∙ found in
           let me : l.item ≡ i = listing_is h i l some in
-          let kept : k ≡ standing_of settings.bands l.start (bids_on h i) = (let g : standing_of settings.bands l.start (bids_on h l.item) ≡ k = cc in sym g ∙ ap (λ j. standing_of settings.bands l.start (bids_on h j)) me) in (
-            λ yes. kept_led settings.bands l.start w x (bids_on h i) (subst (λ z. IsLedKept settings.bands w x z) kept (subst (λ b. IsLedKept b w x k) same (is.0 yes))),
-            λ leads. is.1 (subst (λ b. IsLedKept b w x k) (sym same) (subst (λ z. IsLedKept settings.bands w x z) (sym kept) (led_kept settings.bands l.start w x (bids_on h i) leads))),
+          let kept : k ≡ standing_of settings.bands (listed_opening l) (bids_on h i) = (let g : standing_of settings.bands (listed_opening l) (bids_on h l.item) ≡ k = cc in sym g ∙ ap (λ j. standing_of settings.bands (listed_opening l) (bids_on h j)) me) in (
+            λ yes. kept_led settings.bands l w x (bids_on h i) (subst (λ z. IsLedKept settings.bands w x z) kept (subst (λ b. IsLedKept b w x k) same (is.0 yes))),
+            λ leads. is.1 (subst (λ b. IsLedKept b w x k) (sym same) (subst (λ z. IsLedKept settings.bands w x z) (sym kept) (led_kept settings.bands l w x (bids_on h i) leads))),
           )
 
 -- where it has none
@@ -66,5 +66,5 @@ none_leads settings h t i w x is e found =
       by_listing : (o : Option Listing) → listing_at (listings h) i ≡ o → (false ≡ true) ↔ LeadsBy settings.bands w x (bids_on h i)
       by_listing None none = (λ f. absurd (let g : false ≡ true = f in cc), λ leads. absurd (none_leader w (subst (λ bs. leader bs ≡ Some w) (unlisted settings h i is none) leads.led)))
       by_listing (Some l) some =
-          let f : Some (standing_of settings.bands l.start (bids_on h l.item)) ≡ None =
+          let f : Some (standing_of settings.bands (listed_opening l) (bids_on h l.item)) ≡ None =
           sym (ap (option_map (λ (row : ItemRow). row.standing)) (ap (option_map (row_now settings.bands h)) some)) ∙ sym (standing_by settings h i) ∙ ap (λ (u : Tables). standing_at u i) (sym e) ∙ found in absurd cc

@@ -34,7 +34,7 @@ pub record IsRaise (y : ℕ) (b : Sealed) (text : Heard) : Type 0 where
 -- by what is kept of an item's bids a member leads with that maximum, and it covers what leading
 -- takes
 abbrev pub IsLedKept : List (ℕ × ℕ) → ℕ → ℕ → Kept → Type 0
-IsLedKept bands w x k = (k.leader ≡ Some w) × (k.top ≡ Some x) × Covers bands k.second x
+IsLedKept bands w x k = (k.leader ≡ Some w) × (k.top ≡ Some x) × Covers bands k.reserve k.second x
 
 -- the element in that place of a list, which is counted from 1, asks for that bid
 pub record IsBidAt (place : ℕ) (b : Sealed) (heards : List Heard) : Type 0 where

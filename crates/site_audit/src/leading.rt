@@ -1,5 +1,6 @@
 //! Who leads, and whether the leader's maximum covers what leading takes.
-ghost use Rattle.std.specs.Prelude.{◌≡◌, ◌↔◌, IfOk, Some, true};
+ghost use Rattle.std.specs.Prelude.{◌≡◌, ◌≤◌, ◌↔◌, IfOk, IfSome, Some, true};
+ghost use Rattle.steps.specs.Table.{over};
 ghost use Rattle.proxy.specs.Surplus.{Covers};
 ghost use Rattle.house_laws.specs.Covered.{LeadsBy};
 ghost use Rattle.house_rows.specs.declared.settings.Settings.{Settings as TheSettings};
@@ -19,14 +20,31 @@ use proxy::Standing;
 use site::Site;
 use steps::Bands;
 
-// Whether a maximum covers what leading takes.
-fn covers(bands: &Bands, second: Option<Cents>, maximum: u64) -> bool
-    ensures { (result ≡ true) ↔ Covers bands.now second maximum }
+// Whether a maximum is at least one step over the second, if there is one.
+fn is_over(bands: &Bands, second: Option<Cents>, maximum: u64) -> bool
+    ensures { (result ≡ true) ↔ IfSome second (λ s. over bands.now s ≤ maximum) }
 {
     match second {
         Some(second) => bands.over(second) <= maximum,
         None => true,
     }
+}
+
+// Whether a maximum is at least the reserve, if there is one.
+fn meets(reserve: Option<Cents>, maximum: u64) -> bool
+    ensures { (result ≡ true) ↔ IfSome reserve (λ r. r ≤ maximum) }
+{
+    match reserve {
+        Some(reserve) => reserve.value() <= maximum,
+        None => true,
+    }
+}
+
+// Whether a maximum covers what leading takes.
+fn covers(bands: &Bands, reserve: Option<Cents>, second: Option<Cents>, maximum: u64) -> bool
+    ensures { (result ≡ true) ↔ Covers bands.now reserve second maximum }
+{
+    is_over(bands, second, maximum) && meets(reserve, maximum)
 }
 
 // Whether a member is the leader that there is.
@@ -55,7 +73,7 @@ fn is_led_by(standing: &Standing, bands: &Bands, member: u64, maximum: u64) -> b
 {
     is_leader(standing.leader(), member)
         && is_top(standing.top(), maximum)
-        && covers(bands, standing.second(), maximum)
+        && covers(bands, standing.reserve(), standing.second(), maximum)
 }
 
 // Whether a bidder leads its item by that maximum, and it covers what leading takes.

@@ -1,8 +1,9 @@
 -- What a bid is told: how its item stands after it.
-use Rattle.std.proofs.Common.{◌≡◌, ℕ, List, true, refl, ◌∙◌, ap, sym, Some}
+use Rattle.std.proofs.Common.{◌≡◌, ℕ, List, true, refl, ◌∙◌, ap, subst, sym, Some}
 use Rattle.std.specs.Prelude.{Result, IfOk, ◌==◌}
 use Rattle.proxy.specs.Bids.{floor, one_more, standing_of}
-use Rattle.proxy.specs.Kept.{Kept}
+use Rattle.proxy.specs.Opening.{Opening}
+use Rattle.proxy.specs.Kept.{Kept, opening_of}
 use Rattle.proxy.specs.declared.bid.Bid as bid
 use Rattle.house.specs.Decided.{IsAccepted}
 use Rattle.house.specs.Own.{IsOf}
@@ -18,7 +19,7 @@ use Rattle.house_rows.specs.Changed.{changed, is_item, with_standing}
 use Rattle.house_rows.specs.Found.{row_at}
 use Rattle.house_rows.specs.History.{History}
 use Rattle.house_rows.specs.Items.{shown}
-use Rattle.house_rows.specs.Tables.{ItemRow, Tables, tables_of}
+use Rattle.house_rows.specs.Tables.{ItemRow, Tables, row_opening, tables_of}
 use Rattle.house_rows.specs.Told.{told_placed}
 use Rattle.house_rows.proofs.AcceptedBids.{floor_is}
 use Rattle.house_rows.proofs.ChangedRows.{standing_number, there_is}
@@ -31,17 +32,17 @@ unfolding changed
 row_after t at' i placed kept row found = row_changed i (with_standing i kept) row t.items (λ r. ap (λ n. n == i) (standing_number i kept r)) found
 
 -- what its row tells
-placed_now : (settings : Settings) (i : ℕ) (kept : Kept) (row : ItemRow) (start : ℕ) (bids : List bid.Bid) → is_item i row ≡ true → row.item.terms.state ≡ Open
-    → row.item.terms.start ≡ start → kept ≡ standing_of settings.bands start bids
-    → told_placed (Some (shown settings (with_standing i kept row).item)) ≡ Placed kept.count (floor settings.bands start bids) kept.leader kept.price
-placed_now settings i kept row start bids here opened same stands =
-    rw (here, opened, same, stands) (rw (floor_is settings.bands start bids) refl)
+placed_now : (settings : Settings) (i : ℕ) (kept : Kept) (row : ItemRow) (opening : Opening) (bids : List bid.Bid) → is_item i row ≡ true → row.item.terms.state ≡ Open
+    → row.item.terms.start ≡ opening.start → kept ≡ standing_of settings.bands opening bids
+    → told_placed (Some (shown settings (with_standing i kept row).item)) ≡ Placed kept.count (floor settings.bands opening bids) kept.leader kept.price
+placed_now settings i kept row opening bids here opened same stands =
+    rw (here, opened, same, stands) (rw (floor_is settings.bands opening bids) refl)
 
 -- a standing that a bid leaves is one of bids, and what it tells of them is told
 record IsTelling (settings : Settings) (h : History) (moment caller i maximum : ℕ) (kept : Kept) : Type 0 where
   bids : List bid.Bid
-  stands : kept ≡ standing_of settings.bands kept.start bids
-  tells : IsTold settings h moment caller (command.Bid i maximum) (Placed kept.count (floor settings.bands kept.start bids) kept.leader kept.price)
+  stands : kept ≡ standing_of settings.bands (opening_of kept) bids
+  tells : IsTold settings h moment caller (command.Bid i maximum) (Placed kept.count (floor settings.bands (opening_of kept) bids) kept.leader kept.price)
 
 telling : (settings : Settings) (h : History) (moment caller at' i : ℕ) (placed : bid.Bid) (kept : Kept)
     → IsAccepted settings h moment caller (command.Bid i placed.maximum) (change.Bid at' i placed kept) → IsTelling settings h moment caller i placed.maximum kept
@@ -50,24 +51,25 @@ telling settings h moment caller at' i placed kept is =
     let fits = is.fits in
     let bids : List bid.Bid = one_more fits.bids placed.member placed.maximum in
     let start : fits.row.item.terms.start ≡ kept.start = sym (ap (λ (k : Kept). k.start) fits.stands_after) in
-    let stands : kept ≡ standing_of settings.bands kept.start bids = rw start at fits.stands_after in
+    let opening : row_opening fits.row ≡ opening_of kept = sym (ap opening_of fits.stands_after) in
+    let stands : kept ≡ standing_of settings.bands (opening_of kept) bids = subst (λ (o : Opening). kept ≡ standing_of settings.bands o bids) opening fits.stands_after in
     let here : is_item i fits.row ≡ true = there_is (tables_of settings h) i fits.row fits.row_there in
     let now = row_after (tables_of settings h) at' i placed kept fits.row fits.row_there in
     record {
       bids = bids;
       stands = stands;
       tells =
-          sym (placed_now settings i kept fits.row kept.start bids here fits.is_open start stands)
+          sym (placed_now settings i kept fits.row (opening_of kept) bids here fits.is_open start stands)
           ∙ ap told_placed (sym (seen_after settings h moment caller i (command.Bid i placed.maximum) (change.Bid at' i placed kept) (with_standing i kept fits.row) is now));
     }
 
 pub bid_told : (t : Tables) (settings : Settings) (h : History) (moment caller : ℕ) (k : Command) (result : Result Told KeepFault) (at' i : ℕ) (placed : bid.Bid) (kept : Kept) → t ≡ tables_of settings h
     → IsAccepted settings h moment caller k (change.Bid at' i placed kept) → IsOf moment caller k (change.Bid at' i placed kept)
-    → ((bids : List bid.Bid) → kept ≡ standing_of t.settings.bands kept.start bids → IfOk result (λ r. r ≡ Placed kept.count (floor t.settings.bands kept.start bids) kept.leader kept.price))
+    → ((bids : List bid.Bid) → kept ≡ standing_of t.settings.bands (opening_of kept) bids → IfOk result (λ r. r ≡ Placed kept.count (floor t.settings.bands (opening_of kept) bids) kept.leader kept.price))
     → IfOk result (IsTold settings h moment caller k)
 unfolding tables_of
 bid_told t settings h moment caller k result at' i placed kept e is own value =
     let known = telling settings h moment caller at' i placed kept (accepted_as settings h moment caller (command.Bid i placed.maximum) k (change.Bid at' i placed kept) own.same_command is) in
-    ok_as (λ r. r ≡ Placed kept.count (floor settings.bands kept.start known.bids) kept.leader kept.price) (IsTold settings h moment caller k) result
+    ok_as (λ r. r ≡ Placed kept.count (floor settings.bands (opening_of kept) known.bids) kept.leader kept.price) (IsTold settings h moment caller k) result
     (λ r v. told_as settings h moment caller (command.Bid i placed.maximum) k r own.same_command (v ∙ known.tells))
     ((rw e at value) known.bids known.stands)

@@ -1,6 +1,7 @@
 //! What a bid is told: how its item stands after it, by no maximum.
 ghost use Rattle.std.specs.Prelude.{◌≡◌, List, IfOk};
 ghost use Rattle.proxy.specs.Bids.{floor, standing_of};
+ghost use Rattle.proxy.specs.Kept.{opening_of};
 ghost use Rattle.proxy.specs.declared.bid.Bid.{Bid as TheBid};
 ghost use Rattle.house_rows.specs.Keeping.{Faults};
 
@@ -11,9 +12,9 @@ use proxy::Standing;
 /// standing of.
 pub(crate) fn placed<K: Keep>(keep: &K, standing: &Standing) -> Result<Told, KeepFault>
     ensures value { K.is_honest keep.now → (bids : List TheBid)
-        → standing.now ≡ standing_of (K.content keep.now).settings.bands standing.now.start bids
+        → standing.now ≡ standing_of (K.content keep.now).settings.bands (opening_of standing.now) bids
         → IfOk result (λ r. r ≡ Told.Placed standing.now.count
-        (floor (K.content keep.now).settings.bands standing.now.start bids) standing.now.leader standing.now.price) }
+        (floor (K.content keep.now).settings.bands (opening_of standing.now) bids) standing.now.leader standing.now.price) }
     ensures faults { Faults result (K.is_honest keep.now) (K.is_failed keep.now) (K.content keep.now) }
 {
     let floor = standing.floor(&keep.settings()?.bands);

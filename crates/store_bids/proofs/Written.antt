@@ -3,7 +3,7 @@ use Rattle.std.proofs.Common.{◌≡◌, ℕ, List, map, ap, sym, subst, ◌∙�
 use Rattle.std.specs.Prelude.{All, is_some, true}
 use Rattle.sqlite_value.specs.Order.{Row}
 use Rattle.sqlite.specs.Effect.{Database}
-use Rattle.proxy.specs.Kept.{Kept}
+use Rattle.proxy.specs.Kept.{Kept, opening_of}
 use Rattle.proxy.specs.declared.bid.Bid.{Bid}
 use Rattle.house_rows.specs.Changed.{changed, is_item, with_standing}
 use Rattle.house_rows.specs.declared.change.Change.TheVariants as change
@@ -21,11 +21,11 @@ use Rattle.store_items.proofs.Sold.{items_then_clock}
 still_of_item : (item : ℕ) (P : ItemRow → Type 0) (old new : Database) → new.trees 6 ≡ old.trees 6 → OfItem item P old → OfItem item P new
 still_of_item item P old new same all = subst (λ (rows : List Row). All (λ row. is_item item row ≡ true → P row) (map item_row_in rows)) (sym same) all
 
-pub bids : (moment item : ℕ) (placed : Bid) (kept : Kept) (old mid last new : Database) → IsNumbered old.trees → is_some kept.top ≡ is_some kept.leader → OfItem item (StartsAt kept.start) old
+pub bids : (moment item : ℕ) (placed : Bid) (kept : Kept) (old mid last new : Database) → IsNumbered old.trees → is_some kept.top ≡ is_some kept.leader → OfItem item (StartsAt (opening_of kept)) old
     → AddsBid (record { item = item; bid = placed }) old mid → SetsStanding item kept mid last → SetsClock moment last new → Changes (change.Bid moment item placed kept) old new
 unfolding changed
 bids moment item placed kept old mid last new numbered led starts adds sets clock =
-    let begin = still_of_item item (StartsAt kept.start) old mid (adds.others.1.1.1.1.0 (λ e. omega (arith, e))) starts in
+    let begin = still_of_item item (StartsAt (opening_of kept)) old mid (adds.others.1.1.1.1.0 (λ e. omega (arith, e))) starts in
     let one = bid_added (record { item = item; bid = placed }) old mid numbered adds in
     let two = items_then_clock (with_standing item kept) moment mid last new (standing_number item kept) one.numbered (record { house = sets.house; others = sets.others; items = sets.items led begin }) clock in
     record { house = clock.house; numbered = two.numbered; tables = two.tables ∙ ap (λ (t : Tables). record t { clock = moment; items = map (with_standing item kept) t.items }) one.tables }

@@ -3,6 +3,7 @@ ghost use Rattle.std.specs.Prelude.{◌≡◌, ◌<◌, ◌^◌, ◌==◌, ◌&&
 ghost use Rattle.std.specs.List.{list_any};
 ghost use Rattle.sqlite.specs.State.{HasCleanDisk};
 ghost use Rattle.sqlite.specs.Held.{state};
+ghost use Rattle.proxy.specs.Kept.{opening_of};
 ghost use Rattle.proxy.specs.Rows.{is_standing};
 ghost use Rattle.proxy.specs.declared.bid.Bid.{Bid as TheBid};
 ghost use Rattle.house_rows.specs.Asks.{BidFits, ChangeFits, IsFree};
@@ -29,15 +30,16 @@ use store_rows::{commit, set_clock, stored_moment};
 
 // Whether a standing's values fit together, from that start on.
 fn begins_at(standing: &Standing, bands: &Bands, start: Cents) -> bool
-    ensures begins { IsTrue result → standing.now.start ≡ start }
+    ensures begins { IsTrue result → opening_of standing.now ≡ record { start = start; reserve = None } }
     ensures led { IsTrue result → is_some standing.now.top ≡ is_some standing.now.leader }
     ensures stands { IsTrue result → is_standing bands.now standing.now ≡ true }
-    ensures all { standing.now.start ≡ start
+    ensures all { opening_of standing.now ≡ record { start = start; reserve = None }
         → is_standing bands.now standing.now ≡ true
         → IsTrue result }
 {
     let told = Standing::of_row(
         start,
+        None,
         bands,
         standing.price(),
         standing.leader(),
@@ -45,7 +47,7 @@ fn begins_at(standing: &Standing, bands: &Bands, start: Cents) -> bool
         standing.second(),
         standing.count(),
     );
-    // Only of_row tells the start that a standing has.
+    // Only of_row tells the start and the reserve that a standing has.
     told == Some(*standing)
 }
 
@@ -60,7 +62,7 @@ fn check_standing<S: Alter>(
     ensures there { HasCleanDisk (state S.Store conn.new)
         → OnOk result (HasStandingItem bands.now (state S.Store conn.old).now.trees item) }
     ensures start { HasCleanDisk (state S.Store conn.new)
-        → OnOk result (OfItem item (StartsAt standing.now.start) (state S.Store conn.old).now) }
+        → OnOk result (OfItem item (StartsAt (opening_of standing.now)) (state S.Store conn.old).now) }
     ensures led { OnOk result (is_some standing.now.top ≡ is_some standing.now.leader) }
     ensures stands { OnOk result (is_standing bands.now standing.now ≡ true) }
     ensures damaged { HasCleanDisk (state S.Store conn.new)
@@ -110,7 +112,7 @@ fn check_bid<S: Alter>(
     ensures there { HasCleanDisk (state S.Store conn.new)
         → OnOk result (HasStandingItem bands.now (state S.Store conn.old).now.trees item) }
     ensures start { HasCleanDisk (state S.Store conn.new)
-        → OnOk result (OfItem item (StartsAt standing.now.start) (state S.Store conn.old).now) }
+        → OnOk result (OfItem item (StartsAt (opening_of standing.now)) (state S.Store conn.old).now) }
     ensures led { OnOk result (is_some standing.now.top ≡ is_some standing.now.leader) }
     ensures stands { OnOk result (is_standing bands.now standing.now ≡ true) }
     ensures free { HasCleanDisk (state S.Store conn.new)
@@ -142,7 +144,7 @@ fn write_bid<S: Alter>(
     requires numbered { HasCleanDisk (state S.Store tx.old.conn.now)
         → IsNumbered (state S.Store tx.old.conn.now).now.trees }
     requires fits { HasCleanDisk (state S.Store tx.old.conn.now)
-        → OfItem item (StartsAt standing.now.start) (state S.Store tx.old.conn.now).now }
+        → OfItem item (StartsAt (opening_of standing.now)) (state S.Store tx.old.conn.now).now }
     requires led { is_some standing.now.top ≡ is_some standing.now.leader }
     ensures same_reference { tx.new.conn.ghost_name ≡ tx.old.conn.ghost_name }
     ensures ok { HasCleanDisk (state S.Store tx.new.conn.now)
@@ -178,7 +180,7 @@ pub fn bid<S: Alter>(
     ensures there { HasCleanDisk (state S.Store conn.new)
         → OnOk result (HasStandingItem bands.now (state S.Store conn.old).now.trees item) }
     ensures start { HasCleanDisk (state S.Store conn.new)
-        → OnOk result (OfItem item (StartsAt standing.now.start) (state S.Store conn.old).now) }
+        → OnOk result (OfItem item (StartsAt (opening_of standing.now)) (state S.Store conn.old).now) }
     ensures stands { OnOk result (is_standing bands.now standing.now ≡ true) }
     ensures moment { OnOk result (moment < 2 ^ 32) }
     ensures taken { HasCleanDisk (state S.Store conn.new)

@@ -1,4 +1,5 @@
 -- What the statements on items find and write.
+use Rattle.proxy.specs.Opening.{Opening}
 use Rattle.std.proofs.Common.{◌≡◌, ◌==◌, ◌≤◌, ◌<◌, ◌^◌, ℕ, pos, Bool, true, false, ◌&&◌, cond, List, [], ◌∷◌, ◌++◌, map, filter, find, slice_get, option_map, drop, Ok, Option, Some, None, is_some, eqb, refl, sym, ap, subst, ◌∙◌, arith, IsTrue, true≢false, IsUtf8}
 use Rattle.std.specs.List.{AllByRecursion}
 use Rattle.std.proofs.lemmas.List.Elements.{recursion_from_All}
@@ -20,7 +21,7 @@ use Rattle.sqlite.specs.Effect.{Database}
 use Rattle.sqlite.specs.State.{State, Shown, Executes}
 use Rattle.sqlite.proofs.Callers.{reads_as}
 use Rattle.proxy.specs.Bids.{standing_of, price, leader, second}
-use Rattle.proxy.specs.Kept.{Kept}
+use Rattle.proxy.specs.Kept.{Kept, opening_of}
 use Rattle.house_rows.specs.declared.change.NewItem.{NewItem}
 use Rattle.house_rows.specs.Changed.{is_item, new_item, with_standing, with_purchase, with_settlement}
 use Rattle.house_rows.specs.Limits.{most_cents}
@@ -155,7 +156,7 @@ module _ (old new : State) (answer : List Row) (house : IsHouse old.now) where
 -- ---- a new item
 
 -- the standing of no bids
-pub no_bids : (bands : List (ℕ × ℕ)) (start : ℕ) → record { start = start; price = start; leader = None; top = None; second = None; count = 0 } ≡ standing_of bands start []
+pub no_bids : (bands : List (ℕ × ℕ)) (start : ℕ) → record { start = start; reserve = None; price = start; leader = None; top = None; second = None; count = 0 } ≡ standing_of bands (record { start = start; reserve = None }) []
 unfolding price leader second
 no_bids bands start = refl
 
@@ -241,8 +242,14 @@ kept_start start at None top next count = refl
 kept_start start at (Some l) None next count = refl
 kept_start start at (Some l) (Some t) next count = refl
 
+-- and no reserve is stored
+pub kept_opening : (start at : ℕ) (led top next : Option ℕ) (count : ℕ) → opening_of (kept_from start at led top next count) ≡ record { start = start; reserve = None }
+kept_opening start at None top next count = refl
+kept_opening start at (Some l) None next count = refl
+kept_opening start at (Some l) (Some t) next count = refl
+
 -- a standing whose leader has a top is stored as it is
-told : (start at : ℕ) (led top next : Option ℕ) (count : ℕ) → is_some top ≡ is_some led → kept_from start at led top next count ≡ record { start = start; price = at; leader = led; top = top; second = next; count = count }
+told : (start at : ℕ) (led top next : Option ℕ) (count : ℕ) → is_some top ≡ is_some led → kept_from start at led top next count ≡ record { start = start; reserve = None; price = at; leader = led; top = top; second = next; count = count }
 told start at None top next count h = refl
 told start at (Some l) None next count h = absurd (true≢false (sym h))
 told start at (Some l) (Some t) next count h = refl
@@ -289,14 +296,14 @@ sets_standing old new item k count house low kept_low h =
     record {
       house = still_house 6 _ old.now new.now house w.0 w.1;
       others = w.0.others;
-      items = λ led start. ap (map item_row_in) w.0.rows_are ∙ typed_set_on item_row_in (with_standing item k) item (stood k) (λ r. is_item item (item_row_in r) ≡ true → (item_row_in r).standing.start ≡ k.start) rows house.shaped.1.1.1.1.0.1
-          (of_item item (λ row. row.standing.start ≡ k.start) old.now start) (here led) (λ r e. rw e refl);
+      items = λ led start. ap (map item_row_in) w.0.rows_are ∙ typed_set_on item_row_in (with_standing item k) item (stood k) (λ r. is_item item (item_row_in r) ≡ true → opening_of (item_row_in r).standing ≡ opening_of k) rows house.shaped.1.1.1.1.0.1
+          (of_item item (λ row. opening_of row.standing ≡ opening_of k) old.now start) (here led) (λ r e. rw e refl);
     }
   where
-    here : is_some k.top ≡ is_some k.leader → (r : Row) → (is_item item (item_row_in r) ≡ true → (item_row_in r).standing.start ≡ k.start) → eqb (number_in (rowid r)) item ≡ true → item_row_in (stood k r) ≡ with_standing item k (item_row_in r)
+    here : is_some k.top ≡ is_some k.leader → (r : Row) → (is_item item (item_row_in r) ≡ true → opening_of (item_row_in r).standing ≡ opening_of k) → eqb (number_in (rowid r)) item ≡ true → item_row_in (stood k r) ≡ with_standing item k (item_row_in r)
     here led r start e =
-        let same : number_in (column r 7) ≡ k.start = sym (kept_start (number_in (column r 7)) (number_in (column r 12)) (maybe_number_in (column r 13)) (maybe_number_in (column r 14)) (maybe_number_in (column r 15)) (number_in (column r 16))) ∙ start e in
-        let standing : kept_from (number_in (column r 7)) k.price k.leader k.top k.second k.count ≡ k = told (number_in (column r 7)) k.price k.leader k.top k.second k.count led ∙ ap (λ s. record k { start = s }) same in
+        let same : record { start = number_in (column r 7); reserve = None } ≡ opening_of k = sym (kept_opening (number_in (column r 7)) (number_in (column r 12)) (maybe_number_in (column r 13)) (maybe_number_in (column r 14)) (maybe_number_in (column r 15)) (number_in (column r 16))) ∙ start e in
+        let standing : kept_from (number_in (column r 7)) k.price k.leader k.top k.second k.count ≡ k = told (number_in (column r 7)) k.price k.leader k.top k.second k.count led ∙ ap (λ (o : Opening). record k { start = o.start; reserve = o.reserve }) same in
         rw (e, small k.price kept_low.price_low, small k.count kept_low.count_low, maybe_back k.leader kept_low.leader_low, maybe_back k.top kept_low.top_low, maybe_back k.second kept_low.second_low, standing) refl
 
 -- ---- the purchase

@@ -1,4 +1,5 @@
 -- What look-ups tell of the rows of an item.
+use Rattle.proxy.specs.Opening.{Opening}
 use Rattle.std.proofs.Common.{◌≡◌, ◌≤◌, ◌<◌, ◌^◌, ℕ, Bool, true, not, ◌&&◌, cond, List, [], ◌∷◌, map, filter, find, length, slice_get, option_map, Option, Some, None, eqb, refl, sym, ap, subst, ◌∙◌, arith, IsTrue, IfSome, true≢false}
 use Rattle.std.specs.Prelude.{◌==◌, All, is_some}
 use Rattle.std.specs.List.{AllByRecursion}
@@ -12,7 +13,7 @@ use Rattle.sqlite_keyed.proofs.ListLemmas.{all_kept, filter-map, slice_get-filte
 use Rattle.sqlite_keyed.proofs.RuleLemmas.{first_of_both, second_of_both}
 use Rattle.sqlite.specs.Effect.{Database}
 use Rattle.proxy.specs.Bids.{standing_of}
-use Rattle.proxy.specs.Kept.{Kept}
+use Rattle.proxy.specs.Kept.{Kept, opening_of}
 use Rattle.proxy.specs.declared.bid.Bid.{Bid}
 use Rattle.proxy.proofs.Placed.{standing-none}
 use Rattle.house_rows.specs.Asks.{PurchaseFits}
@@ -22,7 +23,7 @@ use Rattle.house_rows.specs.Fits.{TermsFit}
 use Rattle.house_rows.specs.Found.{row_at}
 use Rattle.house_rows.specs.Keeping.{AreSound, ItemRowFits}
 use Rattle.house_rows.specs.Limits.{most_cents}
-use Rattle.house_rows.specs.Tables.{ItemRow}
+use Rattle.house_rows.specs.Tables.{ItemRow, row_opening}
 use Rattle.house_rows.proofs.ChangedRows.{there_fits}
 use Rattle.house_rows.proofs.Every.{found_has}
 use Rattle.store_rows.specs.House.{IsHouse}
@@ -32,7 +33,7 @@ use Rattle.store_rows.proofs.RowLemmas.{filter_same_on, one_row}
 use Rattle.store_items.specs.Items.{OfItem}
 use Rattle.store_rows.specs.Tables.{settings_in, tables_in}
 use Rattle.store_items.specs.Sales.{IsUnbid, StartFits, StartsAt}
-use Rattle.store_items.proofs.ItemLemmas.{fits_state, kept_start}
+use Rattle.store_items.proofs.ItemLemmas.{fits_state, kept_opening}
 
 -- one row at most has a number
 pub one_item : (db : Database) → IsHouse db → (n : ℕ) → n < 2 ^ 32 → length (filter (is_item n) (items_in db.trees)) ≤ 1
@@ -74,13 +75,13 @@ start_checked db house n low t found fits =
 
 -- the bids begin at the start
 abbrev Begins : ItemRow → Type 0
-Begins row = row.item.terms.start ≤ most_cents → row.standing.start ≡ row.item.terms.start
+Begins row = row.item.terms.start ≤ most_cents → opening_of row.standing ≡ record { start = row.item.terms.start; reserve = None }
 
 row_begins : (r : Row) → Begins (item_row_in r)
 row_begins r fits =
     let is = fits_state (is_state (column r 10)) (number_in (column r 7)) fits in
-    kept_start (number_in (column r 7)) (number_in (column r 12)) (maybe_number_in (column r 13)) (maybe_number_in (column r 14)) (maybe_number_in (column r 15)) (number_in (column r 16))
-    ∙ sym (ap (λ b. cond b (number_in (column r 7)) (2 ^ 64)) is)
+    kept_opening (number_in (column r 7)) (number_in (column r 12)) (maybe_number_in (column r 13)) (maybe_number_in (column r 14)) (maybe_number_in (column r 15)) (number_in (column r 16))
+    ∙ ap (λ n. record { start = n; reserve = None }) (sym (ap (λ b. cond b (number_in (column r 7)) (2 ^ 64)) is))
 
 rows_begin : (rows : List Row) → AllByRecursion Begins (map item_row_in rows)
 rows_begin [] = tt
@@ -89,12 +90,23 @@ rows_begin (r ∷ rows) = (row_begins r, rows_begin rows)
 begins : (db : Database) (n : ℕ) (row : ItemRow) → find (is_item n) (items_in db.trees) ≡ Some row → Begins row
 begins db n row found = found_has Begins (is_item n) (items_in db.trees) row (rows_begin (db.trees 6)) found
 
-pub standing_checked : (db : Database) → IsHouse db → (n : ℕ) → n < 2 ^ 32 → (t : Terms) (start : ℕ) → option_map (λ (row : ItemRow). row.item.terms) (find (is_item n) (items_in db.trees)) ≡ Some t → TermsFit t → start ≡ t.start
-    → OfItem n (StartsAt start) db
-standing_checked db house n low t start found fits same =
+pub standing_checked : (db : Database) → IsHouse db → (n : ℕ) → n < 2 ^ 32 → (t : Terms) (opening : Opening) → option_map (λ (row : ItemRow). row.item.terms) (find (is_item n) (items_in db.trees)) ≡ Some t → TermsFit t → opening ≡ record { start = t.start; reserve = None }
+    → OfItem n (StartsAt opening) db
+standing_checked db house n low t opening found fits same =
     let row = whole (λ (row : ItemRow). row.item.terms) (find (is_item n) (items_in db.trees)) t found in
     let within = subst (λ (terms : Terms). terms.start ≤ most_cents) (sym row.2) fits.start.1 in
-    of_found (StartsAt start) db house n low row.0 row.1 (begins db n row.0 row.1 within ∙ ap (λ (terms : Terms). terms.start) row.2 ∙ sym same)
+    of_found (StartsAt opening) db house n low row.0 row.1 (begins db n row.0 row.1 within ∙ ap (λ (terms : Terms). record { start = terms.start; reserve = None }) row.2 ∙ sym same)
+
+-- no row has a reserve
+row_unreserved : (r : Row) → (item_row_in r).standing.reserve ≡ None
+row_unreserved r = ap (λ (o : Opening). o.reserve) (kept_opening (number_in (column r 7)) (number_in (column r 12)) (maybe_number_in (column r 13)) (maybe_number_in (column r 14)) (maybe_number_in (column r 15)) (number_in (column r 16)))
+
+rows_unreserved : (rows : List Row) → AllByRecursion (λ (row : ItemRow). row.standing.reserve ≡ None) (map item_row_in rows)
+rows_unreserved [] = tt
+rows_unreserved (r ∷ rows) = (row_unreserved r, rows_unreserved rows)
+
+pub unreserved : (db : Trees) (n : ℕ) (row : ItemRow) → find (is_item n) (items_in db) ≡ Some row → row.standing.reserve ≡ None
+unreserved db n row found = found_has (λ (row : ItemRow). row.standing.reserve ≡ None) (is_item n) (items_in db) row (rows_unreserved (db 6)) found
 
 -- ---- an item on which nobody has bid
 
@@ -123,7 +135,7 @@ unbid_checked db house n low t s found fits stands is =
     let told = unbid_is t.start s is in
     of_found IsUnbid db house n low row.0 row.1 (
       within,
-      ap (λ (k : Kept). k.price) standing ∙ told.0 ∙ sym (ap (λ (terms : Terms). terms.start) row.2) ∙ sym (begins db n row.0 row.1 within),
+      ap (λ (k : Kept). k.price) standing ∙ told.0 ∙ sym (ap (λ (terms : Terms). terms.start) row.2) ∙ sym (ap (λ (o : Opening). o.start) (begins db n row.0 row.1 within)),
       ap (λ (k : Kept). k.leader) standing ∙ told.1,
       ap (λ (k : Kept). k.top) standing ∙ told.2,
     )
@@ -148,8 +160,8 @@ purchase_unbid db moment item buyer price t s sound p found stands =
     let standing : Some p.row.standing ≡ Some s = ap (option_map (λ (row : ItemRow). row.standing)) (sym there) ∙ stands in
     let fits = there_fits (tables_in db) item p.row sound p.row_there in
     let none : length fits.bids ≡ 0 = sym fits.count ∙ p.no_bid in
-    let told : s ≡ record { start = p.row.item.terms.start; price = p.row.item.terms.start; leader = None; top = None; second = None; count = 0 } =
-    (let e : s ≡ p.row.standing = cc in e) ∙ fits.stands ∙ ap (standing_of (tables_in db).settings.bands p.row.item.terms.start) (no_bids fits.bids none) ∙ standing-none (tables_in db).settings.bands p.row.item.terms.start in
+    let told : s ≡ record { start = p.row.item.terms.start; reserve = p.row.standing.reserve; price = p.row.item.terms.start; leader = None; top = None; second = None; count = 0 } =
+    (let e : s ≡ p.row.standing = cc in e) ∙ fits.stands ∙ ap (standing_of (tables_in db).settings.bands (row_opening p.row)) (no_bids fits.bids none) ∙ standing-none (tables_in db).settings.bands (row_opening p.row) in
     let start : t.start ≡ p.row.item.terms.start = (let e : t ≡ p.row.item.terms = cc in ap (λ (x : Terms). x.start) e) in
     rw (told, start) (let e : (p.row.item.terms.start == p.row.item.terms.start) ≡ true = grind (arith, nat_tests) in rw e refl)
   where

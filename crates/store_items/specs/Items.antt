@@ -1,7 +1,7 @@
 -- What the statements on items make of the house.
 use Rattle.std.specs.Prelude.{◌≡◌, ◌≤◌, ◌<◌, ℕ, true, Bool, if◌then◌else◌, [], ◌∷◌, ◌++◌, map, All, Some, None, is_some}
 use Rattle.sqlite.specs.Effect.{Database}
-use Rattle.proxy.specs.Kept.{Kept}
+use Rattle.proxy.specs.Kept.{Kept, opening_of}
 use Rattle.house_rows.specs.Changed.{is_item, with_terms, with_standing, with_purchase, with_settlement}
 use Rattle.house_rows.specs.Items.{closed_state}
 use Rattle.house_rows.specs.Limits.{most_cents}
@@ -24,7 +24,7 @@ OfItem item P db = All (λ row. is_item item row ≡ true → P row) (items_in d
 pub record SetsStanding (item : ℕ) (kept : Kept) (old new : Database) : Type 0 where
   pub house : IsHouse new
   pub others : KeepsOthers 6 old new
-  pub items : is_some kept.top ≡ is_some kept.leader → OfItem item (λ row. row.standing.start ≡ kept.start) old
+  pub items : is_some kept.top ≡ is_some kept.leader → OfItem item (λ row. opening_of row.standing ≡ opening_of kept) old
       → items_in new.trees ≡ map (with_standing item kept) (items_in old.trees)
 
 -- the item is sold at once, if its row fits and nobody has bid

@@ -1,4 +1,6 @@
 -- What changes of items ask of the rows, and make of them.
+use Rattle.proxy.specs.Kept.{opening_of}
+use Rattle.proxy.specs.Opening.{Opening}
 use Rattle.std.specs.Prelude.{◌≡◌, ◌≤◌, ℕ, List, [], ◌∷◌, filter, map, None}
 use Rattle.std.specs.List.{AllByRecursion}
 use Rattle.sqlite.specs.Effect.{Database}
@@ -20,9 +22,9 @@ abbrev pub IsUnbid : ItemRow → Type 0
 IsUnbid row = (row.item.terms.start ≤ most_cents) × (row.standing.price ≡ row.standing.start)
     × (row.standing.leader ≡ None) × (row.standing.top ≡ None)
 
--- the bids begin at that price
-abbrev pub StartsAt : ℕ → ItemRow → Type 0
-StartsAt start row = row.standing.start ≡ start
+-- the bids begin with that opening
+abbrev pub StartsAt : Opening → ItemRow → Type 0
+StartsAt opening row = opening_of row.standing ≡ opening
 
 -- the items are closed in turn, each as sold where somebody leads
 abbrev pub with_ends : List Terms → ItemRow → ItemRow

@@ -20,7 +20,7 @@ is_bought t = was_sold t.state && ((t.count == 0) && is_price t.buy_now t.price)
 -- by what is sealed of their bids, the terms stand
 abbrev pub stands : List (ℕ × ℕ) → Terms → Option ℕ → Option ℕ → Bool
 stands bands t top second = (is_none top && is_none second && is_bought t)
-    || is_shape bands t.start t.price t.count t.leader top second
+    || is_shape bands (record { start = t.start; reserve = None }) t.price t.count t.leader top second
 
 -- the columns from one on hold what is sealed, and the terms stand by it
 pub record AreSealed (bands : List (ℕ × ℕ)) (at : ℕ) (r : Row) : Type 0 where

@@ -35,6 +35,7 @@ fn stands(bands: &Bands, terms: &Terms, top: Option<Cents>, second: Option<Cents
     let is_unsealed = top.is_none() && second.is_none();
     let by_bids = Standing::of_row(
         terms.start,
+        None,
         bands,
         terms.price,
         terms.leader,

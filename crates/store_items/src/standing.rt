@@ -20,6 +20,7 @@ fn no_bids(start: Cents, second: Option<Cents>, count: u32) -> Option<Standing>
     ensures value { IfSome result
         (λ s. s ≡ record {
           start = start;
+          reserve = None;
           price = start;
           leader = None;
           top = None;
@@ -28,7 +29,7 @@ fn no_bids(start: Cents, second: Option<Cents>, count: u32) -> Option<Standing>
         }) }
 {
     if second.is_none() && count == 0 {
-        Some(Standing::open(start))
+        Some(Standing::open(start, None))
     } else {
         None
     }
@@ -52,7 +53,7 @@ fn standing_from(
     if is_bought {
         no_bids(start, second, count)
     } else {
-        Standing::of_row(start, bands, price, leader, top, second, count)
+        Standing::of_row(start, None, bands, price, leader, top, second, count)
     }
 }
 

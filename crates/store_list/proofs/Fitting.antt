@@ -6,6 +6,7 @@ use Rattle.std.specs.List.{AllByRecursion}
 use Rattle.std.proofs.lemmas.Bool.Decides.{nat_tests}
 use Rattle.proxy.specs.declared.bid.Bid.{Bid}
 use Rattle.proxy.specs.Bids.{standing_of}
+use Rattle.proxy.specs.Opening.{Opening}
 use Rattle.proxy.specs.Kept.{Kept}
 use Rattle.proxy.proofs.Placed.{standing-none}
 use Rattle.house_rows.specs.declared.item.Item.{Item}
@@ -15,7 +16,7 @@ use Rattle.house_rows.specs.Found.{all_items, own_bid, own_bids}
 use Rattle.house_rows.specs.Changed.{is_item}
 use Rattle.house_rows.specs.Keeping.{AllStand, AreSound, ItemRowFits, Stands, StandsAt}
 use Rattle.house_rows.specs.Limits.{most_shown}
-use Rattle.house_rows.specs.Tables.{ItemRow, Tables}
+use Rattle.house_rows.specs.Tables.{ItemRow, Tables, row_opening}
 use Rattle.house_rows.proofs.Every.{every_as, every_map}
 use Rattle.house_rows.proofs.Put.{by_test}
 use Rattle.house_rows.proofs.Standing.{row_stands}
@@ -91,15 +92,15 @@ pub ok_so : {A E : Type 0} {P : Type 0} (r : Result A E) → P → OnOk r P
 ok_so (Ok a) so = so
 ok_so (Err e) so = tt
 
-none_leads : (bands : List (ℕ × ℕ)) (start : ℕ) (bids : List Bid) (k : Kept) → k ≡ standing_of bands start bids → k.count ≡ 0 → IfSome k.leader IsMember
-none_leads bands start [] k is none = rw (is ∙ standing-none bands start) tt
-none_leads bands start (b ∷ bids) k is none = absurd (let n : length (b ∷ bids) ≡ 0 = sym (ap (λ (x : Kept). x.count) is) ∙ none in omega arith)
+none_leads : (bands : List (ℕ × ℕ)) (opening : Opening) (bids : List Bid) (k : Kept) → k ≡ standing_of bands opening bids → k.count ≡ 0 → IfSome k.leader IsMember
+none_leads bands opening [] k is none = rw (is ∙ standing-none bands opening) tt
+none_leads bands opening (b ∷ bids) k is none = absurd (let n : length (b ∷ bids) ≡ 0 = sym (ap (λ (x : Kept). x.count) is) ∙ none in omega arith)
 
 pub standing_fits : (bands : List (ℕ × ℕ)) (row : ItemRow) → ItemRowFits bands row → StandingFits row.standing
 standing_fits bands row fits = record {
   leader = elim fits.told [
     | inl told ↦ rw (← told.leader) fits.item.terms.leader
-    | inr bought ↦ none_leads bands row.item.terms.start fits.bids row.standing fits.stands bought.no_bid
+    | inr bought ↦ none_leads bands (row_opening row) fits.bids row.standing fits.stands bought.no_bid
   ];
   count = let n : row.standing.count ≡ length fits.bids = ap (λ (x : Kept). x.count) fits.stands in let few = fits.few in omega arith;
 }

@@ -21,6 +21,7 @@ state_in v = if number_in v == 0 then Open else (if number_in v == 1 then Sold e
 abbrev pub kept_from : ℕ → ℕ → Option ℕ → Option ℕ → Option ℕ → ℕ → Kept
 kept_from start price None top second count = record {
   start = start;
+  reserve = None;
   price = price;
   leader = None;
   top = top;
@@ -29,6 +30,7 @@ kept_from start price None top second count = record {
 }
 kept_from start price (Some leader) None second count = record {
   start = start;
+  reserve = None;
   price = start;
   leader = None;
   top = None;
@@ -37,6 +39,7 @@ kept_from start price (Some leader) None second count = record {
 }
 kept_from start price (Some leader) (Some top) second count = record {
   start = start;
+  reserve = None;
   price = price;
   leader = Some leader;
   top = Some top;

@@ -7,9 +7,10 @@
 //! table, `step N` the step of it at so many cents and the least amount above that may be bid, and `faults` has
 //! a line for each.
 //!
-//! `open START` opens an item by the example table and tells its standing: how many bids, the floor, the
-//! leader and the price. `bid MEMBER MAXIMUM` places a bid and tells the verdict and the standing,
-//! `raises MEMBER FROM TO` places a bid of each maximum in between, and `sealed` tells the top and the second.
+//! `open START` opens an item by the example table, `open START RESERVE` one with a reserve, and tells its
+//! standing: how many bids, the floor, the leader and the price. `bid MEMBER MAXIMUM` places a bid and tells the verdict and the standing,
+//! `raises MEMBER FROM TO` places a bid of each maximum in between, `sealed` tells the top and the second, and
+//! `reserve` the reserve and whether it is met.
 //! `row PRICE LEADER TOP SECOND COUNT`, with `-` for what is missing, tells the standing of a row of the item.
 //! `refusals` has a line for each.
 use crate::script::Fault;
@@ -26,6 +27,7 @@ pub(crate) struct Bidding {
     pub(crate) text: Vec<u8>,
     pub(crate) bands: Bands,
     pub(crate) start: Cents,
+    pub(crate) reserve: Option<Cents>,
     pub(crate) standing: Standing,
     pub(crate) bids: Vec<Bid>,
 }
@@ -38,7 +40,8 @@ impl Bidding {
             text: Vec::new(alloc),
             bands: Bands::example(alloc).map_err(|_| Fault::Memory)?,
             start,
-            standing: Standing::open(start),
+            reserve: None,
+            standing: Standing::open(start, None),
             bids: Vec::new(alloc),
         })
     }
@@ -93,6 +96,7 @@ fn of_item(alloc: Global, bidding: &mut Bidding, word: &str, rest: &str) -> Resu
         "bid" => items::bid(alloc, bidding, rest),
         "raises" => items::raises(alloc, bidding, rest),
         "sealed" => items::sealed(alloc, &bidding.standing),
+        "reserve" => items::reserve(alloc, &bidding.standing),
         "row" => items::row(alloc, bidding, rest),
         "refusals" => Ok(items::refusals(alloc)?),
         _ => Err(Fault::Script),

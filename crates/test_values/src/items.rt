@@ -8,9 +8,14 @@ use std::alloc::{AllocError, Global};
 use std::fmt::Write;
 
 /// Opens an item, and tells its standing.
-pub(crate) fn open(alloc: Global, bidding: &mut Bidding, word: &str) -> Result<String, Fault> {
-    bidding.start = amount(word)?;
-    bidding.standing = Standing::open(bidding.start);
+pub(crate) fn open(alloc: Global, bidding: &mut Bidding, line: &str) -> Result<String, Fault> {
+    let (start, reserve) = first_word(line);
+    bidding.start = amount(start)?;
+    bidding.reserve = match reserve {
+        "" => None,
+        word => Some(amount(word)?),
+    };
+    bidding.standing = Standing::open(bidding.start, bidding.reserve);
     bidding.bids.clear();
     shown(alloc, bidding)
 }
@@ -21,7 +26,13 @@ fn shown(alloc: Global, bidding: &Bidding) -> Result<String, Fault> {
         return Err(Fault::Standing);
     }
     let standing = bidding.standing;
-    if standing != Standing::of_bids(bidding.start, &bidding.bands, &bidding.bids) {
+    let of_bids = Standing::of_bids(
+        bidding.start,
+        bidding.reserve,
+        &bidding.bands,
+        &bidding.bids,
+    );
+    if standing != of_bids {
         return Err(Fault::Standing);
     }
     let (count, floor) = (standing.count(), standing.floor(&bidding.bands));
@@ -90,6 +101,12 @@ pub(crate) fn sealed(alloc: Global, standing: &Standing) -> Result<String, Fault
     Ok(format!(in alloc; "{top:?} {second:?}")?)
 }
 
+/// The reserve, and whether it is met.
+pub(crate) fn reserve(alloc: Global, standing: &Standing) -> Result<String, Fault> {
+    let reserve = standing.reserve().map(|some| some.value());
+    Ok(format!(in alloc; "{reserve:?} {:?}", standing.met())?)
+}
+
 /// The standing of a row of the item: price, leader, top, second and count, or `-`.
 pub(crate) fn row(alloc: Global, bidding: &Bidding, line: &str) -> Result<String, Fault> {
     let Some(standing) = standing_of(bidding, line)? else {
@@ -114,6 +131,7 @@ fn standing_of(bidding: &Bidding, line: &str) -> Result<Option<Standing>, Fault>
     let second: Option<u64> = optional(second)?;
     Ok(Standing::of_row(
         bidding.start,
+        bidding.reserve,
         &bidding.bands,
         amount(price)?,
         optional(leader)?,

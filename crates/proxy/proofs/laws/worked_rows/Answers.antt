@@ -34,3 +34,23 @@ returns-clause-same c = refl
 pub returns-clause-step : goal.returns-clause-step
 unfolding greatest leader price second top step_at
 returns-clause-step c = (refl, refl)
+
+pub returns-clause-unmet_first : goal.returns-clause-unmet_first
+unfolding greatest leader price second top step_at
+returns-clause-unmet_first c = (refl, refl, refl)
+
+pub returns-clause-unmet : goal.returns-clause-unmet
+unfolding greatest leader price second top step_at
+returns-clause-unmet c = (refl, refl, refl)
+
+pub returns-clause-met : goal.returns-clause-met
+unfolding greatest leader price second top step_at
+returns-clause-met c = (refl, refl, refl)
+
+pub returns-clause-raised_to : goal.returns-clause-raised_to
+unfolding greatest leader price second top step_at
+returns-clause-raised_to c = (refl, refl, refl)
+
+pub returns-clause-raised_over : goal.returns-clause-raised_over
+unfolding greatest leader price second top step_at
+returns-clause-raised_over c = (refl, refl, refl)

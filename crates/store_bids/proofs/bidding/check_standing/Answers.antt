@@ -1,5 +1,6 @@
 use Rattle.std.proofs.Common.{◌<◌, ◌^◌, arith, sym, ◌∙◌, true≢false}
 use Rattle.sqlite.specs.Held.{state}
+use Rattle.proxy.specs.Kept.{opening_of}
 use Rattle.store_bids.proofs.Begins.{bid_begins, bid_stands}
 use Rattle.store_items.proofs.Rows.{standing_checked}
 use Rattle.store_items.proofs.RowsStanding.{has_standing_item}
@@ -9,7 +10,7 @@ pub returns-then-begins_at-clause-start : goal.returns-then-begins_at-clause-sta
 returns-then-begins_at-clause-start g c clean =
     let before = c.requires (omega (arith, c.terms_there.ensures.read.crash.clean)) in
     let low : c.args.item < 2 ^ 32 = omega (arith, c.ranges.item) in
-    standing_checked (state g.S.Store c.args.conn.now).now before.1 c.args.item low c.in_ok-terms.terms c.args.standing.now.start (c.in_ok-terms.ensures.found clean) c.in_ok-terms.ensures.fits (c.begins_at.ensures.begins c.if-begins_at.true)
+    standing_checked (state g.S.Store c.args.conn.now).now before.1 c.args.item low c.in_ok-terms.terms (opening_of c.args.standing.now) (c.in_ok-terms.ensures.found clean) c.in_ok-terms.ensures.fits (c.begins_at.ensures.begins c.if-begins_at.true)
 
 pub returns-else-begins_at-clause-damaged : goal.returns-else-begins_at-clause-damaged
 returns-else-begins_at-clause-damaged g c clean sound bands moment placed fits _ =

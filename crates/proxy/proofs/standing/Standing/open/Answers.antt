@@ -3,4 +3,4 @@ use Rattle.proxy.proofs.Placed.{standing-none}
 use Rattle.proxy.proofs.standing.Standing.open.Goals as goal
 
 pub returns : goal.returns
-returns c = λ bands. sym (standing-none bands c.args.start)
+returns c = λ bands. sym (standing-none bands (record { start = c.args.start; reserve = c.args.reserve }))
