@@ -11,7 +11,7 @@ use std::time::Duration;
 // How many seconds a connection may be still before it is given up.
 const STILL: u64 = 30;
 
-// How many pieces are thrown away of what comes behind the last answer.
+// How many pieces are thrown away of what comes after the last answer.
 const PIECES: u32 = 60;
 
 /// The connections of a listener. None of them tells its bytes.

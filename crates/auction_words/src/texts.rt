@@ -1,6 +1,6 @@
 //! The texts of the help, each line of them at most 80 columns wide where it is shown.
 
-/// What `--version` tells behind the program's name.
+/// What `--version` tells after the program's name.
 pub const VERSION: &str = "1.0.0";
 
 /// The band table.

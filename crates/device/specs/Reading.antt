@@ -2,7 +2,7 @@
 use Rattle.std.specs.Prelude.{Bool}
 use Rattle.device.specs.declared.reading.Reading.{Reading}
 
--- the reader behind it
+-- the reader after it
 abbrev pub reader_of : {R : Type 0} → Reading R → R
 reader_of s = s.reader
 

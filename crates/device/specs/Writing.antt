@@ -5,7 +5,7 @@ use Rattle.device.specs.declared.failure.Failure.{Failure}
 use Rattle.device.specs.declared.writing.Writing.{Writing}
 use Rattle.device.specs.Room.{items, room}
 
--- the writer behind it
+-- the writer after it
 abbrev pub writer_of : {W : Type 0} → Writing W → W
 writer_of s = s.writer
 
@@ -29,7 +29,7 @@ handed_on_of contents s = contents s.writer
 abbrev pub taken_of : {W : Type 0} → (W → Option (List ℕ)) → Writing W → Option (List ℕ)
 taken_of contents s = append_known (contents s.writer) (items s.held)
 
--- what is held stands behind the writer's bytes
+-- what is held stands after the writer's bytes
 pub taken_of-held : {W : Type 0} (contents : W → Option (List ℕ)) (s : Writing W)
     → Appends (handed_on_of contents s) (taken_of contents s) (held_of s)
 taken_of-held contents s =

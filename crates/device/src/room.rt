@@ -9,7 +9,7 @@ use std::io::Write;
 /// How many bytes are gathered before they are handed on.
 pub(crate) const SIZE: usize = 8192;
 
-/// The bytes from `start` to `end` are held; the room is what lies behind them.
+/// The bytes from `start` to `end` are held; the room is what lies after them.
 #[derive(Drop)]
 pub(crate) struct Room {
     bytes: [u8; SIZE],

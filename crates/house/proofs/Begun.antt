@@ -33,7 +33,7 @@ free_more : (t : Tables) (made : List Change) (x : Change) → AreFreeInTurn t m
 free_more t [] x made_free free = (free, tt)
 free_more t (y ∷ made) x made_free free = (made_free.0, free_more (changed t y) made x made_free.1 free)
 
--- of free keys that of the change behind those made
+-- of free keys that of the change after those made
 pub free_next : (t : Tables) (made : List Change) (x : Change) (rest : List Change) → AreFreeInTurn t (made ++ x ∷ rest) → IsFree (after t made) x
 free_next t [] x rest free = free.0
 free_next t (y ∷ made) x rest free = free_next (changed t y) made x rest free.1

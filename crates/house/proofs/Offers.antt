@@ -28,7 +28,7 @@ lot_found t seller lot =
 pub known_category : (t : Tables) (n : ℕ) → is_some (category_at t n) ≡ list_any (λ k. k.category == n) t.categories
 known_category t n = some_found (λ (k : Category). k.category == n) t.categories
 
--- where the first rules pass, the rules behind them tell what is told
+-- where the first rules pass, the rules after them tell what is told
 pub told_behind : (first rest : List Rule) (r : Result (Result (ℕ × Prices) Refusal) KeepFault) → first_failing first ≡ None
     → IfOk r (λ v. told v ≡ first_failing rest) → IfOk r (λ v. told v ≡ first_failing (first ++ rest))
 told_behind first rest (Ok v) none is = is ∙ sym (first_none first rest none)

@@ -1,4 +1,4 @@
--- Tables that changes are made to, one behind the other.
+-- Tables that changes are made to, one after the other.
 use Rattle.std.specs.Prelude.{◌≡◌, List, [], ◌∷◌, ◌++◌}
 use Rattle.house_rows.specs.declared.change.Change.{Change}
 use Rattle.house_rows.specs.Asks.{ChangeFits, IsFree}

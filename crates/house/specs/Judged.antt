@@ -12,7 +12,7 @@ use Rattle.house.specs.Decided.{of_terms}
 abbrev pub first_rules : Tables → ℕ → ℕ → Bool → List Rule
 first_rules t moment caller of_house = common_rules t.clock (length t.members) moment caller of_house
 
--- and those of an item behind them
+-- and those of an item after them
 abbrev pub item_rules : Tables → ℕ → ℕ → Bool → ℕ → (Terms → List Rule) → List Rule
 item_rules t moment caller of_house item rules = first_rules t moment caller of_house ++ of_terms (terms_at t item) rules
 

@@ -125,7 +125,7 @@ fn offered<K: Keep>(
     taken(keep, moment, offer)
 }
 
-// The same behind the rules of its lot.
+// The same after the rules of its lot.
 fn taken<K: Keep>(
     keep: &mut K,
     moment: u64,

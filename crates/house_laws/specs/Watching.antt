@@ -6,7 +6,7 @@ use Rattle.house_rows.specs.Limits.{last_moment}
 use Rattle.house_rows.specs.People.{members}
 use Rattle.house_rows.specs.Views.{own_watches}
 
--- a registered member, at a moment that there is and that isn't behind the clock
+-- a registered member, at a moment that there is and that isn't after the clock
 pub record MayCommand (h : History) (moment caller : ℕ) : Type 0 where
   pub moment_fits : moment ≤ last_moment
   pub not_house : 1 ≤ caller

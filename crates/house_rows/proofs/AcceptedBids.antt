@@ -148,7 +148,7 @@ some_last : (i : ℕ) (ps : List Purchase) (p : Purchase) → (p.item == i) ≡ 
 some_last i [] p here = rw here refl
 some_last i (q ∷ ps) p here = elim (by_test (q.item == i)) [ inl is ↦ rw is refl | inr not ↦ rw not (some_last i ps p here) ]
 
--- no bid is accepted behind a purchase
+-- no bid is accepted after a purchase
 no_bid_after : (settings : Settings) (h : History) (t c : ℕ) (command : Command) (p : Purchase) → verdict settings h t c command ≡ None → BoughtIn h p → bids_on (entry t c command ∷ h) p.item ≡ []
 no_bid_after settings h t c (Bid j m) p none is =
     elim (by_test (j == p.item)) [

@@ -13,7 +13,7 @@ use Rattle.house_rows.specs.Listings.{Listing, listing_at, listings}
 use Rattle.house_rows.specs.People.{members}
 use Rattle.house_rows.specs.Verdict.{Rule, common_rules, is_house_command, of_item, rules, verdict}
 
--- a rule that passes, and those behind it
+-- a rule that passes, and those after it
 pub passes : (fails : Bool) (refusal : Refusal) (rest : List Rule) → first_failing ((fails, refusal) ∷ rest) ≡ None → (fails ≡ false) × (first_failing rest ≡ None)
 passes true refusal rest none = cc
 passes false refusal rest none = (refl, none)

@@ -19,7 +19,7 @@ abbrev pub IsInOrder : {A : Type 0} → (A → Key) → List A → Type 0
 IsInOrder key [] = Unit {0}
 IsInOrder key (y ∷ ys) = AllByRecursion (λ z. is_less (key z) (key y) ≡ false) ys × IsInOrder key ys
 
--- every row comes behind x
+-- every row comes after x
 abbrev AreBehind : {A : Type 0} → (A → Key) → A → List A → Type 0
 AreBehind key x ys = AllByRecursion (λ z. is_less (key x) (key z) ≡ true) ys
 

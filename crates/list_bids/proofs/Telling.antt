@@ -192,7 +192,7 @@ found_any item number (b ∷ rows) =
       | inr other ↦ rw (named item number b, other) (found_any item number rows)
     ]
 
--- what is there behind a reference is there
+-- what is there after a reference is there
 pub some_copied : {A : Type 0} (o : Option (Bor A)) → is_some o ≡ is_some (option_copied o)
 some_copied None = refl
 some_copied (Some x) = refl

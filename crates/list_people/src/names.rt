@@ -34,7 +34,7 @@ impl Names {
         self.places.get(name).map(|place| *place as usize)
     }
 
-    /// Puts a row behind the others, and its name into the index.
+    /// Puts a row after the others, and its name into the index.
     ///
     /// The only error is `KeepFault::Memory`, and rows and index are then as they were.
     pub(crate) fn push<R: Drop>(
@@ -56,7 +56,7 @@ impl Names {
         let Ok(name) = String::from_str(alloc, name) else {
             return Err(KeepFault::Memory);
         };
-        // The row's room comes first, so that behind the index nothing can fail.
+        // The row's room comes first, so that after the index nothing can fail.
         let Ok(()) = rows.try_reserve(1) else {
             return Err(KeepFault::Memory);
         };

@@ -39,7 +39,7 @@ from_on key from (block ∷ blocks) are = every_append (λ row. from ≤ (key ro
     (every_as (λ row. (key row).first ≡ from) (λ row. from ≤ (key row).first) block.items (λ row is. omega arith) are.0.begins)
     (every_as (λ row. from + 1 ≤ (key row).first) (λ row. from ≤ (key row).first) (rows_of blocks) (λ row le. omega arith) (from_on key (from + 1) blocks are.1))
 
--- a test over lists one behind the other
+-- a test over lists one after the other
 pub filter_both : {A : Type 0} (p : A → Bool) (xs ys : List A) → filter p (xs ++ ys) ≡ filter p xs ++ filter p ys
 filter_both p [] ys = refl
 filter_both p (x ∷ xs) ys = elim (by_test (p x)) [ inl is ↦ rw is (ap (λ rest. x ∷ rest) (filter_both p xs ys)) | inr not ↦ rw not (filter_both p xs ys) ]
@@ -58,7 +58,7 @@ map_whole f (x ∷ xs) all = rw all.0 (ap (λ rest. x ∷ rest) (map_whole f xs 
 
 -- rows of other blocks
 
--- what holds of rows of other numbers holds of all the blocks behind
+-- what holds of rows of other numbers holds of all the blocks after
 others_behind : {A Z : Type 0} (key : A → Key) (P : A → Type 0) (number from : ℕ) (blocks : List (Vec A Z)) → AreBlocksFrom key from blocks → number < from → ((row : A) → ((key row).first ≡ number → ⊥) → P row) → AllByRecursion P (rows_of blocks)
 others_behind key P number from blocks are less other =
     every_as (λ row. from ≤ (key row).first) P (rows_of blocks) (λ row le. other row (λ same. omega arith)) (from_on key from blocks are)

@@ -60,7 +60,7 @@ front_full most ys x le = let l = length-take most ys in take-append-le most ys 
 pub front_stays : {A : Type 0} (most : ℕ) (ys zs : List A) → most ≤ length (take most ys) → take most ys ≡ take most (ys ++ zs)
 front_stays most ys zs le = let l = length-take most ys in sym (take-append-le most ys zs (omega arith))
 
--- the front of a front with more behind it
+-- the front of a front with more after it
 pub front_twice : {A : Type 0} (most : ℕ) (ys zs : List A) → take most (take most ys ++ zs) ≡ take most (ys ++ zs)
 front_twice most ys zs =
     elim (by_test (nat_lt (length ys) most)) [
@@ -70,7 +70,7 @@ front_twice most ys zs =
           take-append-le most (take most ys) zs full ∙ take_all most (take most ys) (omega arith) ∙ sym (take-append-le most ys zs many))
     ]
 
--- what is put behind need be no longer than the front
+-- what is put after need be no longer than the front
 pub front_behind : {A : Type 0} (most many : ℕ) (ys zs : List A) → most ≤ many → take most (ys ++ take many zs) ≡ take most (ys ++ zs)
 front_behind zero many ys zs le = refl
 front_behind (suc most) zero ys zs le = absurd (omega arith)

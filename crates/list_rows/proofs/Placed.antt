@@ -135,7 +135,7 @@ absent_place key w xs i le point = between key w xs i le
     (λ k d lt. order_less (key (get_or xs k d)) w (point.0 k d (omega arith) lt))
     (λ k d ge lt. order_greater (key (get_or xs k d)) w (point.1 k d ge lt))
 
--- behind the last row all keys are lesser
+-- after the last row all keys are lesser
 pub all_before : {A : Type 0} (key : A → Key) (w : Key) (xs : List A) (d : A) → IsRising key xs → 0 < length xs → is_less (key (get_or xs (length xs - 1) d)) w ≡ true → AllByRecursion (λ y. is_less (key y) w ≡ true) xs
 all_before key w xs d rising some last = every_by_places (λ y. is_less (key y) w ≡ true) xs (λ k e lt.
     rw (get_or_default xs k e d lt) (elim (by_test (nat_lt k (length xs - 1))) [
@@ -163,7 +163,7 @@ pub left_all : {A : Type 0} (p : A → Bool) (f : A → A) (xs : List A) → All
 left_all p f [] all = refl
 left_all p f (x ∷ xs) all = rw all.0 (ap (λ rest. x ∷ rest) (left_all p f xs all.1))
 
--- behind a row of the key there is no other
+-- after a row of the key there is no other
 others_apart : {A : Type 0} (key : A → Key) (w : Key) (x : A) (xs : List A) → same_key (key x) w ≡ true → AllByRecursion (λ y. is_less (key x) (key y) ≡ true) xs → AllByRecursion (λ y. same_key (key y) w ≡ false) xs
 others_apart key w x xs same all = every_as (λ y. is_less (key x) (key y) ≡ true) (λ y. same_key (key y) w ≡ false) xs
     (λ y less. greater_apart (key y) w (let e = same_is (key x) w same in rw (← e) less)) all

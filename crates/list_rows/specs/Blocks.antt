@@ -12,7 +12,7 @@ same_key a b = (a.first == b.first) && ((a.second == b.second) && (a.third == b.
 abbrev pub order_of : Key → Key → Ordering
 order_of a b = cond (is_less a b) Less (cond (same_key a b) Equal Greater)
 
--- the blocks one behind the other: the plain list
+-- the blocks one after the other: the plain list
 abbrev pub rows_of : {A Z : Type 0} → List (Vec A Z) → List A
 rows_of [] = []
 rows_of (block ∷ blocks) = block.items ++ rows_of blocks

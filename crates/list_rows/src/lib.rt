@@ -1,6 +1,6 @@
 //! Rows in memory: copies of them, and lists of rows in blocks.
 //!
-//! Promised: a table in blocks is the plain list that its blocks are one behind the other, and each
+//! Promised: a table in blocks is the plain list that its blocks are one after the other, and each
 //! call does to it what it does to that list. Read `copies` first, which says how a row that holds
 //! texts is copied, and then `blocks`.
 #![tactic(auto)]

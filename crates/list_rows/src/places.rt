@@ -21,7 +21,7 @@ pub(crate) fn search<R: Keyed>(rows: &[R], wanted: RowKey) -> Result<usize, usiz
     rows.binary_search_by(|row| row.row_key().order(wanted))
 }
 
-// Whether a key comes behind all rows.
+// Whether a key comes after all rows.
 fn is_behind<R: Keyed>(rows: &[R], wanted: RowKey) -> bool
     requires rising { IsRising R.key rows.now }
     ensures absent { result ≡ true → position (λ row. same_key (R.key row) wanted) rows.now ≡ None }

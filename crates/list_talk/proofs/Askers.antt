@@ -67,7 +67,7 @@ sorted_filter number p [] sorted = tt
 sorted_filter number p (x ∷ xs) sorted =
     elim (by_test (p x)) [ inl is ↦ rw is (every_filtered number (number x) p xs sorted.0, sorted_filter number p xs sorted.1) | inr other ↦ rw other (sorted_filter number p xs sorted.1) ]
 
--- behind a question the askers of its item are no smaller
+-- after a question the askers of its item are no smaller
 same_item : (item : ℕ) (q : Question) (rows : List Question) → (q.item == item) ≡ true → AllByRecursion (λ r. is_less (question_key q) (question_key r) ≡ true) rows
     → AllByRecursion (λ r. q.asker ≤ r.asker) (filter (λ r. r.item == item) rows)
 same_item item q [] is all = tt

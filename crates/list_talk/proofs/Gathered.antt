@@ -134,7 +134,7 @@ none_from item number p least (r ∷ rows) complete =
       | inr not ↦ rw not (none_from item number p least rows complete.1)
     ]
 
--- behind a greater number there is no smaller one
+-- after a greater number there is no smaller one
 none_later : {A : Type 0} (item : A → ℕ) (k : ℕ) (rows : List A) → AllByRecursion (λ r. k < item r) rows → filter (λ r. item r == k) rows ≡ []
 none_later item k [] all = refl
 none_later item k (r ∷ rows) all = let lt = all.0 in let other : (item r == k) ≡ false = grind (arith, nat_tests, lt) in rw other (none_later item k rows all.1)
@@ -144,7 +144,7 @@ none_short : (k n : ℕ) {C : Type 0} (number : C → ℕ) (cs : List C) → All
 none_short k n number [] all le = refl
 none_short k n number (d ∷ cs) all le = let lt = all.0 in let other : (number d == n) ≡ false = grind (arith, nat_tests, lt) in rw other (none_short k n number cs all.1 le)
 
--- the rows of an item, and those of the items behind it
+-- the rows of an item, and those of the items after it
 one_item : {A : Type 0} (item : A → ℕ) (p : A → Bool) (least k : ℕ) (rows : List A) → AreSorted item rows → least ≤ k
     → AllByRecursion (λ r. p r ≡ true → least ≤ item r → k ≤ item r) rows
     → filter p (filter (λ r. item r == k) rows) ++ filter p (filter (λ r. nat_le (k + 1) (item r)) rows) ≡ filter p (filter (λ r. nat_le least (item r)) rows)

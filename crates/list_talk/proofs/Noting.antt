@@ -16,7 +16,7 @@ use Rattle.list_talk.specs.Index.{IsNoted, concern_key, is_concern}
 use Rattle.list_talk.proofs.Gathered.{gathered, gathered_all, risen_filter, risen_sorted, sorted_by_first}
 use Rattle.list_talk.specs.Sorted.{AreRisen, AreSorted}
 
--- what is there behind a reference is there
+-- what is there after a reference is there
 pub some_copied : {A : Type 0} (o : Option (Bor A)) → is_some o ≡ is_some (option_copied o)
 some_copied None = refl
 some_copied (Some x) = refl
@@ -83,7 +83,7 @@ pub noted_still : (r : Result (Unit {0}) KeepFault) (member item m i : ℕ) (old
 noted_still (Ok a) member item m i old new makes noted = rw makes.ok (any_put concern_key (is_concern m i) (concern_of member item) old noted)
 noted_still (Err e) member item m i old new makes noted = rw makes.err noted
 
--- behind a member's item its other items are greater
+-- after a member's item its other items are greater
 own_items : (member : ℕ) (c : Concern) (cs : List Concern) → (c.member == member) ≡ true → AllByRecursion (λ d. is_less (concern_key c) (concern_key d) ≡ true) cs
     → AllByRecursion (λ d. c.item < d.item) (filter (λ d. d.member == member) cs)
 own_items member c [] is all = tt

@@ -29,7 +29,7 @@ pub struct FeedbackTable {
     blocks: Vec<Vec<Feedback>>,
     // The items on which a member was rated.
     rated: Concerns,
-    // How often member n was rated; the members behind the last were never.
+    // How often member n was rated; the members after the last were never.
     counts: Vec<Ratings>,
 }
 

@@ -7,7 +7,7 @@ use house_rows::{KeepFault, MOST_SHOWN};
 use list_rows::{Copied, push_copy};
 use std::alloc::Global;
 
-/// Copies of the rows that pass go behind what was found.
+/// Copies of the rows that pass go after what was found.
 pub(crate) fn push_passing<R: Copied + Drop, F: Fn(&R) -> bool + Drop>(
     alloc: Global,
     found: &mut Vec<R>,
@@ -27,7 +27,7 @@ pub(crate) fn push_passing<R: Copied + Drop, F: Fn(&R) -> bool + Drop>(
     Ok(())
 }
 
-/// Copies of the rows that pass go behind what was found, up to fifty in all.
+/// Copies of the rows that pass go after what was found, up to fifty in all.
 pub(crate) fn push_shown<R: Copied + Drop, F: Fn(&R) -> bool + Drop>(
     alloc: Global,
     found: &mut Vec<R>,

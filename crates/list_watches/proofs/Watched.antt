@@ -50,7 +50,7 @@ pub key_free : (member item : ℕ) (rows : List WatchRow) → list_any (λ w. sa
 key_free member item [] = refl
 key_free member item (w ∷ rows) = rw (named member item w, key_free member item rows) refl
 
--- none of the rows behind a key has it
+-- none of the rows after a key has it
 none_behind : (member item : ℕ) (rows : List WatchRow) → AllByRecursion (λ w. is_less (key_of member item) (watch_key w) ≡ true) rows → list_any (is_watch member item) rows ≡ false
 none_behind member item [] all = refl
 none_behind member item (w ∷ rows) all =
@@ -66,7 +66,7 @@ put_first member item (w ∷ rows) all = rw all.0 refl
 is_same : (member item : ℕ) (w : WatchRow) → is_watch member item w ≡ true → w ≡ watch_of member item
 is_same member item w is = let m : w.member ≡ member = grind (arith, nat_tests, is) in let i : w.item ≡ item = grind (arith, nat_tests, is) in ap (λ n. watch_of n w.item) m ∙ ap (watch_of member) i
 
--- one that is there comes behind an earlier row
+-- one that is there comes after an earlier row
 not_before : (member item : ℕ) (w : WatchRow) (rows : List WatchRow) → AllByRecursion (λ v. is_less (watch_key w) (watch_key v) ≡ true) rows → list_any (is_watch member item) rows ≡ true
     → is_less (key_of member item) (watch_key w) ≡ false
 not_before member item w [] all any = absurd (let e : false ≡ true = any in cc)
@@ -88,7 +88,7 @@ put_back member item (w ∷ rows) rising any =
           rw (other, not_before member item w rows rising.0 there) (ap (λ rest. w ∷ rest) (put_back member item rows rising.1 there)))
     ]
 
--- what is there behind a reference is there
+-- what is there after a reference is there
 pub some_copied : {A : Type 0} (o : Option (Bor A)) → is_some o ≡ is_some (option_copied o)
 some_copied None = refl
 some_copied (Some x) = refl

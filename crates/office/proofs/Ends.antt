@@ -70,7 +70,7 @@ cut_at_row rem Step Prints by reader rows fields text fault a b c told printed r
       why = inr (record { fields = fields; more = more; next = refl; ended = ended });
     }
 
--- behind the last row, where the totals can't be printed
+-- after the last row, where the totals can't be printed
 pub cut_at_totals : {K : Type 0} (Step : Asked → List ℕ → K → K → Type 0)
     (Prints Further : List ℕ → Type 0) (by : Lister) (records : List (List (List ℕ)))
     (told : Imported) (fault : ImportFault) (a b : K)

@@ -27,7 +27,7 @@ use Rattle.office.proofs.ReadNumbers.{digits_own}
 
 -- ---- what a row spells is in range
 
--- what was read behind n is digits, and they write it
+-- what was read after n is digits, and they write it
 behind_are : (n m : ℕ) (s : List ℕ) → digits_behind n s ≡ Some m
     → (all_ascii_digits s ≡ true) × (digits_value_after 10 n s ≡ m)
 behind_are n m [] e = (refl, cc)

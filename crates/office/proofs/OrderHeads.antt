@@ -10,7 +10,7 @@ use Rattle.httparse.specs.Grammar.{Field, IsField, IsRequestHead, IsToken, Reque
 use Rattle.json.proofs.Printed.Utf8.{IsUtf8-are_ascii}
 use Rattle.wire.specs.Head.{BeginsHead}
 
--- a field with a space behind its colon
+-- a field with a space after its colon
 abbrev field : List ℕ → List ℕ → Field
 field name value = record { name = name; raw = 32 ∷ value; end = crlf }
 

@@ -13,7 +13,7 @@ use Rattle.site_digits.specs.Digits.{count_in, digits_behind}
 pub digits_own : IsNumeralModel (λ ds. all_ascii_digits ds ≡ true) (digits_value 10)
 digits_own = numerals_by_value _ tells_all_ascii_digits
 
--- what digits write behind those of n
+-- what digits write after those of n
 behind_is : (n : ℕ) (s : List ℕ) → all_ascii_digits s ≡ true → digits_behind n s ≡ Some (digits_value_after 10 n s)
 behind_is n [] all = refl
 behind_is n (b ∷ bs) all =

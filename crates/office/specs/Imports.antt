@@ -94,7 +94,7 @@ pub record IsRow {K : Type 0} (Step : Asked → List ℕ → K → K → Type 0)
   pub became : IsUnread number fields outcome line old new
       ⊎ ((lot : Lot) × Spells fields lot × IsDone Step by number lot outcome line old new)
 
--- a row was dealt with, counted, and printed behind those before it
+-- a row was dealt with, counted, and printed after those before it
 pub record IsCounted {K : Type 0} (Step : Asked → List ℕ → K → K → Type 0) (by : Lister)
     (old : K × Imported × List ℕ) (fields : List (List ℕ)) (new : K × Imported × List ℕ) :
     Type 0 where
@@ -172,7 +172,7 @@ abbrev pub EndsAtRow : {K : Type 0} → (Asked → List ℕ → K → K → Type
 EndsAtRow Step by number fields fault old new = IsOther fields fault old new
     ⊎ (IsUnprinted number fields fault old new ⊎ IsLotEnd Step by number fields fault old new)
 
--- what may end an import between two rows: memory was refused, the reader failed, or behind the
+-- what may end an import between two rows: memory was refused, the reader failed, or after the
 -- last the totals can't be printed
 abbrev pub IsBreak : ImportFault → List (List (List ℕ)) → Type 0
 IsBreak importing.Memory rest = Unit {0}

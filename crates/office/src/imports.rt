@@ -170,7 +170,7 @@ fn import_row<W: Write, K: Keep + Drop>(
     }
 }
 
-// Deals with the rows behind the head, and counts them.
+// Deals with the rows after the head, and counts them.
 fn import_rows<R: Read + Drop, W: Write, K: Keep + Drop>(
     room: &mut Room,
     site: &mut Site<K>,

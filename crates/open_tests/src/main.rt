@@ -1,8 +1,8 @@
 //! Plays a script on houses that are made and opened, in memory.
 //!
 //! The stored run is a test that an opening refuses what is no house of ours, and nothing else: `stdin` has the
-//! script, `stdout` its transcript, in which what has to be answered stands behind each line, written by hand. Read
-//! `script` first, which says what a line may be, behind the mark of `transcript`.
+//! script, `stdout` its transcript, in which what has to be answered stands after each line, written by hand. Read
+//! `script` first, which says what a line may be, after the mark of `transcript`.
 #![tactic(auto)]
 
 mod script;

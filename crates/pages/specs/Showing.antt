@@ -22,7 +22,7 @@ abbrev pub is_refused : Page → Bool
 is_refused (Refused refusal) = true
 is_refused _ = false
 
--- the text of the page stands behind what was there, or the read is refused and nothing does
+-- the text of the page stands after what was there, or the read is refused and nothing does
 abbrev pub IsTold : Zone → ℕ → Page → Result (Unit {0}) Refusal → List ℕ → List ℕ → Type 0
 IsTold zone rate page (Ok u) old new =
     (is_refused page ≡ false) × (new ≡ old ++ text_of (page_tree zone rate page))

@@ -90,7 +90,7 @@ unfolding text_of entries_text
 entries_enclosed tree [] = refl
 entries_enclosed tree (x ∷ xs) = ap (λ s. 91 ∷ drop 1 s) (sym (entries_then tree (x ∷ xs)))
 
--- what stands behind a place is enclosed there
+-- what stands after a place is enclosed there
 behind : (old inner now : List ℕ) (start first last : ℕ) → start ≡ length old → now ≡ old ++ inner
     → take start now ++ enclosed first last (drop start now) ≡ old ++ enclosed first last inner
 behind old inner now start first last at is =
@@ -118,7 +118,7 @@ pub array_enclosed : {A : Type 0} (tree : A → Data) (xs : List A) (old now : L
     → take start now ++ enclosed 91 93 (drop start now) ≡ old ++ text_of (array_of tree xs)
 array_enclosed tree xs old now start at is = behind old (entries_text tree xs) now start 91 93 at is ∙ ap (λ s. old ++ s) (entries_enclosed tree xs)
 
--- members one behind the other
+-- members one after the other
 pub members_append : (a b : List (List ℕ × Data)) → members_text (a ++ b) ≡ members_text a ++ members_text b
 unfolding members_text
 members_append [] b = refl

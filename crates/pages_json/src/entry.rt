@@ -20,7 +20,7 @@ pub trait Shows<E> {
         ensures front { StartsWith out.new.items out.old.items };
 }
 
-// Appends the entries, each behind its comma.
+// Appends the entries, each after its comma.
 fn put_entries<E, F: Shows<E>>(
     alloc: Global,
     out: &mut Vec<u8>,
@@ -72,7 +72,7 @@ pub fn append<E, F: Shows<E>>(
     finish(out, before, put)
 }
 
-/// Ends what was appended behind a place: after an `Err` nothing stays of it.
+/// Ends what was appended after a place: after an `Err` nothing stays of it.
 pub fn finish<E>(out: &mut Vec<u8>, before: usize, put: Result<(), E>) -> Result<(), E>
     ensures same { result ≡ put }
     ensures ok { OnOk result (out.new.items ≡ out.old.items) }

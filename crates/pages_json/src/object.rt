@@ -1,6 +1,6 @@
 //! Objects, a key at a time. The keys of every object here are given in byte order.
 //!
-//! Each member and each entry is written behind a comma. In the end the opening bracket takes the
+//! Each member and each entry is written after a comma. In the end the opening bracket takes the
 //! place of the first comma.
 ghost use Rattle.std.specs.Prelude.{◌≡◌, ◌++◌, ◌∷◌, ◌≤◌, [], IsTrue, OnOk, drop, length, map, take};
 ghost use Rattle.std.specs.Io.{StartsWith};
@@ -11,7 +11,7 @@ use crate::entry::{Shows, put_array};
 use crate::field::{Field, put_value};
 use std::alloc::{AllocError, Global};
 
-/// A key as it stands in a text: behind its comma, between quotes, and with its colon.
+/// A key as it stands in a text: after its comma, between quotes, and with its colon.
 #[macro_export]
 macro_rules! key {
     ($name:literal) => {
@@ -53,7 +53,7 @@ pub fn end_object(out: &mut Vec<u8>, start: usize) -> Result<(), AllocError>
     enclose(out, start, b'{', b'}')
 }
 
-/// Appends members of an object, each behind a comma. After an `Err` a part of them may stand.
+/// Appends members of an object, each after a comma. After an `Err` a part of them may stand.
 pub fn put_members(
     alloc: Global,
     out: &mut Vec<u8>,
@@ -71,7 +71,7 @@ pub fn put_members(
     Ok(())
 }
 
-/// Appends a member of an object that is a list, behind a comma. After an `Err` a part of it may
+/// Appends a member of an object that is a list, after a comma. After an `Err` a part of it may
 /// stand.
 #[tactic(auto, using(crate::proofs::Texts::one_member, crate::proofs::Texts::front_then))]
 pub fn put_member_list<E, F: Shows<E>>(

@@ -1,4 +1,4 @@
--- Members of an object, one behind the other, as text and in a map.
+-- Members of an object, one after the other, as text and in a map.
 use Rattle.std.proofs.Common.{◌≡◌, ℕ, List, ◌++◌, ◌∙◌, take, drop, length, ap, refl, sym, append_assoc}
 use Rattle.house_rows.specs.Tables.{Tables}
 use Rattle.serde_json.specs.Data.{Data, Members, no_members, object}

@@ -1,9 +1,9 @@
 //! Plays a script of houses and reads, and shows each page as text, which has to be its tree's too.
 //!
 //! The stored run is a test that both bodies of the pages succeed, and that they mean what the formats
-//! say: `stdin` has the script, and `stdout` its transcript, in which each page stands behind its line, made by
+//! say: `stdin` has the script, and `stdout` its transcript, in which each page stands after its line, made by
 //! `tests/plain_pages.py`, which knows the rules and the formats alone. Read `script` first, which says what a line
-//! may be, behind the mark of `transcript`.
+//! may be, after the mark of `transcript`.
 #![tactic(auto)]
 
 mod bodies;

@@ -6,7 +6,7 @@ pub(crate) fn read(alloc: Global, member: &str, target: &str) -> Result<String, 
     format!(in alloc; "GET {target} HTTP/1.1\r\nhost: h\r\nx-member: {member}\r\n\r\n")
 }
 
-/// What a member asks for at a moment, with the body behind the head.
+/// What a member asks for at a moment, with the body after the head.
 pub(crate) fn order(
     alloc: Global,
     member: &str,

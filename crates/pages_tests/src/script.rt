@@ -29,7 +29,7 @@ impl Stage {
     }
 }
 
-// The first word of a line, and what stands behind the space after it.
+// The first word of a line, and what stands after the space after it.
 fn first_word(line: &str) -> (&str, &str) {
     line.split_once(' ').unwrap_or((line, ""))
 }

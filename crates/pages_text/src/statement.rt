@@ -76,7 +76,7 @@ fn front_fields(totals: Totals) -> [(&'static str, Field<'static>); 2]
     ]
 }
 
-// And those behind them.
+// And those after them.
 fn back_fields(member: u64, totals: Totals) -> [(&'static str, Field<'static>); 3]
     ensures members { map member_of result
         ≡ (codes "member", whole member) ∷ (codes "net", whole totals.net)

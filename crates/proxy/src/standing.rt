@@ -97,7 +97,7 @@ impl Standing {
     /// it.
     ///
     /// Accepted bids leave no other row, but they can't leave each of these, since the bids are not
-    /// looked at. By the example bands, a start and second of 500 and a top of 510 fit; but behind
+    /// looked at. By the example bands, a start and second of 500 and a top of 510 fit; but after
     /// any first bid another member's is accepted from 550 on.
     pub fn of_row(
         start: Cents,

@@ -2,8 +2,8 @@
 //!
 //! The stored run is a test of what no clause says: that calls succeed, over both keeps, and that a run
 //! answers as its messages one by one. `stdin` has the script, `stdout` its transcript, in which what has to
-//! be told stands behind each line, which is what the formats say. Read `script` first, which says what a line may
-//! be, behind the mark of `transcript`, and then `playing`.
+//! be told stands after each line, which is what the formats say. Read `script` first, which says what a line may
+//! be, after the mark of `transcript`, and then `playing`.
 #![tactic(auto)]
 
 mod houses;

@@ -142,7 +142,7 @@ fn record<K: Keep + Drop>(site: &mut Site<K>, told: &mut Vec<u8>) -> Result<Vec<
     }
 }
 
-// Tells the replies to the list, and the record behind them.
+// Tells the replies to the list, and the record after them.
 fn tell_all<K: Keep + Drop>(
     site: &mut Site<K>,
     messages: &[Vec<u8>],
@@ -159,7 +159,7 @@ fn tell_all<K: Keep + Drop>(
     Ok(tell(told, &record)?)
 }
 
-// Tells the replies to the list over a new house, and its record behind them.
+// Tells the replies to the list over a new house, and its record after them.
 fn play_over<K: Keep + Drop, M: Makes<K>>(
     alloc: Global,
     makes: &M,
@@ -171,7 +171,7 @@ fn play_over<K: Keep + Drop, M: Makes<K>>(
     tell_all(&mut site, stage.messages.as_slice(), form, told)
 }
 
-/// Tells the replies to the list over a new house, and its record behind them.
+/// Tells the replies to the list over a new house, and its record after them.
 pub(crate) fn play_list(
     alloc: Global,
     stage: &Stage,

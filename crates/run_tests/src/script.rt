@@ -2,10 +2,10 @@
 //!
 //! `house RATE ZONE` begins a list of messages to new houses of a rate and a zone, by the example table;
 //! `band AT STEP` adds a band of a table of their own. `post MEMBER MOMENT TARGET BODY` and
-//! `get MEMBER TARGET` add a message, and `text N` the N bytes that follow, and a line end behind them, which
+//! `get MEMBER TARGET` add a message, and `text N` the N bytes that follow, and a line end after them, which
 //! aren't printed.
 //!
-//! Each other line plays the list over new houses, and tells the replies, a line end behind each, and the
+//! Each other line plays the list over new houses, and tells the replies, a line end after each, and the
 //! record. `answers lists` and `answers database` give each message by itself, `run lists` and `run database`
 //! the whole list; `all` does all of these, and tells which are the same. An empty line, and one that begins
 //! with `--`, tells nothing.
@@ -92,7 +92,7 @@ impl<'s> Script<'s> {
         }
     }
 
-    // So many bytes, and a line end behind them, which is left out.
+    // So many bytes, and a line end after them, which is left out.
     fn bytes(&mut self, count: usize) -> Result<&'s [u8], Fault> {
         if count > self.rest.len() {
             return Err(Fault::Script);
@@ -202,7 +202,7 @@ impl Stage {
     }
 }
 
-// The first word of a line, and what stands behind the space after it.
+// The first word of a line, and what stands after the space after it.
 fn first_word(line: &str) -> (&str, &str) {
     line.split_once(' ').unwrap_or((line, ""))
 }

@@ -121,7 +121,7 @@ impl Trial<'_> {
         acted
     }
 
-    // How many messages have been answered as the flush after so many is asked for: one is due behind
+    // How many messages have been answered as the flush after so many is asked for: one is due after
     // each piece that ends a message.
     fn answered_at(&self, good: u64) -> usize {
         let mut left = good;

@@ -3,7 +3,7 @@
 //!
 //! The stored run is a test of what no clause says: that calls succeed, and that a fault is told where a
 //! device failed and nowhere else. `stdin` has the script, `stdout` its transcript, in which what has to be told
-//! stands behind each line, written by hand. Read `script` first, which says what a line may be, behind the mark of
+//! stands after each line, written by hand. Read `script` first, which says what a line may be, after the mark of
 //! `transcript`.
 #![tactic(auto)]
 

@@ -14,7 +14,7 @@ use store_list::ListKeep;
 pub(crate) struct Left {
     /// What was told of it.
     pub(crate) told: Result<Served, ServeFault>,
-    /// The public record behind it.
+    /// The public record after it.
     pub(crate) record: Vec<u8>,
 }
 
@@ -42,14 +42,14 @@ fn begin<K: Keep + Drop>(alloc: Global, site: &mut Site<K>, setup: &Stream) -> R
     }
 }
 
-/// A new house behind the messages of a setup.
+/// A new house after the messages of a setup.
 pub(crate) fn begun(alloc: Global, setup: &Stream) -> Result<Site<ListKeep>, Fault> {
     let mut site = new_site(alloc)?;
     begin(alloc, &mut site, setup)?;
     Ok(site)
 }
 
-// Serves over a house behind its setup, and then looks at the record.
+// Serves over a house after its setup, and then looks at the record.
 fn serve_behind<K: Keep + Drop, R: Source, W: Sink>(
     alloc: Global,
     site: &mut Site<K>,
@@ -81,7 +81,7 @@ pub(crate) fn serve_over<R: Source, W: Sink>(
 pub(crate) struct Prefix {
     /// What was answered.
     pub(crate) answers: MemorySink,
-    /// The public record behind them.
+    /// The public record after them.
     pub(crate) record: Vec<u8>,
 }
 

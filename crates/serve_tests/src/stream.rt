@@ -2,7 +2,7 @@
 use std::alloc::{AllocError, Global};
 use std::fmt::Write;
 
-/// Messages in a row, and perhaps what is none behind them.
+/// Messages in a row, and perhaps what is none after them.
 #[derive(Drop)]
 pub(crate) struct Stream {
     text: String,

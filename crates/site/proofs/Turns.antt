@@ -84,7 +84,7 @@ not_entered : (settings : Settings) (h : History) (m : Asked)
 unfolding next_of
 not_entered settings h m not = stays settings h m.message not
 
--- behind an answer a crash leaves the tables alone, where it did so before
+-- after an answer a crash leaves the tables alone, where it did so before
 pub settled_next : {K : Type 0} (content : K → Tables) (is_failed : K → Bool)
     (may_leave : K → Tables → Type 0) (settings : Settings) (zone : Zone) (h : History)
     (m : Asked) (r : List ℕ) (old new : K) → content old ≡ tables_of settings h

@@ -135,7 +135,7 @@ pub record IsStep {K : Type 0} (content : K → Tables) (is_failed : K → Bool)
   -- what asks the keep for nothing leaves it as it was
   pub asleep : is_asking asked.message ≡ false → new ≡ old
 
--- the answer stands behind what a buffer held; or it is a text that stands ready, and the buffer
+-- the answer stands after what a buffer held; or it is a text that stands ready, and the buffer
 -- has what it had
 abbrev pub IsAppended : Result (Unit {0}) (Bor (List ℕ)) → List ℕ → List ℕ → List ℕ → Type 0
 IsAppended (Ok u) before after reply = after ≡ before ++ reply

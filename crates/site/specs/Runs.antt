@@ -113,7 +113,7 @@ pub record Ran {K : Type 0} (content : K → Tables) (is_failed : K → Bool)
 abbrev pub AreDown : List Asked → List (List ℕ) → Type 0
 AreDown asked replies = AllZip IsDown asked replies
 
--- once one of them is told that the store has failed, each command and each read behind it is told so
+-- once one of them is told that the store has failed, each command and each read after it is told so
 abbrev pub StaysDown : List Asked → List (List ℕ) → Type 0
 StaysDown [] [] = Unit {0}
 StaysDown (m ∷ ms) (r ∷ rs) =
@@ -122,8 +122,8 @@ StaysDown [] (r ∷ rs) = ⊥
 StaysDown (m ∷ ms) [] = ⊥
 
 -- the replies to messages of which one told that the store failed: before the first such they are a
--- run, and behind it the store stays failed. A crash leaves the tables before its message or after
--- it, so no message behind it has acted
+-- run, and after it the store stays failed. A crash leaves the tables before its message or after
+-- it, so no message after it has acted
 pub record Stopped {K : Type 0} (content : K → Tables) (is_failed : K → Bool)
     (may_leave : K → Tables → Type 0)
     (settings : Settings) (zone : Zone) (h : History) (asked : List Asked) (replies : List (List ℕ))

@@ -127,7 +127,7 @@ impl<K: Keep + Drop> Site<K> {
         &mut self.keep
     }
 
-    /// Answers a message, behind what the buffer holds. Where memory was refused or the keep fails,
+    /// Answers a message, after what the buffer holds. Where memory was refused or the keep fails,
     /// the buffer has what it had, and the answer is a text that stands ready. Over a keep that has
     /// failed each command and each read is answered so, never that memory was refused.
     pub fn answer_into(

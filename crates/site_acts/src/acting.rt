@@ -10,7 +10,7 @@ use site_asks::Asked;
 use site_replies::ReplyWriter;
 
 /// Carries out what is asked, and appends the bytes of its answer. For a command that is the
-/// verdict, then the bytes, and the change last; nothing grows behind it. After an `Err` the buffer
+/// verdict, then the bytes, and the change last; nothing grows after it. After an `Err` the buffer
 /// has what it had.
 pub fn act<K: Keep>(
     keep: &mut K,

@@ -48,7 +48,7 @@ body_of (fault.Field f) = field_body f
 body_of fault.Date = error_body (codes "date")
 body_of fault.Order = error_body (codes "order")
 
--- whether it is a fault of the body, which is judged behind path, method, caller and moment
+-- whether it is a fault of the body, which is judged after path, method, caller and moment
 abbrev pub is_of_body : Fault → Bool
 is_of_body fault.Json = true
 is_of_body (fault.Field f) = true

@@ -5,7 +5,7 @@ use house_rows::Message;
 /// What a message asks, and the one thing beside it that its answer shows.
 #[derive(Drop)]
 pub struct Asked {
-    /// Whether the connection ends behind the answer.
+    /// Whether the connection ends after the answer.
     pub closes: bool,
     /// What is asked.
     pub message: Message<Fault>,
@@ -14,6 +14,6 @@ pub struct Asked {
 /// Memory was refused while a message was read.
 #[derive(Clone, Copy, Debug, PartialEq, Eq)]
 pub struct NoMemory {
-    /// Whether the connection ends behind the answer.
+    /// Whether the connection ends after the answer.
     pub closes: bool,
 }

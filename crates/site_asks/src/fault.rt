@@ -68,7 +68,7 @@ impl Fault {
         }
     }
 
-    /// Its answer, behind which the connection ends or not.
+    /// Its answer, after which the connection ends or not.
     pub fn answer(self, closes: bool) -> Answer<'static>
         ensures status { result.status ≡ status_of self }
         ensures allow { result.allow ≡ allow_of self }

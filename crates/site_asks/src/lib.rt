@@ -2,7 +2,7 @@
 //!
 //! Promised: a text asks for one thing, which follows from its bytes alone: a command or a read with
 //! its caller, or nothing, for the first fault in the order in which faults are judged; and a whole
-//! message is its caller's whatever is wrong behind that. Read `specs/Asked.antt` first, and then
+//! message is its caller's whatever is wrong after that. Read `specs/Asked.antt` first, and then
 //! `reading`.
 #![tactic(auto)]
 

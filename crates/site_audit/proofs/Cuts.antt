@@ -20,7 +20,7 @@ use Rattle.site_audit.specs.declared.messages.MessagesFault.{MessagesFault}
 use Rattle.site_audit.specs.declared.messages.MessagesFault.TheVariants.{Broken, Memory, Read}
 use Rattle.site_audit.specs.Messages.{IsCutInto, IsNoList, IsStopped, IsWhole}
 
--- a message and what stands behind it
+-- a message and what stands after it
 abbrev found : Message → List ℕ → Message × List ℕ
 found m rest = (m, rest)
 

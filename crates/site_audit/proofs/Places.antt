@@ -158,7 +158,7 @@ pub reply_kept : {R : Type 0} (items : R → List ℕ) (settings : Settings) (zo
 reply_kept items settings zone c h asked given mine before after e d kept =
     rw (← e, ← d) kept
 
--- the history behind a message is one too
+-- the history after a message is one too
 pub next_is : (settings : Settings) (h : History) (m : Asked) → IsHistory settings h
     → IsHistory settings (next_of settings h m)
 unfolding next_of

@@ -25,7 +25,7 @@ use Rattle.site_audit.proofs.Places.{next_is}
 use Rattle.site_audit.proofs.Lists.{zip_last, zip_length, zip_take}
 use Rattle.site_audit.proofs.Twins.{TwinAt, history_more, replies_more, twins_last, twins_length, twins_more, twins_read, twins_take}
 
--- the history behind a list of texts
+-- the history after a list of texts
 abbrev pub behind : Settings → List Heard → History
 behind settings heards = history_of settings (map heard_message heards)
 
@@ -56,7 +56,7 @@ isolated : (settings : Settings) (zone : Zone) (c : ℕ) (left right : List Aske
 isolated settings zone c left right twin =
     laws.isolation meant (rendered settings zone) settings c left right twin
 
--- the history behind one more text
+-- the history after one more text
 behind_more : (settings : Settings) (heards : List Heard) (x : Heard)
     → behind settings (heards ++ x ∷ []) ≡ next_of settings (behind settings heards) x.asked
 unfolding next_of

@@ -87,14 +87,14 @@ twins_read f meant settings c h k (a ∷ xs) (b ∷ ys) twin = (
     here (inl e) = inl (ap f e)
     here (inr apart) = inr apart
 
--- the history behind one more message
+-- the history after one more message
 pub history_more : {F : Type 0} (settings : Settings) (h : History) (ms : List (Message F))
     (m : Message F) → history_from settings h (ms ++ m ∷ [])
     ≡ next settings (history_from settings h ms) m
 history_more settings h [] m = refl
 history_more settings h (a ∷ ms) m = history_more settings (next settings h a) ms m
 
--- the replies behind one more message
+-- the replies after one more message
 pub replies_more : {A B F : Type 0} (meant : A → Message F) (rendered : A → Reply F → B)
     (settings : Settings) (c : ℕ) (h : History) (xs : List A) (x : A)
     → rendered_from meant rendered settings c h (xs ++ x ∷ [])

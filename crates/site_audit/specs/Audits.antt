@@ -29,7 +29,7 @@ abbrev pub AreTwinTexts : Settings → ℕ → List Heard → List Heard → Typ
 AreTwinTexts settings c lefts rights = AreTwins heard_message settings c lefts rights
 
 -- they are, and these are the replies to the caller along the left list, which were given, and those
--- along the right one: that the two are the same is isolation. The keeps have the tables behind them
+-- along the right one: that the two are the same is isolation. The keeps have the tables after them
 pub record AreEqual {K : Type 0} (content : K → Tables) (settings : Settings) (zone : Zone) (c : ℕ)
     (lefts rights : List Heard) (replies : List (List ℕ)) (left_keep right_keep : K) : Type 0 where
   pub twins : AreTwinTexts settings c lefts rights

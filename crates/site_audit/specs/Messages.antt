@@ -10,7 +10,7 @@ use Rattle.wire.specs.Message.{Message}
 abbrev pub IsWhole : List ℕ → Type 0
 IsWhole text = (m : Message) × IsFrame text (Ok m)
 
--- bytes are these whole messages, one behind the other, and then the rest
+-- bytes are these whole messages, one after the other, and then the rest
 pub record IsCutInto (bytes : List ℕ) (texts : List (List ℕ)) (rest : List ℕ) : Type 0 where
   pub parts : bytes ≡ concat texts ++ rest
   pub whole : AllByRecursion IsWhole texts

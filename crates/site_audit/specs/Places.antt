@@ -62,7 +62,7 @@ pub record Have {K : Type 0} (content : K → Tables) (settings : Settings) (h k
   pub left_has : content left ≡ tables_of settings h
   pub right_has : content right ≡ tables_of settings k
 
--- a place is one of twin runs: the keeps have the tables behind it, and the caller's reply is kept
+-- a place is one of twin runs: the keeps have the tables after it, and the caller's reply is kept
 pub record GoesOn {K : Type 0} (content : K → Tables) (settings : Settings) (zone : Zone) (c : ℕ)
     (h k : History) (x y : Heard) (before after : List (List ℕ)) (left right : K) : Type 0 where
   pub twin : IsTwinPlace settings c h k x y
@@ -101,7 +101,7 @@ IsJudged items reply (Err Memory) = is_refusal_of_memory (items reply) ≡ true
 IsJudged items reply (Err Store) = is_failure (items reply) ≡ true
 IsJudged items reply (Err NotNew) = ⊥
 
--- a message is answered by the definitions, and the keep has the tables behind it; or memory was
+-- a message is answered by the definitions, and the keep has the tables after it; or memory was
 -- refused, or the store has failed
 abbrev pub IsAnswerTold : {K R : Type 0} → (K → Tables) → (K → Bool) → (R → List ℕ) → Settings → Zone
     → History → Asked → K → Result R AuditFault → Type 0

@@ -16,7 +16,7 @@ use crate::fault::AuditFault;
 use house_rows::Keep;
 use site::{Reply, Site};
 
-// Whether an answer has a status. Its digits stand behind `HTTP/1.1 `.
+// Whether an answer has a status. Its digits stand after `HTTP/1.1 `.
 #[tactic(auto, unfolding(site_replies::specs::Texts::digits_in))]
 fn has_status(reply: &[u8], digits: &[u8]) -> bool
     requires { length digits.now ≡ 3 }

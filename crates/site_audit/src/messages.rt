@@ -18,7 +18,7 @@ pub enum MessagesFault {
     /// Memory was refused.
     #[error("memory is wanted")]
     Memory,
-    /// What stands behind the messages before it is no message, for this fault.
+    /// What stands after the messages before it is no message, for this fault.
     #[error("a message is broken")]
     Broken(WireFault),
 }
@@ -39,7 +39,7 @@ impl From<Failure> for MessagesFault {
     }
 }
 
-// Takes more bytes of the source, and keeps them behind the text too.
+// Takes more bytes of the source, and keeps them after the text too.
 fn take_more<R: Source>(
     source: &mut R,
     into: &mut [u8],
@@ -58,7 +58,7 @@ fn take_more<R: Source>(
     Ok(count)
 }
 
-// Reads more bytes behind those that are held, and behind the text; none come at the end.
+// Reads more bytes after those that are held, and after the text; none come at the end.
 fn fill<R: Source>(
     source: &mut R,
     inbox: &mut Inbox,
@@ -96,7 +96,7 @@ fn keep_message(
 }
 
 /// Reads a stream of messages to its end. A message that asks to close ends nothing here: what
-/// stands behind it is read on.
+/// stands after it is read on.
 pub fn read_messages<R: Source>(
     alloc: Global,
     source: &mut R,

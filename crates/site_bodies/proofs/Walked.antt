@@ -148,7 +148,7 @@ whole_value {bytes} {rest} n is = record {
   meant = ap (option_map number) (number_of-decimal n is.small);
 }
 
--- a number behind a minus
+-- a number after a minus
 minus_passed : (n : ℕ) (rest : List ℕ) → suc n < 2 ^ 63 → ends_word rest ≡ true
     → Passes (45 ∷ (decimal (suc n) ++ rest)) (token (t.number (signed_decimal (negsuc n))) ∷ []) rest
 minus_passed n rest small ended = record {
@@ -187,7 +187,7 @@ below_value {bytes} {digits} {rest} (suc n) z is size minus =
       meant = ap (option_map number) (number_of-negative n (omega (arith, minus.1)));
     })
 
--- a lexeme of one byte, with spaces before and behind it
+-- a lexeme of one byte, with spaces before and after it
 pub around : {a b c d : List ℕ} (x : ℕ) (l : Lexeme) → ((r : List ℕ) → Passes (x ∷ r) (l ∷ []) r)
     → Passes a [] b → b ≡ x ∷ c → Passes c [] d → Passes a (l ∷ []) d
 around {a} {b} {c} {d} x l one before is behind =

@@ -24,7 +24,7 @@ fn is_space(byte: u8) -> bool
     byte == b' '
 }
 
-// What stands behind the spaces in front.
+// What stands after the spaces in front.
 fn behind_spaces(bytes: &[u8]) -> &[u8]
     ensures { Passes bytes.now [] result.now }
 {
@@ -35,7 +35,7 @@ fn behind_spaces(bytes: &[u8]) -> &[u8]
     &bytes[end..]
 }
 
-// The text between quotes in front, if it is written without escapes, and what stands behind.
+// The text between quotes in front, if it is written without escapes, and what stands after.
 fn text(bytes: &[u8]) -> Option<(&str, &[u8])>
     ensures { IfSome result (λ p. Passes bytes.now (token (string p.0.now) ∷ []) p.1.now) }
 {
@@ -64,7 +64,7 @@ fn ends_word(bytes: &[u8]) -> bool
     matches!(bytes, [b',' | b'}' | b' ', ..])
 }
 
-// The number that digits in front write, and what stands behind.
+// The number that digits in front write, and what stands after.
 fn whole(bytes: &[u8]) -> Option<(u64, &[u8])>
     ensures { IfSome result (λ p. IsSize bytes.now p.0 p.1.now) }
 {
@@ -77,7 +77,7 @@ fn whole(bytes: &[u8]) -> Option<(u64, &[u8])>
     Some((number, after))
 }
 
-// The whole number in front, and what stands behind.
+// The whole number in front, and what stands after.
 fn number(bytes: &[u8]) -> Option<(Plain<'_>, &[u8])>
     ensures { IfSome result (λ p. IsValue bytes.now p.0 p.1.now) }
 {
@@ -85,7 +85,7 @@ fn number(bytes: &[u8]) -> Option<(Plain<'_>, &[u8])>
     Some((Plain::Whole(number), after))
 }
 
-// The text in front, as a value, and what stands behind.
+// The text in front, as a value, and what stands after.
 fn string(bytes: &[u8]) -> Option<(Plain<'_>, &[u8])>
     ensures { IfSome result (λ p. IsValue bytes.now p.0 p.1.now) }
 {
@@ -93,7 +93,7 @@ fn string(bytes: &[u8]) -> Option<(Plain<'_>, &[u8])>
     Some((Plain::Text(text), after))
 }
 
-// The number below zero of that size. There is none of zero, which behind a minus is a float.
+// The number below zero of that size. There is none of zero, which after a minus is a float.
 fn minus(size: u64) -> Option<i64>
     ensures { IfSome result (IsMinus size) }
 {
@@ -103,7 +103,7 @@ fn minus(size: u64) -> Option<i64>
     }
 }
 
-// The whole number below zero in front, and what stands behind.
+// The whole number below zero in front, and what stands after.
 fn negative(bytes: &[u8]) -> Option<(Plain<'_>, &[u8])>
     ensures { IfSome result (λ p. IsValue bytes.now p.0 p.1.now) }
 {
@@ -111,7 +111,7 @@ fn negative(bytes: &[u8]) -> Option<(Plain<'_>, &[u8])>
     Some((Plain::Below(minus(size)?), after))
 }
 
-// The null in front, and what stands behind.
+// The null in front, and what stands after.
 fn null(bytes: &[u8]) -> Option<(Plain<'_>, &[u8])>
     ensures { IfSome result (λ p. IsValue bytes.now p.0 p.1.now) }
 {
@@ -123,7 +123,7 @@ fn null(bytes: &[u8]) -> Option<(Plain<'_>, &[u8])>
     }
 }
 
-// The value in front, if it is no text and no number without a sign, and what stands behind.
+// The value in front, if it is no text and no number without a sign, and what stands after.
 fn other(bytes: &[u8]) -> Option<(Plain<'_>, &[u8])>
     ensures { IfSome result (λ p. IsValue bytes.now p.0 p.1.now) }
 {
@@ -133,7 +133,7 @@ fn other(bytes: &[u8]) -> Option<(Plain<'_>, &[u8])>
     }
 }
 
-// The value in front, and what stands behind. Texts and numbers without a sign, as most are, come first.
+// The value in front, and what stands after. Texts and numbers without a sign, as most are, come first.
 fn value(bytes: &[u8]) -> Option<(Plain<'_>, &[u8])>
     ensures { IfSome result (λ p. IsValue bytes.now p.0 p.1.now) }
 {
@@ -146,7 +146,7 @@ fn value(bytes: &[u8]) -> Option<(Plain<'_>, &[u8])>
     }
 }
 
-// The member in front, and what stands behind.
+// The member in front, and what stands after.
 fn member(bytes: &[u8]) -> Option<(Slot<'_>, &[u8])>
     ensures { IfSome result (λ p. IsMember bytes.now p.0 p.1.now) }
 {
@@ -156,7 +156,7 @@ fn member(bytes: &[u8]) -> Option<(Slot<'_>, &[u8])>
     Some((Slot { name, value }, after))
 }
 
-// What stands behind the brace in front.
+// What stands after the brace in front.
 fn begun(bytes: &[u8]) -> Option<&[u8]>
     ensures { IfSome result (λ rest. Passes bytes.now (token begin_object ∷ []) rest.now) }
 {
@@ -164,7 +164,7 @@ fn begun(bytes: &[u8]) -> Option<&[u8]>
     Some(behind_spaces(inside))
 }
 
-// What stands behind the comma in front.
+// What stands after the comma in front.
 fn next(bytes: &[u8]) -> Option<&[u8]>
     ensures { IfSome result (λ rest. Passes bytes.now (comma ∷ []) rest.now) }
 {

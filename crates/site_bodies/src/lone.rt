@@ -11,7 +11,7 @@ use json_plain::is_plain;
 // A text of fewer bytes `simdutf8` hands on to std.
 const SHORT: usize = 64;
 
-// What stands behind the front.
+// What stands after the front.
 #[inline(always)]
 pub(crate) fn behind<'b>(bytes: &'b [u8], front: &[u8]) -> Option<&'b [u8]>
     ensures { IfSome result (λ rest. bytes.now ≡ front.now ++ rest.now) }
@@ -34,7 +34,7 @@ fn before_brace(bytes: &[u8]) -> Option<&[u8]>
     }
 }
 
-// What stands behind a space, if one is there.
+// What stands after a space, if one is there.
 #[inline(always)]
 fn behind_space(bytes: &[u8]) -> &[u8]
     ensures { Passes bytes.now [] result.now }
@@ -86,7 +86,7 @@ fn plain_text(bytes: &[u8]) -> Option<&str>
 }
 
 /// The whole number of a body that is an object of this one number, if it is written without spaces,
-/// or with one behind the colon. Where there is none, the body may yet be any.
+/// or with one after the colon. Where there is none, the body may yet be any.
 pub fn lone_whole(bytes: &[u8], name: &str) -> Option<u64>
     requires plain { escape name.now ≡ name.now }
     requires ascii { IsAscii name.now }
@@ -98,7 +98,7 @@ pub fn lone_whole(bytes: &[u8], name: &str) -> Option<u64>
 }
 
 /// The text of a body that is an object of this one text, if it is written without escapes, and
-/// without spaces or with one behind the colon. Where there is none, the body may yet be any.
+/// without spaces or with one after the colon. Where there is none, the body may yet be any.
 pub fn lone_text<'b>(bytes: &'b [u8], name: &str) -> Option<&'b str>
     requires plain { escape name.now ≡ name.now }
     requires ascii { IsAscii name.now }

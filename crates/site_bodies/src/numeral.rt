@@ -38,7 +38,7 @@ fn above(numeral: &Numeral<'_>) -> Option<Numeric>
     }
 }
 
-// A number behind a minus.
+// A number after a minus.
 fn below(numeral: &Numeral<'_>) -> Option<Numeric>
     ensures { option_map kind_of (number_from true numeral.now) ≡ result }
 {

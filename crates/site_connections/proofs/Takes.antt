@@ -15,7 +15,7 @@ behind Takes zero old mid new same one = (new, subst (λ s. Takes s new) same on
 behind Takes (suc n) old mid new (next, first, rest) one =
     (next, first, behind Takes n next mid new rest one)
 
--- behind so many one more is taken
+-- after so many one more is taken
 pub one_more : {S : Type 0} (Takes : S → S → Type 0) (n : ℕ) (old mid new : S)
     → TakesEach Takes n old mid → Takes mid new → TakesEach Takes (n + 1) old new
 one_more Takes n old mid new each one =
@@ -43,7 +43,7 @@ pub as_many : {S : Type 0} (Takes : S → S → Type 0) (n count : ℕ) (old new
     → n ≡ count → TakesEach Takes n old new → TakesEach Takes count old new
 as_many Takes n count old new all each = subst (λ m. TakesEach Takes m old new) all each
 
--- accepting failed behind fewer
+-- accepting failed after fewer
 pub has_stopped : {C K R W T : Type 0} (Takes : C × K → C × K → Type 0)
     (accepts : C → Result (Option (Connection R W)) Failure → C → Type 0) (n count : ℕ)
     (old last new : C × K) (result : Result T Failure) → n < count

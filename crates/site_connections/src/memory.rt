@@ -33,7 +33,7 @@ impl<'b> MemoryConnections<'b> {
         }
     }
 
-    /// One more comes behind those that do.
+    /// One more comes after those that do.
     pub fn add(
         &mut self,
         connection: Connection<MemorySource<'b>, MemorySink>,

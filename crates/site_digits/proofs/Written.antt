@@ -17,7 +17,7 @@ own = numerals_by_value _ tells_all_ascii_digits
 range_of : (b : ℕ) → is_ascii_digit b ≡ true → IsInRange 48 57 b
 range_of b e = grind (arith, e)
 
--- what digits write behind those of n
+-- what digits write after those of n
 behind_are : (n m : ℕ) (s : List ℕ) → digits_behind n s ≡ Some m
     → (all_ascii_digits s ≡ true) × (digits_value_after 10 n s ≡ m)
 behind_are n m [] e = (refl, cc)

@@ -6,7 +6,7 @@ use Rattle.std.specs.Char.{is_ascii_digit}
 abbrev pub most_digits : ℕ
 most_digits = 10
 
--- the number that digits write behind those of n; none where a byte is no digit
+-- the number that digits write after those of n; none where a byte is no digit
 abbrev pub digits_behind : ℕ → List ℕ → Option ℕ
 digits_behind n [] = Some n
 digits_behind n (b ∷ bs) = if is_ascii_digit b then digits_behind (n * 10 + (b - 48)) bs else None

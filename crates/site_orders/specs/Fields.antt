@@ -24,7 +24,7 @@ name_of field.End = codes "end"
 name_of field.Maximum = codes "maximum"
 name_of field.Rating = codes "rating"
 
--- what is read behind what is right
+-- what is read after what is right
 infixl 10 ◌>>=◌
 abbrev pub ◌>>=◌ : {A B E : Type 0} → Result A E → (A → Result B E) → Result B E
 (Ok x) >>= f = f x

@@ -50,7 +50,7 @@ reply_body zone rate (Denied refusal) = text_of (refusal_tree refusal)
 reply_body zone rate (Shows page) = text_of (page_tree zone rate page)
 reply_body zone rate (Faulty fault) = body_of fault
 
--- the one text of a reply; the connection ends behind it or not
+-- the one text of a reply; the connection ends after it or not
 unfoldable pub reply_text : Zone → ℕ → Bool → Reply Fault → List ℕ
 reply_text zone rate closes reply =
     answer_bytes (reply_status reply) (reply_allow reply) closes (reply_body zone rate reply)

@@ -37,7 +37,7 @@ impl ReplyWriter {
     }
 
     /// Appends the bytes of a reply, the fees of a statement by the rate; `closes` says whether the
-    /// connection ends behind it. After an `Err` the buffer has what it had.
+    /// connection ends after it. After an `Err` the buffer has what it had.
     #[tactic(auto, unfolding(crate::specs::Texts::reply_text))]
     pub fn append(
         &mut self,

@@ -13,7 +13,7 @@ use Rattle.site.specs.Runs.{InTurn}
 use Rattle.site_asks.specs.declared.asked.Asked.{Asked}
 use Rattle.site_serve.specs.Serving.{heard}
 
--- whether the connection ends behind a message
+-- whether the connection ends after a message
 abbrev pub ends : Message → Bool
 ends m = ends_connection m.minor m.fields
 
@@ -57,7 +57,7 @@ cut_of (m ∷ messages) bytes rest most stop (after, here, on, off) few is =
       goes_on (ends m) _ _ on (cut_of messages after rest (most - 1) stop off (omega (arith, few)) (subst (λ n. IsRest rest n stop) less is)),
     )
 
--- and so it is behind a message that ends the connection
+-- and so it is after a message that ends the connection
 pub cut_closed : (messages : List Message) (bytes held after : List ℕ) (most : ℕ) (m : Message) → TakenOff bytes messages held
     → IsMessageAt held m after → ends m ≡ true
     → length messages < most → Cut bytes most (messages ++ m ∷ []) after closed
@@ -95,7 +95,7 @@ last_of (t ∷ texts) some = behind texts t
     behind [] t = ([], t, refl)
     behind (u ∷ texts) t = let (whole, last, e) = behind texts u in (t ∷ whole, last, ap (λ l. t ∷ l) e)
 
--- the cut behind a last message, whether it ends the connection or not
+-- the cut after a last message, whether it ends the connection or not
 pub cut_last : (messages : List Message) (bytes held after : List ℕ) (m : Message) → TakenOff bytes messages held → IsMessageAt held m after
     → (stop : Stop) × Cut bytes (length messages + 1) (messages ++ m ∷ []) after stop
 cut_last messages bytes held after m off here = by_test (ends m) refl

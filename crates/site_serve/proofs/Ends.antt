@@ -48,7 +48,7 @@ parted Step (suc n) (m ∷ ms) (r ∷ rs) old new (mid, step, turn) =
     let (between, first, later) = parted Step n ms rs mid new turn in
     (between, (mid, step, first), later)
 
--- what is honest behind them was so before
+-- what is honest after them was so before
 honest_before : {K : Type 0} (content : K → Tables) (is_failed : K → Bool)
     (is_honest : K → Type 0) (may_leave : K → Tables → Type 0)
     (zone : Zone) (ms : List Asked) (rs : List (List ℕ)) (old new : K)
@@ -64,7 +64,7 @@ honest_before content is_failed is_honest may_leave zone (m ∷ ms) (r ∷ rs) o
     honest =
     step.honest (honest_before content is_failed is_honest may_leave zone ms rs mid new turn honest)
 
--- behind a store that has failed: it stays so, what asks it for anything is told so, and a crash
+-- after a store that has failed: it stays so, what asks it for anything is told so, and a crash
 -- leaves nothing that it could not have left before
 pub record Failing {K : Type 0} (is_failed : K → Bool) (is_honest : K → Type 0)
     (may_leave : K → Tables → Type 0) (ms : List Asked) (rs : List (List ℕ)) (old new : K)
@@ -348,7 +348,7 @@ ended content is_failed is_honest may_leave zone left now before after most coun
           );
     }
 
--- it ended behind the messages so far
+-- it ended after the messages so far
 pub ended_so_far : {K : Type 0} (content : K → Tables) (is_failed : K → Bool)
     (is_honest : K → Type 0) (may_leave : K → Tables → Type 0) (zone : Zone)
     (left now later before after last : Option (List ℕ)) (old new : K) (held : List ℕ)
@@ -366,7 +366,7 @@ ended_so_far content is_failed is_honest may_leave zone left now later before af
     (begins_more before last (concat run.replies) []
     (whole_begins before after last (concat run.replies) run.written flushed))
 
--- it ended in the answer to one more message, or behind it
+-- it ended in the answer to one more message, or after it
 pub ended_in_answer : {K : Type 0} (content : K → Tables) (is_failed : K → Bool)
     (is_honest : K → Type 0) (may_leave : K → Tables → Type 0) (zone : Zone)
     (left now before after last : Option (List ℕ)) (old new next : K) (held rest r : List ℕ)
@@ -394,7 +394,7 @@ fault_held : (held : List ℕ) (has_ended : Bool) (f : WireFault) → IsFaultOf 
 fault_held held true f here = here
 fault_held held false f here = subst (λ l. IsFront l (Err f)) (append-nil held) (here [])
 
--- it ended in the answer to a broken rest, or behind it
+-- it ended in the answer to a broken rest, or after it
 pub ended_in_fault : {K : Type 0} (content : K → Tables) (is_failed : K → Bool)
     (is_honest : K → Type 0) (may_leave : K → Tables → Type 0) (zone : Zone)
     (left now before after last : Option (List ℕ)) (old new : K) (held : List ℕ)

@@ -71,7 +71,7 @@ pushed : {K : Type 0} (Step : Asked → List ℕ → K → K → Type 0) (left n
 pushed Step left now before after last old new next held r count run wrote =
     subst (Appends before last) (sym (concat_push run.replies r)) (Appends-trans before after last (concat run.replies) r run.written wrote)
 
--- one more message was answered, behind which the connection goes on
+-- one more message was answered, after which the connection goes on
 pub serving_more : {K : Type 0} (Step : Asked → List ℕ → K → K → Type 0) (left now before after last : Option (List ℕ)) (old new next : K)
     (held rest more r : List ℕ) (m : Message) (count : ℕ)
     → Serving Step left now before after old new held count → IsMessageAt held m rest → more ≡ rest → ends m ≡ false → Step
@@ -251,7 +251,7 @@ failed_in_answer Step left now before after last old new next held rest r m coun
       written = Appends-trans before after last (concat run.replies) (take n r) run.written wrote;
     }))
 
--- the writer failed behind an answer
+-- the writer failed after an answer
 pub failed_behind : {K : Type 0} (Step : Asked → List ℕ → K → K → Type 0) (left now before after last : Option (List ℕ)) (old new : K)
     (held : List ℕ) (count most : ℕ)
     → Serving Step left now before after old new held count → 0 < count → count ≤ most → Keeps after last

@@ -31,7 +31,7 @@ pub record IsKept {K : Type 0} (content : K → Tables) (is_failed : K → Bool)
   pub crash : (t : Tables) → may_leave new t → (t ≡ tables_of settings after)
       ⊎ ((after ≡ h) × may_leave old t)
 
--- the store failed in one of the messages. Those before it were kept, and behind it the store stays
+-- the store failed in one of the messages. Those before it were kept, and after it the store stays
 -- failed. A crash leaves what it could have left between the two, or the tables of the history after
 -- that message
 pub record HasFailed {K : Type 0} (content : K → Tables) (is_failed : K → Bool)
@@ -87,7 +87,7 @@ pub record HasEnded {K : Type 0} (content : K → Tables) (is_failed : K → Boo
   -- what is left as it ended
   pub at_end : is_honest new
       → Leaves content is_failed may_leave zone (map heard messages) replies old new
-  -- and what was left behind so many of them
+  -- and what was left after so many of them
   pub at_each : is_honest new → (n : ℕ) → (between : K)
       × Leaves content is_failed may_leave zone (take n (map heard messages)) (take n replies)
       old between

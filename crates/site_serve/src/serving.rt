@@ -46,7 +46,7 @@ pub enum ServeFault {
     Memory = 3,
 }
 
-// Reads more bytes behind those that are held; none come at the end.
+// Reads more bytes after those that are held; none come at the end.
 fn fill<R: Source>(source: &mut R, inbox: &mut Inbox) -> Result<usize, Failure>
     requires { length inbox.old.held < 24576 }
     ensures bytes { IfOk result (λ n. (bytes : List ℕ) × (length bytes ≡ n)
@@ -116,7 +116,7 @@ fn finish<W: Sink>(
 
 /// Answers at most `most` messages of a stream, and tells how many those were and how it ended.
 ///
-/// What is written is the answers to the messages of the stream's cut, in turn, and behind them the
+/// What is written is the answers to the messages of the stream's cut, in turn, and after them the
 /// answer to its fault where the rest is broken. The sink hands on all that it took before each wait
 /// for more bytes and at the end, unless nothing was given since it last did. A message takes no
 /// memory but what the site takes for its answer.
@@ -149,7 +149,7 @@ pub fn serve<R: Source, W: Sink, K: Keep + Drop>(
         (keep_of site.old) (keep_of site.new) }
 
     // All that the sink took is handed on at the end, and before each wait: any of them may fail, and
-    // is told as Read then, so that a sink which fails behind it could not be told.
+    // is told as Read then, so that a sink which fails after it could not be told.
     ensures handed_on { OnOk result (IsFlushed W.handed_on W.taken sink.old sink.new) }
     ensures waits { result ≡ Err ServeFault.Read
         → IsFlushed W.handed_on W.taken sink.old sink.new }

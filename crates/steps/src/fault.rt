@@ -5,7 +5,7 @@ ghost use Rattle.steps.specs.Fault.{name_of, number_of, row_of};
 use thiserror::Error;
 
 /// Why a band table was not made. Rows are counted from 1 for the first band; nothing half made is
-/// left behind.
+/// left after.
 #[derive(Clone, Copy, Debug, PartialEq, Eq, Hash, Error)]
 pub enum BandsFault {
     /// A record has another number of fields than the first.

@@ -18,7 +18,7 @@ agrees-copied file shown buf part at n m fits within m-is shown-is long is =
     let read : part ≡ take (length part) (drop at file) = is ∙ ap (λ k. take k (drop at shown)) (m-is ∙ sym whole) ∙ ap (λ xs. take (length part) (drop at xs)) shown-is in
     rw copied (and_from _ _ (le-leb _ _ (omega arith)) ((bytes_eq-Decides _ part).1 (sym read)))
 
--- a cut, or zeros behind
+-- a cut, or zeros after
 pub padded-cut : (file : List ℕ) (len : ℕ) → padded file len ≡ take len file ++ replicate (len - length file) 0
 unfolding padded
 padded-cut file len = elim (cases_lt (length file) len) [

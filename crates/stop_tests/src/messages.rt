@@ -3,7 +3,7 @@ use house_script::Fault;
 use std::alloc::{AllocError, Global};
 use std::fmt::Write;
 
-// The first word of a line, and what stands behind the space after it.
+// The first word of a line, and what stands after the space after it.
 fn first_word(line: &str) -> (&str, &str) {
     line.split_once(' ').unwrap_or((line, ""))
 }

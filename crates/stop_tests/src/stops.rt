@@ -168,7 +168,7 @@ impl<'s> Case<'s> {
         Ok(true)
     }
 
-    // Stops one file behind each number of calls, until a run ends with no stop.
+    // Stops one file after each number of calls, until a run ends with no stop.
     fn stop_side(&self, alloc: Global, side: Side, tally: &mut Tally) -> Result<(), Fault> {
         for calls in 0..u64::MAX {
             let pair = &Pair::of(alloc, &self.base)?;
@@ -179,7 +179,7 @@ impl<'s> Case<'s> {
         Ok(())
     }
 
-    /// Stops each file behind each number of calls.
+    /// Stops each file after each number of calls.
     pub(crate) fn stops(&self, alloc: Global) -> Result<Tally, Fault> {
         let mut tally = Tally::new();
         self.stop_side(alloc, Side::Log, &mut tally)?;

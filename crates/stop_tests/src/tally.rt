@@ -1,8 +1,8 @@
-//! How many stops there were, and what was found behind them.
+//! How many stops there were, and what was found after them.
 use std::alloc::{AllocError, Global};
 use stop_files::Side;
 
-/// What was found behind a stop.
+/// What was found after a stop.
 #[derive(Clone, Copy, Debug, PartialEq, Eq)]
 pub(crate) enum Found {
     /// The house as it was before the command, which takes the command now.
@@ -17,14 +17,14 @@ pub(crate) enum Found {
     Answer,
 }
 
-/// How many stops were tried, how many houses were opened behind them, and what was found.
+/// How many stops were tried, how many houses were opened after them, and what was found.
 #[derive(Clone, Copy, Debug, PartialEq, Eq)]
 pub(crate) struct Tally {
     stops: u64,
     houses: u64,
     before: u64,
     after: u64,
-    // The first that was wrong: behind how many calls of which file.
+    // The first that was wrong: after how many calls of which file.
     wrong: Option<(Side, u64, Found)>,
 }
 
@@ -45,7 +45,7 @@ impl Tally {
         self.stops = self.stops.saturating_add(1);
     }
 
-    /// What was found in files that were opened again behind so many calls of one.
+    /// What was found in files that were opened again after so many calls of one.
     pub(crate) fn find(&mut self, side: Side, calls: u64, found: Found) {
         self.houses = self.houses.saturating_add(1);
         match found {
@@ -55,7 +55,7 @@ impl Tally {
         }
     }
 
-    // Whether there was a stop, and before or after was found behind each.
+    // Whether there was a stop, and before or after was found after each.
     fn is_right(&self) -> bool {
         self.wrong.is_none()
             && self.stops > 0

@@ -90,7 +90,7 @@ behind_up least (n ∷ ns) =
       | inr not ↦ rw not (behind_up least ns)
     ]
 
--- those of a front, and then those from behind them on
+-- those of a front, and then those from after them on
 pub numbers_cut : (least many : ℕ) (ns : List ℕ) → numbers_from least ns ≡ numbers_from least (take many ns) ++ numbers_from (behind least (numbers_from least (take many ns))) ns
 numbers_cut least zero ns = refl
 numbers_cut least (suc many) [] = refl

@@ -96,7 +96,7 @@ all_front : {A : Type 0} (P : A → Type 0) (xs ys : List A) → AllByRecursion 
 all_front P [] ys all = (tt, all)
 all_front P (x ∷ xs) ys all = let more = all_front P xs ys all.1 in ((all.0, more.0), more.1)
 
--- of numbers that rise those before one are under it, and those behind it over it
+-- of numbers that rise those before one are under it, and those after it over it
 around : (before : List ℕ) (n : ℕ) (rest : List ℕ) → IsAscending (λ a b. a < b) (before ++ n ∷ rest) → AllByRecursion (λ m. m < n) before × AllByRecursion (λ m. n < m) rest
 around [] n rest up = (tt, up.0)
 around (m ∷ before) n rest up = let more = around before n rest up.1 in let here = all_front (λ k. m < k) before (n ∷ rest) up.0 in ((here.1.0, more.0), more.1)
@@ -151,7 +151,7 @@ module _ (t : Tables) (member from : ℕ) (rising : IsRisingBy number_of t.items
   each_bid : map bid t.items ≡ map (own_bid t member) (all_items t)
   each_bid = sym (map-map (own_bid t member) (λ (row : ItemRow). row.item) t.items)
 
-  -- a full list shows nothing of what has no number of ours, and lies behind
+  -- a full list shows nothing of what has no number of ours, and lies after
   pub full : (shown : List OwnBid) → IsAscending (λ a b. number_of a ≤ number_of b) t.items → shown ≡ take most_shown (flat_map found numbers) → most_shown ≤ length shown → shown ≡ own_bids t member from
   full shown up are many =
       let low = filter is_low t.items in

@@ -21,7 +21,7 @@ abbrev pub numbers_from : ℕ → List ℕ → List ℕ
 numbers_from least [] = []
 numbers_from least (n ∷ ns) = if nat_le least n then n ∷ numbers_from (n + 1) ns else numbers_from least ns
 
--- the number behind the last of some
+-- the number after the last of some
 abbrev pub behind : ℕ → List ℕ → ℕ
 behind least [] = least
 behind least (n ∷ ns) = behind (n + 1) ns

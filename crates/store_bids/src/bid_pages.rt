@@ -44,7 +44,7 @@ fn numbers_from(alloc: Global, items: &[u32], from: u64) -> Result<Vec<u32>, Kee
     Ok(numbers)
 }
 
-// Where to go on: behind the last of some items, which so many bids were on. Behind fewer than fifty
+// Where to go on: after the last of some items, which so many bids were on. Behind fewer than fifty
 // there is no further one.
 fn next_behind(numbers: &[u32], bids: usize) -> u64
     ensures last { bids < most_shown → result ≡ 2 ^ 32 }

@@ -1,4 +1,4 @@
--- What has a great number lies behind, and WHERE keeps rows by a number.
+-- What has a great number lies after, and WHERE keeps rows by a number.
 use Rattle.std.proofs.Common.{◌≡◌, ◌≤◌, ◌<◌, ◌^◌, ◌&&◌, ◌++◌, ℕ, pos, Bool, true, false, not, List, [], ◌∷◌, filter, eqb, refl, sym, ap, ◌∙◌, arith, inl, inr}
 use Rattle.std.specs.Prelude.{nat_lt}
 use Rattle.std.proofs.lemmas.Bool.Decides.{nat_tests}

@@ -29,7 +29,7 @@ pub record AreSealed (bands : List (ℕ × ℕ)) (at : ℕ) (r : Row) : Type 0 w
   pub second : IfSome (maybe_number_in (column r (at + 1))) (λ n. n ≤ most_cents)
   pub stands : stands bands (terms_of r) (maybe_number_in (column r at)) (maybe_number_in (column r (at + 1))) ≡ true
 
--- what a query shows of an item, its maxima behind the terms, or behind the texts
+-- what a query shows of an item, its maxima after the terms, or after the texts
 abbrev pub TermsHold : List (ℕ × ℕ) → Row → Type 0
 TermsHold bands r = TermsFit (terms_of r) × AreSealed bands 11 r
 

@@ -77,7 +77,7 @@ fn judge(bands: &Bands, terms: &Terms, row: &Row, at: usize) -> Result<(), KeepF
     judge_by(bands, terms, top, second)
 }
 
-// The terms that a row tells, which stand by these bands. What is sealed comes behind them.
+// The terms that a row tells, which stand by these bands. What is sealed comes after them.
 fn terms_read(bands: &Bands, row: &Row) -> Result<Terms, KeepFault>
     ensures value { IfOk result (λ it. it ≡ terms_of row.now) }
     ensures fits { IfOk result TermsFit }
@@ -89,7 +89,7 @@ fn terms_read(bands: &Bands, row: &Row) -> Result<Terms, KeepFault>
     Ok(terms)
 }
 
-// The item that a row tells, which stands by these bands. What is sealed comes behind its texts.
+// The item that a row tells, which stands by these bands. What is sealed comes after its texts.
 fn item_read(bands: &Bands, row: &Row) -> Result<Item, KeepFault>
     ensures value { IfOk result (λ it. it ≡ item_of row.now) }
     ensures fits { IfOk result ItemFits }

@@ -25,7 +25,7 @@ pub find_fits : {A : Type 0} (P : A → Type 0) (p : A → Bool) (xs : List A) �
 find_fits P p [] all = tt
 find_fits P p (x ∷ xs) all = elim (by_test (p x)) [ inl is ↦ rw is all.0 | inr not ↦ rw not (find_fits P p xs all.1) ]
 
--- what is there is there behind a reference
+-- what is there is there after a reference
 pub some_copied : {A : Type 0} (o : Option (Bor A)) → is_some (option_copied o) ≡ is_some o
 some_copied None = refl
 some_copied (Some r) = refl

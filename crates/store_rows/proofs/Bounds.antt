@@ -1,4 +1,4 @@
--- Lists that begin behind every number.
+-- Lists that begin after every number.
 use Rattle.std.proofs.Common.{◌≡◌, ◌<◌, ◌&&◌, ℕ, suc, Bool, true, false, List, [], ◌∷◌, filter, take, refl, sym, ap, ◌∙◌, arith, inl, inr}
 use Rattle.std.specs.Prelude.{nat_le, nat_lt, if◌then◌else◌}
 use Rattle.std.specs.List.{AllByRecursion}
@@ -22,7 +22,7 @@ module _ {A : Type 0} (p : A → Bool) (number : A → ℕ) (Fits : A → Type 0
   never_over : (n : ℕ) → n < 4294967295 → nat_le 4294967295 n ≡ true → ⊥
   never_over n small over = grind (arith, nat_tests)
 
-  -- if what begins at the last number fits, there is none, and so none behind it
+  -- if what begins at the last number fits, there is none, and so none after it
   both_none : (n : ℕ) (xs : List A) → AllByRecursion Fits (take (suc n) (from_last xs)) → (from_last xs ≡ []) × (from_there xs ≡ [])
   both_none n [] fits = (refl, refl)
   both_none n (x ∷ xs) fits =

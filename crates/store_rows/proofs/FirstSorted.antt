@@ -20,7 +20,7 @@ one x (y ∷ []) same = ap (λ z. z ∷ []) (recursion_from_All (λ z. z ≡ x) 
 one x (y ∷ z ∷ ys) same = absurd (omega (arith, length_permutation _ _ same))
 
 module _ {A : Type 0} (key : A → Key) where
-  -- each of the first n is less than all behind it
+  -- each of the first n is less than all after it
   abbrev pub Leads : ℕ → List A → Type 0
   Leads zero xs = Unit {0}
   Leads (suc n) [] = Unit {0}

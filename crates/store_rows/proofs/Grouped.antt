@@ -16,7 +16,7 @@ module _ {A : Type 0} (number : A → ℕ) (p : A → Bool) where
   abbrev among : List ℕ → A → Bool
   among ns x = list_any (λ n. number x == n) ns && p x
 
-  -- no row behind a greater number has this one
+  -- no row after a greater number has this one
   none_behind : (n : ℕ) (xs : List A) → AllByRecursion (λ x. n < number x) xs → filter (of_one n) xs ≡ []
   none_behind n [] above = refl
   none_behind n (x ∷ xs) above = let other : (number x == n) ≡ false = grind (arith, nat_tests, above.0) in rw other (none_behind n xs above.1)

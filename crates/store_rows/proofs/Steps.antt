@@ -41,7 +41,7 @@ first_found_more most F xs i d acc more whole low held step =
 pub first_found_full : {B : Type 0} (most : ℕ) (acc rest whole : List B) → length acc ≤ most → most ≤ length acc → take most (acc ++ rest) ≡ whole → acc ≡ whole
 first_found_full most acc rest whole few full held = sym (take_all most acc few) ∙ sym (take-append-le most acc rest full) ∙ held
 
--- behind the last there is no more
+-- after the last there is no more
 pub first_found_all : {A B : Type 0} (most : ℕ) (F : A → List B) (xs : List A) (i : ℕ) (acc whole : List B) → length acc ≤ most → length xs ≤ i → take most (acc ++ flat_map F (drop i xs)) ≡ whole → acc ≡ whole
 first_found_all most F xs i acc whole few end held =
     sym (take_all most acc few) ∙ ap (take most) (sym (append-nil acc) ∙ ap (λ l. acc ++ flat_map F l) (sym (drop_all i xs end))) ∙ held

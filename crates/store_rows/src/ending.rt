@@ -9,7 +9,7 @@ use crate::statement::fault_of;
 use house_rows::KeepFault;
 use sqlite::{Alter, Transaction};
 
-/// A moment as a parameter; Damaged where it is none.
+/// A moment as a parameter of 32 bits; Damaged where it has more.
 pub fn stored_moment(moment: u64) -> Result<u32, KeepFault>
     ensures value { IfOk result (λ m. m ≡ moment) }
     ensures damaged { IsMoment moment → ¬ (IsErrOf result Damaged) }

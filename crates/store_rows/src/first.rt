@@ -49,7 +49,7 @@ fn rows_given<S: Alter>(
     Ok(first)
 }
 
-/// The first rows that a query shows, at most so many. It asks for no row behind them, changes
+/// The first rows that a query shows, at most so many. It asks for no row after them, changes
 /// nothing, and is never damaged.
 pub fn first_rows<S: Alter>(
     alloc: Global,

@@ -239,7 +239,7 @@ ties_of_two Greater y tie = absurd (true≢false (sym tie))
 ties_of_two Equal Less tie = absurd (true≢false (sym tie))
 ties_of_two Equal Greater tie = absurd (true≢false (sym tie))
 
--- a row whose rating is none comes behind what fits
+-- a row whose rating is none comes after what fits
 stays_less : (b : Bool) (a c a' c' : ℕ) → a < 2 ^ 32 → is_less (record { first = a; second = c; third = 0 }) (record { first = a'; second = c'; third = 0 }) ≡ true
     → is_less (record { first = a; second = c; third = 0 }) (record { first = cond b a' (2 ^ 64); second = c'; third = 0 }) ≡ true
 stays_less true a c a' c' low less = less
@@ -304,7 +304,7 @@ module _ (member from : ℕ) (low : member < 2 ^ 32) (small : from < 2 ^ 32) (ol
   apart : IsAscending (λ r s. tied params r s ≡ false) (filter (passes given_test params) table)
   apart = none_tie (tied params) (1 ∷ 2 ∷ []) IsGiven agrees table house.shaped.1.1.1.1.1.1.1.1.0 (unique old.now house) (passes given_test params) (all-filter IsGiven (passes given_test params) table (are_given old.now house))
 
-  -- a full list, where what has no item of ours lies behind
+  -- a full list, where what has no item of ours lies after
   given_full : (rows : List Row) → ShowsFirst 50 given_text params old new rows → length rows ≡ 50 → AllByRecursion FeedbackFits (map feedback_of rows)
       → map feedback_of rows ≡ take 50 (filter (keeps member from) (sorted_feedback old.now.trees))
   given_full rows first full fits =

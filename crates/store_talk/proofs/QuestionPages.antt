@@ -144,7 +144,7 @@ module _ (test : List Term) (order : List (Term × Sorting)) (params : Row) (sql
       ∙ first_by_key test question_shown order params table first.all (lists sql 12 test question_shown order question_names is (λ db. refl) old new params first.all house first.shown)
       question_key question_of question_in (λ r. refl) QuestionFits Is apart are rises keep P tests all_p 50 (subst (λ l. AllByRecursion QuestionFits (map question_of l)) first.are fits)
 
-  -- the same of a full list, where what has no number of ours lies behind
+  -- the same of a full list, where what has no number of ours lies after
   first_full : (agrees : (r s : Row) → IsTalk r → IsTalk s → tied test order params r s ≡ true → agree keys.plain (1 ∷ 2 ∷ 3 ∷ []) r (1 ∷ 2 ∷ 3 ∷ []) s ≡ true)
       → (Is : Row → Type 0) → AllByRecursion Is (filter (passes test params) table)
       → ((r s : Row) → Is r → Is s → Fits r → rise test order params r s → is_less (question_key (question_in r)) (question_key (question_in s)) ≡ true)

@@ -23,7 +23,7 @@ use std::alloc::Global;
 use store_rows::{all_of, bound_of};
 
 // The feedback to a member, from an item on; at most fifty. A row whose rating is none belongs to no
-// item, and so comes behind all others: for it the rows of the items before are looked through, where
+// item, and so comes after all others: for it the rows of the items before are looked through, where
 // the list isn't full.
 fn given_from<S: Alter>(
     alloc: Global,

@@ -155,7 +155,7 @@ fn first_on_each<S: Alter>(
 /// The first of the questions that wait for a member's answer, by item, asker and number; at most
 /// fifty.
 ///
-/// It reads the terms of all items that the member sells, and of each item's questions no row behind
+/// It reads the terms of all items that the member sells, and of each item's questions no row after
 /// the fiftieth.
 pub fn first_waiting<S: Alter>(
     alloc: Global,

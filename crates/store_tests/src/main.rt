@@ -4,7 +4,7 @@
 //! on houses in SQLite in memory. `store_tests memory` plays it on houses in memory. `store_tests make FILE` plays
 //! it on a house in a new file, and `store_tests ask FILE` asks the house that is there. The stored run is a test of the
 //! house's decisions and of the keep in SQLite: `stdin` has the script, `stdout` its transcript, in which what the house
-//! has to answer stands behind each line, written by hand from its rules. `house_script` says what a line may be.
+//! has to answer stands after each line, written by hand from its rules. `house_script` says what a line may be.
 #![tactic(auto)]
 
 mod database;

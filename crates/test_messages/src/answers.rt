@@ -7,7 +7,7 @@ use wire::{
     Answer, Methods, Status, WireFault, broken_frame, damaged_row, failed_store, no_memory,
 };
 
-/// The answer of a line, which is also written behind those before it.
+/// The answer of a line, which is also written after those before it.
 pub(crate) fn answer(alloc: Global, frames: &mut Frames, line: &str) -> Result<String, Fault> {
     let answer = spelled(line, &frames.text)?;
     answer.write_into(&mut frames.written)?;

@@ -1,6 +1,6 @@
 //! The section on what messages ask: what its lines may be, and what is told of them.
 //!
-//! `send METHOD TARGET` names the request, `head FIELDS` its further fields, each behind a line's end that
+//! `send METHOD TARGET` names the request, `head FIELDS` its further fields, each after a line's end that
 //! is spelled out, and `body TEXT` its body; then it is told what the message asks. `begin` empties the
 //! body, `add TEXT` and `times N TEXT` add to it, and `asks` tells what is asked. `raw TEXT` tells what
 //! that text asks as it stands. `frames N` reads the frame of the message N times, and tells the sum of the lengths;

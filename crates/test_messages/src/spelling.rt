@@ -4,7 +4,7 @@ use std::alloc::{AllocError, Global};
 use std::fmt::Write;
 use std::str::FromStr;
 
-/// The first word of a line, and what stands behind the space after it.
+/// The first word of a line, and what stands after the space after it.
 pub(crate) fn first_word(line: &str) -> (&str, &str) {
     line.split_once(' ').unwrap_or((line, ""))
 }
@@ -20,7 +20,7 @@ where
     }
 }
 
-/// Adds the text behind the first word as often as that word says.
+/// Adds the text after the first word as often as that word says.
 pub(crate) fn repeat(bytes: &mut Vec<u8>, line: &str) -> Result<(), Fault> {
     let (times, text) = first_word(line);
     let times: u32 = number(times)?;
@@ -44,7 +44,7 @@ pub(crate) fn push(bytes: &mut Vec<u8>, text: &str) -> Result<(), Fault> {
     Ok(())
 }
 
-// The byte that what follows a backslash spells, and what stands behind it.
+// The byte that what follows a backslash spells, and what stands after it.
 fn escaped(part: &[u8]) -> Result<(u8, &[u8]), Fault> {
     match part {
         [b'r', behind @ ..] => Ok((b'\r', behind)),

@@ -35,7 +35,7 @@ pub(crate) fn fed(alloc: Global, inbox: &mut Inbox, text: &[u8]) -> Result<Strin
     format!(in alloc; "{count}")
 }
 
-/// The room behind what the inbox holds.
+/// The room after what the inbox holds.
 pub(crate) fn space(alloc: Global, inbox: &mut Inbox) -> Result<String, AllocError> {
     let room = inbox.space().len();
     format!(in alloc; "{room}")

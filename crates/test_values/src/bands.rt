@@ -3,7 +3,7 @@
 //! `text T` begins a text, `add T` adds to it, and `bands N` adds N records of a table with steps of five
 //! cents. `table` tells the bands that the text is read as, or its fault, `read T` the same of the text T, and
 //! `failing N` what comes of a reader that gives the text a byte a read and fails after N reads. `rows A S A S ..`
-//! tells the table of rows, `fifty A S ..` that of rows behind fifty good ones. `example` tells the example
+//! tells the table of rows, `fifty A S ..` that of rows after fifty good ones. `example` tells the example
 //! table, `step N` the step of it at so many cents and the least amount above that may be bid, and `faults` has
 //! a line for each.
 //!

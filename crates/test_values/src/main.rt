@@ -3,9 +3,9 @@
 //!
 //! The stored run is a test of what no clause says: that calls succeed, what comes of readers and writers that
 //! fail, how often a writer is called, and that the clauses mean what people were promised and write. `stdin` has
-//! the script, `stdout` its transcript, in which what has to be answered stands behind each line, worked out by
+//! the script, `stdout` its transcript, in which what has to be answered stands after each line, worked out by
 //! hand, but for the days of moments, which are the C library's. Read `script` first, which says what a line may
-//! be, behind the mark of `transcript`. Commands, changes and rows are made by `store_tests`.
+//! be, after the mark of `transcript`. Commands, changes and rows are made by `store_tests`.
 #![tactic(auto)]
 
 mod accounts;

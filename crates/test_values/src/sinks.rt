@@ -24,7 +24,7 @@ pub(crate) fn sink(alloc: Global, line: &str) -> Result<MemorySink, Fault> {
     Ok(sink)
 }
 
-// The next bytes of the pattern behind those that the sink has.
+// The next bytes of the pattern after those that the sink has.
 fn next(devices: &Devices, count: usize) -> &[u8] {
     let bytes = devices.pattern.as_slice();
     let rest = &bytes[devices.sink.bytes().len().min(bytes.len())..];

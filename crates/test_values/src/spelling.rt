@@ -4,7 +4,7 @@ use cents::Cents;
 use std::alloc::Global;
 use std::str::FromStr;
 
-/// The first word of a line, and what stands behind the space after it.
+/// The first word of a line, and what stands after the space after it.
 pub(crate) fn first_word(line: &str) -> (&str, &str) {
     line.split_once(' ').unwrap_or((line, ""))
 }
@@ -50,7 +50,7 @@ pub(crate) fn push(bytes: &mut Vec<u8>, text: &str) -> Result<(), Fault> {
     Ok(())
 }
 
-// The byte that what follows a backslash spells, and what stands behind it.
+// The byte that what follows a backslash spells, and what stands after it.
 fn escaped(part: &[u8]) -> Result<(u8, &[u8]), Fault> {
     match part {
         [b'r', behind @ ..] => Ok((b'\r', behind)),

@@ -65,7 +65,7 @@ pub(crate) fn push_bands(alloc: Global, text: &mut Vec<u8>, word: &str) -> Resul
     Ok(())
 }
 
-/// The table of so many good rows, and behind them those that a line spells.
+/// The table of so many good rows, and after them those that a line spells.
 pub(crate) fn rows(alloc: Global, good: u64, line: &str) -> Result<String, Fault> {
     let mut rows = Vec::new(alloc);
     for at in 0..good {

@@ -1,6 +1,6 @@
 //! Scripts whose lines are printed beside their answers, as a transcript.
 //!
-//! Promised: what is told of a line is what is behind the mark `> `, or all of a line that has none. What is
+//! Promised: what is told of a line is what is after the mark `> `, or all of a line that has none. What is
 //! printed no clause says.
 #![tactic(auto)]
 
@@ -9,7 +9,7 @@ ghost use Rattle.std.specs.Prelude.{◌≡◌, ◌≢◌, ◌++◌, List, ℕ, I
 use std::io;
 
 /// Prints a line of a script that begins with `> `, a comment or an empty line as it stands, and tells what of it
-/// is played: what is behind the mark, or all of a line that has none.
+/// is played: what is after the mark, or all of a line that has none.
 pub fn echoed<'t>(rt: &impl Print, line: &'t str) -> io::Result<&'t str>
     ensures marked { IfOk result (λ played. (rest : List ℕ) → line.now ≡ codes "> " ++ rest → played.now ≡ rest) }
     ensures unmarked { IfOk result (λ played. ((rest : List ℕ) → line.now ≢ codes "> " ++ rest) → played.now ≡ line.now) }

@@ -12,7 +12,7 @@ use Rattle.wire.specs.Message.{Message}
 use Rattle.wire.specs.declared.fault.WireFault.{WireFault}
 use Rattle.wire.specs.declared.fault.WireFault.TheVariants as fault
 
--- a message and what stands behind it
+-- a message and what stands after it
 abbrev found : Message → List ℕ → Message × List ℕ
 found m rest = (m, rest)
 
@@ -86,7 +86,7 @@ ends_in_head bytes ends = inr (ends.none, refl)
 pub ended_in_head : (held : List ℕ) (ended : Bool) → ended ≡ true → EndsInHead held → IsFaultOf held ended fault.Head
 ended_in_head held ended is ends = subst (λ e. IsFaultOf held e fault.Head) (sym is) (ends_in_head held ends)
 
--- bytes behind the message of a text
+-- bytes after the message of a text
 pub excess : (text : List ℕ) (m : Message) → m.length ≤ length text → (m.length ≡ length text → ⊥)
     → Err fault.Excess ≡ alone (Ok (m, drop m.length text))
 excess text m fits other = by_rest (drop m.length text) (omega (arith, length-drop m.length text))

@@ -71,7 +71,7 @@ lacks_place x bytes lacks =
     position_or_len_is (λ b. b == x) bytes (length bytes) 0 (omega arith)
     (λ i low. All-get_or (λ b. (b == x) ≡ false) bytes i 0 low lacks) (λ low. absurd (omega (arith, low)))
 
--- the first x stands behind what lacks it
+-- the first x stands after what lacks it
 pub place_behind : (x : ℕ) (front rest : List ℕ) → Lacks x front → place_of x (front ++ x ∷ rest) ≡ length front
 place_behind x front rest lacks =
     let long : length (front ++ x ∷ rest) ≡ length front + length (x ∷ rest) = length-append front (x ∷ rest) in
@@ -107,7 +107,7 @@ field_nowhere line none =
     let pair : ℕ → Pair = λ n. (take n line, value_behind (drop (n + 1) line)) in
     unless (pair (name_end line) ∷ []) [] (nat_lt (name_end line) (length line)) test
 
--- the field of a line with a name and what stands behind its colon
+-- the field of a line with a name and what stands after its colon
 field_of_line : (name raw : List ℕ) → Lacks 58 name → field_in (name ++ 58 ∷ raw) ≡ (name, value_behind raw) ∷ []
 field_of_line name raw lacks =
     let line = name ++ 58 ∷ raw in
@@ -244,7 +244,7 @@ section_fields (f ∷ fields) last all =
     regroup : (a b c d : List ℕ) → ((a ++ b) ++ c) ++ d ≡ a ++ (b ++ (c ++ d))
     regroup a b c d = simp append_assoc
 
--- what stands behind the empty lines of a head
+-- what stands after the empty lines of a head
 abbrev pub behind_blank : RequestHead → List ℕ
 behind_blank h = request_line h ++ (print_end h.line_end ++ print_section h.fields h.last)
 
@@ -295,7 +295,7 @@ trims space text r all some first (n, is, long, below, stops) = elim (cases_orde
     get_or-append [] ys = refl
     get_or-append (x ∷ xs) ys = get_or-append xs ys
 
--- behind the line of a request, the empty lines before it trimmed off, stands its end, and then the lines of the fields
+-- after the line of a request, the empty lines before it trimmed off, stands its end, and then the lines of the fields
 pub behind_request_line : (h : RequestHead) (text : List ℕ) → IsRequestHead h → IsTrimAsciiStart (print_request h) text
     → (length (request_line h) ≤ length text) × (drop (length (request_line h)) text ≡ print_end h.line_end ++ print_section h.fields h.last)
 behind_request_line h text is trimmed =
@@ -326,7 +326,7 @@ request_line_long h =
     let behind = length-append (request_line h) (print_end h.line_end ++ print_section h.fields h.last) in
     (omega (arith, method, target), omega (arith, whole, behind))
 
--- what stands behind a line and its line feed
+-- what stands after a line and its line feed
 pub behind_line : (text : List ℕ) (k : ℕ)
     → take (length (take (length text - k) (drop k text)) - 1) (drop 1 (take (length text - k) (drop k text))) ≡ drop (k + 1) text
 behind_line text k =

@@ -40,7 +40,7 @@ goes_on stream most m after (broken f) more here is =
 abbrev Same : List Message → List Message → List ℕ → List ℕ → Stop → Stop → Type 0
 Same messages others rest other stop end = (messages ≡ others) × (rest ≡ other) × (stop ≡ end)
 
--- behind one message
+-- after one message
 behind : (t : Bool) (most : ℕ) (after : List ℕ) (messages others : List Message) (rest other : List ℕ) (stop end : Stop)
     → (Cut after most messages rest stop → Cut after most others other end → Same messages others rest other stop end)
     → MatchBool t ((messages ≡ []) × (rest ≡ after) × (stop ≡ closed)) (Cut after most messages rest stop)

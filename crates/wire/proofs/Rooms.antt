@@ -11,7 +11,7 @@ part items start end order =
     let whole : start + (end - start) ≡ end = omega arith in
     sym (drop-take start (end - start) items) ∙ ap (λ n. drop start (take n items)) whole
 
--- what is held behind its first bytes
+-- what is held after its first bytes
 pub held_behind : (items : List ℕ) (start end count : ℕ) → start + count ≤ end
     → take (end - (start + count)) (drop (start + count) items) ≡ drop count (take (end - start) (drop start items))
 held_behind items start end count within =

@@ -46,7 +46,7 @@ length_by [] = Ok 0
 length_by (digits ∷ []) = body_length digits
 length_by (digits ∷ others ∷ more) = Err fault.Length
 
--- the pieces of a list that commas part, behind what the first has so far
+-- the pieces of a list that commas part, after what the first has so far
 abbrev pub pieces_behind : List ℕ → List ℕ → List (List ℕ)
 pieces_behind piece [] = piece ∷ []
 pieces_behind piece (b ∷ bytes) = if b == 44 then piece ∷ pieces_behind [] bytes else pieces_behind (piece ++ b ∷ []) bytes
@@ -59,6 +59,6 @@ is_close piece = str_eq_ignore_ascii_case (trim_ows piece) (codes "close")
 unfoldable pub names_close : List ℕ → Bool
 names_close list = list_any is_close (pieces_behind [] list)
 
--- the connection ends behind the message: it is of HTTP/1.0, or some `connection` names `close` (RFC 9112, 9.3)
+-- the connection ends after the message: it is of HTTP/1.0, or some `connection` names `close` (RFC 9112, 9.3)
 unfoldable pub ends_connection : ℕ → List Pair → Bool
 ends_connection minor fields = minor == 0 || list_any names_close (values_of (codes "connection") fields)

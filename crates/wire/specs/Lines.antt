@@ -8,7 +8,7 @@ use Rattle.wire.specs.Fields.{Pair}
 abbrev pub name_end : List ℕ → ℕ
 name_end line = position_or_len (λ b. b == 58) line
 
--- the value behind a colon: up to the carriage return, without spaces and tabs round it
+-- the value after a colon: up to the carriage return, without spaces and tabs round it
 abbrev pub value_behind : List ℕ → List ℕ
 value_behind raw = trim_ows (before_first (λ b. b == 13) raw)
 

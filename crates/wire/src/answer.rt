@@ -15,7 +15,7 @@ pub struct Answer<'a> {
     pub status: Status,
     /// The methods of the path, which the status 405 asks for (RFC 9110, 15.5.6).
     pub allow: Option<Methods>,
-    /// Whether the connection ends behind the answer.
+    /// Whether the connection ends after the answer.
     pub closes: bool,
     pub body: &'a [u8],
 }

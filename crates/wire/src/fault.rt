@@ -27,7 +27,7 @@ pub enum WireFault {
     /// The input ends inside the body.
     #[error("the input ends inside the body")]
     End = 6,
-    /// Bytes stand behind the one message.
+    /// Bytes stand after the one message.
     #[error("bytes behind the message")]
     Excess = 7,
 }

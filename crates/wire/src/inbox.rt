@@ -12,7 +12,7 @@ use std::marker::Model;
 pub const ROOM: usize = 24576;
 
 /// The bytes of a stream that are held, in a buffer that is made once. Clauses see the bytes that
-/// are held, and those of the free room behind them.
+/// are held, and those of the free room after them.
 #[derive(Drop)]
 pub struct Inbox {
     buffer: Vec<u8>,

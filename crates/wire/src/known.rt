@@ -111,7 +111,7 @@ impl<'b> Known<'b> {
         }
     }
 
-    /// Whether the connection ends behind the message.
+    /// Whether the connection ends after the message.
     #[tactic(auto, unfolding(crate::specs::Fields::ends_connection))]
     pub(crate) fn ends_connection(&self, minor: u8) -> bool
         ensures { (fields : List Pair) → IsKnown fields self.now → result ≡ ends_connection minor fields }

@@ -10,7 +10,7 @@ ghost use Rattle.wire.specs.Lines.{field_in, fields_in, request_line};
 use crate::fields::{Values, is_same, trim};
 use memchr::memchr;
 
-// What stands behind the end of a line.
+// What stands after the end of a line.
 fn behind_end(text: &[u8]) -> &[u8]
     ensures { (end : LineEnd) (rest : List ℕ) → text.now ≡ print_end end ++ rest → result.now ≡ rest }
 {
@@ -21,7 +21,7 @@ fn behind_end(text: &[u8]) -> &[u8]
     }
 }
 
-/// The lines of the fields of a head: those behind the line of the request, which has that length
+/// The lines of the fields of a head: those after the line of the request, which has that length
 /// without its end.
 pub(crate) fn field_lines(head: &[u8], line: usize) -> &[u8]
     ensures { (h : RequestHead) → IsRequestHead h → head.now ≡ print_request h → line ≡ length (request_line h) → fields_in result.now ≡ fields_of h }

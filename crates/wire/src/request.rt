@@ -103,7 +103,7 @@ impl<'b> Request<'b> {
         one_of(self.lines, name)
     }
 
-    /// Whether the connection ends behind the message: it is of HTTP/1.0, or a `connection` names
+    /// Whether the connection ends after the message: it is of HTTP/1.0, or a `connection` names
     /// `close` (RFC 9112, 9.3).
     pub fn closes(&self) -> bool
         ensures { result ≡ ends_connection self.now.minor self.now.fields }

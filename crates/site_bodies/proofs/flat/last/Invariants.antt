@@ -1,4 +1,4 @@
--- nothing behind the end has the name
+-- nothing after the end has the name
 use Rattle.std.proofs.Common.{◌≡◌, ◌≤◌, length, take}
 use Rattle.serde_json.specs.Data.{no_members}
 use Rattle.serde_json.specs.Find.{get_member}

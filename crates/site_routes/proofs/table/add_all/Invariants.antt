@@ -1,4 +1,4 @@
--- the rows behind the index, put into what is there, are the whole table put into what was there
+-- the rows after the index, put into what is there, are the whole table put into what was there
 use Rattle.std.proofs.Common.{◌≡◌, drop, map}
 use Rattle.site_routes.specs.Table.{added}
 use Rattle.site_routes.proofs.table.add_all.Given as goal

@@ -10,7 +10,7 @@ pub loop-place-init : goal.loop-place-init
 unfolding names_close
 loop-place-init c = (omega arith, refl)
 
--- behind a piece that is no token
+-- after a piece that is no token
 passed : (list : List ℕ) (start place next : ℕ) (b : Bool) → place < length list → get_or list place 0 ≡ 44 → is_close
     (slice_range list start place) ≡ false → next ≡ place + 1
     → b ≡ list_any is_close (pieces_behind (slice_range list start place) (drop place list))

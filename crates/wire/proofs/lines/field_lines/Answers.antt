@@ -1,4 +1,4 @@
--- What stands behind the line of the request, which is as long as it is said to be.
+-- What stands after the line of the request, which is as long as it is said to be.
 use Rattle.std.proofs.Common.{drop, arith, ap, ◌∙◌, subst, inl, inr}
 use Rattle.std.specs.Str.{IsTrimAsciiStart}
 use Rattle.std.proofs.lemmas.List.{take_rest}

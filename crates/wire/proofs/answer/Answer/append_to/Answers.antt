@@ -1,4 +1,4 @@
--- The parts, one behind the other.
+-- The parts, one after the other.
 use Rattle.std.proofs.Common.{◌≡◌, ℕ, List, ◌++◌, append_assoc}
 use Rattle.wire.specs.Answer.{answer_bytes}
 use Rattle.wire.proofs.answer.Answer.append_to.Goals as goal
