@@ -3,7 +3,7 @@ use Rattle.std.specs.Prelude.{◌≤◌, ℕ, ⊤}
 use Rattle.std.specs.Int.{IsInRange}
 use Rattle.house_rows.specs.Limits.{last_moment, most_cents, most_members}
 use Rattle.auction_words.specs.declared.command_line.Task.{Task}
-use Rattle.auction_words.specs.declared.command_line.Task.TheVariants.{Audit, Import, Init, Replay, Serve, Statement, Surplus}
+use Rattle.auction_words.specs.declared.command_line.Task.TheVariants.{Audit, Import, Init, Replay, Serve, Statement, Surplus, Upgrade}
 
 -- a number that a member may have
 abbrev pub IsMember : ℕ → Type 0
@@ -16,6 +16,7 @@ IsWithin (Serve file asked) = IsInRange 1 65535 asked.port × IsInRange 1 100000
 IsWithin (Replay house asked) = ⊤
 IsWithin (Import file asked) = IsMember asked.member × (asked.moment ≤ last_moment)
 IsWithin (Statement file asked) = IsMember asked.member
+IsWithin (Upgrade file) = ⊤
 IsWithin (Audit house asked) = IsMember asked.member
 IsWithin (Surplus house asked) = IsInRange 1 1000000 asked.place × (asked.maximum ≤ most_cents)
     × IsMember asked.member

@@ -100,6 +100,8 @@ pub enum Task<'a> {
     Import(&'a str, ImportWords<'a>),
     /// To print a statement from the house in a file.
     Statement(&'a str, StatementWords<'a>),
+    /// To make the house in a file one of the newest version.
+    Upgrade(&'a str),
     /// To compare two runs over new houses in memory.
     Audit(HouseWords<'a>, AuditWords<'a>),
     /// To raise a bid of a run over new houses in memory.
@@ -189,6 +191,13 @@ fn statement_task<'a>(words: &ArgMatches<'a>) -> Result<Task<'a>, Refused>
     Ok(Task::Statement(file, asked))
 }
 
+// What the words of `upgrade` ask for.
+fn upgrade_task<'a>(words: &ArgMatches<'a>) -> Result<Task<'a>, Refused>
+    ensures { IfOk result IsWithin }
+{
+    Ok(Task::Upgrade(text(words, "file")?))
+}
+
 // What the words of `audit` ask for.
 fn audit_task<'a>(words: &ArgMatches<'a>) -> Result<Task<'a>, Refused>
     ensures { IfOk result IsWithin }
@@ -230,6 +239,7 @@ fn task_of<'a>(name: &str, words: &ArgMatches<'a>) -> Result<Task<'a>, Refused>
         "replay" => replay_task(words),
         "import" => import_task(words),
         "statement" => statement_task(words),
+        "upgrade" => upgrade_task(words),
         "audit" => audit_task(words),
         "surplus" => surplus_task(words),
         _ => Err(Refused { name: "command" }),

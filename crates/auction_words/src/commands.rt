@@ -154,6 +154,14 @@ fn statement_command<'a>(alloc: Global) -> Result<Command<'a>, AllocError> {
         .arg(flag(alloc, "csv", "Print records of CSV, without the totals"))
 }
 
+// `upgrade`, which is told the file alone.
+fn upgrade_command<'a>(alloc: Global) -> Result<Command<'a>, AllocError> {
+    Command::new(alloc, "upgrade")
+        .about("Makes a house of version 1 in a file one of version 2")
+        .after_long_help(texts::UPGRADE)
+        .arg(house(alloc))
+}
+
 // `audit`, of two runs for one member.
 fn audit_command<'a>(alloc: Global) -> Result<Command<'a>, AllocError> {
     Command::new(alloc, "audit")
@@ -207,6 +215,7 @@ pub fn subcommand<'a>(alloc: Global, name: &str) -> Result<Command<'a>, AllocErr
         "replay" => replay_command(alloc),
         "import" => import_command(alloc),
         "statement" => statement_command(alloc),
+        "upgrade" => upgrade_command(alloc),
         "audit" => audit_command(alloc),
         _ => surplus_command(alloc),
     }
@@ -232,6 +241,7 @@ pub fn command<'a>(alloc: Global) -> Result<Command<'a>, AllocError> {
     let command = with_subcommand(command, replay_command(alloc))?;
     let command = with_subcommand(command, import_command(alloc))?;
     let command = with_subcommand(command, statement_command(alloc))?;
+    let command = with_subcommand(command, upgrade_command(alloc))?;
     let command = with_subcommand(command, audit_command(alloc))?;
     with_subcommand(command, surplus_command(alloc))
 }

@@ -79,6 +79,19 @@ Both days are in the period.\n\
 \n\
 Example: auction statement house --member 1 --from 2026-01-01 --to 2026-12-31";
 
+/// What else is told of `upgrade`.
+pub const UPGRADE: &str = "\
+It prints upgraded, or is version 2 where there was nothing to do. Every row\n\
+stays as it was.\n\
+\n\
+A program for version 1 can't open the house afterwards. So keep a copy of FILE,\n\
+and of FILE-wal where that is there.\n\
+\n\
+A stop or a crash leaves the one version or the other, whole: upgrade it again.\n\
+A house that is Damaged stays as it was.\n\
+\n\
+Example: auction upgrade house";
+
 /// What else is told of `audit`.
 pub const AUDIT: &str = "\
 Both runs begin with a new house in memory. Without --bands it has a table of\n\
@@ -110,6 +123,7 @@ Examples:\n\
 \x20 auction serve house --port 8080 --count 100\n\
 \x20 auction import house lots.csv --member 1 --moment 1767225600\n\
 \x20 auction statement house --member 1 --from 2026-01-01 --to 2026-12-31\n\
+\x20 auction upgrade house\n\
 \x20 auction replay --preset --record < messages.http > answers.http\n\
 \x20 auction audit left.http right.http --member 2\n\
 \x20 auction surplus list.http --place 7 --maximum 8000 --member 2\n\
@@ -127,7 +141,8 @@ A fault is one line on standard error:\n\
 \x20 auction: date              a day is none\n\
 \x20 auction: order             the last day lies before the first\n\
 \x20 auction: file: Store       the file or its database failed, or is in use\n\
-\x20 auction: file: Damaged     the file is no house; or init found something there\n\
+\x20 auction: file: Damaged     the file is no house of version 2; or init found\n\
+\x20                            something there\n\
 \x20 auction: no member         nobody has the member's number\n\
 \x20 auction: lots: Head        the first record of the lot file is another\n\
 \x20 auction: lots: Csv         a row has another number of fields\n\
