@@ -1,5 +1,5 @@
 -- What is printed where all went well.
-use Rattle.std.specs.Prelude.{ℕ, List, [], ◌∷◌, ◌++◌, codes, decimal}
+use Rattle.std.specs.Prelude.{ℕ, List, [], ◌∷◌, ◌++◌, Bool, true, false, codes, decimal}
 
 -- a house was made
 abbrev pub created : List ℕ
@@ -12,6 +12,15 @@ listening = codes "listening" ++ 10 ∷ []
 -- so many connections were answered
 abbrev pub served : ℕ → List ℕ
 served count = codes "served " ++ decimal count ++ 10 ∷ []
+
+-- a house is upgraded, or it was of version 2 before
+abbrev pub upgraded_word : Bool → List ℕ
+upgraded_word true = codes "upgraded"
+upgraded_word false = codes "is version 2"
+
+-- and its line
+abbrev pub upgraded_line : Bool → List ℕ
+upgraded_line upgraded = upgraded_word upgraded ++ 10 ∷ []
 
 -- two runs are equal to a member, who got so many replies in each
 abbrev pub equal_line : ℕ → List ℕ

@@ -73,3 +73,15 @@ pub fn open_keep<S: StoreInFile>(
 {
     SqlKeep::open(alloc, S::find_file(rt, path)?)
 }
+
+/// The keep of the house in a file, which is made one of version 2 where it is of version 1, and
+/// whether it was.
+pub fn upgrade_keep<S: StoreInFile>(
+    rt: &HostRuntime,
+    alloc: Global,
+    path: &str,
+) -> Result<(SqlKeep<S>, bool), KeepFault>
+    ensures { IfOk result (λ upgraded. is_failed upgraded.0 ≡ false) }
+{
+    SqlKeep::upgrade(alloc, S::find_file(rt, path)?)
+}

@@ -3,7 +3,7 @@ ghost use Rattle.std.specs.Prelude.{◌≡◌, [], false, IfErr, IfOk};
 ghost use Rattle.house_rows.specs.Tables.{tables_of};
 
 use crate::ends::Ends;
-use crate::files::{StoreInFile, create_house, open_keep};
+use crate::files::{StoreInFile, create_house, open_keep, upgrade_keep};
 use house_rows::{Keep, KeepFault, Settings};
 use std::alloc::Global;
 use store::SqlKeep;
@@ -38,6 +38,11 @@ pub trait KeepInFile: Sized + Keep + Drop + Ends {
     /// That of the house in the file.
     fn open(rt: &HostRuntime, alloc: Global, path: &str) -> Result<Self, KeepFault>
         ensures { IfOk result (λ keep. Self.is_failed keep ≡ false) };
+
+    /// That of the house in the file, which is made one of version 2 where it is of version 1, and
+    /// whether it was.
+    fn upgrade(rt: &HostRuntime, alloc: Global, path: &str) -> Result<(Self, bool), KeepFault>
+        ensures { IfOk result (λ upgraded. Self.is_failed upgraded.0 ≡ false) };
 }
 
 impl<S: StoreInFile> KeepInFile for SqlKeep<S>
@@ -55,5 +60,13 @@ where
 
     fn open(rt: &HostRuntime, alloc: Global, path: &str) -> Result<SqlKeep<S>, KeepFault> {
         open_keep(rt, alloc, path)
+    }
+
+    fn upgrade(
+        rt: &HostRuntime,
+        alloc: Global,
+        path: &str,
+    ) -> Result<(SqlKeep<S>, bool), KeepFault> {
+        upgrade_keep(rt, alloc, path)
     }
 }

@@ -19,6 +19,7 @@ use crate::replay::replay_run;
 use crate::serve::{answer_each, serve_run};
 use crate::statement::{Inquiry, statement_run};
 use crate::surplus::{Raise, Trial, surplus_run};
+use crate::upgrade::upgrade_run;
 use auction_words::{
     AuditWords, HouseWords, ImportWords, Replay, Serve, StatementWords, SurplusWords, Task,
     read_settings, read_task, same_settings,
@@ -90,6 +91,7 @@ fn start_over<F: KeepInFile, M: KeepInMemory>(
         Ok(Some(Task::Replay(house, asked))) => replay_input::<M>(rt, alloc, &house, asked),
         Ok(Some(Task::Import(path, asked))) => import_file::<F>(rt, alloc, path, asked),
         Ok(Some(Task::Statement(path, asked))) => statement_file::<F>(rt, alloc, path, &asked),
+        Ok(Some(Task::Upgrade(path))) => upgrade_file::<F>(rt, alloc, path),
         Ok(Some(Task::Audit(house, asked))) => audit_files::<M>(rt, alloc, &house, asked),
         Ok(Some(Task::Surplus(house, asked))) => surplus_file::<M>(rt, alloc, &house, asked),
         // Words that ask for nothing are refused there.
@@ -276,6 +278,17 @@ fn statement_file<K: KeepInFile>(
             statement_run(alloc, keep, asked, &mut sink, &mut errors)
         }
         Err(fault) => ended(&mut errors, Err(fault)),
+    }
+}
+
+// Makes the house in a file one of version 2.
+fn upgrade_file<K: KeepInFile>(rt: &HostRuntime, alloc: Global, path: &str) -> u8
+    ensures { result ≤ 1 }
+{
+    let mut errors = rt.stderr();
+    match K::upgrade(rt, alloc, path) {
+        Ok((keep, upgraded)) => upgrade_run(&mut rt.stdout(), &mut errors, keep, upgraded),
+        Err(fault) => ended(&mut errors, Err(Fault::from(fault))),
     }
 }
 
