@@ -32,7 +32,7 @@ STORE, DAMAGED = fault("file: Store"), fault("file: Damaged")
 def commands(file):
     """The words of each command on a file that is there; none gets as far as to take a port."""
     return (["serve", file, "--port", "1", "--count", "1"], ["import", file, "lots.csv", "--member", "1", "--moment", "1000"],
-            ["statement", file, "--member", "1", "--from", "1970-01-01", "--to", "1970-01-01"])
+            ["statement", file, "--member", "1", "--from", "1970-01-01", "--to", "1970-01-01"], ["upgrade", file])
 
 
 def making(file):
@@ -92,11 +92,10 @@ NO_HOUSES = [
     ("a table of that name", other(TABLE), DAMAGED),
     ("another table", other("CREATE TABLE more (id INTEGER PRIMARY KEY)"), DAMAGED),
     ("another program's log", other("PRAGMA journal_mode = WAL", TABLE, "INSERT INTO member VALUES (1)"), DAMAGED),
-    ("another version", changed("UPDATE house SET version = 0"), DAMAGED),
-    ("a later version", changed("UPDATE house SET version = 2"), DAMAGED),
+    ("an earlier version", changed("UPDATE house SET version = 1"), DAMAGED),
+    ("a later version", changed("UPDATE house SET version = 3"), DAMAGED),
     ("another clock", changed("UPDATE house SET clock = 4102444801"), DAMAGED),
     ("no band", changed("DELETE FROM band"), DAMAGED),
-    ("no zone", changed("UPDATE house SET zone = 'nowhere'"), DAMAGED),
     ("one table more", changed("CREATE TABLE more (id INTEGER PRIMARY KEY) STRICT"), DAMAGED),
 ]
 
@@ -142,6 +141,11 @@ class Files:
                 self.fails(what, path, words, DAMAGED)
             if made:
                 self.fails(what, path, making("bad"), made)
+        path = self.clear()
+        changed("UPDATE house SET zone = 'nowhere'")(self.whole, path)
+        for words in (*commands("bad"), making("bad")):
+            # Who goes by no zone doesn't look at it.
+            self.fails("no zone", path, words, (0, b"is version 2\n", b"") if words[0] == "upgrade" else DAMAGED)
         path = self.clear()
         path.write_bytes(b"")
         check("nothing in the file: init", self.program.ended(*making("bad")), (0, b"created\n", b""))

@@ -30,7 +30,8 @@ SIGHTS = [*READS, message("GET", "/members/2", 1), message("GET", "/me/watches",
 FAILED = (b"HTTP/1.1 500 Internal Server Error\r\ncontent-type: application/json\r\ncontent-length: 17\r\n\r\n"
           b'{"error":"store"}')
 COMMANDS = MESSAGES[:-len(READS)]
-TABLES = {"house": 1, "member": 2, "category": 1, "item": 2, "bid": 1, "watch": 1, "question": 1, "feedback": 1}
+TABLES = {"house": 1, "member": 2, "category": 1, "item": 2, "bid": 1, "watch": 1, "question": 1, "feedback": 1,
+          "reserve": 0, "edition": 0, "later_band": 0}
 
 
 def seen(program, file):
@@ -82,6 +83,7 @@ def together(program, folder, init):
     with program.serving("shared", 2) as server:
         exchange(server.port, b"".join(COMMANDS[:5]))
         check("served twice", program.ended("serve", "shared", "--port", "1", "--count", "1"), fault("file: Store"))
+        check("upgraded while served", program.ended("upgrade", "shared"), fault("file: Store"))
         check("made while served", program.ended("init", "shared", *init), fault("file: Store"))
         exchange(server.port, b"".join(COMMANDS[5:]))
     check("shared ended", server.ending, served(2))

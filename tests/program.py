@@ -68,6 +68,9 @@ REFUSED_WORDS = [
     ["statement", "house", "--member", "0", "--from", "1970-01-01", "--to", "1970-01-01"],
     ["statement", "house", "--member", "100001", "--from", "1970-01-01", "--to", "1970-01-01"],
     ["statement", "house", "--member", "1", "--from", "1970-01-01", "--to", "1970-01-01", "--csv", "--csv"],
+    ["upgrade"],
+    ["upgrade", "house", "more"],
+    ["upgrade", "house", "--rate", "1"],
     ["audit", "left", "--member", "1"],
     ["audit", "left", "right"],
     ["audit", "left", "right", "--member", "0"],
@@ -91,7 +94,7 @@ REFUSED_WORDS = [
 ]
 
 # Commands, each with its own help.
-COMMANDS = ["init", "serve", "replay", "import", "statement", "audit", "surplus"]
+COMMANDS = ["init", "serve", "replay", "import", "statement", "upgrade", "audit", "surplus"]
 COLUMNS = 80
 
 # Numbers that are none or out of range, and what the error says that they have to be.

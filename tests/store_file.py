@@ -32,7 +32,7 @@ CRATE = pathlib.Path(__file__).resolve().parent.parent / "crates" / "store_tests
 CLOCK, MOMENT = "? clock", "7001"
 # By the script's commands. Items are open (0), sold (1), unsold (2) or settled (3).
 TABLES = {
-    "house": [(1, 1, 7001, 1000, "UTC0")],
+    "house": [(1, 2, 7001, 1000, "UTC0")],
     "band": [(0, 5), (100, 25), (500, 50), (2500, 100), (10000, 250), (25000, 500), (50000, 1000),
              (100000, 2500), (250000, 5000), (500000, 10000)],
     "member": [(1, "Ana"), (2, "Ben"), (3, "Cid")],
@@ -47,6 +47,9 @@ TABLES = {
     "question": [(1, 2, 1, "How old?", None), (1, 3, 1, "Is it signed?", None),
                  (1, 3, 2, "By whom?", "By its maker"), (4, 3, 1, "In French?", None)],
     "feedback": [(1, 1, 3, 1, "Good"), (1, 3, 1, 1, "No party"), (2, 2, 1, -1, "Late")],
+    "reserve": [],
+    "edition": [],
+    "later_band": [],
 }
 
 # What sqlite3 does to the file, and a question whose answer it spoils.
@@ -55,8 +58,9 @@ SPOILED = [
     ("CREATE VIEW more AS SELECT id FROM item", CLOCK),
     ("DROP INDEX item_by_end", CLOCK),
     ("DROP TABLE watch", CLOCK),
-    ("UPDATE house SET version = 0", CLOCK),
-    ("UPDATE house SET version = 2", CLOCK),
+    ("DROP TABLE later_band", CLOCK),
+    ("UPDATE house SET version = 1", CLOCK),
+    ("UPDATE house SET version = 3", CLOCK),
     ("UPDATE house SET clock = 4102444801", CLOCK),
     ("UPDATE house SET rate = 2001", CLOCK),
     ("UPDATE house SET zone = zone || char(10)", CLOCK),
