@@ -1,11 +1,12 @@
 #!/usr/bin/env python3
-"""Refuses allocations of `import`, `statement` and `audit`: `refused_office.py PROGRAM [IMPORT [STATEMENT [AUDIT]]]`.
+"""Refuses allocations of `import`, `statement`, `audit` and `upgrade`: `refused_office.py PROGRAM [EVERY..]`.
 
 Each run ends as one that finds memory, or with `auction: memory` and 1. What was printed before stands: of an import
 the lines of its first rows, of a statement its beginning, of an audit nothing. The house's file then has the items
-that were printed and those that it had, every other table is as it was, and SQLite finds no fault in it. IMPORT,
-STATEMENT and AUDIT are how many allocations are passed over for each that is refused, 1 without them. It needs a C
-compiler, `cc`. The last line is 'N runs, M wrong'.
+that were printed and those that it had, every other table is as it was, and SQLite finds no fault in it. Of an upgrade
+every row is as it was, and the house of version 2 where that was printed, else of version 1 or 2. The EVERYs are how
+many allocations of each are passed over for each that is refused, 1 without them. It needs a C compiler, `cc`. The
+last line is 'N runs, M wrong'.
 """
 import collections
 import contextlib
@@ -15,6 +16,7 @@ import sqlite3
 import sys
 import tempfile
 
+from first_version import KEPT, found, upgraded
 from office import AS_CSV, BOTH_DAYS, BY_ANA, HEAD, SALES, house, run as audited
 from refusal import allocations, built_library, ended, in_turn, run, told
 from served import EXAMPLE, PRESET, Program
@@ -117,10 +119,24 @@ class Refusals:
             bands = ["--bands", f"{self.folder}/bands.csv"]
             self.each(f"audit, {name}", ["audit", *map(str, files), "--member", "2", *bands], every, judge)
 
+    def upgrades(self, every):
+        shutil.copy(KEPT / "house", self.folder / "kept")
+        before = found(self.folder / "kept")[1]
+        after = upgraded(before)
+
+        def judge(path, *ending):
+            rows = found(pathlib.Path(path))[1]
+            version = {repr(before): 1, repr(after): 2}.get(repr(rows))
+            if ending == (1, b"", MEMORY) and version:
+                return f"stopped at version {version}"
+            return "as ever" if (ending, version) == ((0, b"upgraded\n", b""), 2) else None
+
+        self.each("upgrade", ["upgrade", HOUSE], every, judge, "kept")
+
 
 def main():
     path = str(pathlib.Path(sys.argv[1]).resolve())
-    every = [int(word) for word in [*sys.argv[2:], "1", "1", "1"][:3]]
+    every = [int(word) for word in [*sys.argv[2:], "1", "1", "1", "1"][:4]]
     with built_library() as library, tempfile.TemporaryDirectory() as folder:
         rows = "".join(f"{at},{step}\n" for at, step in EXAMPLE)
         pathlib.Path(folder, "bands.csv").write_text("at,step\n" + rows)
@@ -131,6 +147,7 @@ def main():
         refusals.imports(every[0])
         refusals.statements(every[1])
         refusals.audits(every[2])
+        refusals.upgrades(every[3])
     return told(refusals.count, refusals.wrong)
 
 
