@@ -1,13 +1,17 @@
 #!/usr/bin/env python3
-"""Kills `serve` at random moments while it takes commands, and looks what is left: `kills.py PROGRAM [KILLS] [SEED]`.
+"""Kills `serve` and `upgrade` at random moments, and looks what is left: `kills.py PROGRAM [KILLS] [SEED]`.
 
 A client sends commands one after the other, each of which makes one row, and counts those that were answered. The
 server is killed by SIGKILL, and the house's file with its log has to be sound for SQLite, and to hold what the
 commands that were answered make, or one command more: the rows of a house that took as many and was never killed. Then
 the same file is served again. This shows a killed process, not a power cut: what was written is there though nobody
-had synced it. The last line is 'K kills, N commands, M of them more than answered, W wrong'.
+had synced it.
 
-In the gate 40 servers are killed, without a number 200.
+As many upgrades of each house of version 1 that is kept are killed within the time that one takes. Each leaves the
+house as it was, or upgraded, and it is then upgraded, or of version 2. A line tells how many left which. The last line
+is 'K kills, N commands, M of them more than answered, W wrong'.
+
+In the gate 40 servers and 80 upgrades are killed, without a number 200 and 400.
 """
 import itertools
 import pathlib
@@ -15,10 +19,13 @@ import random
 import shutil
 import socket
 import sqlite3
+import subprocess
 import sys
 import tempfile
 import threading
+import time
 
+from first_version import IS_VERSION_2, UPGRADED, found, laid, upgraded
 from sent import PATIENCE, command, compact
 from served import CHECKS, SETTINGS, Program, check, served
 
@@ -125,6 +132,35 @@ class Kills:
         check("rows", tables, rows(self.folder, "whole"))
 
 
+class Upgrades:
+    """Upgrades of a kept house, which are killed."""
+
+    def __init__(self, program, folder, seed, kept):
+        self.program, self.path, self.random, self.kept = program, folder / kept, random.Random(seed), kept
+        self.first = found(laid(kept, self.path))[1]
+        self.second = upgraded(self.first)
+        begun = time.monotonic()
+        check("upgraded", program.ended("upgrade", kept), UPGRADED)
+        self.longest = time.monotonic() - begun
+        # How many were of which version, and how many of these were told to be.
+        self.left, self.told = {1: 0, 2: 0}, 0
+
+    def kill_once(self):
+        """Upgrades the house until the program is killed, and looks what is left."""
+        laid(self.kept, self.path)
+        process = subprocess.Popen([self.program.path, "upgrade", self.kept], cwd=self.path.parent, stdout=subprocess.PIPE)
+        time.sleep(self.random.uniform(0, self.longest))
+        process.kill()
+        told = process.communicate()[0]
+        rows = found(self.path)[1]
+        check("told", told in ([b"", UPGRADED[1]] if rows == self.second else [b""]), True)
+        check("one or the other", rows in (self.first, self.second), True)
+        self.left[1 if rows == self.first else 2] += 1
+        self.told += bool(told)
+        check("again", self.program.ended("upgrade", self.kept), UPGRADED if rows == self.first else IS_VERSION_2)
+        check("whole", found(self.path)[1], self.second)
+
+
 def main():
     kills, seed = (int(word) for word in (sys.argv[2:] + ["200", "2026"][len(sys.argv) - 2:]))
     with tempfile.TemporaryDirectory() as path:
@@ -134,6 +170,12 @@ def main():
         for _ in range(kills):
             run.kill_once()
             run.look()
+        for kept in ("house", "stopped"):
+            upgrades = Upgrades(run.program, folder, seed, kept)
+            for _ in range(kills):
+                upgrades.kill_once()
+            print(f"{kills} upgrades of {kept}: {upgrades.left[1]} of version 1, {upgrades.left[2]} of version 2, of which "
+                  f"{upgrades.told} had told so")
     print(f"{kills} kills, {run.answered} commands, {run.more} of them more than answered, {CHECKS.count(False)} wrong")
     return 1 if not all(CHECKS) else 0
 
