@@ -10,6 +10,7 @@ import subprocess
 import tempfile
 
 import house_file
+from first_version import IS_VERSION_2, UPGRADED, found, laid, upgraded
 from house_file import SIGHTS
 from kills import rows
 from refusal import HERE
@@ -146,6 +147,29 @@ class Calls:
         check("another command", shown[1][:12], b"HTTP/1.1 201")
         seen = rows(self.folder, "read"), shown[0]
         return next((count for count, state in enumerate(self.states) if state[1:] == seen), None)
+
+
+class Versions:
+    """Which version is found of a kept house that is being upgraded."""
+
+    def __init__(self, calls, kept):
+        self.calls, self.found = calls, {}
+        self.rows = found(laid(kept, calls.folder / "house"))[1]
+        self.upgraded = upgraded(self.rows)
+        (calls.folder / "house-wal").touch()
+        self.first = calls.contents("house")
+
+    def look(self, contents):
+        """The version in two files, by SQLite and by the program, after which all of the house is there."""
+        key = tuple(hashlib.sha256(content).digest() for content in contents)
+        if key not in self.found:
+            self.calls.lay("left", contents)
+            path = self.calls.folder / "left"
+            version = {repr(self.rows): 1, repr(self.upgraded): 2}.get(repr(found(path)[1]))
+            check("upgraded then", self.calls.program.ended("upgrade", "left"), UPGRADED if version == 1 else IS_VERSION_2)
+            check("its rows", found(path)[1], self.upgraded)
+            self.found[key] = version
+        return self.found[key]
 
 
 @contextlib.contextmanager

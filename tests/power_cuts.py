@@ -1,13 +1,15 @@
 #!/usr/bin/env python3
-"""Models power cuts of `init` and `serve`: `power_cuts.py PROGRAM [EVERY]`. It needs a C compiler, `cc`.
+"""Models power cuts of `init`, `serve` and `upgrade`: `power_cuts.py PROGRAM [EVERY]`. It needs a C compiler, `cc`.
 
 The calls on its files of a house that is made, served all twelve commands and ended are noted once. Behind each of them,
 or each EVERYth, the power is cut: what was synced is there, and of the changes since then nothing, all, each beginning, all
 but any one, any one alone, those of either file alone, and every other sector of all. Each pair of files that may
 be left is opened by SQLite, which has to find a sound database, and by the program: both have to find the house behind the
 commands that were answered, or behind one more, and the program has to take another command. Files of a house that was
-being made hold no house, and one can be made there, or a house with no history. The last line is 'N calls, C cuts, F pairs of
-files, M of them with one command more than answered, W wrong'.
+being made hold no house, and one can be made there, or a house with no history. So it is with the calls of an upgrade of
+each house of version 1 that is kept: what is left is the house as it was or as it is upgraded, and the program upgrades it,
+or finds it of version 2. The last line is 'N calls, C cuts, F pairs of files, M of them with one command more than answered,
+W wrong'.
 
 Seen on the proved program: 353 calls, 373 cuts, 926 pairs of files, 397 of them with one command more than was
 answered, in 42 seconds; with EVERY 12 49 cuts and 233 pairs, in 10. None was wrong. With syncs that do nothing in the
@@ -17,7 +19,8 @@ finish each sector of 512 bytes that it begins; no power was cut, and no device 
 import socket
 import sys
 
-from file_calls import COMMANDS, NONE, Disk, prepared
+from file_calls import COMMANDS, NONE, Disk, Versions, prepared
+from first_version import UPGRADED
 from kills import Client
 from served import CHECKS, check, served
 
@@ -67,10 +70,37 @@ class Cuts:
             self.cut(disk, behind)
 
 
+class UpgradeCuts(Cuts):
+    """Cuts the power in the upgrade of a kept house, where one version or the other is found."""
+
+    def __init__(self, calls, every, kept):
+        super().__init__(calls, every)
+        self.kept, self.versions = kept, Versions(calls, kept)
+
+    def cut(self, disk, versions):
+        self.cuts += 1
+        for contents in disk.cuts():
+            version = self.versions.look(contents)
+            check(f"{self.kept}: after {self.count} calls one of {versions}", (version, version in versions), (version, True))
+
+    def run(self):
+        self.calls.lay("house", self.versions.first)
+        check("upgraded", self.calls.noting().ended("upgrade", "house"), UPGRADED)
+        disk = Disk(self.versions.first)
+        self.follow(disk, self.calls.noted("house"), [1, 2])
+        self.cut(disk, [2])
+        found = list(self.versions.found.values())
+        print(f"upgrade of {self.kept}: {self.count} calls, {self.cuts} cuts, {len(found)} pairs of files, {found.count(2)} of "
+              f"them of version 2")
+
+
 def main():
     with prepared(sys.argv[1]) as calls:
-        cuts = Cuts(calls, int(sys.argv[2]) if len(sys.argv) > 2 else 1)
+        every = int(sys.argv[2]) if len(sys.argv) > 2 else 1
+        cuts = Cuts(calls, every)
         cuts.run()
+        for kept in ("house", "stopped"):
+            UpgradeCuts(calls, every, kept).run()
     print(f"{cuts.count} calls, {cuts.cuts} cuts, {len(calls.found)} pairs of files, {cuts.more} of them with one command more "
           f"than answered, {CHECKS.count(False)} wrong")
     return 1 if not all(CHECKS) else 0
