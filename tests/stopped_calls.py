@@ -1,12 +1,13 @@
 #!/usr/bin/env python3
 """Stops the program at each call on the files of a house: `stopped_calls.py PROGRAM [EVERY]`. It needs a C compiler, `cc`.
 
-For `init`, and for `serve` of each of the twelve commands, the k-th call fails and each later one on the same file, k from 1
-on until a run ends with no stop; or each EVERYth k. A write at which it stops writes half. In the opening, `serve` ends with
-`file: Store`. Else the answer is the command's own, or that the store failed, and then every later one to a read and to a
-command is so too. The files that are left, as they are and without what was not synced, are opened again: SQLite finds a
-sound database, both it and the program find the house before the command or behind it, behind it where that was answered
-as accepted, and the program takes another command. The last lines tell what was found by command, and 'S stops, W wrong'.
+For `init`, for `serve` of each of the twelve commands and for `upgrade` of each house that is kept, the k-th call fails and
+each later one on the same file, k from 1 on until a run ends with no stop; or each EVERYth k. A write at which it stops
+writes half. In the opening, `serve` ends with `file: Store`. Else the answer is the command's own, or that the store failed,
+and then every later one to a read and to a command is so too. The files that are left, as they are and without what was not
+synced, are opened again: SQLite finds a sound database, both it and the program find the house before the command or behind
+it, behind it where that was answered as accepted, and the program takes another command. Of an upgrade they find the house
+as it was or upgraded, and that where it was told. The last lines tell what was found by command, and 'S stops, W wrong'.
 
 Seen on the proved program: 669 stops, in 50 seconds of processor time; with EVERY 12, as in the gate, 56 in 7. None
 was wrong.
@@ -14,7 +15,8 @@ was wrong.
 import collections
 import sys
 
-from file_calls import COMMANDS, NONE, Disk, prepared
+from file_calls import COMMANDS, NONE, Disk, Versions, prepared
+from first_version import UPGRADED
 from house_file import FAILED
 from served import CHECKS, MESSAGES, check, exchange, fault
 
@@ -88,6 +90,24 @@ class Stops:
             acted = bool(told) and told[0] == own[0]
             self.judge(name, Disk(calls.states[place][0]), [place + 1] if acted else [place, place + 1])
 
+    def upgrade(self, kept):
+        """Stops `upgrade` of a kept house."""
+        calls, versions = self.calls, Versions(self.calls, kept)
+        calls.lay("house", versions.first)
+        check("upgraded", calls.noting().ended("upgrade", "house"), UPGRADED)
+        for stop in self.places(1, len(calls.noted())):
+            self.stops += 1
+            calls.lay("house", versions.first)
+            ending = calls.noting(STOP=str(stop)).ended("upgrade", "house")
+            check(f"upgrade, stopped at {stop}", ending, UPGRADED if ending == UPGRADED else fault("file: Store"))
+            disk = Disk(versions.first)
+            for call in calls.noted("house"):
+                disk.call(*call)
+            for contents in (calls.contents("house"), disk.left([])):
+                version = versions.look(contents)
+                check(f"upgrade, stopped at {stop}: {version}", version in ([2] if ending == UPGRADED else [1, 2]), True)
+                self.told[f"upgrade of {kept}"]["after" if version == 2 else "before"] += 1
+
 
 def main():
     with prepared(sys.argv[1]) as calls:
@@ -95,6 +115,8 @@ def main():
         stops.make()
         for place in range(len(COMMANDS)):
             stops.serve(place)
+        for kept in ("house", "stopped"):
+            stops.upgrade(kept)
     for name, found in stops.told.items():
         print(f"{name}: {found['before']} before, {found['after']} after")
     print(f"{stops.stops} stops, {CHECKS.count(False)} wrong")
