@@ -41,9 +41,11 @@ help:
 	@echo "  make mutated   on streams of spoiled messages, until MUTATED are answered, and what was accepted plainly"
 	@echo "  make twins     audits PAIRS random pairs of lists that differ in what others sealed, and PAIRS that are apart, and"
 	@echo "                 raises a bid in PAIRS random lists"
-	@echo "  make file      makes houses in files, opens, copies and damages them, kills who serves, and reads them with sqlite3"
+	@echo "  make file      makes houses in files, opens, copies, damages and upgrades them, kills who serves, and reads them with"
+	@echo "                 sqlite3"
 	@echo "  make office    imports lot files, one of ROWS rows, and reads statements"
-	@echo "  make kills     kills who serves a house KILLS times at random moments, and looks what is in its file"
+	@echo "  make kills     kills who serves a house KILLS times at random moments, and who upgrades one, and looks what is in its"
+	@echo "                 file"
 	@echo "  make stops     stops the program at each call on its files, or each EVERYth, and opens what is left (needs cc)"
 	@echo "  make cuts      cuts the power after each such call, as a model, and opens all that may be left (needs cc)"
 	@echo "  make stalls    has clients that send or read nothing hold up one that asks, for up to two minutes"
@@ -136,7 +138,7 @@ twins:
 memory:
 	python3 tests/refused_memory.py crates/auction/out/auction
 	python3 tests/refused_routes.py crates/auction/out/auction 1 40 10
-	python3 tests/refused_office.py crates/auction/out/auction 400 100 100
+	python3 tests/refused_office.py crates/auction/out/auction 400 100 100 40
 	python3 tests/refused_statement.py crates/settle_bench/out/settle_bench
 	python3 tests/refused_asks.py crates/test_messages/out/test_messages
 	python3 tests/refused_inbox.py crates/wire_bench/out/wire_bench
@@ -153,7 +155,7 @@ allocations:
 	python3 tests/refused_store.py crates/store_tests/out/store_tests 1 1
 	python3 tests/refused_house.py crates/store_tests/out/store_tests 1
 	python3 tests/refused_routes.py crates/auction/out/auction 1 1 1
-	python3 tests/refused_office.py crates/auction/out/auction 1 1 1
+	python3 tests/refused_office.py crates/auction/out/auction 1 1 1 1
 
 statement:
 	python3 tests/compared_statements.py crates/settle_bench/out/settle_bench
@@ -170,6 +172,7 @@ file:
 	python3 tests/house_file.py crates/auction/out/auction
 	python3 tests/spoiled_house.py crates/auction/out/auction
 	python3 tests/bad_files.py crates/auction/out/auction
+	python3 tests/upgrades.py crates/auction/out/auction
 
 office:
 	python3 tests/lots.py crates/auction/out/auction $(ROWS) $(SEED)
