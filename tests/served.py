@@ -8,7 +8,8 @@ of a case has to be answered what the case was. The last line is 'N checks, M wr
 
 Nineteen messages come in one, three and nineteen connections, and then the house is ended and served again for each,
 with a connection that is reset before it and one that goes on after what is no message. Outputs of both are full, and
-one is closed after its first line. Of 10,001 messages of one connection 10,000 are answered.
+one is closed after its first line. Of 10,001 messages of one connection 10,000 are answered. While the last connection is
+served, another is refused.
 
 Bodies that give up, put in by hand in a program that was built without proofs, were found by this script, program.py
 and house_file.py: the runs of `init`, `serve` and `replay` always each fault, at their end and at their beginning,
@@ -260,6 +261,20 @@ def most(program):
     check("the most ended", ending, served(1))
 
 
+def last(program):
+    """Once the last connection has come, others are refused, so that none waits for a server that ends."""
+    with (program.serving("house", 1) as server,
+          socket.create_connection(("127.0.0.1", server.port), timeout=PATIENCE) as connection):
+        connection.sendall(READS[0])
+        check("the last is answered", connection.recv(65536)[:15], b"HTTP/1.1 200 OK")
+        try:
+            socket.create_connection(("127.0.0.1", server.port), timeout=PATIENCE).close()
+            check("another is refused meanwhile", "taken", "refused")
+        except ConnectionRefusedError:
+            check("another is refused meanwhile", "refused", "refused")
+    check("the last ended", server.ending, served(1))
+
+
 def setting(words, name, default):
     """What a word of a case is set to."""
     return words[words.index(name) + 1] if name in words else default
@@ -294,6 +309,7 @@ def main():
         faults(program, init)
         lost_output(program, init)
         most(program)
+        last(program)
         if len(sys.argv) > 2:
             rows = "".join(f"{at},{step}\n" for at, step in EXAMPLE)
             (pathlib.Path(folder) / "example.csv").write_text("at,step\n" + rows)

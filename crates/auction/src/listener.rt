@@ -17,18 +17,38 @@ const PIECES: u32 = 60;
 /// The connections of a listener. None of them tells its bytes.
 #[derive(Drop)]
 pub struct Listener {
-    listener: TcpListener,
+    // None once the last connection has come. Who comes after it is refused at once, and may ask
+    // the next server: in the queue of a listener it would be reset as this one ends.
+    listener: Option<TcpListener>,
+    // How many are to come.
+    left: u64,
     // The one that is served.
     stream: Option<TcpStream>,
 }
 
 impl Listener {
-    /// Those that come to it.
-    pub fn new(listener: TcpListener) -> Listener {
+    /// So many that come to it.
+    pub fn new(listener: TcpListener, count: u64) -> Listener {
         Listener {
-            listener,
+            listener: Some(listener),
+            left: count,
             stream: None,
         }
+    }
+
+    // The stream that comes next.
+    fn next_stream(&mut self) -> Result<TcpStream, Failure> {
+        let Some(listener) = &self.listener else {
+            return Err(Failure);
+        };
+        let Ok((stream, _)) = listener.accept() else {
+            return Err(Failure);
+        };
+        self.left = self.left.saturating_sub(1);
+        if self.left == 0 {
+            self.listener = None;
+        }
+        Ok(stream)
     }
 }
 
@@ -72,9 +92,7 @@ impl Connections for Listener {
     fn accept(
         &mut self,
     ) -> Result<Option<Connection<Reading<TcpStream>, Writing<TcpStream>>>, Failure> {
-        let Ok((stream, _)) = self.listener.accept() else {
-            return Err(Failure);
-        };
+        let stream = self.next_stream()?;
         match set_up(&stream) {
             Ok(connection) => {
                 self.stream = Some(stream);

@@ -160,13 +160,13 @@ fn open_file<K: KeepInFile>(
     rt: &HostRuntime,
     alloc: Global,
     path: &str,
-    port: u16,
+    asked: Serve,
 ) -> Result<(Site<K>, Listener), Fault>
     ensures { IfErr result (λ fault. (fault ≡ Fault.Socket) ⊎ IsOfKeep fault) }
 {
     let site = open_site::<K>(rt, alloc, path)?;
-    match TcpListener::bind(rt, (Ipv4Addr::LOCALHOST, port)) {
-        Ok(listener) => Ok((site, Listener::new(listener))),
+    match TcpListener::bind(rt, (Ipv4Addr::LOCALHOST, asked.port)) {
+        Ok(listener) => Ok((site, Listener::new(listener, asked.count))),
         Err(_) => Err(Fault::Socket),
     }
 }
@@ -178,7 +178,7 @@ fn answer_file<K: KeepInFile>(
     path: &str,
     asked: Serve,
 ) -> Result<K, Fault> {
-    let (site, mut listener) = open_file::<K>(rt, alloc, path, asked.port)?;
+    let (site, mut listener) = open_file::<K>(rt, alloc, path, asked)?;
     answer_each(alloc, &mut listener, asked.count, &mut rt.stdout(), site)
 }
 
