@@ -16,11 +16,20 @@ house_text = codes "SELECT id, version, clock, rate, zone FROM house WHERE id = 
 abbrev pub set_clock_text : List ℕ
 set_clock_text = codes "UPDATE house SET clock = ?2 WHERE id = ?1"
 
+abbrev pub version_text : List ℕ
+version_text = codes "SELECT version FROM house WHERE id = ?1 ORDER BY id"
+
+abbrev pub set_version_text : List ℕ
+set_version_text = codes "UPDATE house SET version = ?2 WHERE id = ?1"
+
 abbrev pub bands_text : List ℕ
 bands_text = codes "SELECT at, step FROM band ORDER BY at"
 
 abbrev pub house_shown : List Term
 house_shown = col 1 0 ∷ col 1 2 ∷ col 1 3 ∷ col 1 4 ∷ col 1 5 ∷ []
+
+abbrev pub version_shown : List Term
+version_shown = col 1 2 ∷ []
 
 abbrev pub bands_shown : List Term
 bands_shown = col 1 0 ∷ col 1 2 ∷ []
@@ -28,6 +37,18 @@ bands_shown = col 1 0 ∷ col 1 2 ∷ []
 -- the whole new row
 abbrev pub clock_set : List Term
 clock_set = col 1 0 ∷ lit Null ∷ col 1 2 ∷ col 0 1 ∷ col 1 4 ∷ col 1 5 ∷ []
+
+abbrev pub version_set : List Term
+version_set = col 1 0 ∷ lit Null ∷ col 0 1 ∷ col 1 3 ∷ col 1 4 ∷ col 1 5 ∷ []
+
+pub version_is : (command_of (understood house_schema version_text) ≡ Select (record { lets = []; body = plain_query 0 (equals 0 ∷ []) version_shown by_rowid }) (codes "version" ∷ []))
+    × (reads_listing house_schema version_text ≡ false) × IsPlain (understood house_schema version_text)
+unfolding understood everything
+version_is = (refl, refl, (refl, refl))
+
+pub set_version_is : (command_of (understood house_schema set_version_text) ≡ Update 0 (record { lets = []; body = plain_query 0 (equals 0 ∷ []) (col 1 0 ∷ version_set) [] })) × IsPlain (understood house_schema set_version_text)
+unfolding understood everything
+set_version_is = (refl, (refl, refl))
 
 pub house_is : (command_of (understood house_schema house_text)
     ≡ Select (record { lets = []; body = plain_query 0 (equals 0 ∷ []) house_shown by_rowid }) (codes "id" ∷ codes "version" ∷ codes "clock" ∷ codes "rate" ∷ codes "zone" ∷ []))

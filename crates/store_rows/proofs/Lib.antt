@@ -44,6 +44,7 @@ pub mod SmallByKey
 pub mod Sound
 pub mod StartLemmas
 pub mod StateLemmas
+pub mod BegunLemmas
 pub mod Steps
 pub mod Ties
 pub mod UpdateOne

@@ -1,5 +1,5 @@
 -- What a plain statement leaves.
-use Rattle.std.proofs.Common.{◌≡◌, ◌∙◌, ◌⊎◌, inl, inr, List, ℕ, Ok, subst, Result, arith, Err, IfOk, IfErr, IsTrue, OnErr, sym}
+use Rattle.std.proofs.Common.{◌≡◌, ◌∙◌, ◌⊎◌, inl, inr, List, ℕ, Ok, subst, Result, arith, Err, IfOk, IfErr, IsTrue, OnErr, OnOk, sym}
 use Rattle.sqlite_value.specs.Order.{Row}
 use Rattle.sqlite.specs.declared.error.Error.{Error}
 use Rattle.sqlite.specs.Clock.{timed}
@@ -59,3 +59,8 @@ still_committed old now new was_open same (inr undone) = record { was_open = λ 
 -- what is plain over the schema of a house is so on a connection that holds one
 pub plain_at : (sql : List ℕ) (s : State) → IsPlain (understood house_schema sql) → IsHouse s.now → IsPlain (understood s.now.schema sql)
 plain_at sql s plain house = subst (λ x. IsPlain (understood x sql)) (sym house.schema) plain
+
+-- what holds of a value that is there
+pub on_ok_where : {T E P Q : Type 0} (r : Result T E) → OnOk r P → (P → Q) → OnOk r Q
+on_ok_where (Ok x) h f = f h
+on_ok_where (Err e) h f = h

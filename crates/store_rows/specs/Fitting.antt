@@ -17,10 +17,15 @@ pub record BandRowFits (b : BandRow) : Type 0 where
   pub from : b.from < 2 ^ 32
   pub step : b.step < 2 ^ 32
 
--- the only row of the house, of version 1 of the tables
+-- the only row of the house, of version 2 of the tables
 pub record HouseRowFits (h : HouseRow) : Type 0 where
   pub id : h.id ≡ 1
-  pub version : h.version ≡ 1
+  pub version : h.version ≡ 2
   pub clock : IsMoment h.clock
   pub rate : h.rate ≤ 2000
   pub zone : is_plain h.zone ≡ true
+
+-- the same in a file of version 1
+pub record FirstRowFits (h : HouseRow) : Type 0 where
+  pub version : h.version ≡ 1
+  pub others : HouseRowFits (record h { version = 2 })

@@ -11,13 +11,27 @@ use Rattle.house_rows.specs.declared.talk.Question.{Question}
 use Rattle.house_rows.specs.declared.talk.Feedback.{Feedback}
 use Rattle.store_rows.specs.declared.house.HouseRow.{HouseRow}
 use Rattle.store_rows.specs.Rows.{houses_in, members_in, categories_in, bids_in, watches_in, questions_in, feedback_in}
-use Rattle.store_rows.specs.Schema.{house_schema}
+use Rattle.store_rows.specs.Schema.{first_schema, house_schema}
 
--- the nine tables, whose rows lie in the order of their rowids, and obey the schema
+-- the twelve tables, whose rows lie in the order of their rowids, and obey the schema
 pub record IsHouse (db : Database) : Type 0 where
   pub schema : db.schema ≡ house_schema
   pub shaped : AllByRecursion (λ t. IsShaped Table (db.trees t.tree)) house_schema.tables
   pub sound : IsDatabase db
+
+-- the nine tables of version 1, the same
+pub record IsFirstHouse (db : Database) : Type 0 where
+  pub schema : db.schema ≡ first_schema
+  pub shaped : AllByRecursion (λ t. IsShaped Table (db.trees t.tree)) first_schema.tables
+  pub sound : IsDatabase db
+
+-- the three tables that version 2 adds to a house of version 1 have no row, and the others have those that they had
+pub record AddsTables (old new : Database) : Type 0 where
+  pub house : IsHouse new
+  pub kept : AllByRecursion (λ t. new.trees t.tree ≡ old.trees t.tree) first_schema.tables
+  pub reserves : new.trees 23 ≡ []
+  pub editions : new.trees 24 ≡ []
+  pub later_bands : new.trees 25 ≡ []
 
 -- the connection is open and holds a house, as far as the disk was honest
 abbrev pub Serves : State → Type 0
@@ -76,6 +90,16 @@ pub record SetsClock (moment : ℕ) (old new : Database) : Type 0 where
   pub house : IsHouse new
   pub others : KeepsOthers 0 old new
   pub houses : houses_in new.trees ≡ map (with_clock moment) (houses_in old.trees)
+
+-- the house's row of another version of the tables
+abbrev pub with_version : ℕ → HouseRow → HouseRow
+with_version version h = if h.id == 1 then record h { version = version } else h
+
+-- the version is set
+pub record SetsVersion (version : ℕ) (old new : Database) : Type 0 where
+  pub house : IsHouse new
+  pub others : KeepsOthers 0 old new
+  pub houses : houses_in new.trees ≡ map (with_version version) (houses_in old.trees)
 
 -- a member's watch of an item is gone
 pub record RemovesWatch (member item : ℕ) (old new : Database) : Type 0 where

@@ -1,4 +1,5 @@
 pub mod Rows
+pub mod Begun
 pub mod ItemRows
 pub mod Columns
 pub mod Schema

@@ -1,5 +1,5 @@
--- The nine tables with their keys and indexes, as the schema of a connection has them.
-use Rattle.std.specs.Prelude.{true, false, [], ◌∷◌, Some, None, codes, List, ℕ, Bool, Option, map}
+-- The twelve tables with their keys and indexes, as the schema of a connection has them.
+use Rattle.std.specs.Prelude.{true, false, [], ◌∷◌, Some, None, codes, List, ℕ, Bool, Option, map, take}
 use Rattle.sqlite_value.specs.declared.value.Value.TheVariants.{Null}
 use Rattle.sqlite_value.specs.declared.keys.Collation.TheVariants.{Binary}
 use Rattle.sqlite_value.specs.Keys.{plain}
@@ -23,16 +23,20 @@ strict name kind not_null = record {
   collation = Binary;
 }
 
--- the column at a place names a row of a table by its number
-abbrev pub refers : ℕ → List ℕ → Reference
-refers place parent = record {
+-- the column at a place names a row of a table by a column of its
+abbrev pub refers_to : ℕ → List ℕ → List ℕ → Reference
+refers_to place parent column = record {
   columns = place ∷ [];
   parent = parent;
-  parent_columns = codes "id" ∷ [];
+  parent_columns = column ∷ [];
   on_delete = NoAction;
   on_update = NoAction;
   is_deferred = false;
 }
+
+-- by its number
+abbrev pub refers : ℕ → List ℕ → Reference
+refers place parent = refers_to place parent (codes "id")
 
 -- what tells one table of ours from another
 pub record Layout : Type 0 where
@@ -180,6 +184,33 @@ feedback_layout = keyed (codes "feedback") 14
 abbrev pub feedback_table : Table
 feedback_table = table_of feedback_layout
 
+-- the tables that version 2 adds
+
+abbrev pub reserve_layout : Layout
+reserve_layout = numbered (codes "reserve") 23
+    (strict (codes "item") Integer false ∷ strict (codes "amount") Integer true ∷ [])
+    ([]) (refers 0 (codes "item") ∷ [])
+
+abbrev pub reserve_table : Table
+reserve_table = table_of reserve_layout
+
+abbrev pub edition_layout : Layout
+edition_layout = numbered (codes "edition") 24
+    (strict (codes "edition") Integer false ∷ strict (codes "first") Integer true ∷ [])
+    ([]) ([])
+
+abbrev pub edition_table : Table
+edition_table = table_of edition_layout
+
+abbrev pub later_band_layout : Layout
+later_band_layout = keyed (codes "later_band") 25
+    (strict (codes "edition") Integer true ∷ strict (codes "at") Integer true
+    ∷ strict (codes "step") Integer true ∷ [])
+    (1 ∷ 2 ∷ []) (refers_to 1 (codes "edition") (codes "edition") ∷ [])
+
+abbrev pub later_band_table : Table
+later_band_table = table_of later_band_layout
+
 abbrev pub item_by_category : Index
 item_by_category = index_on (codes "item_by_category") 16 6 (3 ∷ 0 ∷ [])
 
@@ -204,7 +235,7 @@ feedback_by_receiver = index_on (codes "feedback_by_receiver") 22 14 (3 ∷ 1 �
 abbrev pub house_schema : Schema
 house_schema = record {
   tables = house_table ∷ band_table ∷ member_table ∷ category_table ∷ item_table ∷ bid_table
-      ∷ watch_table ∷ question_table ∷ feedback_table ∷ [];
+      ∷ watch_table ∷ question_table ∷ feedback_table ∷ reserve_table ∷ edition_table ∷ later_band_table ∷ [];
   indexes = automatic member_table 0 (2 ∷ []) 3
       ∷ automatic category_table 0 (2 ∷ []) 5
       ∷ automatic item_table 0 (2 ∷ 4 ∷ []) 7
@@ -218,9 +249,14 @@ house_schema = record {
       ∷ item_by_end
       ∷ bid_by_member
       ∷ question_by_asker
-      ∷ feedback_by_receiver ∷ [];
+      ∷ feedback_by_receiver
+      ∷ automatic later_band_table 0 (1 ∷ 2 ∷ []) 26 ∷ [];
   views = [];
 }
+
+-- what a file of version 1 has: the first nine tables, and their indexes
+abbrev pub first_schema : Schema
+first_schema = record { tables = take 9 house_schema.tables; indexes = take 14 house_schema.indexes; views = [] }
 
 abbrev pub no_schema : Schema
 no_schema = record { tables = []; indexes = []; views = [] }

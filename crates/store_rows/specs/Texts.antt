@@ -48,3 +48,12 @@ make_question_by_asker = codes "CREATE INDEX question_by_asker ON question (aske
 
 abbrev pub make_feedback_by_receiver : List ℕ
 make_feedback_by_receiver = codes "CREATE INDEX feedback_by_receiver ON feedback (receiver, item, giver)"
+
+abbrev pub make_reserve : List ℕ
+make_reserve = codes "CREATE TABLE reserve (item INTEGER PRIMARY KEY REFERENCES item (id), amount INTEGER NOT NULL) STRICT"
+
+abbrev pub make_edition : List ℕ
+make_edition = codes "CREATE TABLE edition (edition INTEGER PRIMARY KEY, first INTEGER NOT NULL) STRICT"
+
+abbrev pub make_later_band : List ℕ
+make_later_band = codes "CREATE TABLE later_band (edition INTEGER NOT NULL REFERENCES edition (edition), at INTEGER NOT NULL, step INTEGER NOT NULL, PRIMARY KEY (edition, at)) STRICT"

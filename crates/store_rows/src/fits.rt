@@ -13,8 +13,8 @@ use house_rows::{
 use proxy::{Bid, MOST_BIDS};
 use settle::LAST_MOMENT;
 
-// The version of the tables.
-const VERSION: u32 = 1;
+/// The version of the tables.
+pub(crate) const VERSION: u32 = 2;
 
 /// Whether a number is within a range.
 pub(crate) fn is_within(least: u32, most: u32, number: u32) -> bool

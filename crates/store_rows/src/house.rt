@@ -1,16 +1,16 @@
 //! The table of the house itself, which has one row.
-ghost use Rattle.std.specs.Prelude.{◌≡◌, ◌==◌, find, IfOk, OnOk, IsErrOf, IfSome};
-ghost use Rattle.std.specs.List.{AllByRecursion};
-ghost use Rattle.sqlite.specs.State.{HasCleanDisk};
+ghost use Rattle.std.specs.Prelude.{◌≡◌, ◌==◌, ◌<◌, ◌^◌, find, option_map, IfOk, OnOk, IsErrOf, IfSome};
+ghost use Rattle.sqlite.specs.State.{HasCleanDisk, Survives};
 ghost use Rattle.sqlite.specs.Held.{state};
 ghost use Rattle.house_rows.specs.declared.fault.KeepFault.TheVariants.{Damaged};
 ghost use Rattle.store_rows.specs.Fitting.{HouseRowFits};
-ghost use Rattle.store_rows.specs.House.{IsBegun, Serves, SetsClock};
+ghost use Rattle.store_rows.specs.House.{IsBegun, IsInside, Serves, SetsClock, SetsVersion};
 ghost use Rattle.store_rows.specs.Rows.{house_of, houses_in};
 ghost use Rattle.store_rows.specs.Frames.{WritesOnce, OnlyReads};
 
+use crate::begun::run_begun;
 use crate::columns::{number_at, text_at};
-use crate::fits::house_fits;
+use crate::fits::{VERSION, house_fits};
 use crate::statement::{rows_shown, run};
 use crate::stored::{Stored, first_of};
 use house_rows::{KeepFault, Text};
@@ -76,7 +76,7 @@ pub fn house_row<S: Alter>(conn: &mut Connection<S>) -> Result<Option<HouseRow>,
         (houses_in (state S.Store conn.old).now.trees)) }
     ensures fits { IfOk result (λ found. IfSome found HouseRowFits) }
     ensures damaged { HasCleanDisk (state S.Store conn.new)
-        → AllByRecursion HouseRowFits (houses_in (state S.Store conn.old).now.trees)
+        → IfSome (find (λ h. h.id == 1) (houses_in (state S.Store conn.old).now.trees)) HouseRowFits
         → ¬ (IsErrOf result Damaged) }
     ensures read { OnlyReads (state S.Store conn.old) (state S.Store conn.new) result }
 {
@@ -103,5 +103,42 @@ pub fn set_clock<S: Alter>(tx: &mut Transaction<'_, S>, moment: u32) -> Result<(
         tx,
         "UPDATE house SET clock = ?2 WHERE id = ?1",
         params![ONLY_ROW, moment],
+    )
+}
+
+/// The version of the tables, as the row of the house tells it.
+pub fn stored_version<S: Alter>(conn: &mut Connection<S>) -> Result<Option<u32>, KeepFault>
+    requires { Serves (state S.Store conn.old) }
+    ensures found { HasCleanDisk (state S.Store conn.new)
+        → IfOk result (λ found. found ≡ option_map (λ h. h.version) (find (λ h. h.id == 1)
+        (houses_in (state S.Store conn.old).now.trees))) }
+    ensures damaged { HasCleanDisk (state S.Store conn.new)
+        → IfSome (option_map (λ h. h.version) (find (λ h. h.id == 1)
+        (houses_in (state S.Store conn.old).now.trees))) (λ n. n < 2 ^ 32)
+        → ¬ (IsErrOf result Damaged) }
+    ensures read { OnlyReads (state S.Store conn.old) (state S.Store conn.new) result }
+{
+    let rows = rows_shown(
+        conn,
+        "SELECT version FROM house WHERE id = ?1 ORDER BY id",
+        params![ONLY_ROW],
+    )?;
+    first_of(&rows)
+}
+
+/// Sets the version of the tables within a transaction that was begun.
+pub fn set_version<S: Alter>(conn: &mut Connection<S>) -> Result<(), KeepFault>
+    requires { IsBegun (state S.Store conn.old) }
+    ensures ok { HasCleanDisk (state S.Store conn.new)
+        → OnOk result (SetsVersion 2 (state S.Store conn.old).now (state S.Store conn.new).now) }
+    ensures inside { HasCleanDisk (state S.Store conn.new)
+        → OnOk result (IsInside (state S.Store conn.old) (state S.Store conn.new)) }
+    ensures sound { ¬ (IsErrOf result Damaged) }
+    ensures crash { Survives (state S.Store conn.old) (state S.Store conn.new) (λ _. ⊥) }
+{
+    run_begun(
+        conn,
+        "UPDATE house SET version = ?2 WHERE id = ?1",
+        params![ONLY_ROW, VERSION],
     )
 }

@@ -1,12 +1,14 @@
 //! What every table of a house in SQLite needs: the schema, typed rows, statements and their frames.
 //!
-//! Promised: sixteen statements leave an empty house; a statement that is run here leaves what its text
-//! says, or nothing, and its rows are read as the rows of the house that they are, wherever the disk
-//! was honest. `specs/Tables.antt` says which tables a database holds.
+//! Promised: nineteen statements leave an empty house, and the last three of them one of version 1 with
+//! its rows; a statement that is run here leaves what its text says, or nothing, and its rows are read
+//! as the rows of the house that they are, wherever the disk was honest. `specs/Tables.antt` says which
+//! tables a database holds.
 //! Read `specs/Schema.antt` first, then `specs/Rows.antt`, `specs/House.antt` and `specs/Tables.antt`.
 #![tactic(auto)]
 
 mod band;
+mod begun;
 mod bid;
 mod bound;
 mod category;
@@ -26,12 +28,13 @@ mod stored;
 mod tables;
 
 pub use band::{BandRow, all_bands};
+pub use begun::{begin, end};
 pub use bound::bound_of;
 pub use columns::{cents_at, maybe_cents_at, maybe_number_at, number_at};
 pub use counts::read_count;
 pub use ending::{commit, stored_moment};
 pub use first::{first_rows, page_rows};
-pub use house::{HouseRow, house_row, set_clock};
+pub use house::{HouseRow, house_row, set_clock, set_version, stored_version};
 pub use statement::{fault_of, rows_shown, run};
 pub use stored::{Stored, all_of, first_of};
-pub use tables::make_tables;
+pub use tables::{FIRST_STEPS, STEPS, add_tables, make_steps, make_tables};

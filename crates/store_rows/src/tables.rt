@@ -1,19 +1,26 @@
-//! The statements that make the tables and their indexes, in an empty database.
-ghost use Rattle.std.specs.Prelude.{◌≡◌, ◌<◌, ◌+◌, OnOk, IsErrOf, IsTrue};
-ghost use Rattle.sqlite.specs.State.{HasCleanDisk};
+//! The statements that make the tables and their indexes, in an empty database or over version 1.
+ghost use Rattle.std.specs.Prelude.{◌≡◌, ◌<◌, ◌≤◌, ◌+◌, OnOk, IsErrOf, IsTrue};
+ghost use Rattle.sqlite.specs.State.{HasCleanDisk, Survives};
 ghost use Rattle.sqlite.specs.Held.{state};
 ghost use Rattle.house_rows.specs.declared.fault.KeepFault.TheVariants.{Damaged};
-ghost use Rattle.store_rows.specs.Making.{IsBlank, IsEmptyHouse, IsMade, making_at};
+ghost use Rattle.sqlite_trees.specs.Tree.{Trees};
+ghost use Rattle.store_rows.specs.House.{AddsTables, IsFirstHouse, IsInside};
+ghost use Rattle.store_rows.specs.Making.{IsBlank, IsEmptyHouse, IsGrown, IsMade, making_at};
 ghost use Rattle.store_rows.specs.Frames.{WritesOnce, WritesMany};
 
+use crate::begun::run_begun;
 use crate::statement::fault_of;
 use house_rows::KeepFault;
-use sqlite::{Alter, Transaction};
+use sqlite::{Alter, Connection, Transaction};
 
-// How many statements there are.
-const STEPS: usize = 16;
+/// How many statements make the tables of version 1.
+pub const FIRST_STEPS: usize = 16;
 
-// The text of a step: the tables first, in the order of their references, then the indexes.
+/// How many statements make the tables.
+pub const STEPS: usize = 19;
+
+// The text of a step: the tables in the order of their references, their indexes, and then the tables
+// that version 2 adds.
 fn step_text(step: usize) -> &'static str
     requires { step < STEPS }
     ensures { result.now ≡ making_at step }
@@ -42,7 +49,12 @@ fn step_text(step: usize) -> &'static str
         12 => "CREATE INDEX item_by_end ON item (state, ending)",
         13 => "CREATE INDEX bid_by_member ON bid (member, item)",
         14 => "CREATE INDEX question_by_asker ON question (asker, item, n)",
-        _ => "CREATE INDEX feedback_by_receiver ON feedback (receiver, item, giver)",
+        15 => "CREATE INDEX feedback_by_receiver ON feedback (receiver, item, giver)",
+        16 =>
+            "CREATE TABLE reserve (item INTEGER PRIMARY KEY REFERENCES item (id), amount INTEGER NOT NULL) STRICT",
+        17 => "CREATE TABLE edition (edition INTEGER PRIMARY KEY, first INTEGER NOT NULL) STRICT",
+        _ =>
+            "CREATE TABLE later_band (edition INTEGER NOT NULL REFERENCES edition (edition), at INTEGER NOT NULL, step INTEGER NOT NULL, PRIMARY KEY (edition, at)) STRICT",
     }
 }
 
@@ -67,9 +79,30 @@ fn make_step<S: Alter>(tx: &mut Transaction<'_, S>, step: usize) -> Result<(), K
     }
 }
 
+/// Makes the first tables and indexes within a transaction, so many steps of them, in a database that
+/// has none. After an error nothing is committed: the transaction is to be dropped.
+#[tactic(auto, using(crate::proofs::MakeLemmas::blank_made))]
+pub fn make_steps<S: Alter>(tx: &mut Transaction<'_, S>, steps: usize) -> Result<(), KeepFault>
+    requires steps { steps ≤ STEPS }
+    requires blank { IsBlank (state S.Store tx.old.conn.now) }
+    requires begun { HasCleanDisk (state S.Store tx.old.conn.now)
+        → IsTrue tx.old.conn.now.in_transaction }
+    ensures same_reference { tx.new.conn.ghost_name ≡ tx.old.conn.ghost_name }
+    ensures ok { HasCleanDisk (state S.Store tx.new.conn.now)
+        → OnOk result (IsMade steps (state S.Store tx.new.conn.now).now) }
+    ensures sound { ¬ (IsErrOf result Damaged) }
+    ensures write { WritesMany (state S.Store tx.old.conn.now)
+        (state S.Store tx.new.conn.now) result }
+{
+    for step in 0..steps {
+        make_step(tx, step)?;
+    }
+    Ok(())
+}
+
 /// Makes the tables and their indexes within a transaction, in a database that has none. After an
 /// error nothing is committed: the transaction is to be dropped.
-#[tactic(auto, using(crate::proofs::MakeLemmas::blank_made, crate::proofs::MakeLemmas::made_house))]
+#[tactic(auto, using(crate::proofs::MakeLemmas::made_house))]
 pub fn make_tables<S: Alter>(tx: &mut Transaction<'_, S>) -> Result<(), KeepFault>
     requires blank { IsBlank (state S.Store tx.old.conn.now) }
     requires begun { HasCleanDisk (state S.Store tx.old.conn.now)
@@ -81,8 +114,45 @@ pub fn make_tables<S: Alter>(tx: &mut Transaction<'_, S>) -> Result<(), KeepFaul
     ensures write { WritesMany (state S.Store tx.old.conn.now)
         (state S.Store tx.new.conn.now) result }
 {
-    for step in 0..STEPS {
-        make_step(tx, step)?;
+    make_steps(tx, STEPS)
+}
+
+// Runs one step over the rows of a house of version 1, within a transaction that was begun.
+fn add_step<S: Alter>(conn: &mut Connection<S>, step: usize) -> Result<(), KeepFault>
+    requires later { 16 ≤ step }
+    requires step { step < STEPS }
+    requires begun { HasCleanDisk (state S.Store conn.old) → IsTrue conn.old.in_transaction }
+    requires before { HasCleanDisk (state S.Store conn.old)
+        → (first : Trees) × IsGrown step first (state S.Store conn.old).now }
+    ensures ok { HasCleanDisk (state S.Store conn.new)
+        → OnOk result ((first : Trees) → IsGrown step first (state S.Store conn.old).now
+        → IsGrown (step + 1) first (state S.Store conn.new).now) }
+    ensures inside { HasCleanDisk (state S.Store conn.new)
+        → OnOk result (IsInside (state S.Store conn.old) (state S.Store conn.new)) }
+    ensures sound { ¬ (IsErrOf result Damaged) }
+    ensures crash { Survives (state S.Store conn.old) (state S.Store conn.new) (λ _. ⊥) }
+{
+    run_begun(conn, step_text(step), &[])
+}
+
+/// Adds the tables of version 2 to those of version 1, within a transaction that was begun. After an
+/// error the connection is to be dropped.
+#[tactic(auto, using(crate::proofs::MakeLemmas::none_grown, crate::proofs::MakeLemmas::all_grown))]
+pub fn add_tables<S: Alter>(conn: &mut Connection<S>) -> Result<(), KeepFault>
+    requires first { HasCleanDisk (state S.Store conn.old)
+        → IsFirstHouse (state S.Store conn.old).now }
+    requires begun { HasCleanDisk (state S.Store conn.old) → IsTrue conn.old.in_transaction }
+    requires is_open { HasCleanDisk (state S.Store conn.old)
+        → IsTrue (state S.Store conn.old).is_open }
+    ensures ok { HasCleanDisk (state S.Store conn.new)
+        → OnOk result (AddsTables (state S.Store conn.old).now (state S.Store conn.new).now) }
+    ensures inside { HasCleanDisk (state S.Store conn.new)
+        → OnOk result (IsInside (state S.Store conn.old) (state S.Store conn.new)) }
+    ensures sound { ¬ (IsErrOf result Damaged) }
+    ensures crash { Survives (state S.Store conn.old) (state S.Store conn.new) (λ _. ⊥) }
+{
+    for step in FIRST_STEPS..STEPS {
+        add_step(conn, step)?;
     }
     Ok(())
 }

@@ -1,8 +1,7 @@
-use Rattle.std.proofs.Common.{◌≡◌, ◌∙◌, ap, rules, slice_get, option_map}
+use Rattle.std.proofs.Common.{◌≡◌, ◌∙◌, ap, rules, slice_get, option_map, subst, sym, IfSome}
 use Rattle.sqlite.specs.Held.{state}
 use Rattle.store_rows.specs.Rows.{house_of}
 use Rattle.store_rows.specs.Fitting.{HouseRowFits}
-use Rattle.store_rows.proofs.ShownRows.{first_fits}
 use Rattle.store_rows.proofs.StateLemmas.{ok_then}
 use Rattle.store_rows.proofs.HouseMeaning.{house_is}
 use Rattle.store_rows.proofs.HouseLemmas.{first_house}
@@ -23,4 +22,4 @@ returns-clause-damaged g c clean fits =
     let shown = rw c.params-to_sql.ensures at (c.in_ok-rows.ensures.rows clean) in
     let same : c.deref.result.now ≡ c.in_ok-rows.rows.items = search rules in
     let found = first_house (state g.S.Store c.args.conn.now) (state g.S.Store c.rows_shown.new.conn) c.in_ok-rows.rows.items (c.rows_shown.ensures.house clean) shown in
-    c.first_of.ensures.damaged (first_fits house_of HouseRowFits c.deref.result.now _ _ (ap (λ l. option_map house_of (slice_get l 0)) same ∙ found) fits)
+    c.first_of.ensures.damaged (subst (λ o. IfSome o HouseRowFits) (sym (ap (λ l. option_map house_of (slice_get l 0)) same ∙ found)) fits)

@@ -2,7 +2,7 @@ use Rattle.std.proofs.Common.{arith, rules}
 use Rattle.sqlite.specs.Held.{state}
 use Rattle.sqlite.specs.State.{HasCleanDisk}
 use Rattle.store_rows.proofs.StateLemmas.{on_error, still_committed}
-use Rattle.store_rows.proofs.tables.make_tables.Goals as goal
+use Rattle.store_rows.proofs.tables.make_steps.Goals as goal
 
 pub returns-in_err-make_step-clause-write : goal.returns-in_err-make_step-clause-write
 returns-in_err-make_step-clause-write g c = record {
