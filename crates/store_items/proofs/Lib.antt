@@ -4,8 +4,6 @@ pub mod ItemLemmas
 pub mod Rows
 pub mod Behind
 pub mod Closed
-pub mod CountMeaning
-pub mod CountLemmas
 pub mod Counted
 pub mod ItemColumns
 pub mod StandingLemmas

@@ -11,7 +11,6 @@
 
 mod buying;
 mod closing;
-mod counts;
 mod due_items;
 mod fits;
 mod item;
@@ -27,7 +26,6 @@ mod terms;
 
 pub use buying::buy;
 pub use closing::close;
-pub use counts::count_items;
 pub use due_items::due;
 pub use item::set_standing;
 pub use item_reads::{all_items, item_at, item_with_lot, standing_at, terms_at};

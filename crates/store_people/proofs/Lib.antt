@@ -1,7 +1,5 @@
 pub mod CategoryMeaning
 pub mod CategoryLemmas
-pub mod CountMeaning
-pub mod CountLemmas
 pub mod FindMeaning
 pub mod MemberMeaning
 pub mod MemberLemmas

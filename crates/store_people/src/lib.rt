@@ -6,13 +6,11 @@
 #![tactic(auto)]
 
 mod categories;
-mod counts;
 mod entering;
 mod look_ups;
 mod members;
 
 pub use categories::{all_categories, category_at, category_named};
-pub use counts::{count_categories, count_members};
 pub use entering::{add_category, register};
 pub use look_ups::{has_category, has_member};
 pub use members::{all_members, member_at, member_named};

@@ -2,10 +2,10 @@ use Rattle.std.proofs.Common.{◌≡◌, ◌∙◌, ap, sym, rules, arith}
 use Rattle.sqlite.specs.Held.{state}
 use Rattle.store_rows.proofs.StateLemmas.{ok_then}
 use Rattle.store_rows.specs.Counts.{first_number}
-use Rattle.store_items.proofs.CountMeaning.{count_items_is}
-use Rattle.store_items.proofs.CountLemmas.{items_counted}
+use Rattle.store_counts.proofs.CountMeaning.{count_items_is}
+use Rattle.store_counts.proofs.CountLemmas.{items_counted}
 use Rattle.store_rows.proofs.CountLemmas.{same_some}
-use Rattle.store_items.proofs.counts.count_items.Goals as goal
+use Rattle.store_counts.proofs.counts.count_items.Goals as goal
 
 pub rows_shown-requires-clause-plain : goal.rows_shown-requires-clause-plain
 rows_shown-requires-clause-plain g c = count_items_is.2

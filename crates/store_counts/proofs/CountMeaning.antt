@@ -1,4 +1,4 @@
--- What the counts of members and of categories mean.
+-- What the counts of members, categories and items mean.
 use Rattle.std.proofs.Common.{◌≡◌, refl, List, [], ◌∷◌, ℕ, codes, false}
 use Rattle.sqlite.specs.Command.TheVariants.{Select}
 use Rattle.sqlite.specs.Listing.{understood, reads_listing}
@@ -22,3 +22,11 @@ pub count_categories_is : (command_of (understood house_schema count_categories_
     × (reads_listing house_schema count_categories_text ≡ false) × IsPlain (understood house_schema count_categories_text)
 unfolding understood everything
 count_categories_is = (refl, refl, (refl, refl))
+
+abbrev pub count_items_text : List ℕ
+count_items_text = codes "SELECT count(*) FROM item"
+
+pub count_items_is : (command_of (understood house_schema count_items_text) ≡ Select (record { lets = []; body = count_query 6 [] }) (codes "count(*)" ∷ []))
+    × (reads_listing house_schema count_items_text ≡ false) × IsPlain (understood house_schema count_items_text)
+unfolding understood everything
+count_items_is = (refl, refl, (refl, refl))

@@ -1,4 +1,4 @@
-//! How many members and categories there are.
+//! How many members, categories and items there are.
 ghost use Rattle.std.specs.Prelude.{◌≡◌, length, min, IfOk, ◌<◌, IsErrOf};
 ghost use Rattle.sqlite.specs.State.{HasCleanDisk};
 ghost use Rattle.sqlite.specs.Held.{state};
@@ -35,5 +35,17 @@ pub fn count_categories<S: Alter>(conn: &mut Connection<S>) -> Result<u64, KeepF
     ensures read { OnlyReads (state S.Store conn.old) (state S.Store conn.new) result }
 {
     let rows = rows_shown(conn, "SELECT count(*) FROM category", &[])?;
+    read_count(&rows)
+}
+
+/// How many rows the table of items has.
+pub fn count_items<S: Alter>(conn: &mut Connection<S>) -> Result<u64, KeepFault>
+    requires { Serves (state S.Store conn.old) }
+    ensures count { HasCleanDisk (state S.Store conn.new)
+        → IfOk result (λ n. n ≡ min (length ((state S.Store conn.old).now.trees 6)) most_counted) }
+    ensures sound { HasCleanDisk (state S.Store conn.new) → ¬ (IsErrOf result Damaged) }
+    ensures read { OnlyReads (state S.Store conn.old) (state S.Store conn.new) result }
+{
+    let rows = rows_shown(conn, "SELECT count(*) FROM item", &[])?;
     read_count(&rows)
 }

@@ -1,0 +1,2 @@
+pub mod CountMeaning
+pub mod CountLemmas
