@@ -3,16 +3,21 @@
 //! `house SQL` makes a house in an empty database, runs the statements on it, and tells what an opening of it
 //! answers: how many members, categories and items it has, and what it is set up with, or the name of the fault.
 //! `database SQL` does so without a house, and `twice` tells what the second making of a house in one database
-//! answers. What the statements begin and don't commit is undone by the opening. An empty line, and one that
-//! begins with `--`, has no answer.
+//! answers. `upgrade SQL` tells what an upgrade answers in place of an opening, and first whether the house was
+//! of version 1. `first SQL` tells it of a house of version 1. What the statements begin and don't commit is
+//! undone. An empty line, and one that begins with `--`, has no answer.
 use house_rows::{KeepFault, Rate, Settings, Text};
 use sqlite::{Alter, Connection};
 use sqlite_trees::memory::MemStore;
 use std::alloc::{AllocError, Global};
 use std::io;
 use steps::Bands;
-use store_open::{Opened, make_house, open_house};
+use store_open::{Opened, make_house, open_house, upgrade_house};
 use thiserror::Error;
+
+// What makes a house of version 1 of a new one.
+const TO_FIRST: &str =
+    "DROP TABLE later_band; DROP TABLE edition; DROP TABLE reserve; UPDATE house SET version = 1";
 
 /// Why a script isn't played on.
 #[derive(Debug, Drop, Error)]
@@ -51,6 +56,8 @@ pub(crate) fn play(alloc: Global, line: &str) -> Result<Option<String>, Fault> {
         "house" => answer_of_house(alloc, sql).map(Some),
         "database" => answer_of_database(alloc, sql).map(Some),
         "twice" => answer_of_making(alloc).map(Some),
+        "upgrade" => answer_of_upgrade(alloc, "", sql).map(Some),
+        "first" => answer_of_upgrade(alloc, TO_FIRST, sql).map(Some),
         _ => Err(Fault::Script),
     }
 }
@@ -106,10 +113,68 @@ fn answer_of_opening<S: Alter + Drop>(
     mut conn: Connection<S>,
     sql: &str,
 ) -> Result<String, Fault> {
-    match conn.execute_batch(sql) {
+    match run_all(&mut conn, sql) {
         Ok(()) => opened(alloc, conn),
+        Err(fault) => Err(fault),
+    }
+}
+
+// What an upgrade of a new house answers after statements.
+fn answer_of_upgrade(alloc: Global, before: &str, sql: &str) -> Result<String, Fault> {
+    let conn = new_house(alloc)?;
+    answer_of_upgrading(alloc, conn, before, sql)
+}
+
+// What an upgrade answers after statements.
+fn answer_of_upgrading<S: Alter + Drop>(
+    alloc: Global,
+    mut conn: Connection<S>,
+    before: &str,
+    sql: &str,
+) -> Result<String, Fault> {
+    match run_both(&mut conn, before, sql) {
+        Ok(()) => upgraded(alloc, conn),
+        Err(fault) => Err(fault),
+    }
+}
+
+// Runs the statements of two texts in turn.
+fn run_both<S: Alter>(conn: &mut Connection<S>, before: &str, sql: &str) -> Result<(), Fault> {
+    match conn.execute_batch(before) {
+        Ok(()) => run_all(conn, sql),
+        Err(_) => Err(Fault::Making),
+    }
+}
+
+// Runs the statements of a text.
+fn run_all<S: Alter>(conn: &mut Connection<S>, sql: &str) -> Result<(), Fault> {
+    match conn.execute_batch(sql) {
+        Ok(()) => Ok(()),
         Err(_) => Err(Fault::Script),
     }
+}
+
+// What an upgrade answers.
+fn upgraded<S: Alter + Drop>(alloc: Global, conn: Connection<S>) -> Result<String, Fault> {
+    match upgrade_house(alloc, conn) {
+        Ok((house, was_first)) => told_upgraded(alloc, &house, was_first),
+        Err((fault, _)) => name(alloc, fault),
+    }
+}
+
+// Whether a house was upgraded, what it has, and what it is set up with.
+fn told_upgraded<S: Alter>(
+    alloc: Global,
+    house: &Opened<S>,
+    was_first: bool,
+) -> Result<String, Fault> {
+    let word = if was_first {
+        "upgraded"
+    } else {
+        "is version 2"
+    };
+    let house = told(alloc, house)?;
+    Ok(format!(in alloc; "{word}: {house}")?)
 }
 
 // What an opening answers.

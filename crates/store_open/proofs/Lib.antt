@@ -6,3 +6,4 @@ pub mod OpenLemmas
 pub mod PutMeaning
 pub mod PutLemmas
 pub mod ReadLemmas
+pub mod UpgradeLemmas

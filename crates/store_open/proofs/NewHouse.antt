@@ -1,5 +1,5 @@
 -- What the rows of a new house make of an empty one.
-use Rattle.std.proofs.Common.{◌≡◌, ◌≢◌, ℕ, suc, zero, ◌+◌, ◌<◌, ◌≤◌, ◌^◌, ◌==◌, true, List, [], ◌∷◌, ◌++◌, map, find, is_some, length, get_or, take, All, refl, sym, ap, ap₂, subst, ◌∙◌, arith}
+use Rattle.std.proofs.Common.{◌≡◌, ◌≢◌, ℕ, suc, zero, ◌+◌, ◌<◌, ◌≤◌, ◌^◌, ◌==◌, true, List, [], ◌∷◌, ◌++◌, map, find, is_some, IfSome, length, get_or, take, All, refl, sym, ap, ap₂, subst, ◌∙◌, arith}
 use Rattle.std.specs.List.{AllByRecursion}
 use Rattle.std.proofs.lemmas.List.{map_more}
 use Rattle.std.proofs.lemmas.List.Elements.{All-from_recursion, All-nil}
@@ -104,7 +104,7 @@ new_is_sound settings new house valid rate houses bands members categories items
   house = house;
   set_up = record {
     house = subst (λ (l : List HouseRow). is_some (find (λ h. h.id == 1) l) ≡ true) (sym houses) refl;
-    fits = subst (AllByRecursion HouseRowFits) (sym houses) (record { id = refl; version = refl; clock = omega arith; rate = rate; zone = plain }, tt);
+    fits = subst (λ (l : List HouseRow). IfSome (find (λ h. h.id == 1) l) HouseRowFits) (sym houses) (record { id = refl; version = refl; clock = omega arith; rate = rate; zone = plain });
     bands = subst IsBandTable (sym (ap (map (λ (b : BandRow). (b.from, b.step))) bands ∙ same_bands settings.bands)) valid;
   };
   numbered = record {

@@ -21,23 +21,27 @@ use Rattle.sqlite.specs.Steps.{FailsToOpen}
 use Rattle.sqlite.specs.Effect.{Database, IsDatabase}
 use Rattle.sqlite_trees.specs.declared.store.Store.{Ghosts}
 use Rattle.sqlite.specs.Held.{Held, state}
-use Rattle.store_rows.specs.Schema.{house_schema}
+use Rattle.store_rows.specs.Schema.{first_schema, house_schema}
 use Rattle.store_open.specs.Opening.{Follows}
-use Rattle.store_rows.specs.House.{IsHouse, KeepsCommitted}
+use Rattle.store_rows.specs.House.{IsFirstHouse, IsHouse, KeepsCommitted}
+
+module _ (v : View) (db : Database) (schema : Schema) (has : db.schema ≡ schema) (trees : db.trees ≡ v.trees) (sound : IsDatabase db) (listed : IsListed (v.trees catalog_tree) v.shape v.reals) (ordered : IsOrdered v.shape v.trees) where
+  each_shaped : (tables : List SqlTable) → AllByRecursion (λ t. v.shape t.tree ≡ Table) tables → AllByRecursion (λ t. IsShaped Table (v.trees t.tree)) tables
+  each_shaped [] is = tt
+  each_shaped (t ∷ tables) is = (subst (λ s. IsShaped s (v.trees t.tree)) is.0 (ordered t.tree), each_shaped tables is.1)
+
+  -- the rows of each table lie in their order
+  shaped_from : AllByRecursion (λ (table : SqlTable). IsShaped Table (db.trees table.tree)) schema.tables
+  shaped_from =
+      let here : IsSound schema v.trees = subst (λ s. IsSound s v.trees) has (subst (IsSound db.schema) trees sound) in
+      let laid = laid_out listed (objects_rise v listed ordered) here.lists.listed in
+      subst (λ t. AllByRecursion (λ (table : SqlTable). IsShaped Table (t table.tree)) schema.tables) (sym trees) (each_shaped schema.tables laid.tables)
 
 pub house_from : (v : View) (db : Database) → db.schema ≡ house_schema → db.trees ≡ v.trees → IsDatabase db → IsListed (v.trees catalog_tree) v.shape v.reals → IsOrdered v.shape v.trees → IsHouse db
-house_from v db schema trees sound listed ordered =
-    let here : IsSound house_schema v.trees = subst (λ s. IsSound s v.trees) schema (subst (IsSound db.schema) trees sound) in
-    let laid = laid_out listed (objects_rise v listed ordered) here.lists.listed in
-    record {
-      schema = schema;
-      shaped = subst (λ t. AllByRecursion (λ (table : SqlTable). IsShaped Table (t table.tree)) house_schema.tables) (sym trees) (each house_schema.tables laid.tables);
-      sound = sound;
-    }
-  where
-    each : (tables : List SqlTable) → AllByRecursion (λ t. v.shape t.tree ≡ Table) tables → AllByRecursion (λ t. IsShaped Table (v.trees t.tree)) tables
-    each [] is = tt
-    each (t ∷ tables) is = (subst (λ s. IsShaped s (v.trees t.tree)) is.0 (ordered t.tree), each tables is.1)
+house_from v db schema trees sound listed ordered = record { schema = schema; shaped = shaped_from v db house_schema schema trees sound listed ordered; sound = sound }
+
+pub first_from : (v : View) (db : Database) → db.schema ≡ first_schema → db.trees ≡ v.trees → IsDatabase db → IsListed (v.trees catalog_tree) v.shape v.reals → IsOrdered v.shape v.trees → IsFirstHouse db
+first_from v db schema trees sound listed ordered = record { schema = schema; shaped = shaped_from v db first_schema schema trees sound listed ordered; sound = sound }
 
 -- what is not broken is not shut
 pub not_shut : (is_open is_broken : Bool) → (is_open ≡ false → IsTrue is_broken) → is_broken ≡ false → IsTrue is_open
@@ -57,11 +61,11 @@ no_database db fault e is (inr h) = absurd (other h.0 (sym h.1 ∙ is))
     other Broken e = absurd (let x = e in cc)
     other Unstorable e = absurd (let x = e in cc)
 
--- trees that hold a house list no other schema
-pub one_schema : (db held : Database) → IsDatabase db → db.trees ≡ held.trees → IsHouse held → db.schema ≡ house_schema
+-- trees that hold a database list no other schema
+pub one_schema : (db held : Database) → IsDatabase db → db.trees ≡ held.trees → IsDatabase held → db.schema ≡ held.schema
 one_schema db held sound trees house =
-    let listed : IsSound held.schema db.trees = subst (IsSound held.schema) (sym trees) house.sound in
-    lists_once (db.trees catalog_tree) db.schema held.schema sound.lists listed.lists ∙ house.schema
+    let listed : IsSound held.schema db.trees = subst (IsSound held.schema) (sym trees) house in
+    lists_once (db.trees catalog_tree) db.schema held.schema sound.lists listed.lists
 
 -- what was not run has left all as it was, or the store failed
 pub kept_where_not_run : (sql : List ℕ) (old new : State) (e : Error) → ((params : Row) → IsNotRun old new sql params e) → KeepsCommitted old new

@@ -21,8 +21,8 @@ pub adds_house : (old new : State) (rate : ℕ) (zone : List ℕ) (count : ℕ) 
 adds_house old new rate zone count low u house h =
     let params = Int (pos rate) ∷ Text zone ∷ [] in
     let rows = old.now.trees 0 in
-    let given : Row = Int (pos 1) ∷ Null ∷ Int (pos 1) ∷ Int (pos 0) ∷ Int (pos rate) ∷ Text zone ∷ [] in
-    let w = rw (cast_int (pos 1), cast_null, cast_int (pos 0), cast_int (pos rate)) at (puts put_house_text 0 house_layout house_terms 6 params given refl put_house_is.0 put_house_is.1 refl old new count house.schema h) in
+    let given : Row = Int (pos 1) ∷ Null ∷ Int (pos 2) ∷ Int (pos 0) ∷ Int (pos rate) ∷ Text zone ∷ [] in
+    let w = rw (cast_int (pos 1), cast_null, cast_int (pos 2), cast_int (pos 0), cast_int (pos rate)) at (puts put_house_text 0 house_layout house_terms 6 params given refl put_house_is.0 put_house_is.1 refl old new count house.schema h) in
     record {
       house = still_house 0 _ old.now new.now house w (IsShaped-put_row given rows refl house.shaped.0);
       others = w.others;

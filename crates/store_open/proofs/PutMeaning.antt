@@ -10,13 +10,13 @@ use Rattle.sqlite_tied.specs.Compute.{everything}
 use Rattle.store_rows.specs.Schema.{house_schema}
 
 abbrev pub put_house_text : List ℕ
-put_house_text = codes "INSERT INTO house (id, version, clock, rate, zone) VALUES (1, 1, 0, ?1, ?2)"
+put_house_text = codes "INSERT INTO house (id, version, clock, rate, zone) VALUES (1, 2, 0, ?1, ?2)"
 
 abbrev pub put_band_text : List ℕ
 put_band_text = codes "INSERT INTO band (at, step) VALUES (?1, ?2)"
 
 abbrev pub house_terms : List Term
-house_terms = lit (Int (pos 1)) ∷ lit Null ∷ lit (Int (pos 1)) ∷ lit (Int (pos 0)) ∷ col 0 0 ∷ col 0 1 ∷ []
+house_terms = lit (Int (pos 1)) ∷ lit Null ∷ lit (Int (pos 2)) ∷ lit (Int (pos 0)) ∷ col 0 0 ∷ col 0 1 ∷ []
 
 abbrev pub band_terms : List Term
 band_terms = col 0 0 ∷ lit Null ∷ col 0 1 ∷ []

@@ -1,5 +1,5 @@
 -- What is read of a house as it is opened, and which houses are taken.
-use Rattle.std.specs.Prelude.{◌≡◌, ◌≤◌, ◌<◌, ◌^◌, ◌==◌, ℕ, [], IsTrue, false, true, find, is_some, length, map}
+use Rattle.std.specs.Prelude.{◌≡◌, ◌≢◌, ◌⊎◌, ◌≤◌, ◌<◌, ◌^◌, ◌==◌, ℕ, [], IfSome, IsTrue, Some, false, true, find, is_some, length, map, option_map}
 use Rattle.std.specs.List.{AllByRecursion}
 use Rattle.sqlite_trees.specs.declared.store.Store.{Ghosts}
 use Rattle.sqlite_trees.specs.Tree.{Trees}
@@ -12,11 +12,12 @@ use Rattle.house_rows.specs.Fits.{IsWithin}
 use Rattle.house_rows.specs.declared.people.Counts.{Counts}
 use Rattle.house_rows.specs.Tables.{tables_of}
 use Rattle.house_rows.specs.declared.settings.Settings.{Settings}
-use Rattle.store_rows.specs.Fitting.{HouseRowFits}
-use Rattle.store_rows.specs.House.{IsHouse}
+use Rattle.store_rows.specs.Fitting.{FirstRowFits, HouseRowFits}
+use Rattle.store_rows.specs.House.{IsFirstHouse, IsHouse, with_version}
 use Rattle.store_rows.specs.ItemRows.{items_in}
 use Rattle.store_rows.specs.Rows.{bands_in, categories_in, houses_in, members_in}
 use Rattle.store_rows.specs.Commits.{IsBack}
+use Rattle.store_rows.specs.Schema.{first_schema}
 use Rattle.store_rows.specs.Tables.{house_row_in, settings_in, tables_in}
 
 -- members, categories and items have numbers from 1 to how many there are, which has 32 bits
@@ -47,7 +48,7 @@ pub record HasSettings (db : Trees) (settings : Settings) (clock : ℕ) : Type 0
 -- the row of the house is there and fits, and its bands are a table
 pub record IsSetUp (db : Trees) : Type 0 where
   pub house : is_some (find (λ h. h.id == 1) (houses_in db)) ≡ true
-  pub fits : AllByRecursion HouseRowFits (houses_in db)
+  pub fits : IfSome (find (λ h. h.id == 1) (houses_in db)) HouseRowFits
   pub bands : IsBandTable (map (λ b. (b.from, b.step)) (bands_in db))
 
 -- a house that an opening takes
@@ -59,6 +60,36 @@ pub record IsSoundHouse (db : Database) : Type 0 where
 -- what a crash finds is a house to which nothing has happened yet
 abbrev pub NewHouse : Settings → Trees → Type 0
 NewHouse settings trees = (db : Database) × IsHouse db × (tables_in db.trees ≡ tables_of settings []) × (trees ≡ db.trees)
+
+-- ---- a house of version 1, and what an upgrade makes of it
+
+-- the row of the house is there and fits in a file of version 1, and its bands are a table
+pub record IsFirstSetUp (db : Trees) : Type 0 where
+  pub house : is_some (find (λ h. h.id == 1) (houses_in db)) ≡ true
+  pub fits : IfSome (find (λ h. h.id == 1) (houses_in db)) FirstRowFits
+  pub bands : IsBandTable (map (λ b. (b.from, b.step)) (bands_in db))
+
+-- a house of version 1 that an upgrade takes
+pub record IsSoundFirst (db : Database) : Type 0 where
+  pub house : IsFirstHouse db
+  pub set_up : IsFirstSetUp db.trees
+  pub numbered : AreNumbered db.trees
+
+-- A house of version 1 is made one of version 2: its row tells the version, the three new tables have no row, and the others
+-- have those that they had.
+pub record Upgrades (old : Trees) (new : Database) : Type 0 where
+  pub was : (first : Database) × IsFirstHouse first × (first.trees ≡ old)
+  pub version : option_map (λ h. h.version) (find (λ h. h.id == 1) (houses_in old)) ≡ Some 1
+  pub house : IsHouse new
+  pub houses : houses_in new.trees ≡ map (with_version 2) (houses_in old)
+  pub others : AllByRecursion (λ t. t.tree ≢ 0 → new.trees t.tree ≡ old t.tree) first_schema.tables
+  pub reserves : new.trees 23 ≡ []
+  pub editions : new.trees 24 ≡ []
+  pub later_bands : new.trees 25 ≡ []
+
+-- what a crash finds is the house upgraded
+abbrev pub Upgraded : Trees → Trees → Type 0
+Upgraded old trees = (db : Database) × Upgrades old db × (trees ≡ db.trees)
 
 -- ---- what a call that failed has left
 
@@ -77,3 +108,13 @@ pub record Follows {S : Type 0} (g : Ghosts S) (conn : Held S) (store : S) : Typ
   pub shown : IsClean (g.view store) → IsTrue (g.view store).is_open
       → (g.view store).trees ≡ (state g conn).committed.trees
   pub crash : IsClean (g.view store) → (db : Trees) → g.recovers store db → g.recovers conn.store db
+
+-- The store of a connection in which a house of version 1 was being upgraded: the same, but that a crash may find the house
+-- upgraded.
+pub record FollowsOrGrows {S : Type 0} (g : Ghosts S) (conn : Held S) (store : S) : Type 0 where
+  pub clean : doubt (state g conn).is_clean ≤ doubt (g.view store).is_clean
+  pub shield : g.is_shielded conn.store → g.is_shielded store
+  pub shown : IsClean (g.view store) → IsTrue (g.view store).is_open
+      → (g.view store).trees ≡ (state g conn).committed.trees
+  pub crash : IsClean (g.view store) → (db : Trees) → g.recovers store db
+      → g.recovers conn.store db ⊎ Upgraded (state g conn).committed.trees db

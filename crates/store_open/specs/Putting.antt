@@ -15,7 +15,7 @@ use Rattle.store_open.specs.Opening.{IsSoundHouse}
 
 -- the row of a new house
 abbrev pub new_house : ℕ → List ℕ → HouseRow
-new_house rate zone = record { id = 1; version = 1; clock = 0; rate = rate; zone = zone }
+new_house rate zone = record { id = 1; version = 2; clock = 0; rate = rate; zone = zone }
 
 -- a band as a row
 abbrev pub band_row : ℕ × ℕ → BandRow

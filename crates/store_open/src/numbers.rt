@@ -19,8 +19,7 @@ ghost use Rattle.store_rows.specs.Frames.{OnlyReads};
 use house_rows::{Counts, KeepFault};
 use sqlite::types::ValueRef;
 use sqlite::{Alter, Connection, params};
-use store_items::count_items;
-use store_people::{count_categories, count_members};
+use store_counts::{count_categories, count_items, count_members};
 use store_rows::rows_shown;
 
 // Damaged where a query shows a row.

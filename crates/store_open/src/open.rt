@@ -93,9 +93,9 @@ fn read_settings<S: Alter>(
     Ok((settings, clock))
 }
 
-// All that is read of a house as it is opened; Damaged where what it is set up with or a number
-// doesn't fit.
-fn read_house<S: Alter>(
+/// All that is read of a house as it is opened; `Damaged` where what it is set up with or a number
+/// doesn't fit.
+pub(crate) fn read_house<S: Alter>(
     alloc: Global,
     conn: &mut Connection<S>,
 ) -> Result<(Settings, u64, Counts), KeepFault>
@@ -118,7 +118,7 @@ fn read_house<S: Alter>(
 
 /// Opens the house that a connection holds. What it has not committed is undone.
 ///
-/// `Damaged` where it holds no house of version 1: other tables than those of a house, a row of the
+/// `Damaged` where it holds no house of version 2: other tables than those of a house, a row of the
 /// house or bands that don't fit, or a member, a category or an item with a number that is 0 or over
 /// how many there are. After an error the store is given back as it was: nothing was written.
 pub fn open_house<S: Alter + Drop>(

@@ -11,7 +11,7 @@ use house_rows::{KeepFault, Text};
 use sqlite::{Alter, Transaction, params};
 use store_rows::run;
 
-/// Writes the row of the house within a transaction: number 1, version 1 and clock 0. The rate is in
+/// Writes the row of the house within a transaction: number 1, version 2 and clock 0. The rate is in
 /// ten-thousandths.
 pub(crate) fn put_house<S: Alter>(
     tx: &mut Transaction<'_, S>,
@@ -29,7 +29,7 @@ pub(crate) fn put_house<S: Alter>(
 {
     run(
         tx,
-        "INSERT INTO house (id, version, clock, rate, zone) VALUES (1, 1, 0, ?1, ?2)",
+        "INSERT INTO house (id, version, clock, rate, zone) VALUES (1, 2, 0, ?1, ?2)",
         params![rate, zone.as_str()],
     )
 }

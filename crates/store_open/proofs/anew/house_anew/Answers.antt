@@ -23,6 +23,6 @@ returns-else-is_house-clause-damaged g c is clean house =
     let again = (state g.S.Store c.in_ok-again.again).now in
     let early : HasCleanDisk (state g.S.Store c.in_ok-again.again) = omega (arith, c.into_store-else-is_house.ensures.quiet.clean, clean) in
     let sound = (c.schema.ensures.live (c.in_ok-again.ensures.rests early).0).0 in
-    let schema = one_schema again _ sound (c.in_ok-again.ensures.same early) house in
+    let schema = one_schema again _ sound (c.in_ok-again.ensures.same early) house.sound ∙ house.schema in
     let same = c.in-Ok.ensures.value.1 (c.schema.ensures.value ∙ schema) in
     absurd (true≢false (sym same ∙ c.if-is_house.false))

@@ -3,7 +3,7 @@ use Rattle.sqlite_trees.specs.View.{IsClean}
 use Rattle.sqlite_catalog.specs.Listing.{IsSound}
 use Rattle.sqlite.specs.Effect.{Database}
 use Rattle.sqlite.specs.Held.{state}
-use Rattle.store_open.proofs.OpenLemmas.{gives_back, house_from, leads_self, no_database, not_shut, refuses}
+use Rattle.store_open.proofs.OpenLemmas.{first_from, gives_back, house_from, leads_self, no_database, not_shut, refuses}
 use Rattle.store_open.proofs.anew.made_anew.Goals as goal
 
 pub returns-in-Ok-clause-house : goal.returns-in-Ok-clause-house
@@ -14,6 +14,15 @@ returns-in-Ok-clause-house g c clean schema =
     let opens = c.in-Ok.ensures.opens clean in
     let live = opens.1 opens.0.is_open in
     house_from (g.S.Store.view store) (state g.S.Store c.in-Ok.again).now schema (c.in-Ok.ensures.trees clean) live.0 (g.met.S.Alter.listed store whole) (g.met.S.Store.ordered store whole)
+
+pub returns-in-Ok-clause-first : goal.returns-in-Ok-clause-first
+returns-in-Ok-clause-first g c clean schema =
+    let store = c.into_store-store.result in
+    let early : IsClean (g.S.Store.view store) = omega (arith, c.in-Ok.ensures.clean) in
+    let whole : (g.S.Store.view store).is_broken ≡ false = sym (c.is_broken.ensures early) ∙ c.if-is_broken.false in
+    let opens = c.in-Ok.ensures.opens clean in
+    let live = opens.1 opens.0.is_open in
+    first_from (g.S.Store.view store) (state g.S.Store c.in-Ok.again).now schema (c.in-Ok.ensures.trees clean) live.0 (g.met.S.Alter.listed store whole) (g.met.S.Store.ordered store whole)
 
 pub returns-in-Ok-clause-same : goal.returns-in-Ok-clause-same
 returns-in-Ok-clause-same g c clean =
@@ -59,10 +68,10 @@ returns-in-Err-clause-left g c =
     refuses g.S.Store c.args.conn store.result c.in-Err.left back works refused.unharmed refused.rows
 
 pub returns-in-Err-clause-damaged : goal.returns-in-Err-clause-damaged
-returns-in-Err-clause-damaged g c is clean house =
+returns-in-Err-clause-damaged g c is clean sound =
     let store = c.into_store-store.result in
     let early : IsClean (g.S.Store.view store) = omega (arith, c.in-Err.ensures.unharmed.clean, clean) in
     let whole : (g.S.Store.view store).is_broken ≡ false = sym (c.is_broken.ensures early) ∙ c.if-is_broken.false in
     let is_open : IsTrue (g.S.Store.view store).is_open = not_shut _ _ (g.met.S.Store.broken_if_shut store) whole in
     let trees = (c.into_store-store.ensures.undone.undone is_open).0 in
-    no_database _ _ _ (c.refusal.ensures is) (c.in-Err.ensures.err clean) _ (subst (IsSound _) (sym trees) house.sound)
+    no_database _ _ _ (c.refusal.ensures is) (c.in-Err.ensures.err clean) _ (subst (IsSound _) (sym trees) sound)

@@ -1,0 +1,228 @@
+//! A house of version 1 is made one of version 2.
+//!
+//! One transaction makes the tables and sets the version. The house is read within it, so what has to
+//! fit is known to fit before anything is committed.
+ghost use Rattle.std.specs.Prelude.{◌≡◌, ◌≢◌, ◌==◌, true, false, Some, IfErr, IfOk, OnErr, OnOk, IsErrOf, IsTrue, find, option_map};
+ghost use Rattle.sqlite.specs.Held.{state};
+ghost use Rattle.sqlite.specs.State.{HasCleanDisk, KeepsCommit, Shows, Survives};
+ghost use Rattle.sqlite_trees.specs.Tree.{Trees};
+ghost use Rattle.sqlite_trees.specs.View.{IsClean};
+ghost use Rattle.house_rows.specs.Fits.{IsMoment};
+ghost use Rattle.house_rows.specs.Found.{counts_of};
+ghost use Rattle.house_rows.specs.declared.fault.KeepFault.TheVariants.{Damaged, Store};
+ghost use Rattle.store_rows.specs.Fitting.{HouseRowFits};
+ghost use Rattle.store_rows.specs.House.{IsFirstHouse, IsInside, Serves};
+ghost use Rattle.store_rows.specs.Frames.{OnlyReads};
+ghost use Rattle.store_rows.specs.Rows.{houses_in};
+ghost use Rattle.store_rows.specs.Tables.{IsAtRest, house_row_in, settings_in, tables_in};
+ghost use Rattle.store_open.specs.Opening.{AreNumbered, Follows, FollowsOrGrows, HasSettings, HaveNumbers, IsFirstSetUp, IsSoundFirst, IsSoundHouse, Upgraded, Upgrades};
+
+use crate::anew::either_anew;
+use crate::house::Opened;
+use crate::open::{open_house, read_house};
+use house_rows::{Counts, KeepFault, Settings};
+use sqlite::{Alter, Connection};
+use sqlite_trees::store::Store;
+use std::alloc::Global;
+use store_rows::{add_tables, begin, end, set_version, stored_version};
+
+// The version of a house that is upgraded.
+const FIRST_VERSION: u32 = 1;
+
+// Damaged where the row of the house doesn't tell version 1.
+fn check_first<S: Alter>(conn: &mut Connection<S>) -> Result<(), KeepFault>
+    requires { Serves (state S.Store conn.old) }
+    ensures told { HasCleanDisk (state S.Store conn.new)
+        → OnOk result (option_map (λ h. h.version) (find (λ h. h.id == 1)
+        (houses_in (state S.Store conn.old).now.trees)) ≡ Some 1) }
+    ensures damaged { HasCleanDisk (state S.Store conn.new)
+        → option_map (λ h. h.version) (find (λ h. h.id == 1)
+        (houses_in (state S.Store conn.old).now.trees)) ≡ Some 1
+        → ¬ (IsErrOf result Damaged) }
+    ensures read { OnlyReads (state S.Store conn.old) (state S.Store conn.new) result }
+{
+    if stored_version(conn)? == Some(FIRST_VERSION) {
+        Ok(())
+    } else {
+        Err(KeepFault::Damaged)
+    }
+}
+
+// Adds the tables and sets the version, within a transaction that it begins.
+fn grow<S: Alter>(conn: &mut Connection<S>) -> Result<(), KeepFault>
+    requires first { HasCleanDisk (state S.Store conn.old)
+        → IsTrue (state S.Store conn.old).is_open × IsFirstHouse (state S.Store conn.old).now }
+    ensures ok { HasCleanDisk (state S.Store conn.new)
+        → OnOk result (Upgrades (state S.Store conn.old).now.trees (state S.Store conn.new).now) }
+    ensures inside { HasCleanDisk (state S.Store conn.new)
+        → OnOk result (IsInside (state S.Store conn.old) (state S.Store conn.new)) }
+    ensures damaged { HasCleanDisk (state S.Store conn.new)
+        → option_map (λ h. h.version) (find (λ h. h.id == 1)
+        (houses_in (state S.Store conn.old).now.trees)) ≡ Some 1
+        → ¬ (IsErrOf result Damaged) }
+    ensures crash { Survives (state S.Store conn.old) (state S.Store conn.new) (λ _. ⊥) }
+{
+    begin(conn)?;
+    add_tables(conn)?;
+    check_first(conn)?;
+    set_version(conn)
+}
+
+// Commits what was written in the transaction, and sees that none is open.
+fn finish<S: Alter>(conn: &mut Connection<S>) -> Result<(), KeepFault>
+    requires begun { HasCleanDisk (state S.Store conn.old) → IsTrue conn.old.in_transaction }
+    ensures ok { HasCleanDisk (state S.Store conn.new)
+        → OnOk result (Shows (state S.Store conn.old) (state S.Store conn.new)
+        (state S.Store conn.old).now (state S.Store conn.old).now false) }
+    ensures mode { OnOk result (conn.new.in_transaction ≡ false) }
+    ensures err { HasCleanDisk (state S.Store conn.new)
+        → OnErr result (KeepsCommit (state S.Store conn.old) (state S.Store conn.new)) }
+    ensures sound { ¬ (IsErrOf result Damaged) }
+    ensures crash { Survives (state S.Store conn.old) (state S.Store conn.new)
+        (λ db. db ≡ (state S.Store conn.old).now.trees) }
+{
+    end(conn)?;
+    if conn.is_autocommit() {
+        Ok(())
+    } else {
+        Err(KeepFault::Store)
+    }
+}
+
+// Upgrades a house of version 1 and reads it; nothing is committed where anything doesn't fit.
+fn upgrade_read<S: Alter>(
+    alloc: Global,
+    conn: &mut Connection<S>,
+) -> Result<(Settings, u64, Counts), KeepFault>
+    requires first { HasCleanDisk (state S.Store conn.old)
+        → IsTrue (state S.Store conn.old).is_open × IsFirstHouse (state S.Store conn.old).now }
+    ensures upgraded { HasCleanDisk (state S.Store conn.new)
+        → OnOk result (Upgrades (state S.Store conn.old).now.trees (state S.Store conn.new).now) }
+    ensures rests { HasCleanDisk (state S.Store conn.new)
+        → OnOk result (IsTrue (state S.Store conn.new).is_open
+        × ((state S.Store conn.new).now ≡ (state S.Store conn.new).committed)) }
+    ensures settings { HasCleanDisk (state S.Store conn.new)
+        → IfOk result (λ read. HasSettings (state S.Store conn.new).now.trees read.0 read.1) }
+    ensures moment { IfOk result (λ read. IsMoment read.1) }
+    ensures counts { HasCleanDisk (state S.Store conn.new)
+        → IfOk result (λ read. HaveNumbers (state S.Store conn.new).now.trees read.2) }
+    ensures mode { OnOk result (conn.new.in_transaction ≡ false) }
+    ensures damaged { HasCleanDisk (state S.Store conn.new)
+        → IsFirstSetUp (state S.Store conn.old).now.trees
+        → AreNumbered (state S.Store conn.old).now.trees
+        → ¬ (IsErrOf result Damaged) }
+    ensures err { HasCleanDisk (state S.Store conn.new)
+        → IsTrue (state S.Store conn.new).is_open
+        → OnErr result ((state S.Store conn.new).committed.trees
+        ≡ (state S.Store conn.old).committed.trees) }
+    ensures crash { Survives (state S.Store conn.old) (state S.Store conn.new)
+        (Upgraded (state S.Store conn.old).now.trees) }
+{
+    grow(conn)?;
+    let read = read_house(alloc, conn)?;
+    finish(conn)?;
+    Ok(read)
+}
+
+// Upgrades the house of version 1 that a connection holds. After an error its store is given back: it
+// is as it was, or it failed while all was committed.
+fn upgrade_first<S: Alter + Drop>(
+    alloc: Global,
+    conn: Connection<S>,
+) -> Result<Opened<S>, (KeepFault, S)>
+    requires first { HasCleanDisk (state S.Store conn)
+        → IsTrue (state S.Store conn).is_open × IsFirstHouse (state S.Store conn).now }
+    requires rests { HasCleanDisk (state S.Store conn)
+        → (state S.Store conn).now ≡ (state S.Store conn).committed }
+    ensures rests { IfOk result (λ o. HasCleanDisk (state S.Store o.conn)
+        → IsAtRest (state S.Store o.conn)) }
+    ensures settings { IfOk result (λ o. HasCleanDisk (state S.Store o.conn)
+        → settings_in (state S.Store o.conn).now.trees ≡ o.settings) }
+    ensures counts { IfOk result (λ o. HasCleanDisk (state S.Store o.conn)
+        → counts_of (tables_in (state S.Store o.conn).now.trees) ≡ o.counts) }
+    ensures numbered { IfOk result (λ o. HasCleanDisk (state S.Store o.conn)
+        → AreNumbered (state S.Store o.conn).now.trees) }
+    ensures clock { IfOk result (λ o. HasCleanDisk (state S.Store o.conn)
+        → (tables_in (state S.Store o.conn).now.trees).clock ≡ o.clock) }
+    ensures moment { IfOk result (λ o. IsMoment o.clock) }
+    ensures row { IfOk result (λ o. HasCleanDisk (state S.Store o.conn)
+        → HouseRowFits (house_row_in (state S.Store o.conn).now.trees)) }
+    ensures only { IfOk result (λ o. HasCleanDisk (state S.Store o.conn) → (db : Trees)
+        → (state S.Store o.conn).may_leave db → db ≡ (state S.Store o.conn).now.trees) }
+    ensures mode { IfOk result (λ o. o.conn.in_transaction ≡ false) }
+    ensures upgraded { IfOk result (λ o. HasCleanDisk (state S.Store o.conn)
+        → Upgrades (state S.Store conn).now.trees (state S.Store o.conn).now) }
+    ensures clean { IfOk result (λ o. HasCleanDisk (state S.Store o.conn)
+        → HasCleanDisk (state S.Store conn)) }
+    ensures left { IfErr result (λ e. e.0 ≢ Store → Follows S.Store conn e.1) }
+    ensures grown { IfErr result (λ e. FollowsOrGrows S.Store conn e.1) }
+    ensures damaged { IfErr result (λ e. e.0 ≡ Damaged → IsClean (S.Store.view e.1)
+        → ¬ (IsSoundFirst (state S.Store conn).now)) }
+{
+    let mut conn = conn;
+    match upgrade_read(alloc, &mut conn) {
+        Ok((settings, clock, counts)) => Ok(Opened {
+            conn,
+            settings,
+            counts,
+            clock,
+        }),
+        Err(fault) => {
+            let store = conn.into_store();
+            if store.is_broken() {
+                Err((KeepFault::Store, store))
+            } else {
+                Err((fault, store))
+            }
+        }
+    }
+}
+
+/// Opens the house that a connection holds, and upgrades it if it is of version 1, which is told. What
+/// the connection has not committed is undone. A house of version 2 is not changed.
+///
+/// `Damaged` where it holds no house of version 1 or 2 that an opening would take. After an error the
+/// store is given back: as it was, or after `Store` it may hold the house upgraded.
+pub fn upgrade_house<S: Alter + Drop>(
+    alloc: Global,
+    conn: Connection<S>,
+) -> Result<(Opened<S>, bool), (KeepFault, S)>
+    ensures rests { IfOk result (λ r. HasCleanDisk (state S.Store r.0.conn)
+        → IsAtRest (state S.Store r.0.conn)) }
+    ensures settings { IfOk result (λ r. HasCleanDisk (state S.Store r.0.conn)
+        → settings_in (state S.Store r.0.conn).now.trees ≡ r.0.settings) }
+    ensures counts { IfOk result (λ r. HasCleanDisk (state S.Store r.0.conn)
+        → counts_of (tables_in (state S.Store r.0.conn).now.trees) ≡ r.0.counts) }
+    ensures numbered { IfOk result (λ r. HasCleanDisk (state S.Store r.0.conn)
+        → AreNumbered (state S.Store r.0.conn).now.trees) }
+    ensures clock { IfOk result (λ r. HasCleanDisk (state S.Store r.0.conn)
+        → (tables_in (state S.Store r.0.conn).now.trees).clock ≡ r.0.clock) }
+    ensures moment { IfOk result (λ r. IsMoment r.0.clock) }
+    ensures row { IfOk result (λ r. HasCleanDisk (state S.Store r.0.conn)
+        → HouseRowFits (house_row_in (state S.Store r.0.conn).now.trees)) }
+    ensures only { IfOk result (λ r. HasCleanDisk (state S.Store r.0.conn) → (db : Trees)
+        → (state S.Store r.0.conn).may_leave db → db ≡ (state S.Store r.0.conn).now.trees) }
+    ensures mode { IfOk result (λ r. r.0.conn.in_transaction ≡ false) }
+    ensures same { IfOk result (λ r. HasCleanDisk (state S.Store r.0.conn)
+        → tables_in (state S.Store r.0.conn).now.trees
+        ≡ tables_in (state S.Store conn).committed.trees) }
+    ensures upgraded { IfOk result (λ r. HasCleanDisk (state S.Store r.0.conn)
+        → r.1 ≡ true
+        → Upgrades (state S.Store conn).committed.trees (state S.Store r.0.conn).now) }
+    ensures kept { IfOk result (λ r. HasCleanDisk (state S.Store r.0.conn)
+        → r.1 ≡ false
+        → (state S.Store r.0.conn).now.trees ≡ (state S.Store conn).committed.trees) }
+    ensures follows { IfOk result (λ r. r.1 ≡ false → Follows S.Store conn r.0.conn.store) }
+    ensures left { IfErr result (λ e. e.0 ≢ Store → Follows S.Store conn e.1) }
+    ensures grown { IfErr result (λ e. FollowsOrGrows S.Store conn e.1) }
+    ensures damaged { IfErr result (λ e. e.0 ≡ Damaged → IsClean (S.Store.view e.1)
+        → (¬ (IsSoundHouse (state S.Store conn).committed))
+        × (¬ (IsSoundFirst (state S.Store conn).committed))) }
+{
+    let (conn, is_first) = either_anew(alloc, conn)?;
+    if is_first {
+        Ok((upgrade_first(alloc, conn)?, true))
+    } else {
+        Ok((open_house(alloc, conn)?, false))
+    }
+}
