@@ -19,7 +19,7 @@ CRATES ?=
 BODIES ?=
 
 .PHONY: help demo session test auction program cases rows fuzz mutated twins memory allocations statement random file \
-	office kills stops cuts stalls wrong giving documents
+	office kills stops cuts stalls wrong giving documents openapi
 
 help:
 	@echo "For a newcomer"
@@ -33,6 +33,8 @@ help:
 	@echo "  make wrong     tries the wrong bodies that make test leaves out, of the crates CRATES=\"a b\" or of all"
 	@echo "  make giving    puts in bodies that give up, those named in BODIES=\"a b\", and looks whether the tests find them"
 	@echo "  make documents reads the documents, and plays what they show on the program"
+	@echo "  make openapi   holds the answers of the cases in CASES against docs/openapi.yaml (needs Python's jsonschema and"
+	@echo "                 openapi-spec-validator, and no kit)"
 	@echo
 	@echo "Tests of the program that make test or make auction has left"
 	@echo "  make program   on words, tables, streams, files and clients (needs cc)"
@@ -85,7 +87,7 @@ demo test auction wrong giving: has-kit
 session: has-bin has-curl
 program cases fuzz mutated twins memory allocations file office kills stops cuts stalls documents: has-program
 rows random file statement memory allocations: has-tests
-cases: has-cases
+cases openapi: has-cases
 memory allocations stops cuts: has-cc
 documents: has-curl
 
@@ -194,6 +196,9 @@ documents:
 	python3 tests/documents.py crates/auction/out/auction
 	python3 tests/http_doc.py crates/auction/out/auction
 	python3 tests/running_doc.py crates/auction/out/auction
+
+openapi:
+	python3 tests/openapi.py $(addprefix $(CASES)/,$(SUITES))
 
 wrong:
 	python3 tests/wrong.py $(CRATES)

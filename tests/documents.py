@@ -24,7 +24,7 @@ MOST_WORDS, MOST_IN_SENTENCE, MOST_COLUMNS, MOST_IN_MANUAL = 18_000, 30, 100, 80
 LINK = re.compile(r"\]\(([^)#\s]*)(?:#([^)\s]*))?\)")
 FENCED = re.compile(r"^```.*?^```$", re.M | re.S)
 QUOTED = re.compile(r"`([^`\n]+)`")
-FILE = re.compile(r"[\w./*-]+\.(?:py|rt|antt|md|csv|http|c|sh|edit|txt)")
+FILE = re.compile(r"[\w./*-]+\.(?:py|rt|antt|md|csv|http|c|sh|edit|txt|yaml)")
 NAME = re.compile(r"(?:\w+::)*([A-Za-z_]\w*)")
 HEX = re.compile(r"[0-9a-f]{16}")
 # A file or an option in the help and in the manual, and the range of a number.
