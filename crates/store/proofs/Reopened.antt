@@ -31,10 +31,10 @@ use Rattle.store.specs.Kept.{House, MayLeave, content}
 use Rattle.store.specs.Opening.{FindsLeft, HoldsSoundHouse, IsCrashed}
 use Rattle.store.proofs.Crashed.{clean_if_files, found_left, found_same, recovered, settled_tables}
 
--- the trees of a house list no other schema than that of a house
+-- the trees of a house that an opening takes are those of no other database
 sound_committed : (c db : Database) → IsDatabase c → c.trees ≡ db.trees → IsSoundHouse db → IsSoundHouse c
 sound_committed c db sound same house =
-    let schema : db.schema ≡ c.schema = house.house.schema ∙ sym (one_schema c db sound same house.house) in
+    let schema : db.schema ≡ c.schema = sym (one_schema c db sound same house.house.sound) in
     let is : db ≡ c = ap (λ (s : Schema). record { schema = s; trees = db.trees }) schema ∙ ap (λ (t : Trees). record { schema = c.schema; trees = t }) (sym same) in
     subst IsSoundHouse is house
 

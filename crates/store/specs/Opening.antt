@@ -1,5 +1,5 @@
 -- What an opening or a making has left that failed and gave nothing back, and what an opening finds after a crash.
-use Rattle.std.specs.Prelude.{◌≡◌, IsTrue}
+use Rattle.std.specs.Prelude.{◌≡◌, ◌≢◌, IsTrue}
 use Rattle.sqlite_disk.specs.declared.Disk as disk
 use Rattle.sqlite_wal.specs.Files.{outcomes}
 use Rattle.sqlite_wal.specs.Recovery.{Image}
@@ -10,9 +10,11 @@ use Rattle.sqlite_store.specs.declared.store.FileStore.{FileStore}
 use Rattle.sqlite.specs.Effect.{Database}
 use Rattle.sqlite.specs.Files.{HoldsDatabase, file_state, over_files}
 use Rattle.sqlite.specs.Held.{AreDatabases, Held}
+use Rattle.house_rows.specs.declared.fault.KeepFault.{KeepFault}
+use Rattle.house_rows.specs.declared.fault.KeepFault.TheVariants.{Store}
 use Rattle.house_rows.specs.declared.settings.Settings.{Settings}
 use Rattle.store_rows.specs.Tables.{IsAtRest}
-use Rattle.store_open.specs.Opening.{Follows, IsBackOrNew, IsSoundHouse}
+use Rattle.store_open.specs.Opening.{Follows, FollowsOrGrows, IsBackOrNew, IsSoundHouse}
 use Rattle.store.specs.Kept.{House, IsHonest, MayLeave, content}
 
 -- ---- a call that takes a connection and gives none back: there is such a connection or store, and which it is isn't said
@@ -24,6 +26,12 @@ pub record LeavesMade {S : Type 0} (g : Ghosts S) (conn : Held S) (settings : Se
 pub record LeavesStore {S : Type 0} (g : Ghosts S) (conn : Held S) : Type 0 where
   pub store : S
   pub follows : Follows g conn store
+
+-- an upgrade that failed; a crash finds nothing new but after `Store`
+pub record LeavesUpgraded {S : Type 0} (g : Ghosts S) (conn : Held S) (fault : KeepFault) : Type 0 where
+  pub store : S
+  pub grown : FollowsOrGrows g conn store
+  pub follows : fault ≢ Store → Follows g conn store
 
 -- where the disk was honest until then, something is so
 pub record Leaves {S : Type 0} (g : Ghosts S) (conn : Held S) (Fact : Type 0) : Type 0 where

@@ -4,7 +4,8 @@
 //! what its definition in `house_rows` finds in the tables that the connection holds, and a change is
 //! made whole or not at all. After Memory or Damaged the tables are as before. Once a call has answered
 //! Store every call does, and what a crash then leaves is the tables as they were before that call or
-//! as its change makes them. An opening of the files that a crash has left finds such tables.
+//! as its change makes them. An opening of the files that a crash has left finds such tables. An
+//! upgrade keeps the tables of a house of version 1.
 //!
 //! Read `specs/Kept.antt` first, which says what the tables of a keep are and what it knows of them
 //! without asking: settings, counts and the clock are kept beside the connection. Then read `keep`,

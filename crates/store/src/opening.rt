@@ -1,25 +1,28 @@
 //! How a keep begins: in an empty database, or over a house that is there.
 ghost use Rattle.std.specs.Prelude.{◌≡◌, ◌≢◌, ◌↔◌, ◌⊎◌, [], true, false, IfErr, IfOk, IsErrAnd, IsErrOf, OnErr};
 ghost use Rattle.sqlite.specs.Held.{state};
+ghost use Rattle.sqlite.specs.State.{HasCleanDisk};
 ghost use Rattle.sqlite_trees.specs.View.{IsClean};
 ghost use Rattle.house_rows.specs.Tables.{Tables, tables_of};
 ghost use Rattle.house_rows.specs.Text.{is_plain};
-ghost use Rattle.house_rows.specs.declared.fault.KeepFault.TheVariants.{Damaged};
+ghost use Rattle.house_rows.specs.declared.fault.KeepFault.TheVariants.{Damaged, Store};
+ghost use Rattle.house_rows.specs.Fits.{IsMoment};
+ghost use Rattle.house_rows.specs.Found.{counts_of};
 ghost use Rattle.store_rows.specs.Fitting.{HouseRowFits};
 ghost use Rattle.store_rows.specs.Schema.{no_schema};
-ghost use Rattle.store_rows.specs.Tables.{house_row_in, tables_in};
-ghost use Rattle.store_open.specs.Opening.{AreNumbered, Follows, IsBackOrNew, IsSoundHouse};
+ghost use Rattle.store_rows.specs.Tables.{IsAtRest, house_row_in, settings_in, tables_in};
+ghost use Rattle.store_open.specs.Opening.{AreNumbered, Follows, FollowsOrGrows, IsBackOrNew, IsSoundFirst, IsSoundHouse, Upgrades};
 ghost use Rattle.store.specs.Kept.{IsHonest, MayLeave, content};
-ghost use Rattle.store.specs.Opening.{Leaves, LeavesMade, LeavesStore};
+ghost use Rattle.store.specs.Opening.{Leaves, LeavesMade, LeavesStore, LeavesUpgraded};
 
 use crate::keep::SqlKeep;
 use house_rows::{Counts, KeepFault, Settings};
 use sqlite::{Alter, Connection};
 use std::alloc::Global;
-use store_open::{make_house, open_house};
+use store_open::{Opened, make_house, open_house, upgrade_house};
 
 // The version of the tables.
-const VERSION: u32 = 1;
+const VERSION: u32 = 2;
 
 impl<S: Alter + Drop> SqlKeep<S> {
     /// Makes the keep of a house to which nothing has happened yet. `open` takes the house, if its zone has
@@ -107,14 +110,7 @@ impl<S: Alter + Drop> SqlKeep<S> {
             → ¬ (IsSoundHouse (state S.Store conn).committed)) }
     {
         let house = open_house(alloc, conn)?;
-        Ok(SqlKeep {
-            alloc,
-            conn: house.conn,
-            settings: house.settings,
-            counts: house.counts,
-            clock: house.clock,
-            failed: false,
-        })
+        Ok(SqlKeep::of_house(alloc, house))
     }
 
     /// As `open_or_return`, and after an error the store is dropped. So a clause says that there is such
@@ -138,12 +134,99 @@ impl<S: Alter + Drop> SqlKeep<S> {
             Err((fault, _)) => Err(fault),
         }
     }
+
+    /// The keep of the house that a connection holds, made one of this version where it is of version 1,
+    /// and whether it was. What the connection has not committed is undone. A house of this version is
+    /// not changed.
+    ///
+    /// `Damaged` where it holds no house of either version, or one whose settings or numbers don't fit.
+    /// After an error the store is given back. After `Memory` and `Damaged` it is as it was, and a crash
+    /// finds what it could find before. After `Store` a crash may find the house upgraded.
+    pub fn upgrade_or_return(
+        alloc: Global,
+        conn: Connection<S>,
+    ) -> Result<(SqlKeep<S>, bool), (KeepFault, S)>
+        ensures same { IfOk result (λ r. IsHonest S.Store r.0
+            → content S.Store r.0 ≡ tables_in (state S.Store conn).committed.trees) }
+        ensures upgraded { IfOk result (λ r. IsHonest S.Store r.0 → r.1 ≡ true
+            → Upgrades (state S.Store conn).committed.trees (state S.Store r.0.conn).now) }
+        ensures kept { IfOk result (λ r. IsHonest S.Store r.0 → r.1 ≡ false
+            → (state S.Store r.0.conn).now.trees ≡ (state S.Store conn).committed.trees) }
+        ensures follows { IfOk result (λ r. r.1 ≡ false → Follows S.Store conn r.0.conn.store) }
+        ensures only { IfOk result (λ r. IsHonest S.Store r.0 → (tables : Tables)
+            → MayLeave S.Store r.0 tables → tables ≡ content S.Store r.0) }
+        ensures works { IfOk result (λ r. r.0.failed ≡ false) }
+        ensures row { IfOk result (λ r. IsHonest S.Store r.0
+            → HouseRowFits (house_row_in (state S.Store r.0.conn).now.trees)) }
+        ensures numbered { IfOk result (λ r. IsHonest S.Store r.0
+            → AreNumbered (state S.Store r.0.conn).now.trees) }
+        ensures left { IfErr result (λ e. e.0 ≢ Store → Follows S.Store conn e.1) }
+        ensures grown { IfErr result (λ e. FollowsOrGrows S.Store conn e.1) }
+        ensures damaged { IfErr result (λ e. e.0 ≡ Damaged → IsClean (S.Store.view e.1)
+            → (¬ (IsSoundHouse (state S.Store conn).committed))
+            × (¬ (IsSoundFirst (state S.Store conn).committed))) }
+    {
+        let (house, was_first) = upgrade_house(alloc, conn)?;
+        Ok((SqlKeep::of_house(alloc, house), was_first))
+    }
+
+    /// As `upgrade_or_return`, and after an error the store is dropped. So a clause says that there is
+    /// such a store then, and none says which.
+    pub fn upgrade(alloc: Global, conn: Connection<S>) -> Result<(SqlKeep<S>, bool), KeepFault>
+        ensures same { IfOk result (λ r. IsHonest S.Store r.0
+            → content S.Store r.0 ≡ tables_in (state S.Store conn).committed.trees) }
+        ensures upgraded { IfOk result (λ r. IsHonest S.Store r.0 → r.1 ≡ true
+            → Upgrades (state S.Store conn).committed.trees (state S.Store r.0.conn).now) }
+        ensures kept { IfOk result (λ r. IsHonest S.Store r.0 → r.1 ≡ false
+            → (state S.Store r.0.conn).now.trees ≡ (state S.Store conn).committed.trees) }
+        ensures only { IfOk result (λ r. IsHonest S.Store r.0 → (tables : Tables)
+            → MayLeave S.Store r.0 tables → tables ≡ content S.Store r.0) }
+        ensures works { IfOk result (λ r. r.0.failed ≡ false) }
+        ensures row { IfOk result (λ r. IsHonest S.Store r.0
+            → HouseRowFits (house_row_in (state S.Store r.0.conn).now.trees)) }
+        ensures numbered { IfOk result (λ r. IsHonest S.Store r.0
+            → AreNumbered (state S.Store r.0.conn).now.trees) }
+        ensures left { IfErr result (LeavesUpgraded S.Store conn) }
+        ensures damaged { IsErrOf result Damaged
+            → Leaves S.Store conn ((¬ (IsSoundHouse (state S.Store conn).committed))
+            × (¬ (IsSoundFirst (state S.Store conn).committed))) }
+    {
+        match SqlKeep::upgrade_or_return(alloc, conn) {
+            Ok(upgraded) => Ok(upgraded),
+            Err((fault, _)) => Err(fault),
+        }
+    }
+
+    // The keep of a house that was opened.
+    fn of_house(alloc: Global, house: Opened<S>) -> SqlKeep<S>
+        requires idle { house.conn.in_transaction ≡ false }
+        requires moment { IsMoment house.clock }
+        requires rests { HasCleanDisk (state S.Store house.conn)
+            → IsAtRest (state S.Store house.conn) }
+        requires settings { HasCleanDisk (state S.Store house.conn)
+            → settings_in (state S.Store house.conn).now.trees ≡ house.settings }
+        requires counts { HasCleanDisk (state S.Store house.conn)
+            → counts_of (tables_in (state S.Store house.conn).now.trees) ≡ house.counts }
+        requires clock { HasCleanDisk (state S.Store house.conn)
+            → (tables_in (state S.Store house.conn).now.trees).clock ≡ house.clock }
+        ensures conn { result.conn ≡ house.conn }
+        ensures works { result.failed ≡ false }
+    {
+        SqlKeep {
+            alloc,
+            conn: house.conn,
+            settings: house.settings,
+            counts: house.counts,
+            clock: house.clock,
+            failed: false,
+        }
+    }
 }
 
 impl<S: Alter> SqlKeep<S> {
-    /// The version of the tables, always 1.
+    /// The version of the tables, always 2.
     pub fn version(&self) -> u32
-        ensures { result ≡ 1 }
+        ensures { result ≡ 2 }
     {
         VERSION
     }

@@ -1,0 +1,10 @@
+use Rattle.store.proofs.Begins.{known_read}
+use Rattle.store.proofs.keep.SqlKeep.of_house.Goals as goal
+
+pub invariant_of-result : goal.invariant_of-result
+invariant_of-result g c = record {
+  idle = c.requires.idle;
+  moment = c.requires.moment;
+  rests = λ going honest. c.requires.rests honest;
+  known = λ going honest. known_read _ _ _ _ (c.requires.settings honest) (c.requires.counts honest) (c.requires.clock honest);
+}
