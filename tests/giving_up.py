@@ -129,18 +129,20 @@ def give(bands):
 
 def replaying(above):
     """The programs that replay below a process."""
-    parents, found = {}, []
+    parents, found = {}, {}
     for path in pathlib.Path("/proc").glob("[0-9]*"):
         with contextlib.suppress(OSError):
             parents[path.name] = (path / "stat").read_text().rpartition(")")[2].split()[1]
-            if (path / "cmdline").read_bytes().split(b"\0")[1:2] == [b"replay"]:
-                found.append(path.name)
-    for number in found:
+            # Its loader is what runs, and names the program before the program's own words.
+            words = (path / "cmdline").read_bytes().split(b"\0")
+            if b"--library-path" in words and b"replay" in words:
+                found[path.name] = words[words.index(b"replay") - 1].decode()
+    for number, program in found.items():
         one = number
         while one in parents and one != above:
             one = parents[one]
         if one == above:
-            yield f"/proc/{number}/exe"
+            yield program
 
 
 def tried(body):
