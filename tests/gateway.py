@@ -307,31 +307,44 @@ def crowds(gateway, length):
         judge(gateway, f"{clients} clients", items, told, 0)
 
 
-def dribble(gateway, kind, ends):
-    """Sends a head, or a body, a byte a second, or reads a byte a second."""
-    fields = ["Content-Length: 400"] if kind == "body" else []
-    first = "POST /api/items/1/bids HTTP/1.1" if kind == "body" else "GET /api/items/1 HTTP/1.1"
-    head = gateway.head("ben", first, fields).encode()
-    with gateway.connection() as connection:
-        if kind != "head":
-            connection.sendall(head)
-        for place in range(len(head)):
-            if time.monotonic() > ends:
-                return
-            try:
-                if kind == "reader":
-                    connection.recv(1)
-                else:
-                    connection.sendall(head[place:place + 1] if kind == "head" else b" ")
-            except OSError:
-                return
-            time.sleep(1)
+def slow_head(connection, gateway, wait):
+    """A head that comes byte by byte."""
+    for byte in gateway.head("ben", "GET /api/items/1 HTTP/1.1").encode():
+        connection.sendall(bytes([byte]))
+        wait()
+
+
+def slow_body(connection, gateway, wait):
+    """A body that comes byte by byte."""
+    connection.sendall(gateway.head("ben", "POST /api/items/1/bids HTTP/1.1", ["Content-Length: 4000"]).encode())
+    for _ in range(4000):
+        connection.sendall(b" ")
+        wait()
+
+
+def slow_reader(connection, gateway, wait):
+    """Asks for fifty long items again and again, and reads a byte at a time."""
+    connection.sendall(gateway.head("ben", "GET /api/categories/1/items/1 HTTP/1.1").encode() * 20)
+    while connection.recv(1):
+        wait()
+
+
+def dribble(way, gateway, ends):
+    """Has a client be slow in a way, until it is ended or the time comes."""
+    def wait():
+        if time.monotonic() > ends:
+            raise TimeoutError
+        time.sleep(1)
+
+    with contextlib.suppress(OSError), gateway.connection(room=4096) as connection:
+        way(connection, gateway, wait)
 
 
 def dribblers(gateway, length):
     """Ten clients go on as ever while sixty dribble."""
     items, ends = market(gateway, "D"), time.monotonic() + length + 2
-    slow = [threading.Thread(target=dribble, args=(gateway, kind, ends)) for kind in ("head", "body", "reader") for _ in range(20)]
+    slow = [threading.Thread(target=dribble, args=(way, gateway, ends)) for way in (slow_head, slow_body, slow_reader)
+            for _ in range(20)]
     for thread in slow:
         thread.start()
     time.sleep(2)

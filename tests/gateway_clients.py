@@ -17,6 +17,8 @@ from sent import PATIENCE
 LIES = "x-member: 0\r\nX-MEMBER: 1\r\nx_member: 1\r\nx-moment: 5\r\nConnection: x-member, keep-alive\r\n"
 # By how much each bid on an item is over the one before: over every step of the example table.
 STEP = 20_000
+# How many clients connect at once: one whose hands aren't shaken within ten seconds is given up.
+CONNECTING = 20
 # Of a hundred requests so many are bids, and so many ask for the caller's bids. The others read an item.
 BIDS, OWN = 20, 10
 
@@ -32,6 +34,8 @@ class Told:
     # By item: bids that were accepted, and those of which nobody knows.
     accepted: collections.Counter = dataclasses.field(default_factory=collections.Counter)
     unknown: collections.Counter = dataclasses.field(default_factory=collections.Counter)
+    # How many have connected, and for how long they asked once all had.
+    connected: int = 0
     took: float = 0
     is_over: bool = False
 
@@ -64,14 +68,16 @@ class Market:
 class Client:
     """A signed-in member with one connection, that asks again as soon as it is answered."""
 
-    def __init__(self, gateway, name, market, told, seed):
-        self.gateway, self.name, self.market, self.told = gateway, name, market, told
+    def __init__(self, gateway, name, market, told, door, seed):
+        self.gateway, self.name, self.market, self.told, self.door = gateway, name, market, told, door
         self.random = random.Random(seed)
         self.streams = None
         pair = f"{name}:{gateway.passwords[name]}".encode()
         self.fields = f"Host: {gateway.host}:{gateway.port}\r\nAuthorization: Basic {base64.b64encode(pair).decode()}\r\n{LIES}"
 
     async def run(self):
+        await self.connect()
+        self.told.connected += 1
         while not self.told.is_over:
             item, chance = self.random.choice(self.market.items), self.random.random() * 100
             if chance < BIDS:
@@ -121,8 +127,9 @@ class Client:
         return status, value
 
     async def connect(self):
-        self.streams = await asyncio.open_connection("127.0.0.1", self.gateway.port, ssl=self.gateway.tls,
-                                                     server_hostname=self.gateway.host, ssl_handshake_timeout=PATIENCE)
+        async with self.door:
+            self.streams = await asyncio.open_connection("127.0.0.1", self.gateway.port, ssl=self.gateway.tls,
+                                                         server_hostname=self.gateway.host)
 
     async def exchange(self, text):
         if self.streams is None:
@@ -140,18 +147,19 @@ class Client:
 
 def crowd(gateway, names, market, clients, until):
     """What so many clients are told, who sign in by these names in turn and ask until something has come about."""
-    told = Told()
-    there = [Client(gateway, names[number % len(names)], market, told, number) for number in range(clients)]
+    told, door = Told(), asyncio.Semaphore(CONNECTING)
 
     async def watch():
+        while told.connected < clients:
+            await asyncio.sleep(0.1)
+        told.seconds.clear()
+        began = time.monotonic()
         await until()
-        told.is_over = True
+        told.is_over, told.took = True, time.monotonic() - began
 
     async def all_of_them():
-        await asyncio.gather(*(client.connect() for client in there))
-        began = time.monotonic()
-        await asyncio.gather(watch(), *(client.run() for client in there))
-        told.took = time.monotonic() - began
+        await asyncio.gather(watch(), *(Client(gateway, names[number % len(names)], market, told, door, number).run()
+                                        for number in range(clients)))
 
     asyncio.run(all_of_them())
     return told

@@ -115,8 +115,13 @@ class Gateway:
             connection.sendall(text.encode("latin-1"))
             return read_all(connection)
 
-    def connection(self):
-        plain = socket.create_connection(("127.0.0.1", self.port), timeout=PATIENCE)
+    def connection(self, room=None):
+        """A connection, of which the system keeps so many bytes that came and weren't read."""
+        plain = socket.socket()
+        plain.settimeout(PATIENCE)
+        if room is not None:
+            plain.setsockopt(socket.SOL_SOCKET, socket.SO_RCVBUF, room)
+        plain.connect(("127.0.0.1", self.port))
         return self.tls.wrap_socket(plain, server_hostname=self.host)
 
     def starts(self):

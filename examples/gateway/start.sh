@@ -73,7 +73,7 @@ $own_network true 2> /dev/null || {
     echo "start.sh: no network of its own, so any user of this machine can speak for the house" >&2
 }
 sed -e "s/PORT/$port/g" "$here/nginx.conf" > nginx.conf
-cp "$here/errors.conf" .
+cp "$here/maps.conf" "$here/server.conf" .
 [ -e cert.pem ] || make_certificate "$@"
 trap 'sh "$here/stop.sh" "$PWD"' EXIT
 house_port=${HOUSE_PORT:-18080}

@@ -1,0 +1,182 @@
+#!/usr/bin/env python3
+"""Copies a house that is served, and restores it, by the scripts of examples/backup: `backup.py PROGRAM [COPIES]`.
+
+A client sends commands one after the other, each of which makes a row, while the house is copied COPIES times (20 where none
+are given) with a pause between file and log, so that the log is written into the file meanwhile now and then. Each copy has to
+be one file, sound for SQLite, with the rows of all that was answered before it was begun, and of no more than what was sent
+before it was done. What SQLite itself says of a served house is that it is locked, and that disturbs nobody. A copy is not
+restored over a house that is served; over one that isn't it is, and the program serves it. Where a superuser runs this and
+btrfs-progs is there, snapshots of a file system of its own are copied too. The last line is 'N checks, M wrong'.
+"""
+import contextlib
+import os
+import pathlib
+import shutil
+import subprocess
+import sys
+import tempfile
+import threading
+import time
+
+from kills import Client, commands, made, rows
+from sent import PATIENCE
+from served import CHECKS, SETTINGS, Program, check, exchange, message, served
+
+ROOT = pathlib.Path(__file__).resolve().parent.parent
+SCRIPTS = ROOT / "examples" / "backup"
+sys.path.insert(0, str(SCRIPTS))
+import copy_house
+
+LOCKED = "database is locked"
+HOUSE = message("GET", "/house", 0)
+
+
+def script(name, *words):
+    told = subprocess.run([sys.executable if name.endswith(".py") else "sh", SCRIPTS / name, *words], capture_output=True,
+                          text=True, timeout=PATIENCE)
+    return told.returncode, told.stdout.strip(), told.stderr.strip()
+
+
+class Sender(threading.Thread):
+    """Sends commands over one connection until it is told to stop, and counts those that were answered."""
+
+    def __init__(self, port, texts):
+        super().__init__(daemon=True)
+        self.client, self.texts = Client(port), texts
+        self.answered, self.is_over = 0, False
+
+    def run(self):
+        while not self.is_over and self.client.asks(next(self.texts).text()):
+            self.answered += 1
+        self.client.connection.close()
+
+    def stop(self):
+        self.is_over = True
+        self.join()
+
+
+def copied(folder, sender, number, copy):
+    """Makes a copy while commands are sent, looks at it, and tells how often it was begun."""
+    name, before = folder / f"copy{number}", sender.answered
+    times = copy(name)
+    after = sender.answered
+    check("no log beside the copy", (folder / f"copy{number}-wal").exists(), False)
+    (folder / f"copy{number}-wal").touch()
+    count = made(rows(folder, f"copy{number}"))
+    check("as many rows as commands", before <= count <= after + 1, True)
+    return times
+
+
+def slowly(house):
+    """Makes copies with a pause between file and log."""
+    whole = shutil.copyfile
+
+    def paused(source, target):
+        whole(source, target)
+        time.sleep(0.05)
+
+    def copy(name):
+        copy_house.shutil.copyfile = paused
+        try:
+            return copy_house.copy_house(house, name)
+        finally:
+            copy_house.shutil.copyfile = whole
+
+    return copy
+
+
+def locked(folder, sender):
+    """What SQLite says of a served house, and that commands are taken meanwhile."""
+    before = sender.answered
+    for words in ("SELECT count(*) FROM member", ".backup other", "VACUUM INTO 'another'", "PRAGMA wal_checkpoint"):
+        told = subprocess.run(["sqlite3", "house", words], cwd=folder, capture_output=True, text=True, timeout=PATIENCE)
+        check(f"sqlite3 {words}", LOCKED in told.stdout + told.stderr, True)
+    deadline = time.monotonic() + PATIENCE
+    while sender.answered == before and time.monotonic() < deadline:
+        time.sleep(0.01)
+    check("commands are taken on", sender.answered > before, True)
+
+
+def copies(program, folder, count):
+    with program.serving("house", 1) as server:
+        sender = Sender(server.port, commands())
+        sender.start()
+        begun = [copied(folder, sender, number, slowly(folder / "house")) for number in range(count)]
+        check("by the script", script("copy_house.py", folder / "house", folder / "kept")[::2], (0, ""))
+        check("there already", script("copy_house.py", folder / "house", folder / "kept")[0], 1)
+        check("no house", script("copy_house.py", folder / "none", folder / "copy")[0], 1)
+        check("restored while it is served", script("restore_house.py", folder / "kept", folder / "house"),
+              (1, "", f"restore_house.py: {LOCKED}"))
+        if shutil.which("sqlite3"):
+            locked(folder, sender)
+        sender.stop()
+    check("served on", server.ending, served(1))
+    print(f"{count} copies beside {sender.answered} commands, {sum(begun) - count} begun again")
+
+
+def restored(program, folder):
+    """The copy is the house again, and what was there is kept."""
+    told = {}
+    for name in ("house", "kept"):
+        with program.serving(name, 1) as server:
+            told[name] = exchange(server.port, HOUSE)
+    check("more was taken after the copy", told["house"] != told["kept"], True)
+    (folder / "spoiled").write_bytes((folder / "kept").read_bytes()[:20_000])
+    check("a spoiled copy", script("restore_house.py", folder / "spoiled", folder / "house")[0], 1)
+    check("restored", script("restore_house.py", folder / "kept", folder / "house"), (0, "restored", ""))
+    check("restored again", script("restore_house.py", folder / "kept", folder / "house")[0], 1)
+    for name, wanted in (("house", "kept"), ("house.before", "house")):
+        with program.serving(name, 1) as server:
+            check(f"{name} is {wanted}", exchange(server.port, HOUSE), told[wanted])
+
+
+@contextlib.contextmanager
+def file_system(folder):
+    """A file system of btrfs in a file, with a folder that has snapshots."""
+    image, place = folder / "image", folder / "mounted"
+    image.touch()
+    os.truncate(image, 256 * 2**20)
+    place.mkdir()
+    subprocess.run(["mkfs.btrfs", "-q", image], check=True, capture_output=True)
+    subprocess.run(["mount", "-o", "loop", image, place], check=True)
+    try:
+        subprocess.run(["btrfs", "-q", "subvolume", "create", place / "live"], check=True)
+        yield place / "live"
+    finally:
+        subprocess.run(["umount", place], check=True)
+
+
+def snapshots(path, folder, count):
+    with file_system(folder) as live:
+        (live / "bands.csv").write_text("at,step\n0,5\n100,25\n500,50\n")
+        program = Program(path, str(live))
+        check("made", program.ended("init", "house", "--bands", "bands.csv", *SETTINGS)[0], 0)
+        with program.serving("house", 1) as server:
+            sender = Sender(server.port, commands())
+            sender.start()
+            for number in range(count):
+                copied(folder, sender, f"-of-a-snapshot{number}",
+                       lambda name: check("a snapshot", script("snapshot_house.sh", live, name)[::2], (0, "")))
+            sender.stop()
+        print(f"{count} snapshots beside {sender.answered} commands")
+
+
+def main():
+    path, count = str(pathlib.Path(sys.argv[1]).resolve()), int((sys.argv[2:] + ["20"])[0])
+    with tempfile.TemporaryDirectory() as name:
+        folder = pathlib.Path(name)
+        (folder / "bands.csv").write_text("at,step\n0,5\n100,25\n500,50\n")
+        program = Program(path, name)
+        check("made", program.ended("init", "house", "--bands", "bands.csv", *SETTINGS)[0], 0)
+        copies(program, folder, count)
+        restored(program, folder)
+        if os.geteuid() == 0 and shutil.which("mkfs.btrfs"):
+            snapshots(path, folder, count)
+        else:
+            print("no snapshots: they need a superuser and btrfs-progs")
+    print(f"{len(CHECKS)} checks, {CHECKS.count(False)} wrong")
+    return 1 if not all(CHECKS) else 0
+
+
+if __name__ == "__main__":
+    sys.exit(main())
