@@ -18,8 +18,20 @@ SEED ?= 2026
 CRATES ?=
 BODIES ?=
 
+# How many seconds fifty clients ask through the gateway, how often the house is started anew under them, and how many copies
+# are made of a house that is served; the Debian in which the package is tried.
+PERIOD ?= 60
+RESTARTS ?= 20
+COPIES ?= 60
+DEBIAN ?= out/debian
+
+# Debian's packages of these three: nginx to util-linux are needed, the others are left out where they aren't there.
+GATEWAY_PACKAGES = nginx-light haproxy openssl curl iproute2 procps util-linux chromium-driver
+BACKUP_PACKAGES = sqlite3 btrfs-progs
+DEB_PACKAGES = lintian debootstrap systemd-container
+
 .PHONY: help demo session test auction program cases rows fuzz mutated twins memory allocations statement random file \
-	office kills stops cuts stalls wrong giving documents openapi
+	office kills stops cuts stalls wrong giving documents openapi gateway backup deb packages
 
 help:
 	@echo "For a newcomer"
@@ -51,6 +63,12 @@ help:
 	@echo "  make stops     stops the program at each call on its files, or each EVERYth, and opens what is left (needs cc)"
 	@echo "  make cuts      cuts the power after each such call, as a model, and opens all that may be left (needs cc)"
 	@echo "  make stalls    has clients that send or read nothing hold up one that asks, for up to two minutes"
+	@echo
+	@echo "What stands around the program, from examples/"
+	@echo "  make packages  installs Debian's packages that these need, as root"
+	@echo "  make gateway   has clients ask and bid through nginx and haproxy for PERIOD, and the house start anew RESTARTS times"
+	@echo "  make backup    makes COPIES copies of a house that is served, and restores one"
+	@echo "  make deb       makes the package in out/, and tries it in a plain Debian in the folder DEBIAN"
 	@echo
 	@echo "Tests of the crates that make test has left"
 	@echo "  make rows      plays the cases and random lists message by message and as runs, in memory and in databases"
@@ -86,6 +104,7 @@ has-tests:
 demo test auction wrong giving: has-kit
 session: has-bin has-curl
 program cases fuzz mutated twins memory allocations file office kills stops cuts stalls documents: has-program
+gateway backup deb: has-program
 rows random file statement memory allocations: has-tests
 cases openapi: has-cases
 memory allocations stops cuts: has-cc
@@ -205,3 +224,19 @@ wrong:
 
 giving:
 	python3 tests/giving_up.py $(BODIES)
+
+gateway:
+	@echo "Debian's packages: $(GATEWAY_PACKAGES)"
+	python3 tests/gateway.py crates/auction/out/auction $(PERIOD) $(RESTARTS)
+
+backup:
+	@echo "Debian's packages: $(BACKUP_PACKAGES)"
+	python3 tests/backup.py crates/auction/out/auction $(COPIES)
+
+deb:
+	@echo "Debian's packages: $(DEB_PACKAGES)"
+	mkdir -p out
+	python3 tests/package.py crates/auction/out/auction out $(DEBIAN)
+
+packages:
+	apt-get install -y --no-install-recommends $(GATEWAY_PACKAGES) $(BACKUP_PACKAGES) $(DEB_PACKAGES)

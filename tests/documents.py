@@ -3,11 +3,11 @@
 
 Each link leads to a file and a heading that are there. Each file that is named between backticks is there, by its path
 or the end of it. Each name of code in PROMISES.md, DEFINITIONS.md and GLOSSARY.md is a word of some source, and each
-wrong body there has its file. README.md and the pages of docs/ have no sentence over 30 words, and no line over 100
-columns outside tables; of bench/README.md these are counted. docs/ has at most 18,000 words outside blocks of code, a
-word being what has a letter or a digit. The manual docs/auction.1 has no line over 80 columns, and no fault that
-mandoc finds, where mandoc is there. It has each command of PROGRAM with all its files, options and ranges, as the help
-tells them, and no other. The last line is 'N checks, M wrong'.
+wrong body there has its file. README.md and the pages of docs/ and examples/ have no sentence over 30 words, and no
+line over 100 columns outside tables; of bench/README.md these are counted. docs/ has at most 18,000 words outside
+blocks of code, a word being what has a letter or a digit. The manual docs/auction.1 has no line over 80 columns, and no
+fault that mandoc finds, where mandoc is there. It has each command of PROGRAM with all its files, options and ranges,
+as the help tells them, and no other. The last line is 'N checks, M wrong'.
 """
 import pathlib
 import re
@@ -16,7 +16,8 @@ import subprocess
 import sys
 
 ROOT = pathlib.Path(__file__).resolve().parent.parent
-PAGES = [ROOT / "README.md", ROOT / "bench" / "README.md", *sorted((ROOT / "docs").glob("*.md"))]
+PAGES = [ROOT / "README.md", ROOT / "bench" / "README.md", *sorted((ROOT / "docs").glob("*.md")),
+         *sorted((ROOT / "examples").glob("*/*.md"))]
 OF_CODE = ["docs/PROMISES.md", "docs/DEFINITIONS.md", "docs/GLOSSARY.md"]
 MANUAL = ROOT / "docs" / "auction.1"
 MOST_WORDS, MOST_IN_SENTENCE, MOST_COLUMNS, MOST_IN_MANUAL = 18_000, 30, 100, 80

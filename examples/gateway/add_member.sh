@@ -1,8 +1,8 @@
 #!/bin/sh
 # add_member.sh HOUSE NAME...: registers members in a house that is served, and lets them sign in.
-# HOUSE is the folder of the house below that of start.sh. Each name gets the number that the house told, and a
-# password of 96 bits, which is printed. The name house is that of who runs the house, which has the number 0.
-# SOCKET is the queue's socket, and RELOAD reads the numbers anew, where they are others than start.sh's.
+# HOUSE is the folder with users and members.map: FOLDER/houses/HOST of start.sh, or /etc/auction of setup.sh.
+# Each name gets the number that the house told, and a password of 96 bits, which is printed. The name house is
+# that of who runs the house, which has the number 0.
 set -eu
 
 fail() {
@@ -19,7 +19,7 @@ check_name() {
 
 # Has the house register a member, and notes its number.
 register() {
-    answer=$(curl -s --unix-socket "$socket" -H 'x-member: 0' -d "{\"name\":\"$1\"}" http://house/members)
+    answer=$(curl -s --unix-socket run/queue.sock -H 'x-member: 0' -d "{\"name\":\"$1\"}" http://house/members)
     number=${answer#'{"member":'}
     number=${number%'}'}
     case $number in
@@ -48,15 +48,13 @@ add() {
 cd "$1"
 shift
 PATH=$PATH:/usr/sbin:/sbin
-host=${HOST:-$(basename "$PWD")}
-socket=${SOCKET:-run/queue.sock}
+read -r host < host
 exec 9>> members.map
 flock 9
 for name in "$@"; do
     add "$name"
 done
-if [ -n "${RELOAD:-}" ]; then
-    $RELOAD
-elif [ -e ../../run/nginx.pid ]; then
-    kill -HUP "$(cat ../../run/nginx.pid)"
+# nginx reads the numbers anew, if it runs.
+if [ -e nginx.pid ]; then
+    kill -s HUP "$(cat nginx.pid)"
 fi
