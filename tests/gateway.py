@@ -67,7 +67,7 @@ def sign_in(gateway):
     """Who isn't signed in is nobody."""
     wanted = 401, fault("sign-in")
     pairs = {"another password": encoded("ben", gateway.passwords["cid"]), "no password": encoded("ben", ""),
-             "another name": encoded("nobody", "x"), "no pair": "YmVu", "no code": "%%%"}
+             "another name": encoded("nobody", "x"), "another case": encoded("Ben", gateway.passwords["ben"]), "no pair": "YmVu", "no code": "%%%"}
     check("no sign-in", gateway.ask(None, "GET", MINE)[::2], wanted)
     check("no sign-in, the page", gateway.ask(None, "GET", "/")[::2], wanted)
     for name, pair in pairs.items():

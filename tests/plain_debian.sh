@@ -62,8 +62,8 @@ say "another user, the house" "$?"
 runuser -u nobody -- cat /var/lib/auction/house /etc/auction/users /etc/auction/members.map /etc/auction/key.pem > /dev/null 2>&1
 say "another user, the files" "$?"
 
-again "after SIGTERM" 'systemctl kill -s TERM auction'
-again "after SIGKILL" 'systemctl kill -s KILL auction'
+again "after SIGTERM" 'systemctl kill --kill-whom=main -s TERM auction'
+again "after SIGKILL" 'systemctl kill --kill-whom=main -s KILL auction'
 sed -i 's/^COUNT=.*/COUNT=5/' /etc/default/auction
 systemctl restart auction
 again "after its count" 'for _ in 1 2 3 4 5; do ask ben /house > /dev/null; done'

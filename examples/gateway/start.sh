@@ -13,7 +13,6 @@ fail() {
 }
 
 check_needs() {
-    [ "$(id -u)" != 0 ] || fail "run it as a user other than root"
     for command in nginx haproxy openssl curl setsid unshare ip; do
         PATH=$PATH:/usr/sbin:/sbin command -v "$command" > /dev/null || fail "no $command: README.md has the packages"
     done
@@ -45,13 +44,13 @@ make_house() {
 serve_house() {
     rm -f "houses/$1/run/queue.sock"
     (cd "houses/$1" && exec setsid $own_network sh "$here/house.sh" "$program" "$2" "$count") \
-        >> "logs/$1.log" 2>&1 &
+        > "logs/$1.log" 2>&1 &
     echo $! > "houses/$1/run/house.pid"
 }
 
 wait_for() {
-    until curl -s -f -o /dev/null --unix-socket "houses/$1/run/queue.sock" -H 'x-member: 0' http://house/house; do
-        kill -0 "$(cat "houses/$1/run/house.pid")" 2> /dev/null || fail "the house of $1 ended: see $PWD/logs/$1.log"
+    until curl -s -f -m 2 -o /dev/null --unix-socket "houses/$1/run/queue.sock" -H 'x-member: 0' http://house/house; do
+        ! grep -m 1 "^auction: " "logs/$1.log" >&2 || fail "the house of $1 has a fault: docs/RUNNING.md has its words"
         sleep 0.2
     done
 }
@@ -61,6 +60,7 @@ add_first_members() {
 }
 
 [ $# -ge 2 ] || fail "its words are PROGRAM FOLDER [HOST...]"
+[ "$(id -u)" != 0 ] || fail "run it as a user other than root"
 program=$(realpath "$1")
 mkdir -p "$2"
 cd "$2"

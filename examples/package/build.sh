@@ -8,6 +8,7 @@ version=$("$program" --version)
 version=${version#auction }
 architecture=$(dpkg --print-architecture)
 date=${SOURCE_DATE_EPOCH:-$(git -C "$here" log -1 --format=%ct)}
+export SOURCE_DATE_EPOCH="$date"
 root=$(mktemp -d)
 trap 'rm -rf "$root"' EXIT
 umask 022
