@@ -1,16 +1,16 @@
 """Clients of a gateway that ask and bid many at once, and lie about who they are and when it is.
 
-What each was answered is counted: statuses, seconds, bids that were accepted, and commands of which the gateway can't say
-whether they were taken. Who asks for its own bids has to be told what it bid, and nothing of anybody else.
+What each was answered is counted: statuses, seconds, bids that were accepted, and commands of which the gateway can't
+say whether they were taken. Who asks for its own bids has to be told what it bid, and nothing of anybody else.
 """
 import asyncio
-import base64
 import collections
 import dataclasses
 import json
 import random
 import time
 
+from gateway_run import encoded
 from sent import PATIENCE
 
 # What a client may say, none of which reaches the house.
@@ -72,8 +72,8 @@ class Client:
         self.gateway, self.name, self.market, self.told, self.door = gateway, name, market, told, door
         self.random = random.Random(seed)
         self.streams = None
-        pair = f"{name}:{gateway.passwords[name]}".encode()
-        self.fields = f"Host: {gateway.host}:{gateway.port}\r\nAuthorization: Basic {base64.b64encode(pair).decode()}\r\n{LIES}"
+        signed = f"Authorization: Basic {encoded(name, gateway.passwords[name])}"
+        self.fields = f"Host: {gateway.host}:{gateway.port}\r\n{signed}\r\n{LIES}"
 
     async def run(self):
         await self.connect()

@@ -1,4 +1,4 @@
-"""A gateway of examples/gateway that runs in a folder, as an ordinary user, and what it answers to whoever is signed in."""
+"""A gateway of examples/gateway that runs in a folder, as an ordinary user, and what it answers to who is signed in."""
 import base64
 import collections
 import contextlib
@@ -42,8 +42,8 @@ def folder_of_nobody():
 
 def script(name, *words, **environment):
     """The lines that one of the examples' scripts prints."""
-    told = subprocess.run(["sh", name, *map(str, words)], preexec_fn=as_nobody, capture_output=True, text=True, timeout=PATIENCE,
-                          env={**os.environ, "PATH": PATH, **environment})
+    told = subprocess.run(["sh", name, *map(str, words)], preexec_fn=as_nobody, capture_output=True, text=True,
+                          timeout=PATIENCE, env={**os.environ, "PATH": PATH, **environment})
     return told.returncode, told.stdout.splitlines(), told.stderr
 
 
@@ -51,9 +51,9 @@ class Gateway:
     """The gateway of some hosts: the scripts, its port, its folder, and the passwords of each host."""
 
     def __init__(self, program, folder, port, house_port, hosts=("localhost",), count=1_000_000):
-        self.folder, self.port, self.house_port, self.hosts, self.host = folder / "city", port, house_port, hosts, hosts[0]
-        self.count, self.examples = str(count), folder / "examples"
-        self.program = folder / "auction"
+        self.folder, self.port, self.house_port, self.count = folder / "city", port, house_port, str(count)
+        self.hosts, self.host = hosts, hosts[0]
+        self.examples, self.program = folder / "examples", folder / "auction"
         if not self.program.exists():
             shutil.copytree(ROOT / "examples", self.examples)
             shutil.copy(program, self.program)
