@@ -31,7 +31,7 @@ BACKUP_PACKAGES = sqlite3 btrfs-progs
 DEB_PACKAGES = lintian debootstrap systemd-container
 
 .PHONY: help demo session test auction program cases rows fuzz mutated twins memory allocations statement random file \
-	office kills stops cuts stalls wrong giving documents openapi gateway backup deb packages
+	office kills stops cuts stalls counts wrong giving documents openapi gateway backup deb packages
 
 help:
 	@echo "For a newcomer"
@@ -62,6 +62,7 @@ help:
 	@echo "                 file"
 	@echo "  make stops     stops the program at each call on its files, or each EVERYth, and opens what is left (needs cc)"
 	@echo "  make cuts      cuts the power after each such call, as a model, and opens all that may be left (needs cc)"
+	@echo "  make counts    counts the statements that a bid and pages make of a house in a file (needs valgrind)"
 	@echo "  make stalls    has clients that send or read nothing hold up one that asks, for up to two minutes"
 	@echo
 	@echo "What stands around the program, from examples/"
@@ -103,7 +104,7 @@ has-tests:
 
 demo test auction wrong giving: has-kit
 session: has-bin has-curl
-program cases fuzz mutated twins memory allocations file office kills stops cuts stalls documents: has-program
+program cases fuzz mutated twins memory allocations file office kills stops cuts stalls counts documents: has-program
 gateway backup deb: has-program
 rows random file statement memory allocations: has-tests
 cases openapi: has-cases
@@ -207,6 +208,9 @@ stops:
 
 cuts:
 	python3 tests/power_cuts.py crates/auction/out/auction $(EVERY)
+
+counts:
+	python3 tests/statement_counts.py crates/auction/out/auction
 
 stalls:
 	python3 tests/stalls.py crates/auction/out/auction
