@@ -13,6 +13,9 @@ import sys
 
 from copy_house import Unsound, keep, log_of, make_one_file
 
+# A log of fewer bytes holds nothing.
+LEAST_LOG = 100
+
 
 def end_log(house):
     """Writes the log of a house that nobody serves into its file."""
@@ -31,7 +34,8 @@ def give_to_owner(file, house):
 
 def restore_house(copy, house):
     begun, before = house.with_name(house.name + ".begun"), house.with_name(house.name + ".before")
-    if log_of(copy).exists():
+    log = log_of(copy)
+    if log.exists() and log.stat().st_size >= LEAST_LOG:
         raise Unsound(f"{copy} has a log beside it: copy_house.py makes one file")
     if before.exists():
         raise Unsound(f"{before} is there already")
