@@ -83,7 +83,12 @@ pub(crate) fn rows(alloc: Global, good: u64, line: &str) -> Result<String, Fault
         }
     }
     let table = Bands::of_rows(alloc, &rows);
-    if table.is_ok() != Bands::are_rows(&rows) {
+    let is_told_otherwise = match &table {
+        Ok(_) => !Bands::are_rows(&rows),
+        Err(BandsFault::Memory) => false,
+        Err(_) => Bands::are_rows(&rows),
+    };
+    if is_told_otherwise {
         return Err(Fault::Table);
     }
     outcome(alloc, table)
