@@ -18,9 +18,9 @@ use Rattle.house_rows.specs.declared.refusal.Refusal.TheVariants.{Low, NotHigher
 use Rattle.house_rows.specs.declared.settings.Settings.{Settings}
 use Rattle.house_rows.specs.Bids.{bids_on}
 use Rattle.house_rows.specs.History.{Entry, History}
-use Rattle.house_rows.specs.Items.{Purchase, is_bought, is_open, is_settled, is_taken, item_now, leader_of, purchase_in, purchase_of, purchases, shown, state_of}
+use Rattle.house_rows.specs.Items.{Purchase, is_bought, is_open, is_settled, is_taken, leader_of, purchase_in, purchase_of, purchases, shown_now, state_of}
 use Rattle.house_rows.specs.Limits.{most_bids, most_cents}
-use Rattle.house_rows.specs.Listings.{Listing, listed_opening, listing_at, listings}
+use Rattle.house_rows.specs.Listings.{Listing, bands_by, listed_opening, listing_at, listings}
 use Rattle.house_rows.specs.Runs.{entry}
 use Rattle.house_rows.specs.Verdict.{IsHistory, Rule, bid_rules, by_terms, purchase_rules, rules, verdict}
 use Rattle.house_rows.proofs.Every.{every_as, every_more, found_has, found_is}
@@ -71,19 +71,19 @@ own_rules a b d range raises low full f none = grind (arith, nat_tests, none)
 
 -- what the house accepts as a bid on an item, the item's bids accept
 pub bid_accepted : (settings : Settings) (h : History) (t c m : ℕ) (l : Listing) → listing_at (listings h) l.item ≡ Some l → verdict settings h t c (Bid l.item m) ≡ None
-    → refusal settings.bands (listed_opening l) (bids_on h l.item) c m ≡ None
+    → refusal (bands_by settings l) (listed_opening l) (bids_on h l.item) c m ≡ None
 bid_accepted settings h t c m l listed none =
     let is : is_open (state_of h l) ≡ true = bid_led settings h t c l.item m l listed none (grind (arith, nat_tests)) in
     let parts = open_parts (is_bought h l.item) (is_taken h l) (is_some (leader_of h l)) (is_settled h l.item) is in
     let unsold : purchase_of h l.item ≡ None = not_bought h l.item (purchase_of h l.item) refl parts.bought_not in
     let own : first_failing (rules settings h t c (Bid l.item m)) ≡ None = own_pass settings h t c (Bid l.item m) none in
     let more : ItemShown → List Rule = bid_rules t c m (greatest (bids_on h l.item) c) in
-    let pass : first_failing (more (shown settings (item_now settings.bands h l))) ≡ None = rules_of settings h l more listed (item_pass settings h l.item more own) in
+    let pass : first_failing (more (shown_now settings h l)) ≡ None = rules_of settings h l more listed (item_pass settings h l.item more own) in
     let bids : List bid.Bid = bids_on h l.item in
-    let least : ℕ = if length bids == 0 then l.start else over settings.bands (price settings.bands (listed_opening l) bids) in
+    let least : ℕ = if length bids == 0 then l.start else over (bands_by settings l) (price (bands_by settings l) (listed_opening l) bids) in
     let rest = own_rules (l.seller == c) false (nat_le l.end t) (nat_lt most_cents m) (leads bids c && nat_le m (greatest bids c)) (not (leads bids c) && nat_lt m least)
     (nat_le most_bids (length bids)) least (rw (is, unsold) at pass) in
-    rw (← floor_is settings.bands (listed_opening l) bids) rest
+    rw (← floor_is (bands_by settings l) (listed_opening l) bids) rest
 
 -- the listing of an item is the one that is found, or it is the new one
 before_listed : (h : History) (e : Entry) (l : Listing) → listing_at (listings (e ∷ h)) l.item ≡ Some l → (o : Option Listing) → listing_at (listings h) l.item ≡ o → (o ≡ None) ⊎ (o ≡ Some l)
@@ -99,11 +99,11 @@ unlisted settings h i is none = by_bids (bids_on h i) (bids_fit settings h i is)
   by_bids (b ∷ bids) all = absurd (let some = all.0.listed in cc)
 
 accepted_on : (settings : Settings) (h : History) (t c : ℕ) (command : Command) (l : Listing) → verdict settings h t c command ≡ None → listing_at (listings h) l.item ≡ Some l
-    → AreAccepted settings.bands (listed_opening l) (bids_on h l.item) → AreAccepted settings.bands (listed_opening l) (bids_on (entry t c command ∷ h) l.item)
+    → AreAccepted (bands_by settings l) (listed_opening l) (bids_on h l.item) → AreAccepted (bands_by settings l) (listed_opening l) (bids_on (entry t c command ∷ h) l.item)
 accepted_on settings h t c (Bid j m) l none listed all =
     elim (by_test (j == l.item)) [
       | inl here ↦ (let at' : j ≡ l.item = grind (arith, nat_tests) in
-          rw here (more_accepted settings.bands (listed_opening l) (bids_on h l.item) (record { member = c; maximum = m; no = length (bids_on h l.item) + 1 }) all (record {
+          rw here (more_accepted (bands_by settings l) (listed_opening l) (bids_on h l.item) (record { member = c; maximum = m; no = length (bids_on h l.item) + 1 }) all (record {
             accepted = bid_accepted settings h t c m l listed (rw at' at none);
             numbered = refl;
           })))
@@ -112,20 +112,20 @@ accepted_on settings h t c (Bid j m) l none listed all =
 accepted_on settings h t c command l none listed all = simp append-nil all
 
 accepted_new : (settings : Settings) (h : History) (t c : ℕ) (command : Command) (l : Listing) → verdict settings h t c command ≡ None → listing_at (listings h) l.item ≡ None
-    → IsHistory settings h → AreAccepted settings.bands (listed_opening l) (bids_on (entry t c command ∷ h) l.item)
+    → IsHistory settings h → AreAccepted (bands_by settings l) (listed_opening l) (bids_on (entry t c command ∷ h) l.item)
 accepted_new settings h t c (Bid j m) l none free is =
     elim (by_test (j == l.item)) [
       | inl here ↦ (let at' : j ≡ l.item = grind (arith, nat_tests) in
           let more : ItemShown → List Rule = bid_rules t c m (greatest (bids_on h l.item) c) in
           let pass = item_pass settings h l.item more (own_pass settings h t c (Bid l.item m) (rw at' at none)) in
           absurd (let e : None ≡ Some pass.listing = sym free ∙ pass.listed in cc))
-      | inr other ↦ rw (other, unlisted settings h l.item is free) (none_accepted settings.bands (listed_opening l))
+      | inr other ↦ rw (other, unlisted settings h l.item is free) (none_accepted (bands_by settings l) (listed_opening l))
     ]
-accepted_new settings h t c command l none free is = rw (unlisted settings h l.item is free) (none_accepted settings.bands (listed_opening l))
+accepted_new settings h t c command l none free is = rw (unlisted settings h l.item is free) (none_accepted (bands_by settings l) (listed_opening l))
 
 -- the bids on a listed item are accepted bids
-pub bids_are_accepted : (settings : Settings) (h : History) → IsHistory settings h → (l : Listing) → listing_at (listings h) l.item ≡ Some l → AreAccepted settings.bands (listed_opening l) (bids_on h l.item)
-bids_are_accepted settings [] is l listed = none_accepted settings.bands (listed_opening l)
+pub bids_are_accepted : (settings : Settings) (h : History) → IsHistory settings h → (l : Listing) → listing_at (listings h) l.item ≡ Some l → AreAccepted (bands_by settings l) (listed_opening l) (bids_on h l.item)
+bids_are_accepted settings [] is l listed = none_accepted (bands_by settings l) (listed_opening l)
 bids_are_accepted settings (e ∷ h) is l listed =
     elim (before_listed h e l listed (listing_at (listings h) l.item) refl) [
       | inl not ↦ accepted_new settings h e.moment e.caller e.command l is.0 not is.1

@@ -22,9 +22,9 @@ use Rattle.house_rows.specs.Changed.{is_item, new_item, new_opening, with_close,
 use Rattle.house_rows.specs.Fits.{IsItem, IsMember, IsMoment, IsWithin, TermsFit}
 use Rattle.house_rows.specs.Found.{row_at}
 use Rattle.house_rows.specs.Items.{close_sells, closed_state, is_due, is_open}
-use Rattle.house_rows.specs.Keeping.{AreInTurn, AreSound, IsBought, IsByBids, ItemRowFits}
+use Rattle.house_rows.specs.Keeping.{AreInTurn, AreSound, IsBought, IsByBids, ItemRowFits, RowFits}
 use Rattle.house_rows.specs.Limits.{most_bids, most_categories, most_cents}
-use Rattle.house_rows.specs.Tables.{ItemRow, Tables, row_opening}
+use Rattle.house_rows.specs.Tables.{ItemRow, Tables, bands_for, row_opening}
 use Rattle.house_rows.specs.Text.{is_lot, is_text}
 use Rattle.house_rows.specs.Verdict.{was_sold}
 use Rattle.house_rows.proofs.AcceptedBids.{none_accepted}
@@ -49,11 +49,21 @@ turn_found number next (y ∷ ys) are = (
 )
 
 -- a row that is there fits, and has its number
-pub there_fits : (t : Tables) (i : ℕ) (row : ItemRow) → AreSound t → row_at t i ≡ Some row → ItemRowFits t.settings.bands row
-there_fits t i row sound there = found_has (ItemRowFits t.settings.bands) (is_item i) t.items row sound.items there
+pub there_fits : (t : Tables) (i : ℕ) (row : ItemRow) → AreSound t → row_at t i ≡ Some row → RowFits t row
+there_fits t i row sound there = found_has (RowFits t) (is_item i) t.items row sound.items there
 
 pub there_is : (t : Tables) (i : ℕ) (row : ItemRow) → row_at t i ≡ Some row → is_item i row ≡ true
 there_is t i row there = found_is (is_item i) t.items row there
+
+-- a row of a number fits by the band table of that number
+pub fits_at : (t : Tables) (i : ℕ) (row : ItemRow) → row.item.terms.item ≡ i → ItemRowFits (bands_for t i) row → RowFits t row
+fits_at t i row e fits = subst (λ (n : ℕ). ItemRowFits (bands_for t n) row) (sym e) fits
+
+pub there_numbered : (t : Tables) (i : ℕ) (row : ItemRow) → row_at t i ≡ Some row → row.item.terms.item ≡ i
+there_numbered t i row there = let is = there_is t i row there in grind (arith, nat_tests, is)
+
+pub there_fits_by : (t : Tables) (i : ℕ) (row : ItemRow) → AreSound t → row_at t i ≡ Some row → ItemRowFits (bands_for t i) row
+there_fits_by t i row sound there = subst (λ (n : ℕ). ItemRowFits (bands_for t n) row) (there_numbered t i row there) (there_fits t i row sound there)
 
 pub there_within : (t : Tables) (i : ℕ) (row : ItemRow) → AreSound t → row_at t i ≡ Some row → IsItem i
 there_within t i row sound there =
@@ -69,16 +79,16 @@ same_row t i r row own is there =
 
 -- where one row changes and still fits, all rows fit
 pub one_changed : (t : Tables) (i : ℕ) (row : ItemRow) (f : ItemRow → ItemRow) → AreSound t → row_at t i ≡ Some row → ((r : ItemRow) → is_item i r ≡ false → f r ≡ r)
-    → ItemRowFits t.settings.bands (f row) → AllByRecursion (ItemRowFits t.settings.bands) (map f t.items)
+    → RowFits t (f row) → AllByRecursion (RowFits t) (map f t.items)
 one_changed t i row f sound there others fits =
-    every_map f (ItemRowFits t.settings.bands) t.items
-    (every_both (ItemRowFits t.settings.bands) (λ r. row_at t r.item.terms.item ≡ Some r) (λ r. ItemRowFits t.settings.bands (f r)) t.items by_number sound.items
+    every_map f (RowFits t) t.items
+    (every_both (RowFits t) (λ r. row_at t r.item.terms.item ≡ Some r) (λ r. RowFits t (f r)) t.items by_number sound.items
     (turn_found (λ (r : ItemRow). r.item.terms.item) 1 t.items sound.items_in_turn)) where
-      by_number : (r : ItemRow) → ItemRowFits t.settings.bands r → row_at t r.item.terms.item ≡ Some r → ItemRowFits t.settings.bands (f r)
+      by_number : (r : ItemRow) → RowFits t r → row_at t r.item.terms.item ≡ Some r → RowFits t (f r)
       by_number r fit own =
           elim (by_test (is_item i r)) [
-            | inl is ↦ subst (λ (x : ItemRow). ItemRowFits t.settings.bands (f x)) (sym (same_row t i r row own is there)) fits
-            | inr other ↦ subst (λ (x : ItemRow). ItemRowFits t.settings.bands x) (sym (others r other)) fit
+            | inl is ↦ subst (λ (x : ItemRow). RowFits t (f x)) (sym (same_row t i r row own is there)) fits
+            | inr other ↦ subst (λ (x : ItemRow). RowFits t x) (sym (others r other)) fit
           ]
 
 -- the leader after one more bid is the bidder or led before
@@ -374,7 +384,10 @@ close_number moment row = elim (by_test (is_due moment row.item.terms)) [ inl du
 pub settlement_number : (i : ℕ) (row : ItemRow) → (with_settlement i row).item.terms.item ≡ row.item.terms.item
 settlement_number i row = elim (by_test (is_item i row)) [ inl is ↦ rw is refl | inr other ↦ rw other refl ]
 
--- nobody leads an item that has just come, and its price is the start
+-- nobody leads an item that has just come, and its price is the start, whatever the band table
+new_stands : (bands other : List (ℕ × ℕ)) (opening : Opening) → standing_of bands opening [] ≡ standing_of other opening []
+new_stands bands other opening = standing-none bands opening ∙ sym (standing-none other opening)
+
 new_price : (bands : List (ℕ × ℕ)) (opening : Opening) → opening.start ≡ (standing_of bands opening []).price
 new_price bands opening = sym (ap (λ (k : Kept). k.price) (standing-none bands opening))
 
@@ -385,7 +398,7 @@ new_leader bands opening = sym (ap (λ (k : Kept). k.leader) (standing-none band
 pub new_fits : (bands : List (ℕ × ℕ)) (number : ℕ) (item : NewItem) → IsItem number → IsMember item.seller → IsWithin 1 most_categories item.category
     → is_lot item.lot.now ≡ true → is_text 1 80 item.title.now ≡ true → is_text 0 2000 item.text.now ≡ true → IsWithin 1 most_cents item.start
     → IfSome item.buy_now (λ amount. IsWithin item.start most_cents amount) → IsMoment item.end
-    → ItemRowFits bands (new_item bands number item)
+    → ItemRowFits bands (new_item number item)
 new_fits bands number item number_fits seller_fits category_fits lot_fits title_fits text_fits start_fits buy_now_fits end_fits = record {
   item = record {
     terms = record {
@@ -410,9 +423,9 @@ new_fits bands number item number_fits seller_fits category_fits lot_fits title_
   bids = [];
   accepted = none_accepted bands (new_opening item);
   few = omega arith;
-  stands = refl;
+  stands = new_stands [] bands (new_opening item);
   top = tt;
   reserve = refl;
   count = refl;
-  told = inl (record { price = new_price bands (new_opening item); leader = new_leader bands (new_opening item) });
+  told = inl (record { price = new_price [] (new_opening item); leader = new_leader [] (new_opening item) });
 }

@@ -10,6 +10,10 @@ pub every_more : {A : Type 0} (P : A → Type 0) (xs : List A) (x : A) → AllBy
 every_more P [] x all one = (one, tt)
 every_more P (y ∷ xs) x all one = (all.0, every_more P xs x all.1 one)
 
+pub every_joined : {A : Type 0} (P : A → Type 0) (xs ys : List A) → AllByRecursion P xs → AllByRecursion P ys → AllByRecursion P (xs ++ ys)
+every_joined P [] ys all also = also
+every_joined P (x ∷ xs) ys all also = (all.0, every_joined P xs ys all.1 also)
+
 pub every_as : {A : Type 0} (P Q : A → Type 0) (xs : List A) → ((x : A) → P x → Q x) → AllByRecursion P xs → AllByRecursion Q xs
 every_as P Q [] as' all = tt
 every_as P Q (x ∷ xs) as' all = (as' x all.0, every_as P Q xs as' all.1)

@@ -12,4 +12,4 @@ pub use Rattle.house_rows.proofs.Shown.{row_found as row_is, shown_by_row, shown
 -- the items of the tables
 pub items_are : (settings : Settings) (h : History) → all_items (tables_of settings h) ≡ items settings h
 unfolding tables_of items
-items_are settings h = map_twice (row_now settings.bands h) (λ (row : ItemRow). row.item) (listings h)
+items_are settings h = map_twice (row_now settings h) (λ (row : ItemRow). row.item) (listings h)

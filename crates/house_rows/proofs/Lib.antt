@@ -13,6 +13,7 @@ pub mod RangedTables
 pub mod OpenItems
 pub mod AcceptedBids
 pub mod InTurn
+pub mod GoesBy
 pub mod RangedRows
 pub mod Sound
 pub mod ChangedRows

@@ -13,7 +13,7 @@ use Rattle.house_rows.specs.declared.state.State.{State}
 use Rattle.house_rows.specs.declared.state.State.TheVariants.{Open, Sold, Unsold, Settled}
 use Rattle.house_rows.specs.Bids.{bids_on}
 use Rattle.house_rows.specs.History.{History}
-use Rattle.house_rows.specs.Items.{Purchase, is_bought, is_open, item_now, purchase_of, shown, state_from, state_of}
+use Rattle.house_rows.specs.Items.{Purchase, is_bought, is_open, purchase_of, shown_now, state_from, state_of}
 use Rattle.house_rows.specs.Listings.{Listing, listing_at, listings}
 use Rattle.house_rows.specs.Verdict.{Rule, bid_rules, by_terms, purchase_rules, rules, verdict}
 use Rattle.house_rows.proofs.Passed.{Passes, item_pass, own_pass}
@@ -38,7 +38,7 @@ not_bought h i (Some p) e not = absurd (let some : is_bought h i ≡ true = rw (
 
 -- the rules of the listing that is known
 pub rules_of : (settings : Settings) (h : History) (l : Listing) (more : ItemShown → List Rule) → listing_at (listings h) l.item ≡ Some l → Passes settings h l.item more
-    → first_failing (more (shown settings (item_now settings.bands h l))) ≡ None
+    → first_failing (more (shown_now settings h l)) ≡ None
 rules_of settings h l more listed pass =
     let e : pass.listing ≡ l = one_listing (listing_at (listings h) l.item) pass.listing l pass.listed listed in rw e at pass.pass
 

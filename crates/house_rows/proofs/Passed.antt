@@ -7,7 +7,7 @@ use Rattle.house_rows.specs.declared.item.ItemShown.{ItemShown}
 use Rattle.house_rows.specs.declared.refusal.Refusal.{Refusal}
 use Rattle.house_rows.specs.declared.settings.Settings.{Settings}
 use Rattle.house_rows.specs.History.{History, clock}
-use Rattle.house_rows.specs.Items.{item_now, items, items_shown, shown, shown_at}
+use Rattle.house_rows.specs.Items.{items_shown, shown_at, shown_now}
 use Rattle.house_rows.specs.Limits.{last_moment}
 use Rattle.house_rows.specs.Listings.{Listing, listing_at, listings}
 use Rattle.house_rows.specs.People.{members}
@@ -29,14 +29,14 @@ first_pass (rule ∷ first) rest none = grind (arith, nat_tests, first_pass firs
 -- an item is found where its listing is
 abbrev pub item_from : Settings → History → Option Listing → Option ItemShown
 item_from settings h None = None
-item_from settings h (Some l) = Some (shown settings (item_now settings.bands h l))
+item_from settings h (Some l) = Some (shown_now settings h l)
 
-pub find_item : (settings : Settings) (h : History) (ls : List Listing) (i : ℕ) → shown_at (map (shown settings) (map (item_now settings.bands h) ls)) i ≡ item_from settings h (listing_at ls i)
+pub find_item : (settings : Settings) (h : History) (ls : List Listing) (i : ℕ) → shown_at (map (shown_now settings h) ls) i ≡ item_from settings h (listing_at ls i)
 find_item settings h [] i = refl
 find_item settings h (l ∷ ls) i = grind (arith, nat_tests, find_item settings h ls i)
 
 pub shown_is : (settings : Settings) (h : History) (i : ℕ) → shown_at (items_shown settings h) i ≡ item_from settings h (listing_at (listings h) i)
-unfolding items_shown items
+unfolding items_shown
 shown_is settings h i = find_item settings h (listings h) i
 
 -- the rules of every command
@@ -79,7 +79,7 @@ own_pass settings h moment caller command none =
 pub record Passes (settings : Settings) (h : History) (i : ℕ) (more : ItemShown → List Rule) : Type 0 where
   pub listing : Listing
   pub listed : listing_at (listings h) i ≡ Some listing
-  pub pass : first_failing (more (shown settings (item_now settings.bands h listing))) ≡ None
+  pub pass : first_failing (more (shown_now settings h listing)) ≡ None
 
 pub item_pass : (settings : Settings) (h : History) (i : ℕ) (more : ItemShown → List Rule) → first_failing (of_item (shown_at (items_shown settings h) i) more) ≡ None → Passes settings h i more
 item_pass settings h i more none =

@@ -138,7 +138,7 @@ pub record ListingsFit (ls : List Listing) : Type 0 where
   pub room : length ls ≤ most_items
 
 shown_count : (settings : Settings) (h : History) → length (items_shown settings h) ≡ length (listings h)
-unfolding items_shown items
+unfolding items_shown
 shown_count settings h = simp length-map
 
 listings_step : (settings : Settings) (h : History) (t c : ℕ) (command : Command) → IsHistory settings h → verdict settings h t c command ≡ None → ListingsFit (listings h) → ListingsFit (listings (record { moment = t; caller = c; command = command } ∷ h))

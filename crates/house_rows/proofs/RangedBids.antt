@@ -18,9 +18,9 @@ use Rattle.house_rows.specs.declared.settings.Settings.{Settings}
 use Rattle.house_rows.specs.Fits.{IsMember, IsMoment}
 use Rattle.house_rows.specs.History.{Entry, History}
 use Rattle.house_rows.specs.Bids.{bids_on}
-use Rattle.house_rows.specs.Items.{Purchase, floor_of, is_open, item_now, purchases, state_of}
+use Rattle.house_rows.specs.Items.{Purchase, floor_of, is_open, purchases, state_of, terms_now}
 use Rattle.house_rows.specs.Limits.{most_bids, most_cents}
-use Rattle.house_rows.specs.Listings.{Listing, listing_at, listing_in, listings}
+use Rattle.house_rows.specs.Listings.{Listing, bands_by, listing_at, listing_in, listings}
 use Rattle.house_rows.specs.Runs.{entry}
 use Rattle.house_rows.specs.Verdict.{IsHistory, bid_rules, by_terms, purchase_rules, rules, verdict}
 use Rattle.house_rows.proofs.Every.{every_as, every_more, found_is, found_more}
@@ -64,9 +64,9 @@ bid_fits settings h t c i m is none fits =
     let more : ItemShown → List (Bool × Refusal) = bid_rules t c m (greatest (bids_on h i) c) in
     let pass = item_pass settings h i more own in
     let l : Listing = pass.listing in
-    let terms : Terms = (item_now settings.bands h l).terms in
+    let terms : Terms = terms_now settings h l in
     let rest = bid_pass (l.seller == c) (not (is_open (state_of h l))) (nat_le l.end t) (nat_lt most_cents m) (is_leader terms.leader c && nat_le m (greatest (bids_on h i) c))
-    (not (is_leader terms.leader c) && nat_lt m (unwrap_or (floor_of settings.bands terms) 0)) (nat_le most_bids terms.count) (unwrap_or (floor_of settings.bands terms) 0) pass.pass in
+    (not (is_leader terms.leader c) && nat_lt m (unwrap_or (floor_of (bands_by settings l) terms) 0)) (nat_le most_bids terms.count) (unwrap_or (floor_of (bands_by settings l) terms) 0) pass.pass in
     let own_not = rest.0 in let within = rest.1 in let full = rest.2 in
     let same : l.item ≡ i = item_is (listings h) i l pass.listed in
     let full' : nat_le most_bids (length (bids_on h i)) ≡ false = rw same at full in

@@ -1,5 +1,5 @@
 -- The rows of items fit.
-use Rattle.std.proofs.Common.{◌≡◌, ℕ, ◌≤◌, ◌⊎◌, map, refl, inl, inr, Bool, true, false, Option, Some, None}
+use Rattle.std.proofs.Common.{◌≡◌, ℕ, List, ◌≤◌, ◌⊎◌, map, refl, sym, subst, inl, inr, Bool, true, false, Option, Some, None}
 use Rattle.std.specs.Prelude.{is_some, unwrap_or}
 use Rattle.std.specs.List.{AllByRecursion}
 use Rattle.proxy.specs.declared.bid.Bid as bid
@@ -8,12 +8,13 @@ use Rattle.house_rows.specs.Fits.{TermsFit}
 use Rattle.house_rows.specs.History.{History}
 use Rattle.house_rows.specs.Bids.{bids_on}
 use Rattle.house_rows.specs.Items.{is_bought, is_settled, is_taken, leader_of, purchase_of, state_from, terms_now}
-use Rattle.house_rows.specs.Keeping.{IsBought, IsByBids, ItemRowFits}
+use Rattle.house_rows.specs.Keeping.{IsBought, IsByBids, ItemRowFits, RowFits}
 use Rattle.house_rows.specs.Limits.{most_cents}
-use Rattle.house_rows.specs.Listings.{Listing, listed_opening, listing_at, listings}
-use Rattle.house_rows.specs.Tables.{row_now}
+use Rattle.house_rows.specs.Listings.{Listing, bands_by, listed_opening, listing_at, listings}
+use Rattle.house_rows.specs.Tables.{bands_for, row_now, tables_of}
 use Rattle.house_rows.specs.Verdict.{IsHistory, was_sold}
 use Rattle.house_rows.proofs.AcceptedBids.{bids_are_accepted, bought_known}
+use Rattle.house_rows.proofs.GoesBy.{bands_kept}
 use Rattle.house_rows.proofs.Every.{every_as, every_both, every_map}
 use Rattle.house_rows.proofs.Numbered.{numbered}
 use Rattle.house_rows.proofs.OpenItems.{not_bought}
@@ -22,11 +23,11 @@ use Rattle.house_rows.proofs.RangedBids.{BidIn, bids_fit, price_within, top_with
 use Rattle.house_rows.proofs.RangedItems.{buy_now_most, closed_by, leader_may, leads_member, leads_not, price_by, purchase_known}
 use Rattle.house_rows.proofs.RangedTalk.{sold_is_closed, sold_is_led}
 
-pub terms_fit : (settings : Settings) (h : History) (l : Listing) → IsHistory settings h → ListingRanges l → listing_at (listings h) l.item ≡ Some l → TermsFit (terms_now settings.bands h l)
+pub terms_fit : (settings : Settings) (h : History) (l : Listing) → IsHistory settings h → ListingRanges l → listing_at (listings h) l.item ≡ Some l → TermsFit (terms_now settings h l)
 terms_fit settings h l is ranges listed =
     let fits = bids_fit settings h l.item is in
     let may = leader_may settings h l is listed in
-    let by_bids = price_within settings.bands (listed_opening l) most_cents (bids_on h l.item) ranges.start.1 (every_as (BidIn h l.item) (λ (b : bid.Bid). b.maximum ≤ most_cents) (bids_on h l.item) (λ b in'. in'.maximum) fits.all) in
+    let by_bids = price_within (bands_by settings l) (listed_opening l) most_cents (bids_on h l.item) ranges.start.1 (every_as (BidIn h l.item) (λ (b : bid.Bid). b.maximum ≤ most_cents) (bids_on h l.item) (λ b in'. in'.maximum) fits.all) in
     record {
       item = ranges.item;
       seller = ranges.seller;
@@ -54,7 +55,7 @@ bought_sold true taken led false is = refl
 bought_sold false taken led false is = cc
 
 told_by : (settings : Settings) (h : History) (l : Listing) → IsHistory settings h → listing_at (listings h) l.item ≡ Some l → (bought : Bool) → is_bought h l.item ≡ bought
-    → IsByBids (row_now settings.bands h l) ⊎ IsBought (row_now settings.bands h l)
+    → IsByBids (row_now settings h l) ⊎ IsBought (row_now settings h l)
 told_by settings h l is listed false by_bids =
     let none : purchase_of h l.item ≡ None = not_bought h l.item (purchase_of h l.item) refl by_bids in
     inl (record { price = rw by_bids refl; leader = rw none refl })
@@ -66,7 +67,7 @@ told_by settings h l is listed true bought =
       price = rw bought (bought_price l.buy_now known.1);
     })
 
-row_fits : (settings : Settings) (h : History) (l : Listing) → IsHistory settings h → ListingRanges l → listing_at (listings h) l.item ≡ Some l → ItemRowFits settings.bands (row_now settings.bands h l)
+row_fits : (settings : Settings) (h : History) (l : Listing) → IsHistory settings h → ListingRanges l → listing_at (listings h) l.item ≡ Some l → ItemRowFits (bands_by settings l) (row_now settings h l)
 row_fits settings h l is ranges listed =
     let fits = bids_fit settings h l.item is in
     record {
@@ -81,8 +82,9 @@ row_fits settings h l is ranges listed =
       told = told_by settings h l is listed (is_bought h l.item) refl;
     }
 
-pub rows_fit : (settings : Settings) (h : History) → IsHistory settings h → AllByRecursion (ItemRowFits settings.bands) (map (row_now settings.bands h) (listings h))
+pub rows_fit : (settings : Settings) (h : History) → IsHistory settings h → AllByRecursion (RowFits (tables_of settings h)) (map (row_now settings h) (listings h))
 rows_fit settings h is =
-    every_map (row_now settings.bands h) (ItemRowFits settings.bands) (listings h)
-    (every_both ListingRanges (λ l. listing_at (listings h) l.item ≡ Some l) (λ l. ItemRowFits settings.bands (row_now settings.bands h l)) (listings h)
-    (λ l ranges listed. row_fits settings h l is ranges listed) (listings_fit settings h is).all (numbered h).own)
+    every_map (row_now settings h) (RowFits (tables_of settings h)) (listings h)
+    (every_both ListingRanges (λ l. listing_at (listings h) l.item ≡ Some l) (λ l. RowFits (tables_of settings h) (row_now settings h l)) (listings h)
+    (λ l ranges listed. subst (λ (bands : List (ℕ × ℕ)). ItemRowFits bands (row_now settings h l)) (sym (bands_kept settings h l.item l listed)) (row_fits settings h l is ranges listed))
+    (listings_fit settings h is).all (numbered h).own)

@@ -20,14 +20,14 @@ use Rattle.house_rows.specs.Changed.{changed, new_item, question_key, with_answe
 use Rattle.house_rows.specs.Fits.{BidRowFits, CategoryFits, FeedbackFits, IsItem, IsMember, IsMoment, IsWithin, MemberFits, QuestionFits, WatchRowFits}
 use Rattle.house_rows.specs.Found.{ask_count}
 use Rattle.house_rows.specs.History.{Key, counted, is_less, put_by}
-use Rattle.house_rows.specs.Keeping.{AreInTurn, AreSound, ItemRowFits}
+use Rattle.house_rows.specs.Keeping.{AreInTurn, AreSound, ItemRowFits, RowFits}
 use Rattle.house_rows.specs.Limits.{most_bids, most_categories, most_items, most_members, most_questions, most_watches}
 use Rattle.house_rows.specs.Questions.{is_question}
 use Rattle.house_rows.specs.Ratings.{feedback_key, other_party}
-use Rattle.house_rows.specs.Tables.{ItemRow, Tables, row_opening}
+use Rattle.house_rows.specs.Tables.{ItemRow, Tables, bands_for, row_opening}
 use Rattle.house_rows.specs.Text.{is_text}
 use Rattle.house_rows.specs.Watches.{WatchRow, unwatched, watch_key}
-use Rattle.house_rows.proofs.ChangedRows.{close_fits, close_number, new_fits, one_changed, purchase_fits, purchase_number, purchase_other, room_for, settlement_fits, settlement_number, settlement_other, standing_fits, standing_number, standing_other, there_fits, there_is, there_within}
+use Rattle.house_rows.proofs.ChangedRows.{close_fits, close_number, new_fits, fits_at, one_changed, purchase_fits, purchase_number, purchase_other, room_for, settlement_fits, settlement_number, settlement_other, standing_fits, standing_number, standing_other, there_fits, there_fits_by, there_is, there_numbered, there_within}
 use Rattle.house_rows.proofs.Every.{every_as, every_map, every_more, every_put}
 use Rattle.house_rows.proofs.InTurn.{turn_map, turn_more}
 use Rattle.house_rows.proofs.Put.{by_test, filter_put_other}
@@ -93,7 +93,7 @@ categories_after t categories sound fit in_turn few = record {
   feedback = sound.feedback;
 }
 
-items_after : (t : Tables) (items : List ItemRow) → AreSound t → AllByRecursion (ItemRowFits t.settings.bands) items → AreInTurn (λ row. row.item.terms.item) 1 items → length items ≤ most_items
+items_after : (t : Tables) (items : List ItemRow) → AreSound t → AllByRecursion (RowFits t) items → AreInTurn (λ row. row.item.terms.item) 1 items → length items ≤ most_items
     → AreSound (record t { items = items })
 items_after t items sound fit in_turn few = record {
   clock = sound.clock;
@@ -206,7 +206,7 @@ category_there (k ∷ ks) n all there =
 
 -- where every item keeps its number and fits
 rows_after : (t : Tables) (moment : ℕ) (f : ItemRow → ItemRow) → AreSound t → IsMoment moment → ((row : ItemRow) → (f row).item.terms.item ≡ row.item.terms.item)
-    → AllByRecursion (ItemRowFits t.settings.bands) (map f t.items) → AreSound (record t { clock = moment; items = map f t.items })
+    → AllByRecursion (RowFits t) (map f t.items) → AreSound (record t { clock = moment; items = map f t.items })
 rows_after t moment f sound moment_fits same fit =
     items_after (record t { clock = moment }) (map f t.items) (clock_after t moment sound moment_fits) fit
     (turn_map (λ (row : ItemRow). row.item.terms.item) (λ (row : ItemRow). row.item.terms.item) f 1 t.items same sound.items_in_turn)
@@ -233,13 +233,13 @@ category_after t moment name sound fits =
     (simp length-append (omega arith))
 
 listing_after : (t : Tables) (moment : ℕ) (item : NewItem) → AreSound t → ListingFits t moment item
-    → AreSound (record t { clock = moment; items = t.items ++ new_item t.settings.bands (length t.items + 1) item ∷ [] })
+    → AreSound (record t { clock = moment; items = t.items ++ new_item (length t.items + 1) item ∷ [] })
 listing_after t moment item sound fits =
-    let row : ItemRow = new_item t.settings.bands (length t.items + 1) item in
+    let row : ItemRow = new_item (length t.items + 1) item in
     let room : length t.items < most_items = fits.room in
     items_after (record t { clock = moment }) (t.items ++ row ∷ []) (clock_after t moment sound fits.moment_fits)
-    (every_more (ItemRowFits t.settings.bands) t.items row sound.items
-    (new_fits t.settings.bands (length t.items + 1) item (omega arith, omega arith) (member_there t item.seller sound fits.seller_there)
+    (every_more (RowFits t) t.items row sound.items
+    (new_fits (bands_for t (length t.items + 1)) (length t.items + 1) item (omega arith, omega arith) (member_there t item.seller sound fits.seller_there)
     (category_there t.categories item.category sound.categories fits.category_there) fits.lot_fits fits.title_fits fits.text_fits fits.start_fits fits.buy_now_fits fits.end_fits))
     (turn_more (λ (row : ItemRow). row.item.terms.item) 1 t.items row sound.items_in_turn refl)
     (simp length-append (omega arith))
@@ -251,11 +251,12 @@ bid_after t moment item placed standing sound fits =
     let bids : List bid.Bid = fits.bids in
     let member : IsMember placed.member = member_there t placed.member sound fits.bidder_there in
     let new : bid.Bid = record { member = placed.member; maximum = placed.maximum; no = length bids + 1 } in
-    let room : length bids < most_bids = room_for t.settings.bands (row_opening row) bids placed.member placed.maximum (fits.accepted bids new [] refl).accepted in
+    let room : length bids < most_bids = room_for (bands_for t item) (row_opening row) bids placed.member placed.maximum (fits.accepted bids new [] refl).accepted in
     let numbered : placed.no ≡ length bids + 1 = fits.numbered in
-    let row_fits : ItemRowFits t.settings.bands (with_standing item standing row) =
-    standing_fits t.settings.bands item standing row bids placed.member placed.maximum (there_is t item row fits.row_there) (there_fits t item row sound fits.row_there)
-    fits.is_open fits.stands member fits.apart fits.maximum_fits fits.accepted fits.stands_after in
+    let row_fits : RowFits t (with_standing item standing row) =
+    fits_at t item (with_standing item standing row) (standing_number item standing row ∙ there_numbered t item row fits.row_there)
+    (standing_fits (bands_for t item) item standing row bids placed.member placed.maximum (there_is t item row fits.row_there) (there_fits_by t item row sound fits.row_there)
+    fits.is_open fits.stands member fits.apart fits.maximum_fits fits.accepted fits.stands_after) in
     bids_after (record t { clock = moment; items = map (with_standing item standing) t.items }) (put_by bid_key (record { item = item; bid = placed }) t.bids)
     (rows_after t moment (with_standing item standing) sound fits.moment_fits (standing_number item standing)
     (one_changed t item row (with_standing item standing) sound fits.row_there (standing_other item standing) row_fits))
@@ -271,20 +272,23 @@ purchase_after : (t : Tables) (moment item buyer price : ℕ) → AreSound t →
 purchase_after t moment item buyer price sound fits =
     rows_after t moment (with_purchase item buyer price moment) sound fits.moment_fits (purchase_number item buyer price moment)
     (one_changed t item fits.row (with_purchase item buyer price moment) sound fits.row_there (purchase_other item buyer price moment)
-    (purchase_fits t.settings.bands item buyer price moment fits.row (there_is t item fits.row fits.row_there) (there_fits t item fits.row sound fits.row_there)
-    (member_there t buyer sound fits.buyer_there) fits.apart fits.moment_fits fits.no_bid fits.at_price))
+    (fits_at t fits.row.item.terms.item (with_purchase item buyer price moment fits.row) (purchase_number item buyer price moment fits.row)
+    (purchase_fits (bands_for t fits.row.item.terms.item) item buyer price moment fits.row (there_is t item fits.row fits.row_there) (there_fits t item fits.row sound fits.row_there)
+    (member_there t buyer sound fits.buyer_there) fits.apart fits.moment_fits fits.no_bid fits.at_price)))
 
 close_after : (t : Tables) (moment : ℕ) → AreSound t → IsMoment moment → AreSound (record t { clock = moment; items = map (with_close moment) t.items })
 close_after t moment sound fits =
     rows_after t moment (with_close moment) sound fits (close_number moment)
-    (every_map (with_close moment) (ItemRowFits t.settings.bands) t.items
-    (every_as (ItemRowFits t.settings.bands) (λ row. ItemRowFits t.settings.bands (with_close moment row)) t.items (close_fits t.settings.bands moment) sound.items))
+    (every_map (with_close moment) (RowFits t) t.items
+    (every_as (RowFits t) (λ row. RowFits t (with_close moment row)) t.items
+    (λ row fits. fits_at t row.item.terms.item (with_close moment row) (close_number moment row) (close_fits (bands_for t row.item.terms.item) moment row fits)) sound.items))
 
 settlement_after : (t : Tables) (moment item : ℕ) → AreSound t → SettlementFits t moment item → AreSound (record t { clock = moment; items = map (with_settlement item) t.items })
 settlement_after t moment item sound fits =
     rows_after t moment (with_settlement item) sound fits.moment_fits (settlement_number item)
     (one_changed t item fits.row (with_settlement item) sound fits.row_there (settlement_other item)
-    (settlement_fits t.settings.bands item fits.row (there_is t item fits.row fits.row_there) (there_fits t item fits.row sound fits.row_there) fits.is_sold))
+    (fits_at t fits.row.item.terms.item (with_settlement item fits.row) (settlement_number item fits.row)
+    (settlement_fits (bands_for t fits.row.item.terms.item) item fits.row (there_is t item fits.row fits.row_there) (there_fits t item fits.row sound fits.row_there) fits.is_sold)))
 
 -- what a row that is put adds to a count, and what is left of one
 counted_put : {A : Type 0} (key : A → Key) (p : A → Bool) (x : A) (xs : List A) → p x ≡ true → counted p (put_by key x xs) ≡ counted p xs + 1

@@ -15,7 +15,7 @@ use Rattle.house_rows.specs.Found.{ask_count, category_at, category_named, is_gi
 use Rattle.house_rows.specs.History.{counted}
 use Rattle.house_rows.specs.Limits.{most_cents, most_categories, most_items, most_members, most_questions, most_watches}
 use Rattle.house_rows.specs.Ratings.{other_party}
-use Rattle.house_rows.specs.Tables.{ItemRow, Tables, row_opening}
+use Rattle.house_rows.specs.Tables.{ItemRow, Tables, bands_for, row_opening}
 use Rattle.house_rows.specs.Verdict.{was_sold}
 use Rattle.house_rows.specs.Text.{is_lot, is_text}
 
@@ -57,10 +57,10 @@ pub record BidFits (t : Tables) (moment item : ℕ) (placed : bid.Bid) (standing
   pub maximum_fits : placed.maximum ≤ most_cents
   -- some bids of which the row keeps the standing, whichever they are
   pub bids : List bid.Bid
-  pub stands : row.standing ≡ standing_of t.settings.bands (row_opening row) bids
-  pub accepted : AreAccepted t.settings.bands (row_opening row) (one_more bids placed.member placed.maximum)
+  pub stands : row.standing ≡ standing_of (bands_for t item) (row_opening row) bids
+  pub accepted : AreAccepted (bands_for t item) (row_opening row) (one_more bids placed.member placed.maximum)
   pub numbered : placed.no ≡ length bids + 1
-  pub stands_after : standing ≡ standing_of t.settings.bands (row_opening row) (one_more bids placed.member placed.maximum)
+  pub stands_after : standing ≡ standing_of (bands_for t item) (row_opening row) (one_more bids placed.member placed.maximum)
 
 -- a purchase of another member's open item that has a buy-now price and no bid, at that price
 pub record PurchaseFits (t : Tables) (moment item buyer price : ℕ) : Type 0 where

@@ -62,9 +62,9 @@ with_answer i asker number text q = if is_question i asker number q then record 
 abbrev pub new_opening : NewItem → Opening
 new_opening new = record { start = new.start; reserve = None }
 
--- the row of a new item
-abbrev pub new_item : List (ℕ × ℕ) → ℕ → NewItem → ItemRow
-new_item bands number new = record {
+-- the row of a new item. Where nobody has bid no band table matters
+abbrev pub new_item : ℕ → NewItem → ItemRow
+new_item number new = record {
   item = record {
     terms = record {
       item = number;
@@ -83,7 +83,7 @@ new_item bands number new = record {
     title = new.title.now;
     text = new.text.now;
   };
-  standing = standing_of bands (new_opening new) [];
+  standing = standing_of [] (new_opening new) [];
 }
 
 -- the tables after a change
@@ -98,7 +98,7 @@ changed t (AddCategory moment name) = record t {
 }
 changed t (Listed moment item) = record t {
   clock = moment;
-  items = t.items ++ new_item t.settings.bands (length t.items + 1) item ∷ [];
+  items = t.items ++ new_item (length t.items + 1) item ∷ [];
 }
 changed t (Bid moment item placed standing) = record t {
   clock = moment;

@@ -12,7 +12,7 @@ use Rattle.house_rows.specs.declared.settings.Settings.{Settings}
 use Rattle.house_rows.specs.declared.state.State.{State}
 use Rattle.house_rows.specs.declared.state.State.TheVariants.{Open, Sold, Unsold, Settled}
 use Rattle.house_rows.specs.History.{History}
-use Rattle.house_rows.specs.Listings.{Listing, listed_opening, listings}
+use Rattle.house_rows.specs.Listings.{Listing, bands_by, listed_opening, listings}
 use Rattle.house_rows.specs.Bids.{bids_on}
 
 -- who bought an item at once, and when
@@ -112,8 +112,8 @@ abbrev pub closed_at : History → Listing → Option ℕ
 closed_at h l = closed_from (purchase_of h l.item) (is_taken h l) l.end
 
 -- the terms of a listed item after a history
-abbrev pub terms_now : List (ℕ × ℕ) → History → Listing → Terms
-terms_now bands h l = record {
+abbrev pub terms_now : Settings → History → Listing → Terms
+terms_now settings h l = record {
   item = l.item;
   seller = l.seller;
   category = l.category;
@@ -122,18 +122,18 @@ terms_now bands h l = record {
   end = l.end;
   state = state_of h l;
   closed = closed_at h l;
-  price = price_of bands h l;
+  price = price_of (bands_by settings l) h l;
   leader = leader_of h l;
   count = length (bids_on h l.item);
 }
 
 -- a listed item after a history, with its texts as they were listed
-abbrev pub item_now : List (ℕ × ℕ) → History → Listing → Item
-item_now bands h l = record { terms = terms_now bands h l; lot = l.lot; title = l.title; text = l.text }
+abbrev pub item_now : Settings → History → Listing → Item
+item_now settings h l = record { terms = terms_now settings h l; lot = l.lot; title = l.title; text = l.text }
 
 -- every item, by number
 unfoldable pub items : Settings → History → List Item
-items settings h = map (item_now settings.bands h) (listings h)
+items settings h = map (item_now settings h) (listings h)
 
 -- whether a state is that of an open item
 abbrev pub is_open : State → Bool
@@ -149,13 +149,17 @@ abbrev pub floor_of : List (ℕ × ℕ) → Terms → Option ℕ
 floor_of bands terms =
     if is_open terms.state then Some (if terms.count == 0 then terms.start else over bands terms.price) else None
 
--- an item as pages show it
-abbrev pub shown : Settings → Item → ItemShown
-shown settings it = record { item = it; floor = floor_of settings.bands it.terms }
+-- an item as pages show it, by its band table
+abbrev pub shown : List (ℕ × ℕ) → Item → ItemShown
+shown bands it = record { item = it; floor = floor_of bands it.terms }
+
+-- a listed item as pages show it, by the band table of its listing
+abbrev pub shown_now : Settings → History → Listing → ItemShown
+shown_now settings h l = shown (bands_by settings l) (item_now settings h l)
 
 -- every item as pages show it, by number
 unfoldable pub items_shown : Settings → History → List ItemShown
-items_shown settings h = map (shown settings) (items settings h)
+items_shown settings h = map (shown_now settings h) (listings h)
 
 -- the item of that number, if there is one
 abbrev pub shown_at : List ItemShown → ℕ → Option ItemShown

@@ -12,10 +12,11 @@ use Rattle.house_rows.specs.declared.fault.KeepFault.{KeepFault}
 use Rattle.house_rows.specs.declared.fault.KeepFault.TheVariants.{Store, Damaged}
 use Rattle.house_rows.specs.Asks.{IsFree}
 use Rattle.house_rows.specs.Fits.{BidRowFits, CategoryFits, FeedbackFits, IsMoment, ItemFits, MemberFits, QuestionFits, WatchRowFits}
+use Rattle.house_rows.specs.Editions.{BandTables}
 use Rattle.house_rows.specs.Found.{terms_at}
 use Rattle.house_rows.specs.History.{counted}
 use Rattle.house_rows.specs.Limits.{most_bids, most_categories, most_cents, most_items, most_members, most_watches}
-use Rattle.house_rows.specs.Tables.{ItemRow, Tables, row_opening}
+use Rattle.house_rows.specs.Tables.{ItemRow, Tables, band_tables, bands_for, row_opening}
 use Rattle.house_rows.specs.Verdict.{was_sold}
 
 -- price and leader are those of the bids
@@ -46,13 +47,17 @@ pub record IsPurchase (t : Terms) : Type 0 where
 abbrev pub Stands : List (ℕ × ℕ) → Terms → Type 0
 Stands bands t = IsByStanding bands t ⊎ IsPurchase t
 
--- every item's row that passes a test stands, by the bands of the house
+-- by its own band table
+abbrev pub StandsIn : Tables → Terms → Type 0
+StandsIn t terms = Stands (bands_for t terms.item) terms
+
+-- every item's row that passes a test stands, each by its own band table
 abbrev pub AllStand : (ItemRow → Bool) → Tables → Type 0
-AllStand test t = AllByRecursion (λ row. Stands t.settings.bands row.item.terms) (filter test t.items)
+AllStand test t = AllByRecursion (λ row. StandsIn t row.item.terms) (filter test t.items)
 
 -- the item of a number stands, if there is one
 abbrev pub StandsAt : Tables → ℕ → Type 0
-StandsAt t item = IfSome (terms_at t item) (Stands t.settings.bands)
+StandsAt t item = IfSome (terms_at t item) (StandsIn t)
 
 -- the rows of an item fit: the item itself, and its standing, which is that of some accepted bids in range
 pub record ItemRowFits (bands : List (ℕ × ℕ)) (row : ItemRow) : Type 0 where
@@ -69,6 +74,10 @@ pub record ItemRowFits (bands : List (ℕ × ℕ)) (row : ItemRow) : Type 0 wher
   -- what everybody sees of the row
   pub told : IsByBids row ⊎ IsBought row
 
+-- by the item's own band table
+abbrev pub RowFits : Tables → ItemRow → Type 0
+RowFits t row = ItemRowFits (bands_for t row.item.terms.item) row
+
 -- each has the next number
 abbrev pub AreInTurn : {A : Type 0} → (A → ℕ) → ℕ → List A → Type 0
 AreInTurn number next [] = Unit {0}
@@ -84,7 +93,7 @@ pub record AreSound (t : Tables) : Type 0 where
   pub categories : AllByRecursion CategoryFits t.categories
   pub categories_in_turn : AreInTurn (λ k. k.category) 1 t.categories
   pub few_categories : length t.categories ≤ most_categories
-  pub items : AllByRecursion (ItemRowFits t.settings.bands) t.items
+  pub items : AllByRecursion (RowFits t) t.items
   pub items_in_turn : AreInTurn (λ row. row.item.terms.item) 1 t.items
   pub few_items : length t.items ≤ most_items
   pub bids : AllByRecursion BidRowFits t.bids
@@ -93,10 +102,10 @@ pub record AreSound (t : Tables) : Type 0 where
   pub questions : AllByRecursion QuestionFits t.questions
   pub feedback : AllByRecursion FeedbackFits t.feedback
 
--- the tables are sound, and these are their bands
-pub record AreSoundBy (bands : List (ℕ × ℕ)) (t : Tables) : Type 0 where
+-- the tables are sound, and these are their band tables
+pub record AreSoundBy (editions : BandTables) (t : Tables) : Type 0 where
   pub sound : AreSound t
-  pub same : bands ≡ t.settings.bands
+  pub same : editions ≡ band_tables t
 
 -- Store comes exactly where the keep is failed as the call ends, and Damaged only where a row doesn't fit
 pub record Faults {A : Type 0} (result : Result A KeepFault) (is_honest : Type 0) (is_failed : Bool) (content : Tables) : Type 0 where

@@ -4,6 +4,7 @@ pub mod Limits
 pub mod History
 pub mod People
 pub mod Listings
+pub mod Editions
 pub mod Bids
 pub mod Items
 pub mod Questions

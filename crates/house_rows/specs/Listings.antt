@@ -3,9 +3,15 @@ use Rattle.std.specs.Prelude.{ℕ, ◌+◌, List, [], ◌∷◌, ◌++◌, ◌==
 use Rattle.proxy.specs.Opening.{Opening}
 use Rattle.house_rows.specs.declared.command.Command.{Command}
 use Rattle.house_rows.specs.declared.command.Command.TheVariants.{List as Listed}
+use Rattle.house_rows.specs.declared.settings.Settings.{Settings}
 use Rattle.house_rows.specs.History.{History}
 
--- what its seller said of an item
+-- the newest of band tables: the last of those that were set, or this one where there is none
+abbrev pub newest_of : List (ℕ × ℕ) → List (List (ℕ × ℕ)) → List (ℕ × ℕ)
+newest_of first [] = first
+newest_of first (bands ∷ set) = newest_of bands set
+
+-- what its seller said of an item, and the band tables that were set before it
 pub record Listing : Type 0 where
   pub item : ℕ
   pub seller : ℕ
@@ -16,6 +22,7 @@ pub record Listing : Type 0 where
   pub start : ℕ
   pub buy_now : Option ℕ
   pub end : ℕ
+  pub set : List (List (ℕ × ℕ))
 
 -- what bidding on it opens with
 abbrev pub listed_opening : Listing → Opening
@@ -33,6 +40,7 @@ listing_in number caller (Listed category lot title text start buy_now end) = re
   start = start;
   buy_now = buy_now;
   end = end;
+  set = [];
 } ∷ []
 listing_in number caller _ = []
 
@@ -40,6 +48,10 @@ listing_in number caller _ = []
 abbrev pub listings : History → List Listing
 listings [] = []
 listings (e ∷ h) = listings h ++ listing_in (length (listings h) + 1) e.caller e.command
+
+-- the band table by which what was listed goes: the newest of them, or the one that the house was set up with
+abbrev pub bands_by : Settings → Listing → List (ℕ × ℕ)
+bands_by settings l = newest_of settings.bands l.set
 
 -- the listing of an item
 abbrev pub listing_at : List Listing → ℕ → Option Listing

@@ -11,7 +11,8 @@ use Rattle.house_rows.specs.declared.talk.Feedback.{Feedback}
 use Rattle.house_rows.specs.declared.talk.Question.{Question}
 use Rattle.house_rows.specs.History.{History, clock}
 use Rattle.house_rows.specs.People.{categories, members}
-use Rattle.house_rows.specs.Listings.{Listing, listed_opening, listings}
+use Rattle.house_rows.specs.Editions.{BandTables, bands_in}
+use Rattle.house_rows.specs.Listings.{Listing, bands_by, listed_opening, listings}
 use Rattle.house_rows.specs.Bids.{BidRow, bid_rows, bids_on}
 use Rattle.house_rows.specs.Items.{item_now}
 use Rattle.house_rows.specs.Questions.{questions}
@@ -39,9 +40,20 @@ pub record Tables : Type 0 where
   pub questions : List Question
   pub feedback : List Feedback
 
+-- all band tables
+abbrev pub band_tables : Tables → BandTables
+band_tables t = record { settings = t.settings; later = [] }
+
+-- the band table of an item, by the tables
+abbrev pub bands_for : Tables → ℕ → List (ℕ × ℕ)
+bands_for t item = bands_in (band_tables t) item
+
 -- the row of a listed item after a history
-abbrev pub row_now : List (ℕ × ℕ) → History → Listing → ItemRow
-row_now bands h l = record { item = item_now bands h l; standing = standing_of bands (listed_opening l) (bids_on h l.item) }
+abbrev pub row_now : Settings → History → Listing → ItemRow
+row_now settings h l = record {
+  item = item_now settings h l;
+  standing = standing_of (bands_by settings l) (listed_opening l) (bids_on h l.item);
+}
 
 -- the tables of a history
 unfoldable pub tables_of : Settings → History → Tables
@@ -50,7 +62,7 @@ tables_of settings h = record {
   clock = clock h;
   members = members h;
   categories = categories h;
-  items = map (row_now settings.bands h) (listings h);
+  items = map (row_now settings h) (listings h);
   bids = bid_rows h;
   watches = watches h;
   questions = questions h;

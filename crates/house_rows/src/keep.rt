@@ -7,12 +7,13 @@ ghost use Rattle.house_rows.specs.Changed.{changed};
 ghost use Rattle.house_rows.specs.Fits.{CategoryFits, FeedbackFits, IsItem, IsMember, IsMoment, IsWithin, ItemFits, MemberFits, OwnBidFits, QuestionFits, StandingFits, TermsFit};
 ghost use Rattle.house_rows.specs.Found.{all_items, all_published, ask_count, best_of, category_at, category_named, counts_of, due_at, feedback_to, first_waiting, is_given, is_watched, item_at, item_with_lot, items_in, items_watched, member_named, own_bids, published_on, question_at, questions_of, sales_to, standing_at, terms_at, waiting_for, watch_count};
 ghost use Rattle.house_rows.specs.Items.{is_due};
-ghost use Rattle.house_rows.specs.Keeping.{AllStand, AreSound, ChangeFaults, Faults, IsRead, Stands, StandsAt};
+ghost use Rattle.house_rows.specs.Keeping.{AllStand, AreSound, ChangeFaults, Faults, IsRead, StandsAt, StandsIn};
 ghost use Rattle.house_rows.specs.Limits.{most_categories, most_items};
 ghost use Rattle.house_rows.specs.Pages.{member_at, ratings_of, sale_of};
-ghost use Rattle.house_rows.specs.Tables.{Tables};
+ghost use Rattle.house_rows.specs.Tables.{Tables, band_tables};
 
 use crate::change::Change;
+use crate::editions::Editions;
 use crate::fault::KeepFault;
 use crate::item::{Due, Item, OwnBest, OwnBid, Terms};
 use crate::people::{Category, Counts, Member, Ratings};
@@ -42,6 +43,11 @@ pub trait Keep {
     /// What the house was set up with.
     fn settings(&self) -> Result<&Settings, KeepFault>
         ensures value { is_honest self.now → IfOk result (λ v. v.now ≡ (content self.now).settings) }
+        ensures faults { Faults result (is_honest self.now) (is_failed self.now) (content self.now) };
+
+    /// The settings, and all band tables.
+    fn editions(&self) -> Result<&Editions, KeepFault>
+        ensures value { is_honest self.now → IfOk result (λ v. v.now ≡ band_tables (content self.now)) }
         ensures faults { Faults result (is_honest self.now) (is_failed self.now) (content self.now) };
 
     /// The moment of the last command that moves the clock.
@@ -103,7 +109,7 @@ pub trait Keep {
     fn item(&mut self, item: u64) -> Result<Option<Item>, KeepFault>
         ensures value { is_honest self.new → IfOk result (λ v. v ≡ item_at (content self.old) item) }
         ensures fits { IfOk result (λ v. IfSome v ItemFits) }
-        ensures stands { is_honest self.new → IfOk result (λ v. IfSome v (λ it. Stands (content self.old).settings.bands it.terms)) }
+        ensures stands { is_honest self.new → IfOk result (λ v. IfSome v (λ it. StandsIn (content self.old) it.terms)) }
         ensures faults { Faults result (is_honest self.new) (is_failed self.new) (content self.old) }
         ensures read { IsRead content is_failed is_honest may_leave self.old self.new };
 
@@ -111,7 +117,7 @@ pub trait Keep {
     fn terms(&mut self, item: u64) -> Result<Option<Terms>, KeepFault>
         ensures value { is_honest self.new → IfOk result (λ v. v ≡ terms_at (content self.old) item) }
         ensures fits { IfOk result (λ v. IfSome v TermsFit) }
-        ensures stands { is_honest self.new → IfOk result (λ v. IfSome v (λ t. Stands (content self.old).settings.bands t)) }
+        ensures stands { is_honest self.new → IfOk result (λ v. IfSome v (StandsIn (content self.old))) }
         ensures faults { Faults result (is_honest self.new) (is_failed self.new) (content self.old) }
         ensures read { IsRead content is_failed is_honest may_leave self.old self.new };
 
@@ -188,7 +194,7 @@ pub trait Keep {
     fn items_in(&mut self, category: u64, from: u64) -> Result<Vec<Item>, KeepFault>
         ensures value { is_honest self.new → IfOk result (λ v. v.items ≡ items_in (content self.old) category from) }
         ensures fits { IfOk result (λ v. AllByRecursion ItemFits v.items) }
-        ensures stands { is_honest self.new → IfOk result (λ v. AllByRecursion (λ it. Stands (content self.old).settings.bands it.terms) v.items) }
+        ensures stands { is_honest self.new → IfOk result (λ v. AllByRecursion (λ it. StandsIn (content self.old) it.terms) v.items) }
         ensures faults { Faults result (is_honest self.new) (is_failed self.new) (content self.old) }
         ensures read { IsRead content is_failed is_honest may_leave self.old self.new };
 
@@ -239,7 +245,7 @@ pub trait Keep {
     fn items(&mut self) -> Result<Vec<Item>, KeepFault>
         ensures value { is_honest self.new → IfOk result (λ v. v.items ≡ all_items (content self.old)) }
         ensures fits { IfOk result (λ v. AllByRecursion ItemFits v.items) }
-        ensures stands { is_honest self.new → IfOk result (λ v. AllByRecursion (λ it. Stands (content self.old).settings.bands it.terms) v.items) }
+        ensures stands { is_honest self.new → IfOk result (λ v. AllByRecursion (λ it. StandsIn (content self.old) it.terms) v.items) }
         ensures faults { Faults result (is_honest self.new) (is_failed self.new) (content self.old) }
         ensures read { IsRead content is_failed is_honest may_leave self.old self.new };
 
@@ -261,7 +267,7 @@ pub trait Keep {
     fn watches_of(&mut self, member: u64) -> Result<Vec<Item>, KeepFault>
         ensures value { is_honest self.new → IfOk result (λ v. v.items ≡ items_watched (content self.old) member) }
         ensures fits { IfOk result (λ v. AllByRecursion ItemFits v.items) }
-        ensures stands { is_honest self.new → IfOk result (λ v. AllByRecursion (λ it. Stands (content self.old).settings.bands it.terms) v.items) }
+        ensures stands { is_honest self.new → IfOk result (λ v. AllByRecursion (λ it. StandsIn (content self.old) it.terms) v.items) }
         ensures faults { Faults result (is_honest self.new) (is_failed self.new) (content self.old) }
         ensures read { IsRead content is_failed is_honest may_leave self.old self.new };
 

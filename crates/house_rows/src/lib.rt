@@ -8,6 +8,8 @@
 
 mod change;
 mod command;
+mod edition;
+mod editions;
 mod fault;
 mod item;
 mod keep;
@@ -28,6 +30,8 @@ mod told;
 
 pub use change::{Change, NewItem};
 pub use command::Command;
+pub use edition::Edition;
+pub use editions::Editions;
 pub use fault::KeepFault;
 pub use item::{Due, Item, ItemShown, OwnBest, OwnBid, Terms};
 pub use keep::Keep;
