@@ -12,7 +12,7 @@ use Rattle.house_rows.specs.declared.item.Terms.{Terms}
 use Rattle.house_rows.specs.declared.settings.Settings.{Settings}
 use Rattle.house_rows.specs.Fits.{IsMember, IsMoment, TermsFit}
 use Rattle.house_rows.specs.History.{History}
-use Rattle.house_rows.specs.Items.{item_now, items, items_shown, shown, state_of, leader_of, terms_now}
+use Rattle.house_rows.specs.Items.{items_shown, leader_of, shown_now, state_of, terms_now}
 use Rattle.house_rows.specs.Listings.{Listing, listing_at, listings}
 use Rattle.house_rows.specs.Pages.{all_sales, sale_of}
 use Rattle.house_rows.specs.Verdict.{IsHistory, was_sold}
@@ -43,17 +43,17 @@ every_append : (P : Sold → Type 0) (xs ys : List Sold) → AllByRecursion P xs
 every_append P [] ys all also = also
 every_append P (x ∷ xs) ys all also = (all.0, every_append P xs ys all.1 also)
 
-sales_fit : (settings : Settings) (h : History) (ls : List Listing) → AllByRecursion (λ l. TermsFit (terms_now settings.bands h l) × (was_sold (state_of h l) ≡ true → is_some (leader_of h l) ≡ true)) ls
-    → AllByRecursion IsSale (all_sales (map (shown settings) (map (item_now settings.bands h) ls)))
+sales_fit : (settings : Settings) (h : History) (ls : List Listing) → AllByRecursion (λ l. TermsFit (terms_now settings h l) × (was_sold (state_of h l) ≡ true → is_some (leader_of h l) ≡ true)) ls
+    → AllByRecursion IsSale (all_sales (map (shown_now settings h) ls))
 sales_fit settings h [] all = tt
 sales_fit settings h (l ∷ ls) all =
-    every_append IsSale (sale_of (terms_now settings.bands h l)) _ (sale_fits (terms_now settings.bands h l) all.0.0 all.0.1) (sales_fit settings h ls all.1)
+    every_append IsSale (sale_of (terms_now settings h l)) _ (sale_fits (terms_now settings h l) all.0.0 all.0.1) (sales_fit settings h ls all.1)
 
 pub sales_are_fit : (settings : Settings) (h : History) → IsHistory settings h → AllByRecursion IsSale (all_sales (items_shown settings h))
-unfolding items_shown items
+unfolding items_shown
 sales_are_fit settings h is =
     sales_fit settings h (listings h)
-    (every_both ListingRanges (λ l. listing_at (listings h) l.item ≡ Some l) (λ l. TermsFit (terms_now settings.bands h l) × (was_sold (state_of h l) ≡ true → is_some (leader_of h l) ≡ true)) (listings h)
+    (every_both ListingRanges (λ l. listing_at (listings h) l.item ≡ Some l) (λ l. TermsFit (terms_now settings h l) × (was_sold (state_of h l) ≡ true → is_some (leader_of h l) ≡ true)) (listings h)
     (λ l ranges listed. (terms_fit settings h l is ranges listed, sold_is_led settings h l is listed)) (listings_fit settings h is).all (numbered h).own)
 
 -- over the members that the sales name, what is bought is net plus fees

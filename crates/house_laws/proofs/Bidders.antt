@@ -14,7 +14,7 @@ use Rattle.house_rows.specs.declared.settings.Settings.{Settings}
 use Rattle.house_rows.specs.Bids.{bids_on}
 use Rattle.house_rows.specs.History.{History}
 use Rattle.house_rows.specs.Items.{is_bought, leader_of, price_of, purchase_of}
-use Rattle.house_rows.specs.Listings.{Listing, listed_opening, listing_at, listings}
+use Rattle.house_rows.specs.Listings.{Listing, bands_by, listed_opening, listing_at, listings}
 use Rattle.house_rows.specs.Verdict.{IsHistory}
 use Rattle.house_rows.proofs.AcceptedBids.{bids_are_accepted}
 use Rattle.house_rows.proofs.OpenItems.{not_bought}
@@ -79,11 +79,11 @@ above_price_leads bands h l k not above =
 
 -- and the leader has offered at least the price
 pub leader_covers : (settings : Settings) (h : History) (l : Listing) (k : ℕ) → IsHistory settings h → listing_at (listings h) l.item ≡ Some l → is_bought h l.item ≡ false
-    → leader_of h l ≡ Some k → price_of settings.bands h l ≤ greatest (bids_on h l.item) k
+    → leader_of h l ≡ Some k → price_of (bands_by settings l) h l ≤ greatest (bids_on h l.item) k
 leader_covers settings h l k is listed not led =
     let free : purchase_of h l.item ≡ None = not_bought h l.item (purchase_of h l.item) refl not in
     let by_bids : leader (bids_on h l.item) ≡ Some k = rw free at led in
-    rw not (price_covered settings.bands (listed_opening l) (bids_on h l.item) k (bids_are_accepted settings h is l listed) by_bids)
+    rw not (price_covered (bands_by settings l) (listed_opening l) (bids_on h l.item) k (bids_are_accepted settings h is l listed) by_bids)
 
 from_step : (bands : List (ℕ × ℕ)) (start t : ℕ) (o : Option ℕ) → MatchOption o (price_by_bids bands start t o ≡ start) (λ s. price_by_bids bands start t o ≤ max start (over bands s))
 from_step bands start t None = refl

@@ -20,13 +20,14 @@ use Rattle.house_rows.specs.declared.refusal.Refusal.{Refusal}
 use Rattle.house_rows.specs.declared.settings.Settings.{Settings}
 use Rattle.house_rows.specs.Bids.{bids_on}
 use Rattle.house_rows.specs.History.{Entry, History}
-use Rattle.house_rows.specs.Items.{item_now, items_shown, shown, shown_at}
-use Rattle.house_rows.specs.Listings.{Listing, listed_opening, listing_at, listings}
+use Rattle.house_rows.specs.Items.{items_shown, shown_at, shown_now}
+use Rattle.house_rows.specs.Listings.{Listing, bands_by, listed_opening, listing_at, listings}
 use Rattle.house_rows.specs.Limits.{most_cents}
 use Rattle.house_rows.specs.Runs.{Agrees, AreTwins, AreTwinsFrom, entered, entry, history_from, history_of, next}
 use Rattle.house_rows.specs.Verdict.{IsHistory, Rule, bid_rules, verdict}
 use Rattle.house_rows.specs.Views.{Public, public_view}
 use Rattle.house_rows.proofs.AcceptedBids.{bids_are_accepted}
+use Rattle.house_rows.proofs.GoesBy.{bands_valid}
 use Rattle.house_rows.proofs.Next.{next_accepted, next_is_history, next_refused}
 use Rattle.house_rows.proofs.Passed.{item_from, item_pass, own_pass, shown_is}
 use Rattle.house_rows.proofs.Put.{by_test}
@@ -70,10 +71,10 @@ shown_count : (settings : Settings) (h : History) (t w i y : ℕ) (l : Listing) 
 shown_count settings h t w i y l listed same =
     let e : Entry = entry t w (Bid i y) in
     let me : l.item ≡ i = listing_is h i l listed in
-    let before : shown_at (items_shown settings h) i ≡ Some (shown settings (item_now settings.bands h l)) = shown_is settings h i ∙ ap (item_from settings h) listed in
-    let after : shown_at (items_shown settings (e ∷ h)) i ≡ Some (shown settings (item_now settings.bands (e ∷ h) l)) = shown_is settings (e ∷ h) i ∙ ap (item_from settings (e ∷ h)) (listed_more h e i l listed) in
-    let both : Some (shown settings (item_now settings.bands h l)) ≡ Some (shown settings (item_now settings.bands (e ∷ h) l)) = sym before ∙ ap (λ its. shown_at its i) same ∙ after in
-    let counts : length (bids_on h l.item) ≡ length (bids_on (e ∷ h) l.item) = ap (λ (it : ItemShown). it.item.terms.count) (let f : shown settings (item_now settings.bands h l) ≡ shown settings (item_now settings.bands (e ∷ h) l) = cc in f) in
+    let before : shown_at (items_shown settings h) i ≡ Some (shown_now settings h l) = shown_is settings h i ∙ ap (item_from settings h) listed in
+    let after : shown_at (items_shown settings (e ∷ h)) i ≡ Some (shown_now settings (e ∷ h) l) = shown_is settings (e ∷ h) i ∙ ap (item_from settings (e ∷ h)) (listed_more h e i l listed) in
+    let both : Some (shown_now settings h l) ≡ Some (shown_now settings (e ∷ h) l) = sym before ∙ ap (λ its. shown_at its i) same ∙ after in
+    let counts : length (bids_on h l.item) ≡ length (bids_on (e ∷ h) l.item) = ap (λ (it : ItemShown). it.item.terms.count) (let f : shown_now settings h l ≡ shown_now settings (e ∷ h) l = cc in f) in
     let on : (i == l.item) ≡ true = grind (arith, nat_tests) in
     let more : length (bids_on (e ∷ h) l.item) ≡ length (bids_on h l.item) + 1 = rw on (length-append (bids_on h l.item) _) in
     omega arith
@@ -164,11 +165,11 @@ no_more_bids settings b h ms valid is accepted by =
     let listed : listing_at (listings last) i ≡ Some l = listed_along settings (e ∷ h) ms i l (listed_more h e i l pass.listed) in
     let listed' : listing_at (listings last) l.item ≡ Some l = subst (λ (j : ℕ). listing_at (listings last) j ≡ Some l) (sym me) listed in
     let history : IsHistory settings last = run_is_history settings (e ∷ h) ms (accepted, is) in
-    let each : AreAccepted settings.bands (listed_opening l) (bids_on last l.item) = bids_are_accepted settings last history l listed' in
-    let each' : AreAccepted settings.bands (listed_opening l) (bids ++ one ∷ more.0) =
-    subst (AreAccepted settings.bands (listed_opening l)) (ap (bids_on last) me ∙ all) each in
+    let each : AreAccepted (bands_by settings l) (listed_opening l) (bids_on last l.item) = bids_are_accepted settings last history l listed' in
+    let each' : AreAccepted (bands_by settings l) (listed_opening l) (bids ++ one ∷ more.0) =
+    subst (AreAccepted (bands_by settings l) (listed_opening l)) (ap (bids_on last) me ∙ all) each in
     let by' : top (bids ++ one ∷ more.0) ≡ x = rw all at by in
-    let none : bids_by w more.0 ≡ [] = is_last settings.bands (listed_opening l) w x (length bids + 1) bids more.0 valid each' by' in
+    let none : bids_by w more.0 ≡ [] = is_last (bands_by settings l) (listed_opening l) w x (length bids + 1) bids more.0 (bands_valid settings last l valid listed') each' by' in
     ap (λ bs. length (bids_by w bs)) all ∙ by_one w x (length bids + 1) bids more.0 none
 
 -- a run in two parts
@@ -200,6 +201,14 @@ led_covered meant settings c place y b xs other valid raises is =
     let whole : history_of settings (map meant xs) ≡ history_from settings (entry b.moment b.member (Bid b.item b.maximum) ∷ h) (map meant is.later) =
     ap (λ zs. history_of settings (map meant zs)) is.parts ∙ run_parts meant settings is.before is.here is.later
     ∙ ap (λ (g : History). history_from settings g (map meant is.later)) enters in
+    let more_rules : ItemShown → List Rule = bid_rules b.moment b.member b.maximum (greatest (bids_on h b.item) b.member) in
+    let pass = item_pass settings h b.item more_rules (own_pass settings h b.moment b.member (Bid b.item b.maximum) accepted) in
+    let e : Entry = entry b.moment b.member (Bid b.item b.maximum) in
+    let along : listing_at (listings (history_of settings (map meant xs))) b.item ≡ Some pass.listing =
+    subst (λ (g : History). listing_at (listings g) b.item ≡ Some pass.listing) (sym whole)
+    (listed_along settings (e ∷ h) (map meant is.later) b.item pass.listing (listed_more h e b.item pass.listing pass.listed)) in
+    let both : Some is.left.listing ≡ Some pass.listing = sym is.left.listed ∙ along in
+    let same : is.left.listing ≡ pass.listing = cc in
     record {
       before = is.before;
       here = is.here;
@@ -209,9 +218,11 @@ led_covered meant settings c place y b xs other valid raises is =
       means = is.means;
       covered = record {
         accepted = accepted;
+        listing = pass.listing;
+        listed = pass.listed;
         no_more = ap (mine b.member b.item) whole ∙ more;
         leads = is.left.led;
-        covers = is.left.covers;
+        covers = subst (λ (l : Listing). Covers (bands_by settings l) None (second (bids_on (history_of settings (map meant xs)) b.item)) b.maximum) same is.left.covers;
         above = is.above;
         fits = is.fits;
       };
@@ -230,9 +241,9 @@ covered_led meant settings c place y b xs other valid raises is =
     ap (λ zs. history_of settings (map meant zs)) changed ∙ run_parts meant settings is.before other is.later in
     let covered : IsCoveredBid settings y b h (history_from settings (next settings h (meant is.here)) (map meant is.later)) = subst (IsCoveredBid settings y b h) whole is.covered in
     let follows = after_bid meant settings y b h is.here other is.later valid is.means raises covered in
-    let near = last_near meant settings b.member b.item b.maximum y (next settings h (meant is.here)) (next settings h (meant other)) is.later follows.below follows.near follows.none follows.last in
+    let near = last_near meant settings (bands_by settings covered.listing) b.member b.item b.maximum y (next settings h (meant is.here)) (next settings h (meant other)) is.later follows.below follows.near follows.none follows.last in
     let s = near.surplus in
-    let tops = surplus_tops settings.bands None b.member b.maximum y _ _ follows.below s in
+    let tops = surplus_tops (bands_by settings covered.listing) None b.member b.maximum y _ _ follows.below s in
     record {
       before = is.before;
       here = is.here;
@@ -244,6 +255,20 @@ covered_led meant settings c place y b xs other valid raises is =
       fits = covered.fits;
       apart = is.apart;
       twins = covered_twins meant settings c place y b xs other valid is raises;
-      left = rw whole (record { led = s.left_leads; by = s.left_top; covers = covered.covers });
-      right = rw whole' (record { led = s.right_leads; by = s.right_top; covers = rw s.right_top at tops.right_covers });
+      left = rw whole (record {
+        listing = covered.listing;
+        listed = listed_along settings (next settings h (meant is.here)) (map meant is.later) b.item covered.listing
+            (next_listed settings h (meant is.here) b.item covered.listing covered.listed);
+        led = s.left_leads;
+        by = s.left_top;
+        covers = covered.covers;
+      });
+      right = rw whole' (record {
+        listing = covered.listing;
+        listed = listed_along settings (next settings h (meant other)) (map meant is.later) b.item covered.listing
+            (next_listed settings h (meant other) b.item covered.listing covered.listed);
+        led = s.right_leads;
+        by = s.right_top;
+        covers = rw s.right_top at tops.right_covers;
+      });
     }

@@ -12,9 +12,9 @@ use Rattle.house_rows.specs.declared.item.Terms.{Terms}
 use Rattle.house_rows.specs.declared.query.Query.TheVariants.{MyStatement}
 use Rattle.house_rows.specs.declared.settings.Settings.{Settings}
 use Rattle.house_rows.specs.History.{History}
-use Rattle.house_rows.specs.Items.{closed_at, item_now, items, items_shown, leader_of, price_of, shown, state_of, terms_now}
+use Rattle.house_rows.specs.Items.{closed_at, items_shown, leader_of, price_of, shown_now, state_of, terms_now}
 use Rattle.house_rows.specs.Keeping.{AreInTurn}
-use Rattle.house_rows.specs.Listings.{Listing, listing_at, listings}
+use Rattle.house_rows.specs.Listings.{Listing, bands_by, listing_at, listings}
 use Rattle.house_rows.specs.declared.page.Page.TheVariants.{Statement}
 use Rattle.house_rows.specs.Pages.{all_sales, page_of, sale_of, sales_of}
 use Rattle.house_rows.specs.People.{members}
@@ -100,7 +100,7 @@ sale_other r w f i terms same other =
 
 -- the sales of listings
 abbrev sales_in : Settings → History → List Listing → List Sold
-sales_in settings h ls = all_sales (map (shown settings) (map (item_now settings.bands h) ls))
+sales_in settings h ls = all_sales (map (shown_now settings h) ls)
 
 sales_above : (settings : Settings) (h : History) (r w : Sold → Bool) (f : Sold → Line) (i next : ℕ) (ls : List Listing) → ((s : Sold) → (f s).item ≡ s.item) → AreInTurn (λ l. l.item) next ls → i < next
     → picked r w f i (sales_in settings h ls) ≡ []
@@ -108,12 +108,12 @@ sales_above settings h r w f i next [] same turn lt = refl
 sales_above settings h r w f i next (l ∷ ls) same turn lt =
     let at' = turn.0 in
     let other : (l.item == i) ≡ false = grind (arith, nat_tests) in
-    picked_more r w f i (sale_of (terms_now settings.bands h l)) (sales_in settings h ls)
-    ∙ rw (sale_other r w f i (terms_now settings.bands h l) same other) (sales_above settings h r w f i (next + 1) ls same turn.1 (omega arith))
+    picked_more r w f i (sale_of (terms_now settings h l)) (sales_in settings h ls)
+    ∙ rw (sale_other r w f i (terms_now settings h l) same other) (sales_above settings h r w f i (next + 1) ls same turn.1 (omega arith))
 
 -- only the sale of the item's listing counts
 sales_here : (settings : Settings) (h : History) (r w : Sold → Bool) (f : Sold → Line) (i next : ℕ) (ls : List Listing) (l : Listing) → ((s : Sold) → (f s).item ≡ s.item) → AreInTurn (λ l. l.item) next ls
-    → listing_at ls i ≡ Some l → picked r w f i (sales_in settings h ls) ≡ picked r w f i (sale_of (terms_now settings.bands h l))
+    → listing_at ls i ≡ Some l → picked r w f i (sales_in settings h ls) ≡ picked r w f i (sale_of (terms_now settings h l))
 sales_here settings h r w f i next [] l same turn listed = absurd (let e : None ≡ Some l = listed in cc)
 sales_here settings h r w f i next (a ∷ ls) l same turn listed =
     elim (by_test (a.item == i)) [
@@ -122,10 +122,10 @@ sales_here settings h r w f i next (a ∷ ls) l same turn listed =
           let e : a ≡ l = cc in
           let number : a.item ≡ i = grind (arith, nat_tests) in
           let above : picked r w f i (sales_in settings h ls) ≡ [] = sales_above settings h r w f i (next + 1) ls same turn.1 (omega arith) in
-          picked_more r w f i (sale_of (terms_now settings.bands h a)) (sales_in settings h ls)
-          ∙ rw above (simp append-nil (ap (λ (x : Listing). picked r w f i (sale_of (terms_now settings.bands h x))) e)))
-      | inr other ↦ picked_more r w f i (sale_of (terms_now settings.bands h a)) (sales_in settings h ls)
-          ∙ rw (sale_other r w f i (terms_now settings.bands h a) same other) (sales_here settings h r w f i (next + 1) ls l same turn.1 (rw other at listed))
+          picked_more r w f i (sale_of (terms_now settings h a)) (sales_in settings h ls)
+          ∙ rw above (simp append-nil (ap (λ (x : Listing). picked r w f i (sale_of (terms_now settings h x))) e)))
+      | inr other ↦ picked_more r w f i (sale_of (terms_now settings h a)) (sales_in settings h ls)
+          ∙ rw (sale_other r w f i (terms_now settings h a) same other) (sales_here settings h r w f i (next + 1) ls l same turn.1 (rw other at listed))
     ]
 
 sales_unlisted : (settings : Settings) (h : History) (r w : Sold → Bool) (f : Sold → Line) (i : ℕ) (ls : List Listing) → ((s : Sold) → (f s).item ≡ s.item) → listing_at ls i ≡ None → picked r w f i (sales_in settings h ls) ≡ []
@@ -133,8 +133,8 @@ sales_unlisted settings h r w f i [] same free = refl
 sales_unlisted settings h r w f i (a ∷ ls) same free =
     elim (by_test (a.item == i)) [
       | inl here ↦ absurd (let e : Some a ≡ None = rw here at free in cc)
-      | inr other ↦ picked_more r w f i (sale_of (terms_now settings.bands h a)) (sales_in settings h ls)
-          ∙ rw (sale_other r w f i (terms_now settings.bands h a) same other) (sales_unlisted settings h r w f i ls same (rw other at free))
+      | inr other ↦ picked_more r w f i (sale_of (terms_now settings h a)) (sales_in settings h ls)
+          ∙ rw (sale_other r w f i (terms_now settings h a) same other) (sales_unlisted settings h r w f i ls same (rw other at free))
     ]
 
 line_item : (c : ℕ) (zone : Zone) (rate : ℕ) (s : Sold) → (line_of c zone rate s).item ≡ s.item
@@ -142,7 +142,7 @@ line_item c zone rate s = elim (by_test (s.seller == c)) [ inl is ↦ rw is refl
 
 -- an item that isn't listed has no line
 pub unlisted_line : (settings : Settings) (h : History) (c from to i : ℕ) (zone : Zone) → listing_at (listings h) i ≡ None → lines_on settings h c from to zone i ≡ []
-unfolding rows_of lines_of items_shown items
+unfolding rows_of lines_of items_shown
 unlisted_line settings h c from to i zone free =
     order_none (λ (line : Line). line.item == i) _
     (sales_unlisted settings h (is_party c) (is_within from to zone) (line_of c zone settings.rate) i (listings h) (line_item c zone settings.rate) free)
@@ -150,7 +150,7 @@ unlisted_line settings h c from to i zone free =
 -- nor has one that wasn't sold
 pub unsold_line : (settings : Settings) (h : History) (c from to : ℕ) (zone : Zone) (l : Listing) → listing_at (listings h) l.item ≡ Some l → was_sold (state_of h l) ≡ false
     → lines_on settings h c from to zone l.item ≡ []
-unfolding rows_of lines_of items_shown items
+unfolding rows_of lines_of items_shown
 unsold_line settings h c from to zone l listed unsold =
     order_none (λ (line : Line). line.item == l.item) _
     (sales_here settings h (is_party c) (is_within from to zone) (line_of c zone settings.rate) l.item 1 (listings h) l (line_item c zone settings.rate) (listings_in_turn h) listed
@@ -160,15 +160,15 @@ same_sale : (item seller price : ℕ) (buyer closed : Option ℕ) (s : Sold) →
     → record { item = item; seller = seller; buyer = unwrap_or buyer 0; closed = unwrap_or closed 0; price = price } ≡ s
 same_sale item seller price buyer closed s at by to when' for = rw (to, when', ← at, ← by, ← for) refl
 
-sale_known : (settings : Settings) (h : History) (l : Listing) (s : Sold) → IsSaleOf settings h l s → sale_of (terms_now settings.bands h l) ≡ s ∷ []
+sale_known : (settings : Settings) (h : History) (l : Listing) (s : Sold) → IsSaleOf settings h l s → sale_of (terms_now settings h l) ≡ s ∷ []
 sale_known settings h l s is =
     let sold = is.sold in
-    rw sold (ap (λ (x : Sold). x ∷ []) (same_sale l.item l.seller (price_of settings.bands h l) (leader_of h l) (closed_at h l) s is.item is.seller is.buyer is.closed is.price))
+    rw sold (ap (λ (x : Sold). x ∷ []) (same_sale l.item l.seller (price_of (bands_by settings l) h l) (leader_of h l) (closed_at h l) s is.item is.seller is.buyer is.closed is.price))
 
 -- what was sold has one line, if the member is a party and the day lies in the period
 pub sale_line : (settings : Settings) (h : History) (c from to : ℕ) (zone : Zone) (l : Listing) (s : Sold) → listing_at (listings h) l.item ≡ Some l → IsSaleOf settings h l s
     → is_party c s ≡ true → is_within from to zone s ≡ true → lines_on settings h c from to zone l.item ≡ line_of c zone settings.rate s ∷ []
-unfolding rows_of lines_of items_shown items
+unfolding rows_of lines_of items_shown
 sale_line settings h c from to zone l s listed is party within =
     let here : (s.item == l.item) ≡ true = (let item = is.item in grind (arith, nat_tests)) in
     order_one (λ (line : Line). line.item == l.item) _ (line_of c zone settings.rate s)
@@ -179,7 +179,7 @@ sale_line settings h c from to zone l s listed is party within =
 -- and else none
 pub sale_no_line : (settings : Settings) (h : History) (c from to : ℕ) (zone : Zone) (l : Listing) (s : Sold) → listing_at (listings h) l.item ≡ Some l → IsSaleOf settings h l s
     → (is_party c s && is_within from to zone s) ≡ false → lines_on settings h c from to zone l.item ≡ []
-unfolding rows_of lines_of items_shown items
+unfolding rows_of lines_of items_shown
 sale_no_line settings h c from to zone l s listed is out =
     order_none (λ (line : Line). line.item == l.item) _
     (sales_here settings h (is_party c) (is_within from to zone) (line_of c zone settings.rate) l.item 1 (listings h) l (line_item c zone settings.rate) (listings_in_turn h) listed
@@ -198,7 +198,7 @@ sold_has_sale settings h l is listed sold = (
     seller = l.seller;
     buyer = unwrap_or (leader_of h l) 0;
     closed = unwrap_or (closed_at h l) 0;
-    price = price_of settings.bands h l;
+    price = price_of (bands_by settings l) h l;
   },
   record {
     sold = sold;

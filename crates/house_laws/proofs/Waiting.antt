@@ -11,7 +11,7 @@ use Rattle.house_rows.specs.declared.refusal.Refusal.TheVariants.{SellerOnly}
 use Rattle.house_rows.specs.declared.settings.Settings.{Settings}
 use Rattle.house_rows.specs.History.{History, clock, put_by}
 use Rattle.house_rows.specs.People.{members}
-use Rattle.house_rows.specs.Items.{items, items_shown}
+use Rattle.house_rows.specs.Items.{items_shown}
 use Rattle.house_rows.specs.Listings.{Listing, is_seller, listing_at, listings}
 use Rattle.house_rows.specs.Questions.{Asked, answer_to, answered, answers, asked, asked_key, names, questions, waiting}
 use Rattle.house_rows.specs.Runs.{entry}
@@ -73,7 +73,7 @@ answerer_sells (Some l) settings h d c more none other = grind (arith, nat_tests
 
 answerer_is_seller : (settings : Settings) (h : History) (t d i asker number : ℕ) (text : List ℕ) (c : ℕ) → verdict settings h t d (Answer i asker number text) ≡ None → (d == c) ≡ false
     → is_seller (listing_at (listings h) i) c ≡ false
-unfolding verdict items_shown items
+unfolding verdict items_shown
 answerer_is_seller settings h t d i asker number text c none other =
     let all = later_pass (common_rules (clock h) (length (members h)) t d false) (rules settings h t d (Answer i asker number text)) none in
     answerer_sells (listing_at (listings h) i) settings h d c _ (rw (find_item settings h (listings h) i) at all) other

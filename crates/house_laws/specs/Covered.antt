@@ -1,6 +1,5 @@
 -- A run in which one bid of the last leader may as well be raised.
 use Rattle.std.specs.Prelude.{◌≡◌, ℕ, ◌+◌, ◌-◌, ◌≤◌, ◌<◌, List, [], ◌∷◌, ◌++◌, false, ◌==◌, Some, None, length, map, take, drop}
-use Rattle.proxy.specs.declared.bid.Bid as bid
 use Rattle.proxy.specs.Bids.{bids_by, leader, second, top}
 use Rattle.proxy.specs.Surplus.{Covers}
 use Rattle.house_rows.specs.declared.command.Command.TheVariants.{Bid}
@@ -10,6 +9,7 @@ use Rattle.house_rows.specs.declared.settings.Settings.{Settings}
 use Rattle.house_rows.specs.Bids.{bids_on}
 use Rattle.house_rows.specs.History.{History}
 use Rattle.house_rows.specs.Limits.{most_cents}
+use Rattle.house_rows.specs.Listings.{Listing, bands_by, listing_at, listings}
 use Rattle.house_rows.specs.Runs.{AreTwins, history_of}
 use Rattle.house_rows.specs.Verdict.{verdict}
 
@@ -33,12 +33,14 @@ abbrev pub raised : {A : Type 0} → ℕ → A → List A → List A
 raised place x xs = take (place - 1) xs ++ x ∷ drop place xs
 
 -- a bid is accepted over the history before it, and is its bidder's last on its item up to the last history; there its bidder
--- leads, and its maximum covers what leading takes; and an amount above it fits
+-- leads, and its maximum covers what leading takes by the item's own band table; and an amount above it fits
 pub record IsCoveredBid (settings : Settings) (y : ℕ) (b : Sealed) (before last : History) : Type 0 where
   pub accepted : verdict settings before b.moment b.member (Bid b.item b.maximum) ≡ None
   pub no_more : length (bids_by b.member (bids_on last b.item)) ≡ length (bids_by b.member (bids_on before b.item)) + 1
+  pub listing : Listing
+  pub listed : listing_at (listings before) b.item ≡ Some listing
   pub leads : leader (bids_on last b.item) ≡ Some b.member
-  pub covers : Covers settings.bands None (second (bids_on last b.item)) b.maximum
+  pub covers : Covers (bands_by settings listing) None (second (bids_on last b.item)) b.maximum
   pub above : b.maximum < y
   pub fits : y ≤ most_cents
 
@@ -54,11 +56,13 @@ pub record IsCovered {A F : Type 0} (meant : A → Message F) (settings : Settin
   pub covered : IsCoveredBid settings y b (history_of settings (map meant before)) (history_of settings (map meant xs))
   pub apart : (b.member == c) ≡ false
 
--- by these bids a member leads with that maximum, and it covers what leading takes
-pub record LeadsBy (bands : List (ℕ × ℕ)) (w x : ℕ) (bids : List bid.Bid) : Type 0 where
-  pub led : leader bids ≡ Some w
-  pub by : top bids ≡ x
-  pub covers : Covers bands None (second bids) x
+-- after a history a member leads an item with that maximum, and it covers what leading takes by the item's own band table
+pub record LeadsBy (settings : Settings) (h : History) (i w x : ℕ) : Type 0 where
+  pub listing : Listing
+  pub listed : listing_at (listings h) i ≡ Some listing
+  pub led : leader (bids_on h i) ≡ Some w
+  pub by : top (bids_on h i) ≡ x
+  pub covers : Covers (bands_by settings listing) None (second (bids_on h i)) x
 
 -- the element in that place of a run means a bid that isn't the member's, an amount above it fits, and the run in which that amount
 -- stands in its place is a twin for the member; and in the end the bidder leads by its maximum in the one and by that amount in the
@@ -75,5 +79,5 @@ pub record IsLedByBoth {A F : Type 0} (meant : A → Message F) (settings : Sett
   pub fits : y ≤ most_cents
   pub apart : (b.member == c) ≡ false
   pub twins : AreTwins meant settings c xs (raised place other xs)
-  pub left : LeadsBy settings.bands b.member b.maximum (bids_on (history_of settings (map meant xs)) b.item)
-  pub right : LeadsBy settings.bands b.member y (bids_on (history_of settings (map meant (raised place other xs))) b.item)
+  pub left : LeadsBy settings (history_of settings (map meant xs)) b.item b.member b.maximum
+  pub right : LeadsBy settings (history_of settings (map meant (raised place other xs))) b.item b.member y

@@ -7,7 +7,7 @@ use Rattle.settle.specs.declared.zone.Zone.{Zone}
 use Rattle.house_rows.specs.declared.settings.Settings.{Settings}
 use Rattle.house_rows.specs.History.{History}
 use Rattle.house_rows.specs.Items.{closed_at, items_shown, leader_of, price_of, state_of}
-use Rattle.house_rows.specs.Listings.{Listing}
+use Rattle.house_rows.specs.Listings.{Listing, bands_by}
 use Rattle.house_rows.specs.Pages.{sales_of}
 use Rattle.house_rows.specs.Verdict.{was_sold}
 
@@ -18,7 +18,7 @@ pub record IsSaleOf (settings : Settings) (h : History) (l : Listing) (s : Sold)
   pub seller : s.seller ≡ l.seller
   pub buyer : leader_of h l ≡ Some s.buyer
   pub closed : closed_at h l ≡ Some s.closed
-  pub price : s.price ≡ price_of settings.bands h l
+  pub price : s.price ≡ price_of (bands_by settings l) h l
 
 -- the lines about an item on a member's statement of a period
 abbrev pub lines_on : Settings → History → ℕ → ℕ → ℕ → Zone → ℕ → List Line

@@ -6,7 +6,7 @@ ghost use Rattle.house_rows.specs.declared.settings.Settings.{Settings};
 ghost use Rattle.house_rows.specs.Bids.{bids_on};
 ghost use Rattle.house_rows.specs.History.{Entry, History};
 ghost use Rattle.house_rows.specs.Items.{is_bought, leader_of, price_of};
-ghost use Rattle.house_rows.specs.Listings.{Listing, listing_at, listings};
+ghost use Rattle.house_rows.specs.Listings.{Listing, bands_by, listing_at, listings};
 ghost use Rattle.house_rows.specs.Verdict.{IsHistory};
 ghost use Rattle.house_laws.specs.Deals.{deals_on};
 
@@ -17,7 +17,7 @@ pub fn prices_never_fall()
     ensures { (settings : Settings) (h : History) (later : List Entry) (l : Listing)
         → IsBandTable settings.bands → IsHistory settings (later ++ h)
         → listing_at (listings h) l.item ≡ Some l
-        → price_of settings.bands h l ≤ price_of settings.bands (later ++ h) l }
+        → price_of (bands_by settings l) h l ≤ price_of (bands_by settings l) (later ++ h) l }
 {}
 
 /// Of an item that wasn't bought at once, whoever has offered more than the price leads, and the
@@ -32,7 +32,7 @@ pub fn best_offer_leads()
     ensures covered { (settings : Settings) (h : History) (l : Listing) (member : ℕ)
         → IsHistory settings h → listing_at (listings h) l.item ≡ Some l
         → is_bought h l.item ≡ false → leader_of h l ≡ Some member
-        → price_of settings.bands h l ≤ greatest (bids_on h l.item) member }
+        → price_of (bands_by settings l) h l ≤ greatest (bids_on h l.item) member }
     ensures one_step { (bands : List (ℕ × ℕ)) (h : History) (l : Listing)
         → is_bought h l.item ≡ false
         → MatchOption (second (bids_on h l.item)) (price_of bands h l ≡ l.start)

@@ -1,7 +1,8 @@
 -- An item goes by the band table of its listing.
-use Rattle.std.proofs.Common.{◌≡◌, ℕ, List, [], ◌++◌, refl, Option, Some}
+use Rattle.std.proofs.Common.{◌≡◌, ℕ, List, [], ◌++◌, refl, subst, Option, Some}
 use Rattle.std.specs.Prelude.{◌==◌}
 use Rattle.std.specs.List.{AllByRecursion}
+use Rattle.steps.specs.Table.{IsBandTable}
 use Rattle.house_rows.specs.declared.command.Command.{Command}
 use Rattle.house_rows.specs.declared.command.Command.TheVariants.{List as Listed}
 use Rattle.house_rows.specs.declared.settings.Settings.{Settings}
@@ -24,3 +25,8 @@ unfolding tables_of
 bands_kept settings h i l listed =
     let none : l.set ≡ [] = found_has (λ (a : Listing). a.set ≡ []) (λ (a : Listing). a.item == i) (listings h) l (none_set h) listed in
     rw none refl
+
+-- and that is valid
+pub bands_valid : (settings : Settings) (h : History) (l : Listing) → IsBandTable settings.bands → listing_at (listings h) l.item ≡ Some l → IsBandTable (bands_by settings l)
+unfolding tables_of
+bands_valid settings h l valid listed = subst IsBandTable (bands_kept settings h l.item l listed) valid

@@ -1,7 +1,7 @@
 -- Lists that are tested, found and made.
-use Rattle.std.proofs.Common.{◌≡◌, List, [], ◌∷◌, map, filter, Bool, true, false, refl, ap, inl, inr}
+use Rattle.std.proofs.Common.{◌≡◌, List, [], ◌∷◌, map, filter, Bool, true, false, refl, ◌∙◌, ap, inl, inr}
 use Rattle.std.specs.Prelude.{find, is_some, option_map, ◌&&◌}
-use Rattle.std.specs.List.{list_any}
+use Rattle.std.specs.List.{AllByRecursion, list_any}
 use Rattle.house_rows.proofs.Put.{by_test}
 
 -- what is found is there
@@ -25,6 +25,11 @@ filter_twice p q (x ∷ xs) = elim (by_test (p x)) [
   | inl is ↦ elim (by_test (q x)) [ inl also ↦ rw (is, also) (ap (λ r. x ∷ r) (filter_twice p q xs)) | inr other ↦ rw (is, other) (filter_twice p q xs) ]
   | inr not ↦ rw not (filter_twice p q xs)
 ]
+
+-- what is made alike of each element that is there
+pub map_each : {A B : Type 0} (f g : A → B) (P : A → Type 0) (xs : List A) → ((x : A) → P x → f x ≡ g x) → AllByRecursion P xs → map f xs ≡ map g xs
+map_each f g P [] alike all = refl
+map_each f g P (x ∷ xs) alike all = ap (λ y. y ∷ map f xs) (alike x all.0) ∙ ap (λ ys. g x ∷ ys) (map_each f g P xs alike all.1)
 
 -- to make in two steps is to make in one
 pub map_twice : {A B C : Type 0} (f : A → B) (g : B → C) (xs : List A) → map g (map f xs) ≡ map (λ x. g (f x)) xs
