@@ -85,10 +85,10 @@ any_more h moment l (c ∷ cs) small =
     elim (by_test (nat_le l.item c.listed && nat_le l.end c.moment)) [ inl is ↦ rw is refl | inr not ↦ rw not (any_more h moment l cs small) ]
 
 -- an item that is due is closed, and every other is as it was
-closed_row : (bands : List (ℕ × ℕ)) (h : History) (moment caller : ℕ) (l : Listing) → l.item ≤ length (listings h)
+closed_row : (settings : Settings) (h : History) (moment caller : ℕ) (l : Listing) → l.item ≤ length (listings h)
     → (is_settled h l.item ≡ true → is_some (closed_at h l) ≡ true)
-    → with_close moment (row_now bands h l) ≡ row_now bands (entry moment caller Close ∷ h) l
-closed_row bands h moment caller l small before =
+    → with_close moment (row_now settings h l) ≡ row_now settings (entry moment caller Close ∷ h) l
+closed_row settings h moment caller l small before =
     let any : Bool = list_any (λ (c : Closing). nat_le l.item c.listed && nat_le l.end c.moment) (closings h) in
     elim (by_test (nat_le l.end moment)) [
       | inl due ↦ elim (by_test (is_open (state_of h l))) [
@@ -117,10 +117,10 @@ record IsOwn (h : History) (l : Listing) : Type 0 where
   own : listing_at (listings h) l.item ≡ Some l
 
 closed_rows : (settings : Settings) (h : History) (moment caller : ℕ) → IsHistory settings h
-    → map (with_close moment) (map (row_now settings.bands h) (listings h)) ≡ map (row_now settings.bands (entry moment caller Close ∷ h)) (listings h)
+    → map (with_close moment) (map (row_now settings h) (listings h)) ≡ map (row_now settings (entry moment caller Close ∷ h)) (listings h)
 closed_rows settings h moment caller is =
-    each_row (IsOwn h) (row_now settings.bands h) (with_close moment) (row_now settings.bands (entry moment caller Close ∷ h)) (listings h)
-    (λ l it. closed_row settings.bands h moment caller l it.small (settled_is_closed settings h l is it.own))
+    each_row (IsOwn h) (row_now settings h) (with_close moment) (row_now settings (entry moment caller Close ∷ h)) (listings h)
+    (λ l it. closed_row settings h moment caller l it.small (settled_is_closed settings h l is it.own))
     (every_both (λ l. l.item ≤ length (listings h)) (λ l. listing_at (listings h) l.item ≡ Some l) (IsOwn h) (listings h)
     (λ l small own. record { small = small; own = own }) (numbered h).small (numbered h).own)
 

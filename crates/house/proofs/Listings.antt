@@ -20,7 +20,7 @@ use Rattle.house_rows.specs.Fits.{IsWithin}
 use Rattle.house_rows.specs.Found.{item_with_lot}
 use Rattle.house_rows.specs.History.{Entry, History, clock}
 use Rattle.house_rows.specs.Bids.{bids_on}
-use Rattle.house_rows.specs.Items.{Closing, Purchase, closing_in, closings, item_now, items, items_shown, purchases, settlement_in, settlements, shown}
+use Rattle.house_rows.specs.Items.{Closing, Purchase, closing_in, closings, items_shown, purchases, settlement_in, settlements, shown_now}
 use Rattle.house_rows.specs.Limits.{last_moment, most_cents, most_items}
 use Rattle.house_rows.specs.Listings.{Listing, listing_at, listings}
 use Rattle.house_rows.specs.People.{categories, members}
@@ -45,8 +45,8 @@ use Rattle.house.proofs.Rows.{each_and_new, same_number}
 
 -- what everybody sees of lots is in the rows
 lots_among : (settings : Settings) (h : History) (caller : ℕ) (lot : List ℕ) (ls : List Listing)
-    → list_any (λ it. (it.item.terms.seller == caller) && same_text it.item.lot lot) (map (shown settings) (map (item_now settings.bands h) ls))
-    ≡ list_any (λ (row : ItemRow). (row.item.terms.seller == caller) && same_text row.item.lot lot) (map (row_now settings.bands h) ls)
+    → list_any (λ it. (it.item.terms.seller == caller) && same_text it.item.lot lot) (map (shown_now settings h) ls)
+    ≡ list_any (λ (row : ItemRow). (row.item.terms.seller == caller) && same_text row.item.lot lot) (map (row_now settings h) ls)
 lots_among settings h caller lot [] = refl
 lots_among settings h caller lot (l ∷ ls) =
     elim (by_test ((l.seller == caller) && same_text l.lot lot)) [ inl is ↦ rw is refl | inr not ↦ rw not (lots_among settings h caller lot ls) ]
@@ -54,11 +54,11 @@ lots_among settings h caller lot (l ∷ ls) =
 lots_shown : (settings : Settings) (h : History) (caller : ℕ) (lot : List ℕ)
     → list_any (λ it. (it.item.terms.seller == caller) && same_text it.item.lot lot) (items_shown settings h)
     ≡ list_any (λ (row : ItemRow). (row.item.terms.seller == caller) && same_text row.item.lot lot) (tables_of settings h).items
-unfolding items items_shown tables_of
+unfolding items_shown tables_of
 lots_shown settings h caller lot = lots_among settings h caller lot (listings h)
 
 count_shown : (settings : Settings) (h : History) → length (items_shown settings h) ≡ length (tables_of settings h).items
-unfolding items items_shown tables_of
+unfolding items_shown tables_of
 count_shown settings h = simp length-map
 
 list_verdict : (t : Tables) (settings : Settings) (h : History) (moment caller : ℕ) (offer : Offer) → t ≡ tables_of settings h
@@ -248,7 +248,7 @@ listed_at moment item = entry moment item.seller (Listed item.category item.lot.
 
 -- the row of the new item
 new_row : (settings : Settings) (h : History) (moment : ℕ) (item : NewItem) → IsHistory settings h
-    → new_item settings.bands (length (listings h) + 1) item ≡ row_now settings.bands (listed_at moment item ∷ h) (record {
+    → new_item (length (listings h) + 1) item ≡ row_now settings (listed_at moment item ∷ h) (record {
       item = length (listings h) + 1;
       seller = item.seller;
       category = item.category;
@@ -258,6 +258,7 @@ new_row : (settings : Settings) (h : History) (moment : ℕ) (item : NewItem) �
       start = item.start;
       buy_now = item.buy_now;
       end = item.end;
+      set = [];
     })
 unfolding leader price second listed_at
 new_row settings h moment item is =
@@ -270,18 +271,18 @@ new_row settings h moment item is =
     let settled : list_any (λ s. s == i) (settlements h) ≡ false = none_settled (length (listings h)) i (settlements h) above (settlements_small settings h is) in
     simp append-nil (rw (bids, bought, taken, settled) refl)
 
-row_still : (bands : List (ℕ × ℕ)) (h : History) (moment : ℕ) (item : NewItem) (l : Listing) → row_now bands h l ≡ row_now bands (listed_at moment item ∷ h) l
+row_still : (settings : Settings) (h : History) (moment : ℕ) (item : NewItem) (l : Listing) → row_now settings h l ≡ row_now settings (listed_at moment item ∷ h) l
 unfolding listed_at
-row_still bands h moment item l = simp append-nil
+row_still settings h moment item l = simp append-nil
 
 listed_rows : (settings : Settings) (h : History) (moment : ℕ) (item : NewItem) → IsHistory settings h
-    → map (row_now settings.bands h) (listings h) ++ new_item settings.bands (length (map (row_now settings.bands h) (listings h)) + 1) item ∷ []
-    ≡ map (row_now settings.bands (listed_at moment item ∷ h)) (listings (listed_at moment item ∷ h))
+    → map (row_now settings h) (listings h) ++ new_item (length (map (row_now settings h) (listings h)) + 1) item ∷ []
+    ≡ map (row_now settings (listed_at moment item ∷ h)) (listings (listed_at moment item ∷ h))
 unfolding listed_at
 listed_rows settings h moment item is =
-    each_and_new (row_now settings.bands h) (row_now settings.bands (listed_at moment item ∷ h)) (listings h) _ _
-    (row_still settings.bands h moment item)
-    (rw (length-map (listings h) (row_now settings.bands h)) (new_row settings h moment item is))
+    each_and_new (row_now settings h) (row_now settings (listed_at moment item ∷ h)) (listings h) _ _
+    (row_still settings h moment item)
+    (rw (length-map (listings h) (row_now settings h)) (new_row settings h moment item is))
 
 list_leads : (settings : Settings) (h : History) (moment : ℕ) (item : NewItem) → IsHistory settings h
     → changed (tables_of settings h) (change.List moment item) ≡ tables_of settings (listed_at moment item ∷ h)

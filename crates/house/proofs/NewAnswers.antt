@@ -183,16 +183,16 @@ with_one_more given i asker number text (q ∷ qs) none =
     ]
 
 -- items are as they were
-rows_still : (bands : List (ℕ × ℕ)) (h : History) (moment caller i asker number : ℕ) (text : List ℕ) (ls : List Listing)
-    → map (row_now bands (entry moment caller (Answer i asker number text) ∷ h)) ls ≡ map (row_now bands h) ls
-rows_still bands h moment caller i asker number text [] = refl
-rows_still bands h moment caller i asker number text (l ∷ ls) = rw (rows_still bands h moment caller i asker number text ls) (simp append-nil)
+rows_still : (settings : Settings) (h : History) (moment caller i asker number : ℕ) (text : List ℕ) (ls : List Listing)
+    → map (row_now settings (entry moment caller (Answer i asker number text) ∷ h)) ls ≡ map (row_now settings h) ls
+rows_still settings h moment caller i asker number text [] = refl
+rows_still settings h moment caller i asker number text (l ∷ ls) = rw (rows_still settings h moment caller i asker number text ls) (simp append-nil)
 
 answer_leads : (settings : Settings) (h : History) (moment caller i asker number : ℕ) (text : Bor (List ℕ)) → answer_to (answers h) (key i asker number text.now) ≡ None
     → changed (tables_of settings h) (change.Answer moment i asker number text) ≡ tables_of settings (entry moment caller (Answer i asker number text.now) ∷ h)
 unfolding changed tables_of questions
 answer_leads settings h moment caller i asker number text none =
-    rw (with_one_more (answers h) i asker number text.now (asked h) none, rows_still settings.bands h moment caller i asker number text.now (listings h ++ [])) (simp append-nil)
+    rw (with_one_more (answers h) i asker number text.now (asked h) none, rows_still settings h moment caller i asker number text.now (listings h ++ [])) (simp append-nil)
 
 waiting_pass : (q : Question) (text : List ℕ) → first_failing (waiting_rules (Some q) text) ≡ None → (q.answer ≡ None) × (is_text 1 500 text ≡ true)
 waiting_pass q text none = by_parts q.answer (is_text 1 500 text) none where

@@ -30,16 +30,16 @@ use Rattle.house.proofs.OnItems.{item_judged, item_refused, row_there}
 use Rattle.house.specs.Decided.{IsAccepted, of_terms}
 
 -- items are as they were
-rows_still : (bands : List (ℕ × ℕ)) (h : History) (moment caller i : ℕ) (rating : Option Rating) (text : List ℕ) (ls : List Listing)
-    → map (row_now bands (entry moment caller (Feedback i rating text) ∷ h)) ls ≡ map (row_now bands h) ls
-rows_still bands h moment caller i rating text [] = refl
-rows_still bands h moment caller i rating text (l ∷ ls) = rw (rows_still bands h moment caller i rating text ls) (simp append-nil)
+rows_still : (settings : Settings) (h : History) (moment caller i : ℕ) (rating : Option Rating) (text : List ℕ) (ls : List Listing)
+    → map (row_now settings (entry moment caller (Feedback i rating text) ∷ h)) ls ≡ map (row_now settings h) ls
+rows_still settings h moment caller i rating text [] = refl
+rows_still settings h moment caller i rating text (l ∷ ls) = rw (rows_still settings h moment caller i rating text ls) (simp append-nil)
 
 feedback_leads : (settings : Settings) (h : History) (moment caller i : ℕ) (rating : Rating) (text : Bor (List ℕ))
     → changed (tables_of settings h) (change.Feedback moment i caller (party_against h (listing_at (listings h) i) caller) rating text) ≡ tables_of settings (entry moment caller (Feedback i (Some rating) text.now) ∷ h)
 unfolding changed tables_of questions
 feedback_leads settings h moment caller i rating text =
-    rw (rows_still settings.bands h moment caller i (Some rating) text.now (listings h ++ [])) (simp append-nil)
+    rw (rows_still settings h moment caller i (Some rating) text.now (listings h ++ [])) (simp append-nil)
 
 -- what is refused before the feedback is asked
 pub feedback_refused : (t : Tables) (settings : Settings) (h : History) (moment caller item : ℕ) (rating : Option Rating) (text : List ℕ) (refusal : Refusal) → t ≡ tables_of settings h

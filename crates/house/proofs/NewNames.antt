@@ -27,15 +27,15 @@ unfolding tables_of verdict
 register_verdict t settings h moment caller name e = rw e refl
 
 -- items are as they were
-rows_still : (bands : List (ℕ × ℕ)) (h : History) (moment caller : ℕ) (name : List ℕ) (ls : List Listing)
-    → map (row_now bands (entry moment caller (Register name) ∷ h)) ls ≡ map (row_now bands h) ls
-rows_still bands h moment caller name [] = refl
-rows_still bands h moment caller name (l ∷ ls) = rw (rows_still bands h moment caller name ls) (simp append-nil)
+rows_still : (settings : Settings) (h : History) (moment caller : ℕ) (name : List ℕ) (ls : List Listing)
+    → map (row_now settings (entry moment caller (Register name) ∷ h)) ls ≡ map (row_now settings h) ls
+rows_still settings h moment caller name [] = refl
+rows_still settings h moment caller name (l ∷ ls) = rw (rows_still settings h moment caller name ls) (simp append-nil)
 
 pub register_leads : (settings : Settings) (h : History) (moment caller : ℕ) (name : Bor (List ℕ)) → changed (tables_of settings h) (change.Register moment name) ≡ tables_of settings (entry moment caller (Register name.now) ∷ h)
 unfolding changed tables_of questions
 register_leads settings h moment caller name =
-    rw (rows_still settings.bands h moment caller name.now (listings h ++ [])) (simp append-nil)
+    rw (rows_still settings h moment caller name.now (listings h ++ [])) (simp append-nil)
 
 pub register_refusal : (t : Tables) (settings : Settings) (h : History) (moment caller : ℕ) (name : List ℕ) (refusal : Refusal) → t ≡ tables_of settings h
     → Some refusal ≡ first_failing (common_rules t.clock (length t.members) moment caller true ++ register_rules name t.members) → verdict settings h moment caller (Register name) ≡ Some refusal
@@ -69,15 +69,15 @@ unfolding tables_of verdict
 category_verdict t settings h moment caller name e = rw e refl
 
 -- items are as they were
-rows_still_too : (bands : List (ℕ × ℕ)) (h : History) (moment caller : ℕ) (name : List ℕ) (ls : List Listing)
-    → map (row_now bands (entry moment caller (AddCategory name) ∷ h)) ls ≡ map (row_now bands h) ls
-rows_still_too bands h moment caller name [] = refl
-rows_still_too bands h moment caller name (l ∷ ls) = rw (rows_still_too bands h moment caller name ls) (simp append-nil)
+rows_still_too : (settings : Settings) (h : History) (moment caller : ℕ) (name : List ℕ) (ls : List Listing)
+    → map (row_now settings (entry moment caller (AddCategory name) ∷ h)) ls ≡ map (row_now settings h) ls
+rows_still_too settings h moment caller name [] = refl
+rows_still_too settings h moment caller name (l ∷ ls) = rw (rows_still_too settings h moment caller name ls) (simp append-nil)
 
 pub category_leads : (settings : Settings) (h : History) (moment caller : ℕ) (name : Bor (List ℕ)) → changed (tables_of settings h) (change.AddCategory moment name) ≡ tables_of settings (entry moment caller (AddCategory name.now) ∷ h)
 unfolding changed tables_of questions
 category_leads settings h moment caller name =
-    rw (rows_still_too settings.bands h moment caller name.now (listings h ++ [])) (simp append-nil)
+    rw (rows_still_too settings h moment caller name.now (listings h ++ [])) (simp append-nil)
 
 pub category_refusal : (t : Tables) (settings : Settings) (h : History) (moment caller : ℕ) (name : List ℕ) (refusal : Refusal) → t ≡ tables_of settings h
     → Some refusal ≡ first_failing (common_rules t.clock (length t.members) moment caller true ++ category_rules name t.categories) → verdict settings h moment caller (AddCategory name) ≡ Some refusal

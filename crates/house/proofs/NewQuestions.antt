@@ -162,16 +162,16 @@ unfolding tables_of questions
 count_kept settings h c i = count_answered (answers h) c i (asked h)
 
 -- items are as they were
-rows_still : (bands : List (ℕ × ℕ)) (h : History) (moment caller i : ℕ) (text : List ℕ) (ls : List Listing)
-    → map (row_now bands (entry moment caller (Ask i text) ∷ h)) ls ≡ map (row_now bands h) ls
-rows_still bands h moment caller i text [] = refl
-rows_still bands h moment caller i text (l ∷ ls) = rw (rows_still bands h moment caller i text ls) (simp append-nil)
+rows_still : (settings : Settings) (h : History) (moment caller i : ℕ) (text : List ℕ) (ls : List Listing)
+    → map (row_now settings (entry moment caller (Ask i text) ∷ h)) ls ≡ map (row_now settings h) ls
+rows_still settings h moment caller i text [] = refl
+rows_still settings h moment caller i text (l ∷ ls) = rw (rows_still settings h moment caller i text ls) (simp append-nil)
 
 ask_leads : (settings : Settings) (h : History) (moment caller i : ℕ) (text : Bor (List ℕ)) → IsHistory settings h
     → changed (tables_of settings h) (change.Ask i caller (asked_count (asked h) caller i + 1) text) ≡ tables_of settings (entry moment caller (Ask i text.now) ∷ h)
 unfolding changed tables_of questions
 ask_leads settings h moment caller i text is =
-    rw (new_waits settings h caller i text.now is, rows_still settings.bands h moment caller i text.now (listings h ++ [])) (simp append-nil)
+    rw (new_waits settings h caller i text.now is, rows_still settings h moment caller i text.now (listings h ++ [])) (simp append-nil)
 
 -- what is refused before the questions are asked
 pub ask_refused : (t : Tables) (settings : Settings) (h : History) (moment caller item : ℕ) (text : List ℕ) (refusal : Refusal) → t ≡ tables_of settings h

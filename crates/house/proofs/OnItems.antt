@@ -24,17 +24,17 @@ pub item_refused : (t : Tables) (settings : Settings) (h : History) (moment call
     → ((rules : Terms → List Rule) → Some refusal ≡ first_failing (common_rules t.clock (length t.members) moment caller false ++ of_terms (terms_at t item) rules))
     → first_failing (common_rules (clock h) (length (members h)) moment caller false ++ of_item (shown_at (items_shown settings h) item) (by_floor more)) ≡ Some refusal
 unfolding tables_of
-item_refused t settings h moment caller item refusal more e told = rw (floors_shown settings h item more) (sym (rw e at told (at_floor settings more)))
+item_refused t settings h moment caller item refusal more e told = rw (floors_shown settings h item more) (sym (rw e at told (at_floor (tables_of settings h) more)))
 
 -- where the item is there, its rules decide
 pub item_judged : (t : Tables) (settings : Settings) (h : History) (moment caller item : ℕ) (terms : Terms) (more : Option ℕ → Terms → List Rule) → t ≡ tables_of settings h
     → terms_at t item ≡ Some terms → None ≡ first_failing (common_rules t.clock (length t.members) moment caller false)
-    → first_failing (common_rules (clock h) (length (members h)) moment caller false ++ of_item (shown_at (items_shown settings h) item) (by_floor more)) ≡ first_failing (at_floor settings more terms)
+    → first_failing (common_rules (clock h) (length (members h)) moment caller false ++ of_item (shown_at (items_shown settings h) item) (by_floor more)) ≡ first_failing (at_floor (tables_of settings h) more terms)
 unfolding tables_of
 item_judged t settings h moment caller item terms more e found passed =
     let there : terms_at (tables_of settings h) item ≡ Some terms = rw e at found in
     let common : first_failing (common_rules (clock h) (length (members h)) moment caller false) ≡ None = sym (rw e at passed) in
-    rw (floors_shown settings h item more, there) (first_none (common_rules (clock h) (length (members h)) moment caller false) ((false, Unknown) ∷ at_floor settings more terms) common)
+    rw (floors_shown settings h item more, there) (first_none (common_rules (clock h) (length (members h)) moment caller false) ((false, Unknown) ∷ at_floor (tables_of settings h) more terms) common)
 
 -- the row of the terms that were found
 pub record RowThere (t : Tables) (item : ℕ) (terms : Terms) : Type 0 where

@@ -24,17 +24,19 @@ use Rattle.house_rows.specs.Bids.{BidRow, bid_in, bid_key, bid_rows, bids_on}
 use Rattle.house_rows.specs.Changed.{changed, is_item, with_standing}
 use Rattle.house_rows.specs.Found.{standing_at, terms_at}
 use Rattle.house_rows.specs.History.{History, clock}
-use Rattle.house_rows.specs.Items.{closings, floor_of, is_bought, is_open, is_settled, is_taken, item_now, leader_of, purchase_of, shown, state_of, terms_now}
+use Rattle.house_rows.specs.Items.{closings, floor_of, is_bought, is_open, is_settled, is_taken, leader_of, purchase_of, shown_now, state_of, terms_now}
 use Rattle.house_rows.specs.Keeping.{AreSound, ItemRowFits}
 use Rattle.house_rows.specs.Limits.{most_bids, most_cents}
-use Rattle.house_rows.specs.Listings.{Listing, listed_opening, listing_at, listings}
+use Rattle.house_rows.specs.Listings.{Listing, bands_by, listed_opening, listing_at, listings}
 use Rattle.house_rows.specs.People.{members}
 use Rattle.house_rows.specs.Questions.{questions}
 use Rattle.house_rows.specs.Runs.{entry}
-use Rattle.house_rows.specs.Tables.{ItemRow, Tables, row_now, row_opening, tables_of}
+use Rattle.house_rows.specs.Tables.{ItemRow, Tables, bands_for, row_now, row_opening, tables_of}
 use Rattle.house_rows.specs.Verdict.{IsHistory, Rule, bid_rules, common_rules, open_rules, verdict}
 use Rattle.house_rows.proofs.AcceptedBids.{floor_is, more_accepted}
-use Rattle.house_rows.proofs.Every.{every_as, every_put, found_has, found_is}
+use Rattle.house_rows.proofs.ChangedRows.{there_fits_by}
+use Rattle.house_rows.proofs.Every.{every_as, every_put, found_is}
+use Rattle.house_rows.proofs.GoesBy.{bands_kept}
 use Rattle.house_rows.proofs.Numbered.{numbered}
 use Rattle.house_rows.proofs.OpenItems.{not_bought, open_parts}
 use Rattle.house_rows.proofs.Passed.{shown_is}
@@ -85,8 +87,8 @@ record Biddable (h : History) (l : Listing) : Type 0 where
   untaken : list_any (λ c. nat_le l.item c.listed && nat_le l.end c.moment) (closings h) ≡ false
   unsettled : is_settled h l.item ≡ false
 
-biddable : (bands : List (ℕ × ℕ)) (h : History) (moment caller maximum : ℕ) (l : Listing) → first_failing (first_rules moment caller maximum (terms_now bands h l)) ≡ None → Biddable h l
-biddable bands h moment caller maximum l none =
+biddable : (settings : Settings) (h : History) (moment caller maximum : ℕ) (l : Listing) → first_failing (first_rules moment caller maximum (terms_now settings h l)) ≡ None → Biddable h l
+biddable settings h moment caller maximum l none =
     let pass = first_passed (l.seller == caller) (is_open (state_of h l)) (nat_le l.end moment) (nat_lt most_cents maximum) none in
     let parts = open_parts (is_bought h l.item) (is_taken h l) (is_some (leader_of h l)) (is_settled h l.item) pass.is_open in
     let unsold : purchase_of h l.item ≡ None = not_bought h l.item (purchase_of h l.item) refl parts.bought_not in
@@ -105,44 +107,44 @@ as_by_bids false false true f = refl
 as_by_bids false false false f = refl
 
 -- the later rules are those of the item's bids
-later_is : (bands : List (ℕ × ℕ)) (h : History) (caller maximum : ℕ) (l : Listing) → Biddable h l
-    → first_failing (later_rules caller maximum (greatest (bids_on h l.item) caller) (floor_of bands (terms_now bands h l)) (terms_now bands h l)) ≡ option_map as_refusal (refusal bands (listed_opening l) (bids_on h l.item) caller maximum)
-later_is bands h caller maximum l can =
-    rw (can.is_open, can.unsold) (rw (floor_is bands (listed_opening l) (bids_on h l.item)) (as_by_bids _ _ _ _))
+later_is : (settings : Settings) (h : History) (caller maximum : ℕ) (l : Listing) → Biddable h l
+    → first_failing (later_rules caller maximum (greatest (bids_on h l.item) caller) (floor_of (bands_by settings l) (terms_now settings h l)) (terms_now settings h l)) ≡ option_map as_refusal (refusal (bands_by settings l) (listed_opening l) (bids_on h l.item) caller maximum)
+later_is settings h caller maximum l can =
+    rw (can.is_open, can.unsold) (rw (floor_is (bands_by settings l) (listed_opening l) (bids_on h l.item)) (as_by_bids _ _ _ _))
 
 -- the verdict on a bid whose first rules pass
 judged : (settings : Settings) (h : History) (moment caller maximum : ℕ) (l : Listing) → listing_at (listings h) l.item ≡ Some l
-    → first_failing (common_rules (clock h) (length (members h)) moment caller false) ≡ None → first_failing (first_rules moment caller maximum (terms_now settings.bands h l)) ≡ None
-    → verdict settings h moment caller (Bid l.item maximum) ≡ option_map as_refusal (refusal settings.bands (listed_opening l) (bids_on h l.item) caller maximum)
+    → first_failing (common_rules (clock h) (length (members h)) moment caller false) ≡ None → first_failing (first_rules moment caller maximum (terms_now settings h l)) ≡ None
+    → verdict settings h moment caller (Bid l.item maximum) ≡ option_map as_refusal (refusal (bands_by settings l) (listed_opening l) (bids_on h l.item) caller maximum)
 unfolding verdict
 judged settings h moment caller maximum l listed common first =
     let own : ℕ = greatest (bids_on h l.item) caller in
-    let terms : Terms = terms_now settings.bands h l in
+    let terms : Terms = terms_now settings h l in
     rw (shown_is settings h l.item, listed) (
-    first_none (common_rules (clock h) (length (members h)) moment caller false) ((false, Unknown) ∷ bid_rules moment caller maximum own (shown settings (item_now settings.bands h l))) common
-    ∙ first_none (first_rules moment caller maximum terms) (later_rules caller maximum own (floor_of settings.bands terms) terms) first
-    ∙ later_is settings.bands h caller maximum l (biddable settings.bands h moment caller maximum l first)
+    first_none (common_rules (clock h) (length (members h)) moment caller false) ((false, Unknown) ∷ bid_rules moment caller maximum own (shown_now settings h l)) common
+    ∙ first_none (first_rules moment caller maximum terms) (later_rules caller maximum own (floor_of (bands_by settings l) terms) terms) first
+    ∙ later_is settings h caller maximum l (biddable settings h moment caller maximum l first)
     )
 
 -- the row of the item after the bid
-row_bid : (bands : List (ℕ × ℕ)) (h : History) (moment caller maximum : ℕ) (l : Listing) → Biddable h l
-    → with_standing l.item (standing_of bands (listed_opening l) (one_more (bids_on h l.item) caller maximum)) (row_now bands h l) ≡ row_now bands (entry moment caller (Bid l.item maximum) ∷ h) l
-row_bid bands h moment caller maximum l can =
+row_bid : (settings : Settings) (h : History) (moment caller maximum : ℕ) (l : Listing) → Biddable h l
+    → with_standing l.item (standing_of (bands_by settings l) (listed_opening l) (one_more (bids_on h l.item) caller maximum)) (row_now settings h l) ≡ row_now settings (entry moment caller (Bid l.item maximum) ∷ h) l
+row_bid settings h moment caller maximum l can =
     let here : (l.item == l.item) ≡ true = grind (arith, nat_tests) in
     rw here (simp append-nil (rw (can.unsold, can.untaken, can.unsettled) refl))
 
 -- the rows of items after the bid
-rows_bid : (bands : List (ℕ × ℕ)) (h : History) (moment caller maximum : ℕ) (l : Listing) (ls : List Listing) → Biddable h l
+rows_bid : (settings : Settings) (h : History) (moment caller maximum : ℕ) (l : Listing) (ls : List Listing) → Biddable h l
     → AllByRecursion (λ a. (a.item == l.item) ≡ true → a ≡ l) ls
-    → map (with_standing l.item (standing_of bands (listed_opening l) (one_more (bids_on h l.item) caller maximum))) (map (row_now bands h) ls)
-    ≡ map (row_now bands (entry moment caller (Bid l.item maximum) ∷ h)) ls
-rows_bid bands h moment caller maximum l [] can all = refl
-rows_bid bands h moment caller maximum l (a ∷ ls) can all =
-    rw (rows_bid bands h moment caller maximum l ls can all.1) (ap (λ row. row ∷ map (row_now bands (entry moment caller (Bid l.item maximum) ∷ h)) ls) (one a all.0)) where
+    → map (with_standing l.item (standing_of (bands_by settings l) (listed_opening l) (one_more (bids_on h l.item) caller maximum))) (map (row_now settings h) ls)
+    ≡ map (row_now settings (entry moment caller (Bid l.item maximum) ∷ h)) ls
+rows_bid settings h moment caller maximum l [] can all = refl
+rows_bid settings h moment caller maximum l (a ∷ ls) can all =
+    rw (rows_bid settings h moment caller maximum l ls can all.1) (ap (λ row. row ∷ map (row_now settings (entry moment caller (Bid l.item maximum) ∷ h)) ls) (one a all.0)) where
       one : (a : Listing) → ((a.item == l.item) ≡ true → a ≡ l)
-          → with_standing l.item (standing_of bands (listed_opening l) (one_more (bids_on h l.item) caller maximum)) (row_now bands h a) ≡ row_now bands (entry moment caller (Bid l.item maximum) ∷ h) a
+          → with_standing l.item (standing_of (bands_by settings l) (listed_opening l) (one_more (bids_on h l.item) caller maximum)) (row_now settings h a) ≡ row_now settings (entry moment caller (Bid l.item maximum) ∷ h) a
       one a same = elim (by_test (a.item == l.item)) [
-        | inl here ↦ rw (same here) (row_bid bands h moment caller maximum l can)
+        | inl here ↦ rw (same here) (row_bid settings h moment caller maximum l can)
         | inr other ↦ (let other' : (l.item == a.item) ≡ false = grind (arith, nat_tests, other) in rw (other, other') (simp append-nil))
       ]
 
@@ -157,10 +159,10 @@ own_listing h l listed =
 
 bid_leads : (settings : Settings) (h : History) (moment caller maximum : ℕ) (l : Listing) → listing_at (listings h) l.item ≡ Some l → Biddable h l
     → changed (tables_of settings h) (change.Bid moment l.item (record { member = caller; maximum = maximum; no = length (bids_on h l.item) + 1 })
-    (standing_of settings.bands (listed_opening l) (one_more (bids_on h l.item) caller maximum))) ≡ tables_of settings (entry moment caller (Bid l.item maximum) ∷ h)
+    (standing_of (bands_by settings l) (listed_opening l) (one_more (bids_on h l.item) caller maximum))) ≡ tables_of settings (entry moment caller (Bid l.item maximum) ∷ h)
 unfolding changed tables_of questions
 bid_leads settings h moment caller maximum l listed can =
-    rw (rows_bid settings.bands h moment caller maximum l (listings h) can (own_listing h l listed)) (simp append-nil)
+    rw (rows_bid settings h moment caller maximum l (listings h) can (own_listing h l listed)) (simp append-nil)
 
 -- no bid has a number that wasn't given
 given_more : (h : History) (t c : ℕ) (command : Command) (row : BidRow) → row.bid.no ≤ length (bids_on h row.item) → row.bid.no ≤ length (bids_on (entry t c command ∷ h) row.item)
@@ -213,15 +215,15 @@ record Listed (settings : Settings) (h : History) (item : ℕ) (terms : Terms) (
   listing : Listing
   numbered_so : listing.item ≡ item
   listed : listing_at (listings h) listing.item ≡ Some listing
-  terms_are : terms ≡ terms_now settings.bands h listing
-  stands : kept ≡ standing_of settings.bands (listed_opening listing) (bids_on h listing.item)
+  terms_are : terms ≡ terms_now settings h listing
+  stands : kept ≡ standing_of (bands_by settings listing) (listed_opening listing) (bids_on h listing.item)
 
 found_listing : (settings : Settings) (h : History) (item : ℕ) (terms : Terms) (kept : Kept)
     → terms_at (tables_of settings h) item ≡ Some terms → standing_at (tables_of settings h) item ≡ Some kept → Listed settings h item terms kept
 found_listing settings h item terms kept found stands =
     by_listing (listing_at (listings h) item) refl (rw (row_found settings h item) at found) (rw (row_found settings h item) at stands) where
-      by_listing : (o : Option Listing) → listing_at (listings h) item ≡ o → option_map (λ (row : ItemRow). row.item.terms) (option_map (row_now settings.bands h) o) ≡ Some terms
-          → option_map (λ (row : ItemRow). row.standing) (option_map (row_now settings.bands h) o) ≡ Some kept → Listed settings h item terms kept
+      by_listing : (o : Option Listing) → listing_at (listings h) item ≡ o → option_map (λ (row : ItemRow). row.item.terms) (option_map (row_now settings h) o) ≡ Some terms
+          → option_map (λ (row : ItemRow). row.standing) (option_map (row_now settings h) o) ≡ Some kept → Listed settings h item terms kept
       by_listing None is none stands = cc
       by_listing (Some l) is some stands =
           let here = found_is (λ (a : Listing). a.item == item) (listings h) l is in
@@ -230,8 +232,8 @@ found_listing settings h item terms kept found stands =
             listing = l;
             numbered_so = at';
             listed = subst (λ (i : ℕ). listing_at (listings h) i ≡ Some l) (sym at') is;
-            terms_are = sym (some_is (terms_now settings.bands h l) terms some);
-            stands = sym (some_is (standing_of settings.bands (listed_opening l) (bids_on h l.item)) kept stands);
+            terms_are = sym (some_is (terms_now settings h l) terms some);
+            stands = sym (some_is (standing_of (bands_by settings l) (listed_opening l) (bids_on h l.item)) kept stands);
           }
 
 -- what is refused before the item's rules are asked
@@ -250,48 +252,65 @@ unfolding verdict
 bid_unfit t settings h moment caller item maximum terms told e found common so =
     let own : ℕ = greatest (bids_on h item) caller in
     item_judged t settings h moment caller item terms (all_rules moment caller maximum own) e found common
-    ∙ first_some (first_rules moment caller maximum terms) (later_rules caller maximum own (floor_of settings.bands terms) terms) told (sym so)
+    ∙ first_some (first_rules moment caller maximum terms) (later_rules caller maximum own (floor_of (bands_for (tables_of settings h) terms.item) terms) terms) told (sym so)
 
 by_history : (t : Tables) (settings : Settings) (h : History) (moment caller : ℕ) → t ≡ tables_of settings h → None ≡ first_failing (common_rules t.clock (length t.members) moment caller false)
     → first_failing (common_rules (clock h) (length (members h)) moment caller false) ≡ None
 unfolding tables_of
 by_history t settings h moment caller e common = sym (rw e at common)
 
-settings_are : (t : Tables) (settings given : Settings) (h : History) → t ≡ tables_of settings h → given ≡ t.settings → given ≡ settings
-unfolding tables_of
-settings_are t settings given h e so = rw e at so
+-- the band table that was given is the listing's
+bands_are : (t : Tables) (settings : Settings) (given : List (ℕ × ℕ)) (h : History) (item : ℕ) (l : Listing) → t ≡ tables_of settings h → given ≡ bands_for t item → l.item ≡ item
+    → listing_at (listings h) l.item ≡ Some l → given ≡ bands_by settings l
+bands_are t settings given h item l e so at' listed =
+    so ∙ ap (λ (x : Tables). bands_for x item) e ∙ ap (λ (i : ℕ). bands_for (tables_of settings h) i) (sym at') ∙ bands_kept settings h l.item l listed
+
+-- what is told of bids in other words
+refused_as : (given bands : List (ℕ × ℕ)) (kept : Kept) (opening : Opening) (bids : List bid.Bid) (member amount caller maximum : ℕ) (told : Refusal)
+    → given ≡ bands → kept ≡ standing_of bands opening bids → member ≡ caller → amount ≡ maximum
+    → ((bids : List bid.Bid) → kept ≡ standing_of given (opening_of kept) bids → Some told ≡ option_map as_refusal (refusal given (opening_of kept) bids member amount))
+    → Some told ≡ option_map as_refusal (refusal bands opening bids caller maximum)
+refused_as given bands kept opening bids member amount caller maximum told e stands same equal so = (rw (e, same, equal, stands) at so) bids refl
+
+accepted_as : (given bands : List (ℕ × ℕ)) (kept after : Kept) (opening : Opening) (bids : List bid.Bid) (member amount caller maximum : ℕ)
+    → given ≡ bands → kept ≡ standing_of bands opening bids → member ≡ caller → amount ≡ maximum
+    → ((bids : List bid.Bid) → kept ≡ standing_of given (opening_of kept) bids
+    → (refusal given (opening_of kept) bids member amount ≡ None) × (after ≡ standing_of given (opening_of kept) (one_more bids member amount)))
+    → (refusal bands opening bids caller maximum ≡ None) × (after ≡ standing_of bands opening (one_more bids caller maximum))
+accepted_as given bands kept after opening bids member amount caller maximum e stands same equal so = (rw (e, same, equal, stands) at so) bids refl
 
 -- why the item's bids refuse it
-pub bid_refused : (t : Tables) (settings given : Settings) (h : History) (moment caller item maximum : ℕ) (terms : Terms) (kept : Kept) (member amount : ℕ) (told : Refusal) → t ≡ tables_of settings h
+pub bid_refused : (t : Tables) (settings : Settings) (given : List (ℕ × ℕ)) (h : History) (moment caller item maximum : ℕ) (terms : Terms) (kept : Kept) (member amount : ℕ) (told : Refusal) → t ≡ tables_of settings h
     → terms_at t item ≡ Some terms → None ≡ first_failing (common_rules t.clock (length t.members) moment caller false) → None ≡ first_failing (first_rules moment caller maximum terms)
-    → standing_at t item ≡ Some kept → given ≡ t.settings → member ≡ caller → amount ≡ maximum
-    → ((bids : List bid.Bid) → kept ≡ standing_of given.bands (opening_of kept) bids → Some told ≡ option_map as_refusal (refusal given.bands (opening_of kept) bids member amount))
+    → standing_at t item ≡ Some kept → given ≡ bands_for t item → member ≡ caller → amount ≡ maximum
+    → ((bids : List bid.Bid) → kept ≡ standing_of given (opening_of kept) bids → Some told ≡ option_map as_refusal (refusal given (opening_of kept) bids member amount))
     → verdict settings h moment caller (Bid item maximum) ≡ Some told
 bid_refused t settings given h moment caller item maximum terms kept member amount told e found common first stands bands same equal so =
     let f = found_listing settings h item terms kept (rw e at found) (rw e at stands) in
     let l : Listing = f.listing in
     let now = by_history t settings h moment caller e common in
-    let first' : first_failing (first_rules moment caller maximum (terms_now settings.bands h l)) ≡ None = sym (rw f.terms_are at first) in
-    let bands' : given ≡ settings = settings_are t settings given h e bands in
-    let answer : Some told ≡ option_map as_refusal (refusal settings.bands (listed_opening l) (bids_on h l.item) caller maximum) =
-    (rw (bands', same, equal, f.stands) at so) (bids_on h l.item) refl in
+    let first' : first_failing (first_rules moment caller maximum (terms_now settings h l)) ≡ None = sym (rw f.terms_are at first) in
+    let bands' : given ≡ bands_by settings l = bands_are t settings given h item l e bands f.numbered_so f.listed in
+    let answer : Some told ≡ option_map as_refusal (refusal (bands_by settings l) (listed_opening l) (bids_on h l.item) caller maximum) =
+    refused_as given (bands_by settings l) kept (listed_opening l) (bids_on h l.item) member amount caller maximum told bands' f.stands same equal so in
     rw f.numbered_so at (judged settings h moment caller maximum l f.listed now first' ∙ sym answer)
 
 -- the change fits where they take it
-pub bid_fits : (t : Tables) (given : Settings) (moment caller item maximum : ℕ) (terms : Terms) (kept after : Kept) (member amount count : ℕ) → AreSound t
+pub bid_fits : (t : Tables) (given : List (ℕ × ℕ)) (moment caller item maximum : ℕ) (terms : Terms) (kept after : Kept) (member amount count : ℕ) → AreSound t
     → terms_at t item ≡ Some terms → None ≡ first_failing (common_rules t.clock (length t.members) moment caller false) → None ≡ first_failing (first_rules moment caller maximum terms)
-    → standing_at t item ≡ Some kept → given ≡ t.settings → member ≡ caller → amount ≡ maximum → count ≡ after.count
-    → ((bids : List bid.Bid) → kept ≡ standing_of given.bands (opening_of kept) bids
-    → (refusal given.bands (opening_of kept) bids member amount ≡ None) × (after ≡ standing_of given.bands (opening_of kept) (one_more bids member amount)))
+    → standing_at t item ≡ Some kept → given ≡ bands_for t item → member ≡ caller → amount ≡ maximum → count ≡ after.count
+    → ((bids : List bid.Bid) → kept ≡ standing_of given (opening_of kept) bids
+    → (refusal given (opening_of kept) bids member amount ≡ None) × (after ≡ standing_of given (opening_of kept) (one_more bids member amount)))
     → BidFits t moment terms.item (record { member = member; maximum = amount; no = count }) after
 bid_fits t given moment caller item maximum terms kept after member amount count sound found common first stands bands same equal counts so =
     let row = row_there t item terms found in
     let opening : Opening = row_opening row.row in
-    let fits : ItemRowFits t.settings.bands row.row = found_has (ItemRowFits t.settings.bands) (is_item item) t.items row.row sound.items row.there in
+    let table : List (ℕ × ℕ) = bands_for t item in
+    let fits : ItemRowFits table row.row = there_fits_by t item row.row sound row.there in
     let bids : List bid.Bid = fits.bids in
-    let kept_is : kept ≡ standing_of t.settings.bands opening bids = standing_same t item row.row kept row.there stands ∙ fits.stands in
-    let answer : (refusal t.settings.bands opening bids caller maximum ≡ None) × (after ≡ standing_of t.settings.bands opening (one_more bids caller maximum)) =
-    (rw (bands, same, equal, kept_is) at so) bids refl in
+    let kept_is : kept ≡ standing_of table opening bids = standing_same t item row.row kept row.there stands ∙ fits.stands in
+    let answer : (refusal table opening bids caller maximum ≡ None) × (after ≡ standing_of table opening (one_more bids caller maximum)) =
+    accepted_as given table kept after opening bids member amount caller maximum bands kept_is same equal so in
     let caller_is = caller_fits t moment caller false (sym common) in
     let pass = first_passed (terms.seller == caller) (is_open terms.state) (nat_le terms.end moment) (nat_lt most_cents maximum) (sym first) in
     let range = pass.within in
@@ -305,7 +324,7 @@ bid_fits t given moment caller item maximum terms kept after member amount count
       maximum_fits = grind (arith, nat_tests, range);
       bids = bids;
       stands = fits.stands;
-      accepted = more_accepted t.settings.bands opening bids (record { member = caller; maximum = maximum; no = length bids + 1 }) fits.accepted (record { accepted = answer.0; numbered = refl });
+      accepted = more_accepted table opening bids (record { member = caller; maximum = maximum; no = length bids + 1 }) fits.accepted (record { accepted = answer.0; numbered = refl });
       numbered = counts ∙ ap (λ (k : Kept). k.count) answer.1 ∙ length-append bids (record { member = caller; maximum = maximum; no = length bids + 1 } ∷ []);
       stands_after = answer.1;
     })
@@ -319,26 +338,26 @@ renamed settings h moment caller i item named maximum amount member number count
     rw (same_item, same, equal, counts, stands, ← at') accepted
 
 -- the change, where they take it
-pub bid_accepts : (t : Tables) (settings given : Settings) (h : History) (moment caller item maximum : ℕ) (terms : Terms) (kept after : Kept) (member amount count : ℕ) → IsHistory settings h → t ≡ tables_of settings h
+pub bid_accepts : (t : Tables) (settings : Settings) (given : List (ℕ × ℕ)) (h : History) (moment caller item maximum : ℕ) (terms : Terms) (kept after : Kept) (member amount count : ℕ) → IsHistory settings h → t ≡ tables_of settings h
     → terms_at t item ≡ Some terms → None ≡ first_failing (common_rules t.clock (length t.members) moment caller false) → None ≡ first_failing (first_rules moment caller maximum terms)
-    → standing_at t item ≡ Some kept → given ≡ t.settings → member ≡ caller → amount ≡ maximum → count ≡ after.count
-    → ((bids : List bid.Bid) → kept ≡ standing_of given.bands (opening_of kept) bids
-    → (refusal given.bands (opening_of kept) bids member amount ≡ None) × (after ≡ standing_of given.bands (opening_of kept) (one_more bids member amount)))
+    → standing_at t item ≡ Some kept → given ≡ bands_for t item → member ≡ caller → amount ≡ maximum → count ≡ after.count
+    → ((bids : List bid.Bid) → kept ≡ standing_of given (opening_of kept) bids
+    → (refusal given (opening_of kept) bids member amount ≡ None) × (after ≡ standing_of given (opening_of kept) (one_more bids member amount)))
     → IsAccepted settings h moment caller (Bid item maximum) (change.Bid moment terms.item (record { member = member; maximum = amount; no = count }) after)
 bid_accepts t settings given h moment caller item maximum terms kept after member amount count is e found common first stands bands same equal counts so =
     let f = found_listing settings h item terms kept (rw e at found) (rw e at stands) in
     let l : Listing = f.listing in
     let now = by_history t settings h moment caller e common in
-    let first' : first_failing (first_rules moment caller maximum (terms_now settings.bands h l)) ≡ None = sym (rw f.terms_are at first) in
-    let bands' : given ≡ settings = settings_are t settings given h e bands in
+    let first' : first_failing (first_rules moment caller maximum (terms_now settings h l)) ≡ None = sym (rw f.terms_are at first) in
+    let bands' : given ≡ bands_by settings l = bands_are t settings given h item l e bands f.numbered_so f.listed in
     let bids : List bid.Bid = bids_on h l.item in
-    let answer : (refusal settings.bands (listed_opening l) bids caller maximum ≡ None) × (after ≡ standing_of settings.bands (listed_opening l) (one_more bids caller maximum)) =
-    (rw (bands', same, equal, f.stands) at so) bids refl in
+    let answer : (refusal (bands_by settings l) (listed_opening l) bids caller maximum ≡ None) × (after ≡ standing_of (bands_by settings l) (listed_opening l) (one_more bids caller maximum)) =
+    accepted_as given (bands_by settings l) kept after (listed_opening l) bids member amount caller maximum bands' f.stands same equal so in
     let counted : count ≡ length bids + 1 = counts ∙ ap (λ (k : Kept). k.count) answer.1 ∙ length-append bids (record { member = caller; maximum = maximum; no = length bids + 1 } ∷ []) in
-    let can = biddable settings.bands h moment caller maximum l first' in
+    let can = biddable settings h moment caller maximum l first' in
     let named : terms.item ≡ l.item = ap (λ (x : Terms). x.item) f.terms_are in
     let accepted : verdict settings h moment caller (Bid l.item maximum) ≡ None = judged settings h moment caller maximum l f.listed now first' ∙ ap (option_map as_refusal) answer.0 in
-    let whole : IsAccepted settings h moment caller (Bid l.item maximum) (change.Bid moment l.item (record { member = caller; maximum = maximum; no = length bids + 1 }) (standing_of settings.bands (listed_opening l) (one_more bids caller maximum))) =
+    let whole : IsAccepted settings h moment caller (Bid l.item maximum) (change.Bid moment l.item (record { member = caller; maximum = maximum; no = length bids + 1 }) (standing_of (bands_by settings l) (listed_opening l) (one_more bids caller maximum))) =
     record {
       accepted = accepted;
       fits = rw (e, named, same, equal, counted, answer.1) at
@@ -346,5 +365,5 @@ bid_accepts t settings given h moment caller item maximum terms kept after membe
       free = number_free settings h l.item;
       leads = bid_leads settings h moment caller maximum l f.listed can;
     } in
-    renamed settings h moment caller l.item item terms.item maximum amount member (length bids + 1) count (standing_of settings.bands (listed_opening l) (one_more bids caller maximum)) after
+    renamed settings h moment caller l.item item terms.item maximum amount member (length bids + 1) count (standing_of (bands_by settings l) (listed_opening l) (one_more bids caller maximum)) after
     f.numbered_so named same equal counted answer.1 whole

@@ -96,9 +96,9 @@ find_here i [] p none here = rw here refl
 find_here i (q ∷ ps) p none here =
     elim (by_test (q.item == i)) [ inl is ↦ absurd (something q (rw is at none)) | inr not ↦ rw not (find_here i ps p (rw not at none) here) ]
 
-bought_here : (bands : List (ℕ × ℕ)) (h : History) (moment caller i price : ℕ) (l : Listing) → (l.item == i) ≡ true → state_of h l ≡ Open → l.buy_now ≡ Some price
-    → with_purchase i caller price moment (row_now bands h l) ≡ row_now bands (entry moment caller (Buy i) ∷ h) l
-bought_here bands h moment caller i price l here is priced =
+bought_here : (settings : Settings) (h : History) (moment caller i price : ℕ) (l : Listing) → (l.item == i) ≡ true → state_of h l ≡ Open → l.buy_now ≡ Some price
+    → with_purchase i caller price moment (row_now settings h l) ≡ row_now settings (entry moment caller (Buy i) ∷ h) l
+bought_here settings h moment caller i price l here is priced =
     let p : Purchase = record { item = i; buyer = caller; moment = moment } in
     let parts = still (is_bought h l.item) (is_taken h l) (is_some (leader_of h l)) (is_settled h l.item) is in
     let unsettled : is_settled h l.item ≡ false = parts.settled_not in
@@ -106,36 +106,36 @@ bought_here bands h moment caller i price l here is priced =
     find_here l.item (purchases h) p parts.bought_not (other_way l.item i true here) in
     rw (here, found) (simp append-nil (rw (unsettled, priced) refl))
 
-bought_other : (bands : List (ℕ × ℕ)) (h : History) (moment caller i price : ℕ) (l : Listing) → (l.item == i) ≡ false
-    → with_purchase i caller price moment (row_now bands h l) ≡ row_now bands (entry moment caller (Buy i) ∷ h) l
-bought_other bands h moment caller i price l other =
+bought_other : (settings : Settings) (h : History) (moment caller i price : ℕ) (l : Listing) → (l.item == i) ≡ false
+    → with_purchase i caller price moment (row_now settings h l) ≡ row_now settings (entry moment caller (Buy i) ∷ h) l
+bought_other settings h moment caller i price l other =
     let p : Purchase = record { item = i; buyer = caller; moment = moment } in
     rw (other, find_other l.item (purchases h) p (other_way l.item i false other)) (simp append-nil)
 
 -- the row of that number is sold, and every other is as it was
-bought_row : (bands : List (ℕ × ℕ)) (h : History) (moment caller i price : ℕ) (sold l : Listing) → listing_at (listings h) i ≡ Some sold → state_of h sold ≡ Open
+bought_row : (settings : Settings) (h : History) (moment caller i price : ℕ) (sold l : Listing) → listing_at (listings h) i ≡ Some sold → state_of h sold ≡ Open
     → sold.buy_now ≡ Some price → listing_at (listings h) l.item ≡ Some l
-    → with_purchase i caller price moment (row_now bands h l) ≡ row_now bands (entry moment caller (Buy i) ∷ h) l
-bought_row bands h moment caller i price sold l listed is priced own =
+    → with_purchase i caller price moment (row_now settings h l) ≡ row_now settings (entry moment caller (Buy i) ∷ h) l
+bought_row settings h moment caller i price sold l listed is priced own =
     elim (by_test (l.item == i)) [
       | inl here ↦ (let at' : l.item ≡ i = same_number l.item i here in
           let same : sold ≡ l = one_listing (listing_at (listings h) i) sold l listed (subst (λ (n : ℕ). listing_at (listings h) n ≡ Some l) at' own) in
-          bought_here bands h moment caller i price l here (rw same at is) (rw same at priced))
-      | inr other ↦ bought_other bands h moment caller i price l other
+          bought_here settings h moment caller i price l here (rw same at is) (rw same at priced))
+      | inr other ↦ bought_other settings h moment caller i price l other
     ]
 
-bought_rows : (bands : List (ℕ × ℕ)) (h : History) (moment caller i price : ℕ) (sold : Listing) → listing_at (listings h) i ≡ Some sold → state_of h sold ≡ Open
+bought_rows : (settings : Settings) (h : History) (moment caller i price : ℕ) (sold : Listing) → listing_at (listings h) i ≡ Some sold → state_of h sold ≡ Open
     → sold.buy_now ≡ Some price
-    → map (with_purchase i caller price moment) (map (row_now bands h) (listings h)) ≡ map (row_now bands (entry moment caller (Buy i) ∷ h)) (listings h)
-bought_rows bands h moment caller i price sold listed is priced =
-    each_row (λ l. listing_at (listings h) l.item ≡ Some l) (row_now bands h) (with_purchase i caller price moment) (row_now bands (entry moment caller (Buy i) ∷ h)) (listings h)
-    (λ l own. bought_row bands h moment caller i price sold l listed is priced own) (numbered h).own
+    → map (with_purchase i caller price moment) (map (row_now settings h) (listings h)) ≡ map (row_now settings (entry moment caller (Buy i) ∷ h)) (listings h)
+bought_rows settings h moment caller i price sold listed is priced =
+    each_row (λ l. listing_at (listings h) l.item ≡ Some l) (row_now settings h) (with_purchase i caller price moment) (row_now settings (entry moment caller (Buy i) ∷ h)) (listings h)
+    (λ l own. bought_row settings h moment caller i price sold l listed is priced own) (numbered h).own
 
 buy_leads : (settings : Settings) (h : History) (moment caller i price : ℕ) (sold : Listing) → listing_at (listings h) i ≡ Some sold → state_of h sold ≡ Open
     → sold.buy_now ≡ Some price → changed (tables_of settings h) (change.Buy moment i caller price) ≡ tables_of settings (entry moment caller (Buy i) ∷ h)
 unfolding changed tables_of questions
 buy_leads settings h moment caller i price sold listed is priced =
-    rw (bought_rows settings.bands h moment caller i price sold listed is priced) (simp append-nil)
+    rw (bought_rows settings h moment caller i price sold listed is priced) (simp append-nil)
 
 pub buy_fits : (t : Tables) (moment caller item price : ℕ) (terms : Terms) → IsThere t moment caller false item terms → IsPriced moment caller terms price
     → PurchaseFits t moment terms.item caller price

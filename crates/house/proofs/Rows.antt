@@ -42,7 +42,7 @@ all_of P (x ∷ xs) each = (each x, all_of P xs each)
 pub record Known (settings : Settings) (h : History) (i : ℕ) (terms : Terms) : Type 0 where
   pub listing : Listing
   pub listed : listing_at (listings h) i ≡ Some listing
-  pub same : terms ≡ terms_now settings.bands h listing
+  pub same : terms ≡ terms_now settings h listing
 
 terms_same : (a b : Terms) → Some a ≡ Some b → b ≡ a
 terms_same a b e = cc
@@ -53,9 +53,9 @@ nothing_found terms e = cc
 pub known : (settings : Settings) (h : History) (i : ℕ) (terms : Terms) → terms_at (tables_of settings h) i ≡ Some terms → Known settings h i terms
 known settings h i terms found =
     by_listing (listing_at (listings h) i) refl (sym (terms_listed settings h i) ∙ found) where
-      by_listing : (o : Option Listing) → listing_at (listings h) i ≡ o → option_map (terms_now settings.bands h) o ≡ Some terms → Known settings h i terms
+      by_listing : (o : Option Listing) → listing_at (listings h) i ≡ o → option_map (terms_now settings h) o ≡ Some terms → Known settings h i terms
       by_listing None is all = absurd (nothing_found terms all)
-      by_listing (Some l) is all = record { listing = l; listed = is; same = terms_same (terms_now settings.bands h l) terms all }
+      by_listing (Some l) is all = record { listing = l; listed = is; same = terms_same (terms_now settings h l) terms all }
 
 pub same_number : (a b : ℕ) → (a == b) ≡ true → a ≡ b
 same_number a b is = grind (arith, nat_tests, is)

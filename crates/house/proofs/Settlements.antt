@@ -54,24 +54,24 @@ any_other i j [] other = rw other refl
 any_other i j (s ∷ ss) other = elim (by_test (s == i)) [ inl is ↦ rw is refl | inr not ↦ rw not (any_other i j ss other) ]
 
 -- the row of that number is settled, and every other is as it was
-settled_row : (bands : List (ℕ × ℕ)) (h : History) (moment caller i : ℕ) (l : Listing)
-    → with_settlement i (row_now bands h l) ≡ row_now bands (entry moment caller (Settle i) ∷ h) l
-settled_row bands h moment caller i l =
+settled_row : (settings : Settings) (h : History) (moment caller i : ℕ) (l : Listing)
+    → with_settlement i (row_now settings h l) ≡ row_now settings (entry moment caller (Settle i) ∷ h) l
+settled_row settings h moment caller i l =
     elim (by_test (l.item == i)) [
       | inl here ↦ rw (here, any_here l.item i (settlements h) (other_way l.item i true here)) (simp append-nil)
       | inr other ↦ rw (other, any_other l.item i (settlements h) (other_way l.item i false other)) (simp append-nil)
     ]
 
-settled_rows : (bands : List (ℕ × ℕ)) (h : History) (moment caller i : ℕ) (ls : List Listing)
-    → map (with_settlement i) (map (row_now bands h) ls) ≡ map (row_now bands (entry moment caller (Settle i) ∷ h)) ls
-settled_rows bands h moment caller i ls =
-    each_row (λ l. Unit {0}) (row_now bands h) (with_settlement i) (row_now bands (entry moment caller (Settle i) ∷ h)) ls
-    (λ l any. settled_row bands h moment caller i l) (all_of (λ l. Unit {0}) ls (λ l. tt))
+settled_rows : (settings : Settings) (h : History) (moment caller i : ℕ) (ls : List Listing)
+    → map (with_settlement i) (map (row_now settings h) ls) ≡ map (row_now settings (entry moment caller (Settle i) ∷ h)) ls
+settled_rows settings h moment caller i ls =
+    each_row (λ l. Unit {0}) (row_now settings h) (with_settlement i) (row_now settings (entry moment caller (Settle i) ∷ h)) ls
+    (λ l any. settled_row settings h moment caller i l) (all_of (λ l. Unit {0}) ls (λ l. tt))
 
 settle_leads : (settings : Settings) (h : History) (moment caller i : ℕ)
     → changed (tables_of settings h) (change.Settle moment i) ≡ tables_of settings (entry moment caller (Settle i) ∷ h)
 unfolding changed tables_of questions
-settle_leads settings h moment caller i = rw (settled_rows settings.bands h moment caller i (listings h)) (simp append-nil)
+settle_leads settings h moment caller i = rw (settled_rows settings h moment caller i (listings h)) (simp append-nil)
 
 sold_state : (s : State) → None ≡ first_failing ((not (is_sold s), NotSold) ∷ []) → s ≡ Sold
 sold_state Open pass = cc

@@ -63,14 +63,14 @@ others_room c i ws few =
     ]
 
 -- items are as they were
-rows_still : (bands : List (ℕ × ℕ)) (h : History) (moment caller i : ℕ) (ls : List Listing)
-    → map (row_now bands (entry moment caller (Watch i) ∷ h)) ls ≡ map (row_now bands h) ls
-rows_still bands h moment caller i [] = refl
-rows_still bands h moment caller i (l ∷ ls) = rw (rows_still bands h moment caller i ls) (simp append-nil)
+rows_still : (settings : Settings) (h : History) (moment caller i : ℕ) (ls : List Listing)
+    → map (row_now settings (entry moment caller (Watch i) ∷ h)) ls ≡ map (row_now settings h) ls
+rows_still settings h moment caller i [] = refl
+rows_still settings h moment caller i (l ∷ ls) = rw (rows_still settings h moment caller i ls) (simp append-nil)
 
 watch_leads : (settings : Settings) (h : History) (moment caller i : ℕ) → changed (tables_of settings h) (change.Watch caller i) ≡ tables_of settings (entry moment caller (Watch i) ∷ h)
 unfolding changed tables_of questions
-watch_leads settings h moment caller i = rw (rows_still settings.bands h moment caller i (listings h ++ [])) (simp append-nil)
+watch_leads settings h moment caller i = rw (rows_still settings h moment caller i (listings h ++ [])) (simp append-nil)
 
 -- what is refused before the watches are asked
 pub watch_refused : (t : Tables) (settings : Settings) (h : History) (moment caller item : ℕ) (refusal : Refusal) → t ≡ tables_of settings h
@@ -120,14 +120,14 @@ watch_accepts t settings h moment caller item terms member is e same found passe
     })
 
 -- and unwatched
-rows_still_too : (bands : List (ℕ × ℕ)) (h : History) (moment caller i : ℕ) (ls : List Listing)
-    → map (row_now bands (entry moment caller (Unwatch i) ∷ h)) ls ≡ map (row_now bands h) ls
-rows_still_too bands h moment caller i [] = refl
-rows_still_too bands h moment caller i (l ∷ ls) = rw (rows_still_too bands h moment caller i ls) (simp append-nil)
+rows_still_too : (settings : Settings) (h : History) (moment caller i : ℕ) (ls : List Listing)
+    → map (row_now settings (entry moment caller (Unwatch i) ∷ h)) ls ≡ map (row_now settings h) ls
+rows_still_too settings h moment caller i [] = refl
+rows_still_too settings h moment caller i (l ∷ ls) = rw (rows_still_too settings h moment caller i ls) (simp append-nil)
 
 unwatch_leads : (settings : Settings) (h : History) (moment caller i : ℕ) → changed (tables_of settings h) (change.Unwatch caller i) ≡ tables_of settings (entry moment caller (Unwatch i) ∷ h)
 unfolding changed tables_of questions
-unwatch_leads settings h moment caller i = rw (rows_still_too settings.bands h moment caller i (listings h ++ [])) (simp append-nil)
+unwatch_leads settings h moment caller i = rw (rows_still_too settings h moment caller i (listings h ++ [])) (simp append-nil)
 
 pub unwatch_refused : (t : Tables) (settings : Settings) (h : History) (moment caller item : ℕ) (refusal : Refusal) → t ≡ tables_of settings h
     → ((rules : Terms → List Rule) → Some refusal ≡ first_failing (common_rules t.clock (length t.members) moment caller false ++ of_terms (terms_at t item) rules))

@@ -52,7 +52,8 @@ pub fn bid<'c, K: Keep>(
     let Some(standing) = keep.standing(item)? else {
         return Ok(Err(Refusal::Unknown));
     };
-    match placed(standing, &keep.settings()?.bands, on.member, maximum) {
+    let bands = keep.editions()?.bands_for(item);
+    match placed(standing, bands, on.member, maximum) {
         Err(refusal) => Ok(Err(refusal)),
         Ok(standing) => Ok(Ok(Change::Bid {
             moment,

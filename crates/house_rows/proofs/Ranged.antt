@@ -156,7 +156,7 @@ listings_step settings h t c (Listed category lot title text start buy_now end) 
     let fits_category : IsWithin 1 most_categories category = rw at at known_fits in
     let caller_fits : IsMember c = caller_is settings h t c false is (common_pass settings h t c (Listed category lot title text start buy_now end) none) refl in
     record {
-      all = every_more ListingRanges (listings h) (record { item = length (listings h) + 1; seller = c; category = category; lot = lot; title = title; text = text; start = start; buy_now = buy_now; end = end }) fits.all (record {
+      all = every_more ListingRanges (listings h) (record { item = length (listings h) + 1; seller = c; category = category; lot = lot; title = title; text = text; start = start; buy_now = buy_now; end = end; set = [] }) fits.all (record {
         item = (omega arith, omega arith);
         seller = caller_fits;
         category = fits_category;

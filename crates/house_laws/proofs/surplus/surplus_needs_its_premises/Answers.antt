@@ -1,4 +1,4 @@
-use Rattle.std.proofs.Common.{◌≡◌, ℕ, List, [], ◌∷◌, ◌++◌, refl, ap, arith}
+use Rattle.std.proofs.Common.{◌≡◌, ℕ, List, [], ◌∷◌, ◌++◌, None, codes, refl, ap, arith}
 use Rattle.steps.specs.Table.{step_at}
 use Rattle.proxy.specs.Bids.{greatest, leader, price, second, top}
 use Rattle.house_rows.specs.declared.command.Command.TheVariants.{Bid}
@@ -32,8 +32,21 @@ returns-clause-covered g c = record {
   covered = record {
     accepted = refl;
     no_more = refl;
+    listing = record {
+      item = 1;
+      seller = 1;
+      category = 1;
+      lot = codes "A1";
+      title = codes "Atlas";
+      text = [];
+      start = 500;
+      buy_now = None;
+      end = 5000;
+      set = [];
+    };
+    listed = refl;
     leads = refl;
-    covers = omega arith;
+    covers = (omega arith, tt);
     above = omega arith;
     fits = omega arith;
   };
