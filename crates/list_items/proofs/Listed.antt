@@ -62,17 +62,17 @@ own_lot : (s seller : ℕ) (lot : List ℕ) → s ≡ seller → ((s == seller) 
 own_lot s seller lot is = rw (is_number s seller is, (bytes_decides lot lot).1 refl) refl
 
 -- the rows and their indexes with a new item
-pub row_listed : (rows : List ItemRow) (row : ItemRow) (bands : List (ℕ × ℕ)) (number : ℕ) (item : NewItem) (s k : ℕ)
+pub row_listed : (rows : List ItemRow) (row : ItemRow) (number : ℕ) (item : NewItem) (s k : ℕ)
     (at_lot new_lot : ℕ → List ℕ → Option ℕ) (in_category new_category sold_by new_sold bought_by : ℕ → List ℕ) (ends_at new_ends : ℕ → ℕ → Bool)
-    → row ≡ new_item bands number item → number ≡ length rows + 1 → s ≡ item.seller → k ≡ item.category
+    → row ≡ new_item number item → number ≡ length rows + 1 → s ≡ item.seller → k ≡ item.category
     → find (has_lot s item.lot.now) rows ≡ None
     → ((s' : ℕ) (l : List ℕ) → new_lot s' l ≡ (if (s == s') && same_text item.lot.now l then Some number else at_lot s' l))
     → ((e n : ℕ) → ends_at e n ≡ true → new_ends e n ≡ true) → new_ends item.end number ≡ true
     → ((k' : ℕ) → new_category k' ≡ (if k == k' then in_category k' ++ number ∷ [] else in_category k'))
     → ((s' : ℕ) → new_sold s' ≡ (if s == s' then sold_by s' ++ number ∷ [] else sold_by s'))
     → IsIndexed rows at_lot in_category sold_by bought_by ends_at → IsIndexed (rows ++ row ∷ []) new_lot new_category new_sold bought_by new_ends
-row_listed rows row bands number item s k at_lot new_lot in_category new_category sold_by new_sold bought_by ends_at new_ends is next s_is k_is free lots stays ended categories sellers indexed =
-    rw is (row_added rows (new_item bands number item) new_lot in_category new_category sold_by new_sold bought_by new_ends next
+row_listed rows row number item s k at_lot new_lot in_category new_category sold_by new_sold bought_by ends_at new_ends is next s_is k_is free lots stays ended categories sellers indexed =
+    rw is (row_added rows (new_item number item) new_lot in_category new_category sold_by new_sold bought_by new_ends next
     (lots item.seller item.lot.now ∙ rw (own_lot s item.seller item.lot.now s_is) refl)
     (λ k'. rw k_is at (categories k'))
     (λ s'. rw s_is at (sellers s'))

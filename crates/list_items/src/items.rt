@@ -257,8 +257,7 @@ impl Items {
     /// The errors are `KeepFault::Damaged`, where the seller has the lot, and `KeepFault::Memory`.
     pub fn list(&mut self, alloc: Global, item: &NewItem<'_>) -> Result<(), KeepFault>
         requires room { length self.old < most_items }
-        ensures listed { (bands : List (ℕ × ℕ)) → OnOk result (self.new ≡ self.old
-            ++ new_item bands (length self.old + 1) item.now ∷ []) }
+        ensures listed { OnOk result (self.new ≡ self.old ++ new_item (length self.old + 1) item.now ∷ []) }
         ensures whole { Makes result self.old self.new self.new
             (option_map (λ (row : ItemRow). row.item.terms.item)
             (find (λ row. (row.item.terms.seller == item.now.seller) && same_text row.item.lot item.now.lot.now) self.old) ≡ None) }
@@ -329,8 +328,7 @@ impl Items {
     fn append(&mut self, alloc: Global, item: &NewItem<'_>) -> Result<(), KeepFault>
         requires room { length self.old < most_items }
         requires free { find (λ (row : ItemRow). (row.item.terms.seller == item.now.seller) && same_text row.item.lot item.now.lot.now) self.old ≡ None }
-        ensures listed { (bands : List (ℕ × ℕ)) → OnOk result (self.new ≡ self.old
-            ++ new_item bands (length self.old + 1) item.now ∷ []) }
+        ensures listed { OnOk result (self.new ≡ self.old ++ new_item (length self.old + 1) item.now ∷ []) }
         ensures err { OnErr result (self.new ≡ self.old) }
         ensures memory { IfErr result (λ e. e ≡ fault.Memory) }
     {

@@ -1,5 +1,5 @@
 //! New items.
-ghost use Rattle.std.specs.Prelude.{◌≡◌, ℕ, List, IfOk, IfErr};
+ghost use Rattle.std.specs.Prelude.{◌≡◌, IfOk, IfErr};
 ghost use Rattle.house_rows.specs.Changed.{new_item};
 ghost use Rattle.house_rows.specs.declared.fault.KeepFault.TheVariants as fault;
 
@@ -15,8 +15,7 @@ pub(crate) fn new_entry(
     number: u32,
     item: &NewItem<'_>,
 ) -> Result<ItemEntry, KeepFault>
-    ensures value { IfOk result (λ entry. (bands : List (ℕ × ℕ))
-        → entry ≡ new_item bands number item.now) }
+    ensures value { IfOk result (λ entry. entry ≡ new_item number item.now) }
     ensures memory { IfErr result (λ e. e ≡ fault.Memory) }
 {
     let start = item.start;

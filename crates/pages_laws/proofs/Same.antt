@@ -18,7 +18,7 @@ use Rattle.house_rows.specs.Changed.{is_item}
 use Rattle.house_rows.specs.Found.{all_items, items_watched, own_bid, row_at, sales_in, sells}
 use Rattle.house_rows.specs.History.{History, clock}
 use Rattle.house_rows.specs.declared.item.ItemShown.{ItemShown}
-use Rattle.house_rows.specs.Items.{item_now, items, items_shown, shown, shown_at}
+use Rattle.house_rows.specs.Items.{item_now, items, items_shown, shown_at, shown_now}
 use Rattle.house_rows.specs.Limits.{most_shown}
 use Rattle.house_rows.specs.Listings.{Listing, is_seller, listing_at, listings}
 use Rattle.house_rows.specs.Pages as pages
@@ -27,59 +27,69 @@ use Rattle.house_rows.specs.declared.page.Page.TheVariants as page
 use Rattle.house_rows.specs.Pages.{all_sales, for_all, for_member, if_known, item_page, page_of}
 use Rattle.house_rows.specs.People.{categories, members}
 use Rattle.house_rows.specs.Questions.{published, questions, waiting}
-use Rattle.house_rows.specs.Tables.{ItemRow, row_now, tables_of}
+use Rattle.house_rows.specs.Tables.{ItemRow, Tables, row_now, tables_of}
 use Rattle.house_rows.specs.Views.{own_watches}
 use Rattle.house_rows.specs.Watches.{WatchRow, is_watch, watches}
+use Rattle.house_rows.proofs.GoesBy.{bands_kept}
 use Rattle.house_rows.proofs.ItemRows.{items_are}
+use Rattle.house_rows.proofs.Numbered.{numbered}
 use Rattle.house_rows.proofs.Shown.{row_found, shown_by_row, shown_row}
-use Rattle.house_rows.proofs.Lists.{any_of_filtered, filter_made, filter_twice, find_made, map_same, map_twice, some_found}
+use Rattle.house_rows.proofs.Lists.{any_of_filtered, filter_made, filter_twice, find_made, map_each, map_same, map_twice, some_found}
 use Rattle.house_rows.proofs.OwnBids.{best_is}
 use Rattle.house_rows.proofs.Put.{filter_alike}
-use Rattle.pages_laws.specs.ByTables.{page_by, shown_by}
+use Rattle.pages_laws.specs.ByTables.{page_by, shown_by, shown_in}
+
+-- by the tables every item is shown as everybody sees it
+one_by : (settings : Settings) (h : History) (l : Listing) → listing_at (listings h) l.item ≡ Some l → shown_in (tables_of settings h) (item_now settings h l) ≡ shown_now settings h l
+one_by settings h l listed = rw (bands_kept settings h l.item l listed) refl
+
+pub all_shown : (settings : Settings) (h : History) → map (shown_in (tables_of settings h)) (all_items (tables_of settings h)) ≡ items_shown settings h
+unfolding items_shown items
+all_shown settings h =
+    ap (map (shown_in (tables_of settings h))) (items_are settings h) ∙ map_twice (item_now settings h) (shown_in (tables_of settings h)) (listings h)
+    ∙ map_each (λ (l : Listing). shown_in (tables_of settings h) (item_now settings h l)) (shown_now settings h) (λ l. listing_at (listings h) l.item ≡ Some l) (listings h)
+    (one_by settings h) (numbered h).own
 
 -- those that pass a test
 those_shown : (settings : Settings) (h : History) (p : Item → Bool)
-    → map (shown settings) (filter p (all_items (tables_of settings h))) ≡ filter (λ (it : ItemShown). p it.item) (items_shown settings h)
-unfolding items_shown
+    → map (shown_in (tables_of settings h)) (filter p (all_items (tables_of settings h))) ≡ filter (λ (it : ItemShown). p it.item) (items_shown settings h)
 those_shown settings h p =
-    ap (λ its. map (shown settings) (filter p its)) (items_are settings h) ∙ sym (filter_made (λ (it : ItemShown). p it.item) (shown settings) (items settings h))
+    sym (filter_made (λ (it : ItemShown). p it.item) (shown_in (tables_of settings h)) (all_items (tables_of settings h))) ∙ ap (filter (λ (it : ItemShown). p it.item)) (all_shown settings h)
 
 -- the first of them
 first_shown : (settings : Settings) (h : History) (p : Item → Bool)
-    → map (shown settings) (take most_shown (filter p (all_items (tables_of settings h)))) ≡ take most_shown (filter (λ (it : ItemShown). p it.item) (items_shown settings h))
-first_shown settings h p = sym (take-map (shown settings) most_shown (filter p (all_items (tables_of settings h)))) ∙ ap (take most_shown) (those_shown settings h p)
+    → map (shown_in (tables_of settings h)) (take most_shown (filter p (all_items (tables_of settings h)))) ≡ take most_shown (filter (λ (it : ItemShown). p it.item) (items_shown settings h))
+first_shown settings h p = sym (take-map (shown_in (tables_of settings h)) most_shown (filter p (all_items (tables_of settings h)))) ∙ ap (take most_shown) (those_shown settings h p)
 
 -- what a row shows, and whether there is one
-one_shown : (settings : Settings) (o : Option ItemRow) → option_map (shown settings) (option_map (λ (row : ItemRow). row.item) o) ≡ option_map (shown_row settings) o
-one_shown settings None = refl
-one_shown settings (Some row) = refl
+one_shown : (t : Tables) (o : Option ItemRow) → option_map (shown_in t) (option_map (λ (row : ItemRow). row.item) o) ≡ option_map (shown_row t) o
+one_shown t None = refl
+one_shown t (Some row) = refl
 
-is_there : (settings : Settings) (o : Option ItemRow) → is_some (option_map (λ (row : ItemRow). row.item.terms) o) ≡ is_some (option_map (shown_row settings) o)
-is_there settings None = refl
-is_there settings (Some row) = refl
+is_there : (t : Tables) (o : Option ItemRow) → is_some (option_map (λ (row : ItemRow). row.item.terms) o) ≡ is_some (option_map (shown_row t) o)
+is_there t None = refl
+is_there t (Some row) = refl
 
-seller_is : (settings : Settings) (h : History) (c : ℕ) (o : Option Listing) → sells (option_map (row_now settings.bands h) o) c ≡ is_seller o c
+seller_is : (settings : Settings) (h : History) (c : ℕ) (o : Option Listing) → sells (option_map (row_now settings h) o) c ≡ is_seller o c
 seller_is settings h c None = refl
 seller_is settings h c (Some l) = refl
 
-sales_are : (settings : Settings) (its : List Item) → sales_in its ≡ all_sales (map (shown settings) its)
-sales_are settings [] = refl
-sales_are settings (it ∷ its) = rw (sales_are settings its) refl
+sales_are : (t : Tables) (its : List Item) → sales_in its ≡ all_sales (map (shown_in t) its)
+sales_are t [] = refl
+sales_are t (it ∷ its) = rw (sales_are t its) refl
 
 own_is : (settings : Settings) (h : History) (c : ℕ) (it : Item) → own_bid (tables_of settings h) c it ≡ pages.own_bid h c it.terms
 own_is settings h c it = let told : OwnBest → OwnBid = λ best. record { item = it.terms.item; leading = is_leader it.terms.leader c; maximum = best.maximum; mine = best.mine; price = it.terms.price; state = it.terms.state } in ap told (best_is settings h c it.terms.item)
 
 bids_are : (settings : Settings) (h : History) (c : ℕ) → map (own_bid (tables_of settings h) c) (all_items (tables_of settings h)) ≡ map (λ (it : ItemShown). pages.own_bid h c it.item.terms) (items_shown settings h)
-unfolding items_shown
 bids_are settings h c =
-    ap (map (own_bid (tables_of settings h) c)) (items_are settings h) ∙ map_same _ _ (items settings h) (own_is settings h c)
-    ∙ sym (map_twice (shown settings) (λ (it : ItemShown). pages.own_bid h c it.item.terms) (items settings h))
+    map_same _ _ (all_items (tables_of settings h)) (own_is settings h c)
+    ∙ sym (map_twice (shown_in (tables_of settings h)) (λ (it : ItemShown). pages.own_bid h c it.item.terms) (all_items (tables_of settings h)))
+    ∙ ap (map (λ (it : ItemShown). pages.own_bid h c it.item.terms)) (all_shown settings h)
 
-counts_are : (settings : Settings) (h : History) → length (map (row_now settings.bands h) (listings h)) ≡ length (items_shown settings h)
-unfolding items_shown items
-counts_are settings h =
-    length-map (listings h) (row_now settings.bands h)
-    ∙ sym (length-map (map (item_now settings.bands h) (listings h)) (shown settings) ∙ length-map (listings h) (item_now settings.bands h))
+counts_are : (settings : Settings) (h : History) → length (map (row_now settings h) (listings h)) ≡ length (items_shown settings h)
+unfolding items_shown
+counts_are settings h = length-map (listings h) (row_now settings h) ∙ sym (length-map (listings h) (shown_now settings h))
 
 watched_is : (h : History) (c i : ℕ) → list_any (is_watch c i) (watches h) ≡ list_any (λ (w : WatchRow). w.item == i) (own_watches h c)
 unfolding own_watches
@@ -97,21 +107,21 @@ items_in_same : (settings : Settings) (h : History) (c category from : ℕ) → 
     (page.Items (take most_shown (filter (λ (it : ItemShown). (it.item.terms.category == category) && nat_le from it.item.terms.item) (items_shown settings h))))
 unfolding shown_by tables_of
 items_in_same settings h c category from =
-    ap (λ (known : Bool). if_known known (page.Items (map (shown settings) (take most_shown (filter (λ (it : Item). (it.terms.category == category) && nat_le from it.terms.item) (all_items (tables_of settings h)))))))
+    ap (λ (known : Bool). if_known known (page.Items (map (shown_in (tables_of settings h)) (take most_shown (filter (λ (it : Item). (it.terms.category == category) && nat_le from it.terms.item) (all_items (tables_of settings h)))))))
     (some_found (λ (k : Category). k.category == category) (categories h))
     ∙ ap (λ (its : List ItemShown). if_known (list_any (λ (k : Category). k.category == category) (categories h)) (page.Items its))
     (first_shown settings h (λ (it : Item). (it.terms.category == category) && nat_le from it.terms.item))
 
 item_same : (settings : Settings) (h : History) (c i : ℕ) → shown_by (tables_of settings h) c (query.Item i) ≡ item_page (shown_at (items_shown settings h) i)
 unfolding shown_by tables_of
-item_same settings h c i = ap item_page (one_shown settings (row_at (tables_of settings h) i) ∙ sym (shown_by_row settings h i))
+item_same settings h c i = ap item_page (one_shown (tables_of settings h) (row_at (tables_of settings h) i) ∙ sym (shown_by_row settings h i))
 
 questions_same : (settings : Settings) (h : History) (c i from : ℕ) → shown_by (tables_of settings h) c (query.Questions i from)
     ≡ if_known (is_some (shown_at (items_shown settings h) i)) (page.Questions (take most_shown (filter (λ (q : Question). (q.item == i) && nat_le from q.asker) (published h))))
 unfolding shown_by tables_of published
 questions_same settings h c i from =
     ap (λ (known : Bool). if_known known (page.Questions (take most_shown (filter (λ (q : Question). (q.item == i) && nat_le from q.asker) (published h)))))
-    (is_there settings (row_at (tables_of settings h) i) ∙ sym (ap is_some (shown_by_row settings h i)))
+    (is_there (tables_of settings h) (row_at (tables_of settings h) i) ∙ sym (ap is_some (shown_by_row settings h i)))
 
 bids_same : (settings : Settings) (h : History) (c from : ℕ) → shown_by (tables_of settings h) c (query.MyBids from)
     ≡ page.Bids (take most_shown (filter (λ (b : OwnBid). nat_le from b.item) (pages.own_bids h c (items_shown settings h))))
@@ -137,9 +147,9 @@ waiting_same settings h c =
 
 statement_same : (settings : Settings) (h : History) (c from to : ℕ) → shown_by (tables_of settings h) c (query.MyStatement from to)
     ≡ page.Statement c from to (pages.sales_of (items_shown settings h) c)
-unfolding shown_by tables_of items_shown
+unfolding shown_by
 statement_same settings h c from to =
-    ap (λ (sales : List Sold). page.Statement c from to (filter (is_party c) sales)) (ap sales_in (items_are settings h) ∙ sales_are settings (items settings h))
+    ap (λ (sales : List Sold). page.Statement c from to (filter (is_party c) sales)) (sales_are (tables_of settings h) (all_items (tables_of settings h)) ∙ ap all_sales (all_shown settings h))
 
 pub page_same : (settings : Settings) (h : History) (c : ℕ) (q : Query) → page_by (tables_of settings h) c q ≡ page_of settings h c q
 unfolding page_by shown_by page_of tables_of published

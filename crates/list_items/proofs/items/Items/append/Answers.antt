@@ -37,8 +37,8 @@ invariant_of-self-2 c =
     with_room c.self.inside.rows.items (number_at c.self.inside.lots) (numbers_at c.self.inside.categories) (numbers_at c.reserve.new.groups) (numbers_at c.self.inside.sellers) (numbers_at c.reserve-2.new.groups) (numbers_at c.self.inside.purchases) (has_end c.self.inside.ends) c.reserve.ensures.same c.reserve-2.ensures.same c.self.invariant in
     let next : c.len.result + 1 ≡ length c.self.inside.rows.items + 1 = omega (arith, c.len.ensures, c.self.inside.rows.ok.0) in
     rw (c.in-Ok-push.ensures.items, c.try_reserve.ensures.items)
-    (row_listed c.self.inside.rows.items c.in_ok-entry.entry [] (c.len.result + 1) c.args.item.now c.from-seller.result c.from-category.result
+    (row_listed c.self.inside.rows.items c.in_ok-entry.entry (c.len.result + 1) c.args.item.now c.from-seller.result c.from-category.result
     (number_at c.self.inside.lots) (number_at c.add_lot.new.sellers) (numbers_at c.reserve.new.groups) (numbers_at c.add.new.groups) (numbers_at c.reserve-2.new.groups) (numbers_at c.add-2.new.groups) (numbers_at c.self.inside.purchases) (has_end c.self.inside.ends) (has_end c.insert.new.self)
-    (c.in_ok-entry.ensures.value []) next c.from-seller.ensures c.from-category.ensures free c.in_ok-add_lot.ensures.ok
+    c.in_ok-entry.ensures.value next c.from-seller.ensures c.from-category.ensures free c.in_ok-add_lot.ensures.ok
     (ends_stay c.self.inside.ends c.insert.new.self (c.args.item.now.end, c.len.result + 1) c.in-Ok-insert.ensures.updates) c.in-Ok-insert.ensures.updates.1
     c.add.ensures c.add-2.ensures known)
