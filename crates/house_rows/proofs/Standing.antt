@@ -11,6 +11,7 @@ abbrev opened : ℕ → Option ℕ → Opening
 opened start reserve = record { start = start; reserve = reserve }
 
 pub row_stands : (bands : List (ℕ × ℕ)) (row : ItemRow) → ItemRowFits bands row → Stands bands row.item.terms
+unfolding opened
 row_stands bands row fits =
     let k : Kept = row.standing in
     let kept : is_standing bands k ≡ true = rw fits.stands (accepted_shape bands (row_opening row) fits.bids fits.accepted fits.few) in

@@ -12,11 +12,11 @@ use Rattle.house_rows.specs.declared.fault.KeepFault.{KeepFault}
 use Rattle.house_rows.specs.declared.fault.KeepFault.TheVariants.{Store, Damaged}
 use Rattle.house_rows.specs.Asks.{IsFree}
 use Rattle.house_rows.specs.Fits.{BidRowFits, CategoryFits, FeedbackFits, IsMoment, ItemFits, MemberFits, QuestionFits, WatchRowFits}
-use Rattle.house_rows.specs.Editions.{BandTables}
+use Rattle.house_rows.specs.Editions.{BandTables, bands_in}
 use Rattle.house_rows.specs.Found.{terms_at}
 use Rattle.house_rows.specs.History.{counted}
 use Rattle.house_rows.specs.Limits.{most_bids, most_categories, most_cents, most_items, most_members, most_watches}
-use Rattle.house_rows.specs.Tables.{ItemRow, Tables, band_tables, bands_for, row_opening}
+use Rattle.house_rows.specs.Tables.{ItemRow, Tables, band_tables, row_opening}
 use Rattle.house_rows.specs.Verdict.{was_sold}
 
 -- price and leader are those of the bids
@@ -48,8 +48,11 @@ abbrev pub Stands : List (ℕ × ℕ) → Terms → Type 0
 Stands bands t = IsByStanding bands t ⊎ IsPurchase t
 
 -- by its own band table
+abbrev pub StandsBy : BandTables → Terms → Type 0
+StandsBy editions terms = Stands (bands_in editions terms.item) terms
+
 abbrev pub StandsIn : Tables → Terms → Type 0
-StandsIn t terms = Stands (bands_for t terms.item) terms
+StandsIn t terms = StandsBy (band_tables t) terms
 
 -- every item's row that passes a test stands, each by its own band table
 abbrev pub AllStand : (ItemRow → Bool) → Tables → Type 0
@@ -75,8 +78,11 @@ pub record ItemRowFits (bands : List (ℕ × ℕ)) (row : ItemRow) : Type 0 wher
   pub told : IsByBids row ⊎ IsBought row
 
 -- by the item's own band table
+abbrev pub FitsBy : BandTables → ItemRow → Type 0
+FitsBy editions row = ItemRowFits (bands_in editions row.item.terms.item) row
+
 abbrev pub RowFits : Tables → ItemRow → Type 0
-RowFits t row = ItemRowFits (bands_for t row.item.terms.item) row
+RowFits t row = FitsBy (band_tables t) row
 
 -- each has the next number
 abbrev pub AreInTurn : {A : Type 0} → (A → ℕ) → ℕ → List A → Type 0

@@ -1,5 +1,5 @@
 -- The tables that a history leaves: the rows of each, in the order of their keys.
-use Rattle.std.specs.Prelude.{ℕ, List, map}
+use Rattle.std.specs.Prelude.{ℕ, List, [], map}
 use Rattle.proxy.specs.Opening.{Opening}
 use Rattle.proxy.specs.Bids.{standing_of}
 use Rattle.proxy.specs.Kept.{Kept}

@@ -30,9 +30,7 @@ use Rattle.house_rows.specs.Questions.{published, questions, waiting}
 use Rattle.house_rows.specs.Tables.{ItemRow, Tables, row_now, tables_of}
 use Rattle.house_rows.specs.Views.{own_watches}
 use Rattle.house_rows.specs.Watches.{WatchRow, is_watch, watches}
-use Rattle.house_rows.proofs.GoesBy.{bands_kept}
-use Rattle.house_rows.proofs.ItemRows.{items_are}
-use Rattle.house_rows.proofs.Numbered.{numbered}
+use Rattle.house_rows.proofs.ItemRows.{shown_are}
 use Rattle.house_rows.proofs.Shown.{row_found, shown_by_row, shown_row}
 use Rattle.house_rows.proofs.Lists.{any_of_filtered, filter_made, filter_twice, find_made, map_each, map_same, map_twice, some_found}
 use Rattle.house_rows.proofs.OwnBids.{best_is}
@@ -40,15 +38,8 @@ use Rattle.house_rows.proofs.Put.{filter_alike}
 use Rattle.pages_laws.specs.ByTables.{page_by, shown_by, shown_in}
 
 -- by the tables every item is shown as everybody sees it
-one_by : (settings : Settings) (h : History) (l : Listing) → listing_at (listings h) l.item ≡ Some l → shown_in (tables_of settings h) (item_now settings h l) ≡ shown_now settings h l
-one_by settings h l listed = rw (bands_kept settings h l.item l listed) refl
-
 pub all_shown : (settings : Settings) (h : History) → map (shown_in (tables_of settings h)) (all_items (tables_of settings h)) ≡ items_shown settings h
-unfolding items_shown items
-all_shown settings h =
-    ap (map (shown_in (tables_of settings h))) (items_are settings h) ∙ map_twice (item_now settings h) (shown_in (tables_of settings h)) (listings h)
-    ∙ map_each (λ (l : Listing). shown_in (tables_of settings h) (item_now settings h l)) (shown_now settings h) (λ l. listing_at (listings h) l.item ≡ Some l) (listings h)
-    (one_by settings h) (numbered h).own
+all_shown settings h = shown_are settings h
 
 -- those that pass a test
 those_shown : (settings : Settings) (h : History) (p : Item → Bool)
