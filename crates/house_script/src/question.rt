@@ -155,13 +155,13 @@ fn listing(item: Result<Option<Item>, KeepFault>) -> Result<Option<Listing>, Kee
     }
 }
 
-// The standing of an item, and its floor by the bands of the house.
+// The standing of an item, and its floor by its own band table.
 fn standing<K: Keep>(keep: &mut K, item: u64) -> Result<Option<StandingRow>, KeepFault>
     ensures read { IsRead K.content K.is_failed K.is_honest K.may_leave keep.old keep.new }
 {
     let Some(standing) = keep.standing(item)? else {
         return Ok(None);
     };
-    let floor = standing.floor(&keep.settings()?.bands);
+    let floor = standing.floor(keep.editions()?.bands_for(item));
     Ok(Some(StandingRow { standing, floor }))
 }

@@ -1,25 +1,25 @@
 -- Tables of two histories have the same public rows exactly where the histories have the same view.
 use Rattle.std.proofs.Common.{◌≡◌, ◌∙◌, Bool, true, map, ap, refl, sym}
 use Rattle.std.specs.Prelude.{◌↔◌}
+use Rattle.house_rows.specs.declared.item.Item.{Item}
 use Rattle.house_rows.specs.declared.item.ItemShown.{ItemShown}
 use Rattle.house_rows.specs.declared.settings.Settings.{Settings}
 use Rattle.house_rows.specs.Found.{all_items}
 use Rattle.house_rows.specs.History.{History}
-use Rattle.house_rows.specs.Items.{items, items_shown, shown}
+use Rattle.house_rows.specs.Items.{items, items_shown, shown, shown_now}
+use Rattle.house_rows.specs.Listings.{listings}
 use Rattle.house_rows.specs.Questions.{published}
 use Rattle.house_rows.specs.Tables.{Tables, tables_of}
 use Rattle.house_rows.specs.Views.{Public, public_view}
-use Rattle.house_rows.proofs.ItemRows.{items_are}
-use Rattle.std.proofs.lemmas.List.{map-id}
+use Rattle.house_rows.proofs.ItemRows.{items_are, shown_are}
 use Rattle.house_rows.proofs.Lists.{map_twice}
 use Rattle.house_views.specs.Views.{HaveSameRows}
 
 -- an item can be read off what is shown of it
 shown_items : (settings : Settings) (h : History)
     → map (λ (it : ItemShown). it.item) (items_shown settings h) ≡ items settings h
-unfolding items_shown
-shown_items settings h = map_twice (shown settings) (λ (it : ItemShown). it.item) (items settings h)
-    ∙ map-id (items settings h)
+unfolding items_shown items
+shown_items settings h = map_twice (shown_now settings h) (λ (it : ItemShown). it.item) (listings h)
 
 items_if : (settings : Settings) (h k : History) → items_shown settings h ≡ items_shown settings k
     → all_items (tables_of settings h) ≡ all_items (tables_of settings k)
@@ -30,9 +30,9 @@ items_if settings h k same =
 items_then : (settings : Settings) (h k : History)
     → all_items (tables_of settings h) ≡ all_items (tables_of settings k)
     → items_shown settings h ≡ items_shown settings k
-unfolding items_shown
+unfolding tables_of
 items_then settings h k same =
-    ap (map (shown settings)) (sym (items_are settings h) ∙ same ∙ items_are settings k)
+    sym (shown_are settings h) ∙ ap (map (λ (it : Item). shown settings.bands it)) same ∙ shown_are settings k
 
 view_then : (settings : Settings) (h k : History)
     → HaveSameRows (tables_of settings h) (tables_of settings k)

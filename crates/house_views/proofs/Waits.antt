@@ -12,7 +12,7 @@ use Rattle.house_rows.proofs.Put.{filter_alike}
 use Rattle.house_rows.proofs.Shown.{row_found}
 
 seller_is : (settings : Settings) (h : History) (c : ℕ) (o : Option Listing)
-    → sells (option_map (row_now settings.bands h) o) c ≡ is_seller o c
+    → sells (option_map (row_now settings h) o) c ≡ is_seller o c
 seller_is settings h c None = refl
 seller_is settings h c (Some l) = refl
 

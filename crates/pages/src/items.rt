@@ -2,33 +2,33 @@
 ghost use Rattle.std.specs.Prelude.{◌≡◌, IfOk, map};
 ghost use Rattle.house_rows.specs.declared.query.Query.TheVariants as query;
 ghost use Rattle.house_rows.specs.Keeping.{Faults, IsRead};
-ghost use Rattle.pages_laws.specs.ByTables.{shown_by};
+ghost use Rattle.pages_laws.specs.ByTables.{shown_among, shown_by};
 ghost use Rattle.pages_text.specs.Fits.{PageFits};
-ghost use Rattle.house_rows.specs.Items.{shown};
 
-use house_rows::{Item, ItemShown, Keep, KeepFault, Page, Refusal, Rows, Settings};
+use house_rows::{Editions, Item, ItemShown, Keep, KeepFault, Page, Refusal, Rows};
 use pages_text::floor;
 use std::alloc::{AllocError, Global};
 
 // An item as pages show it.
-fn with_floor(settings: &Settings, item: Item) -> ItemShown
-    ensures { result ≡ shown settings.now item }
+fn with_floor(editions: &Editions, item: Item) -> ItemShown
+    ensures { result ≡ shown_among editions.now item }
 {
-    let floor = floor(&settings.bands, &item.terms);
+    let bands = editions.bands_for(u64::from(item.terms.item));
+    let floor = floor(bands, &item.terms);
     ItemShown { item, floor }
 }
 
 // Items likewise.
 fn with_floors(
     alloc: Global,
-    settings: &Settings,
+    editions: &Editions,
     items: Vec<Item>,
 ) -> Result<Rows<ItemShown>, AllocError>
-    ensures { IfOk result (λ rows. rows ≡ map (shown settings.now) items.items) }
+    ensures { IfOk result (λ rows. rows ≡ map (shown_among editions.now) items.items) }
 {
     let rows: Vec<ItemShown> = items
         .into_iter()
-        .map(|item| with_floor(settings, item))
+        .map(|item| with_floor(editions, item))
         .collect(alloc)?;
     Ok(Rows::new(rows))
 }
@@ -51,7 +51,7 @@ pub(crate) fn items_in<K: Keep>(
         return Ok(Page::Refused(Refusal::Unknown));
     }
     let items = keep.items_in(category, from)?;
-    let items = with_floors(alloc, keep.settings()?, items)?;
+    let items = with_floors(alloc, keep.editions()?, items)?;
     Ok(Page::Items(items))
 }
 
@@ -67,7 +67,7 @@ pub(crate) fn item<K: Keep>(keep: &mut K, item: u64) -> Result<Page, KeepFault>
     let Some(found) = keep.item(item)? else {
         return Ok(Page::Refused(Refusal::Unknown));
     };
-    Ok(Page::OneItem(with_floor(keep.settings()?, found)))
+    Ok(Page::OneItem(with_floor(keep.editions()?, found)))
 }
 
 // The items that the caller watches.
@@ -80,6 +80,6 @@ pub(crate) fn watches<K: Keep>(alloc: Global, keep: &mut K, caller: u64) -> Resu
     ensures read { IsRead K.content K.is_failed K.is_honest K.may_leave keep.old keep.new }
 {
     let items = keep.watches_of(caller)?;
-    let items = with_floors(alloc, keep.settings()?, items)?;
+    let items = with_floors(alloc, keep.editions()?, items)?;
     Ok(Page::Items(items))
 }

@@ -6,7 +6,7 @@ use Rattle.house_rows.specs.declared.item.Item.{Item}
 use Rattle.house_rows.specs.declared.settings.Settings.{Settings}
 use Rattle.house_rows.specs.Found.{all_items}
 use Rattle.house_rows.specs.History.{History, clock}
-use Rattle.house_rows.specs.Items.{items, items_shown, shown}
+use Rattle.house_rows.specs.Items.{items_shown}
 use Rattle.house_rows.specs.People.{categories, members}
 use Rattle.house_rows.specs.Questions.{published}
 use Rattle.house_rows.specs.Ratings.{feedback}
@@ -16,15 +16,15 @@ use Rattle.pages_json.specs.Words.{array_of, object_of, whole}
 use Rattle.pages_text.specs.Trees.{band_tree, category_tree, feedback_tree, item_tree, member_tree, question_tree}
 use Rattle.pages_record.proofs.Mapped.{trees_mapped}
 use Rattle.pages_record.specs.Record.{back_by, front_by, middle_by, record_by, record_tree}
-use Rattle.house_rows.proofs.ItemRows.{items_are}
+use Rattle.pages_laws.proofs.Same.{all_shown}
+use Rattle.pages_laws.specs.ByTables.{shown_in}
 
 items_same : (settings : Settings) (h : History)
-    → array_of (λ (it : Item). item_tree (shown settings it)) (all_items (tables_of settings h))
+    → array_of (λ (it : Item). item_tree (shown_in (tables_of settings h) it)) (all_items (tables_of settings h))
     ≡ array_of item_tree (items_shown settings h)
-unfolding items_shown
 items_same settings h =
-    ap (array_of (λ (it : Item). item_tree (shown settings it))) (items_are settings h)
-    ∙ ap array (sym (trees_mapped item_tree (shown settings) (items settings h)))
+    ap array (sym (trees_mapped item_tree (shown_in (tables_of settings h)) (all_items (tables_of settings h))))
+    ∙ ap (array_of item_tree) (all_shown settings h)
 
 pub record_same : (settings : Settings) (h : History)
     → record_by (tables_of settings h) ≡ record_tree (public_view settings h)

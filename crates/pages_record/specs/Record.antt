@@ -4,12 +4,13 @@ use Rattle.serde_json.specs.Data.{Data, string}
 use Rattle.house_rows.specs.declared.settings.Settings.{Settings}
 use Rattle.house_rows.specs.Found.{all_items, all_published}
 use Rattle.house_rows.specs.History.{History, clock}
-use Rattle.house_rows.specs.Items.{items_shown, shown}
+use Rattle.house_rows.specs.Items.{items_shown}
 use Rattle.house_rows.specs.People.{categories, members}
 use Rattle.house_rows.specs.Questions.{published}
 use Rattle.house_rows.specs.Ratings.{feedback}
 use Rattle.house_rows.specs.Tables.{Tables}
 use Rattle.house_rows.specs.Views.{Public, public_view}
+use Rattle.pages_laws.specs.ByTables.{shown_in}
 use Rattle.pages_json.specs.Words.{array_of, object_of, text_of, whole}
 use Rattle.pages_text.specs.Trees.{band_tree, category_tree, feedback_tree, item_tree, member_tree, question_tree}
 
@@ -56,7 +57,7 @@ abbrev pub feedback_by : Tables → List (List ℕ × Data)
 feedback_by t = (codes "feedback", array_of feedback_tree t.feedback) ∷ []
 
 abbrev pub items_by : Tables → List (List ℕ × Data)
-items_by t = (codes "items", array_of (λ it. item_tree (shown t.settings it)) (all_items t)) ∷ []
+items_by t = (codes "items", array_of (λ it. item_tree (shown_in t it)) (all_items t)) ∷ []
 
 abbrev pub members_by : Tables → List (List ℕ × Data)
 members_by t = (codes "members", array_of member_tree t.members) ∷ []

@@ -14,7 +14,7 @@ ghost use Rattle.pages_record.specs.Record.{back_by, bands_by, categories_by, cl
 use house_rows::{Keep, Settings};
 use pages_json::{Field, grow_member_list, grow_members, key};
 use pages_text::{
-    AsBands, AsCategories, AsFeedback, AsMembers, AsQuestions, BySettings, PageFault,
+    AsBands, AsCategories, AsFeedback, AsMembers, AsQuestions, ByEditions, PageFault,
 };
 use serde_json::{Map, Value};
 use std::alloc::{AllocError, Global};
@@ -118,8 +118,8 @@ fn grow_items<K: Keep>(
     ensures read { IsRead K.content K.is_failed K.is_honest K.may_leave keep.old keep.new }
 {
     let items = keep.items()?;
-    let form = BySettings {
-        settings: keep.settings()?,
+    let form = ByEditions {
+        editions: keep.editions()?,
     };
     grow_member_list(alloc, members, "items", &form, &items)?;
     Ok(())

@@ -11,7 +11,7 @@ ghost use Rattle.pages_record.specs.Record.{back_by, bands_by, categories_by, cl
 
 use house_rows::{Keep, KeepFault, Settings};
 use pages_json::{Field, end_object, finish, key, put_member_list, put_members};
-use pages_text::{AsBands, AsCategories, AsFeedback, AsMembers, AsQuestions, BySettings};
+use pages_text::{AsBands, AsCategories, AsFeedback, AsMembers, AsQuestions, ByEditions};
 use std::alloc::{AllocError, Global};
 
 fn put_bands<K: Keep>(alloc: Global, keep: &mut K, out: &mut Vec<u8>) -> Result<(), KeepFault>
@@ -95,8 +95,8 @@ fn put_items<K: Keep>(alloc: Global, keep: &mut K, out: &mut Vec<u8>) -> Result<
     ensures read { IsRead K.content K.is_failed K.is_honest K.may_leave keep.old keep.new }
 {
     let items = keep.items()?;
-    let form = BySettings {
-        settings: keep.settings()?,
+    let form = ByEditions {
+        editions: keep.editions()?,
     };
     put_member_list(alloc, out, key!("items"), &form, &items)?;
     Ok(())

@@ -1,12 +1,13 @@
 //! Items.
 ghost use Rattle.std.specs.Prelude.{◌≡◌, IsTrue, map};
+ghost use Rattle.house_rows.specs.Editions.{bands_in};
 ghost use Rattle.house_rows.specs.Items.{floor_of};
 ghost use Rattle.pages_json.specs.Fields.{are_keys, member_of};
 ghost use Rattle.pages_json.specs.Words.{AreInOrder, object_of};
 ghost use Rattle.pages_text.specs.Trees.{item_tree};
 
 use cents::Cents;
-use house_rows::{Item, ItemShown, Settings, State, Terms};
+use house_rows::{Editions, Item, ItemShown, State, Terms};
 use pages_json::{Field, Grows, Shows, grow_object, key, put_object};
 use serde_json::Value;
 use std::alloc::{AllocError, Global};
@@ -75,28 +76,36 @@ impl Grows<ItemShown> for AsItems {
     }
 }
 
-/// Items, each with the floor that settings give it.
+/// Items, each with the floor that its band table gives it.
 #[derive(Clone, Copy)]
-pub struct BySettings<'s> {
-    /// The settings.
-    pub settings: &'s Settings,
+pub struct ByEditions<'e> {
+    /// The band tables.
+    pub editions: &'e Editions,
 }
 
-impl Shows<Item> for BySettings<'_> {
+// The floor that is shown of an item.
+fn floor_by(editions: &Editions, terms: &Terms) -> Option<u64>
+    ensures { result ≡ floor_of (bands_in editions.now terms.now.item) terms.now }
+{
+    floor(editions.bands_for(u64::from(terms.item)), terms)
+}
+
+impl Shows<Item> for ByEditions<'_> {
+    ghost use Rattle.house_rows.specs.Editions.{bands_in};
     ghost use Rattle.house_rows.specs.Items.{shown};
     ghost use Rattle.pages_text.specs.Trees.{item_tree};
 
-    ghost tree = { λ by it. item_tree (shown by.settings.now it) };
+    ghost tree = { λ by it. item_tree (shown (bands_in by.editions.now it.terms.item) it) };
 
     fn put(&self, alloc: Global, out: &mut Vec<u8>, item: &Item) -> Result<(), AllocError> {
-        let floor = floor(&self.settings.bands, &item.terms);
+        let floor = floor_by(self.editions, &item.terms);
         put_object(alloc, out, &item_fields(item, floor))
     }
 }
 
-impl Grows<Item> for BySettings<'_> {
+impl Grows<Item> for ByEditions<'_> {
     fn grow(&self, alloc: Global, item: &Item) -> Result<Value, AllocError> {
-        let floor = floor(&self.settings.bands, &item.terms);
+        let floor = floor_by(self.editions, &item.terms);
         grow_object(alloc, &item_fields(item, floor))
     }
 }

@@ -15,7 +15,7 @@ mod told;
 
 pub use entries::{AsBands, AsCategories, AsFeedback, AsMembers, AsOwnBids, AsQuestions};
 pub use fault::PageFault;
-pub use item::{AsItems, BySettings, floor};
+pub use item::{AsItems, ByEditions, floor};
 pub use page::{append_page, grow_page};
 pub use refused::{AsFaults, AsRefusals};
 pub use told::AsTold;

@@ -39,8 +39,8 @@ is_history settings heards = run_is_history settings [] (map heard_message heard
 -- the bidder leads after both lists, by its maximum and by the greater one
 abbrev pub BothLead : Settings → ℕ → ℕ → Sealed → List Heard → Heard → Type 0
 BothLead settings place y b heards text =
-    LeadsBy settings.bands b.member b.maximum (bids_on (after settings heards) b.item)
-    × LeadsBy settings.bands b.member y (bids_on (after settings (raised place text heards)) b.item)
+    LeadsBy settings (after settings heards) b.item b.member b.maximum
+    × LeadsBy settings (after settings (raised place text heards)) b.item b.member y
 
 -- a covered bid in the place is the one that stands there
 the_bid : (settings : Settings) (c place y : ℕ) (b d : Sealed) (heards : List Heard)

@@ -4,7 +4,6 @@ ghost use Rattle.steps.specs.Table.{over};
 ghost use Rattle.proxy.specs.Surplus.{Covers};
 ghost use Rattle.house_laws.specs.Covered.{LeadsBy};
 ghost use Rattle.house_rows.specs.declared.settings.Settings.{Settings as TheSettings};
-ghost use Rattle.house_rows.specs.Bids.{bids_on};
 ghost use Rattle.house_rows.specs.History.{History};
 ghost use Rattle.house_rows.specs.Keeping.{Faults, IsRead};
 ghost use Rattle.house_rows.specs.Tables.{tables_of};
@@ -81,7 +80,7 @@ fn leads_by<K: Keep>(keep: &mut K, bid: SealedBid, maximum: u64) -> Result<bool,
     ensures leads { K.is_honest keep.new → (settings : TheSettings) (h : History)
         → IsHistory settings h → K.content keep.old ≡ tables_of settings h
         → IfOk result (λ leads. (leads ≡ true)
-        ↔ LeadsBy settings.bands bid.member maximum (bids_on h bid.item)) }
+        ↔ LeadsBy settings h bid.item bid.member maximum) }
     ensures faults { Faults result (K.is_honest keep.new) (K.is_failed keep.new)
         (K.content keep.old) }
     ensures read { IsRead K.content K.is_failed K.is_honest K.may_leave keep.old keep.new }
@@ -89,7 +88,7 @@ fn leads_by<K: Keep>(keep: &mut K, bid: SealedBid, maximum: u64) -> Result<bool,
     let Some(standing) = keep.standing(bid.item)? else {
         return Ok(false);
     };
-    let bands = &keep.settings()?.bands;
+    let bands = keep.editions()?.bands_for(bid.item);
     Ok(is_led_by(&standing, bands, bid.member, maximum))
 }
 
@@ -106,8 +105,8 @@ pub(crate) fn both_lead<K: Keep + Drop>(
         → K.content (keep_of left.old) ≡ tables_of settings h
         → K.content (keep_of right.old) ≡ tables_of settings k
         → IsSeen K.content K.is_failed
-        (LeadsBy settings.bands bid.member bid.maximum (bids_on h bid.item)
-        × LeadsBy settings.bands bid.member maximum (bids_on k bid.item))
+        (LeadsBy settings h bid.item bid.member bid.maximum
+        × LeadsBy settings k bid.item bid.member maximum)
         (keep_of left.old) (keep_of right.old) (keep_of left.new) (keep_of right.new) result }
     ensures left { IsUsed K.is_failed K.is_honest left.old left.new }
     ensures right { IsUsed K.is_failed K.is_honest right.old right.new }

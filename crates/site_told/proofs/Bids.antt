@@ -19,10 +19,11 @@ use Rattle.house_rows.specs.Changed.{changed, is_item, with_standing}
 use Rattle.house_rows.specs.Found.{row_at}
 use Rattle.house_rows.specs.History.{History}
 use Rattle.house_rows.specs.Items.{shown}
-use Rattle.house_rows.specs.Tables.{ItemRow, Tables, row_opening, tables_of}
+use Rattle.house_rows.specs.Tables.{ItemRow, Tables, bands_for, row_opening, tables_of}
 use Rattle.house_rows.specs.Told.{told_placed}
 use Rattle.house_rows.proofs.AcceptedBids.{floor_is}
-use Rattle.house_rows.proofs.ChangedRows.{standing_number, there_is}
+use Rattle.house_rows.proofs.ChangedRows.{standing_number, there_is, there_numbered}
+use Rattle.house_rows.proofs.Shown.{shown_row}
 use Rattle.site_told.proofs.Seen.{IsTold, accepted_as, ok_as, row_changed, seen_after, told_as}
 
 -- the row of the item after the bid
@@ -32,44 +33,52 @@ unfolding changed
 row_after t at' i placed kept row found = row_changed i (with_standing i kept) row t.items (λ r. ap (λ n. n == i) (standing_number i kept r)) found
 
 -- what its row tells
-placed_now : (settings : Settings) (i : ℕ) (kept : Kept) (row : ItemRow) (opening : Opening) (bids : List bid.Bid) → is_item i row ≡ true → row.item.terms.state ≡ Open
-    → row.item.terms.start ≡ opening.start → kept ≡ standing_of settings.bands opening bids
-    → told_placed (Some (shown settings (with_standing i kept row).item)) ≡ Placed kept.count (floor settings.bands opening bids) kept.leader kept.price
-placed_now settings i kept row opening bids here opened same stands =
-    rw (here, opened, same, stands) (rw (floor_is settings.bands opening bids) refl)
+placed_now : (bands : List (ℕ × ℕ)) (i : ℕ) (kept : Kept) (row : ItemRow) (opening : Opening) (bids : List bid.Bid) → is_item i row ≡ true → row.item.terms.state ≡ Open
+    → row.item.terms.start ≡ opening.start → kept ≡ standing_of bands opening bids
+    → told_placed (Some (shown bands (with_standing i kept row).item)) ≡ Placed kept.count (floor bands opening bids) kept.leader kept.price
+placed_now bands i kept row opening bids here opened same stands =
+    rw (here, opened, same, stands) (rw (floor_is bands opening bids) refl)
+
+-- by the band table of its number
+placed_by : (t : Tables) (i : ℕ) (kept : Kept) (row : ItemRow) (opening : Opening) (bids : List bid.Bid) → row_at t i ≡ Some row → row.item.terms.state ≡ Open
+    → row.item.terms.start ≡ opening.start → kept ≡ standing_of (bands_for t i) opening bids
+    → told_placed (Some (shown_row t (with_standing i kept row))) ≡ Placed kept.count (floor (bands_for t i) opening bids) kept.leader kept.price
+placed_by t i kept row opening bids there opened same stands =
+    let numbered : (with_standing i kept row).item.terms.item ≡ i = standing_number i kept row ∙ there_numbered t i row there in
+    ap (λ (n : ℕ). told_placed (Some (shown (bands_for t n) (with_standing i kept row).item))) numbered
+    ∙ placed_now (bands_for t i) i kept row opening bids (there_is t i row there) opened same stands
 
 -- a standing that a bid leaves is one of bids, and what it tells of them is told
 record IsTelling (settings : Settings) (h : History) (moment caller i maximum : ℕ) (kept : Kept) : Type 0 where
   bids : List bid.Bid
-  stands : kept ≡ standing_of settings.bands (opening_of kept) bids
-  tells : IsTold settings h moment caller (command.Bid i maximum) (Placed kept.count (floor settings.bands (opening_of kept) bids) kept.leader kept.price)
+  stands : kept ≡ standing_of (bands_for (tables_of settings h) i) (opening_of kept) bids
+  tells : IsTold settings h moment caller (command.Bid i maximum) (Placed kept.count (floor (bands_for (tables_of settings h) i) (opening_of kept) bids) kept.leader kept.price)
 
 telling : (settings : Settings) (h : History) (moment caller at' i : ℕ) (placed : bid.Bid) (kept : Kept)
     → IsAccepted settings h moment caller (command.Bid i placed.maximum) (change.Bid at' i placed kept) → IsTelling settings h moment caller i placed.maximum kept
-unfolding tables_of
+unfolding changed
 telling settings h moment caller at' i placed kept is =
     let fits = is.fits in
     let bids : List bid.Bid = one_more fits.bids placed.member placed.maximum in
     let start : fits.row.item.terms.start ≡ kept.start = sym (ap (λ (k : Kept). k.start) fits.stands_after) in
     let opening : row_opening fits.row ≡ opening_of kept = sym (ap opening_of fits.stands_after) in
-    let stands : kept ≡ standing_of settings.bands (opening_of kept) bids = subst (λ (o : Opening). kept ≡ standing_of settings.bands o bids) opening fits.stands_after in
-    let here : is_item i fits.row ≡ true = there_is (tables_of settings h) i fits.row fits.row_there in
+    let bands : List (ℕ × ℕ) = bands_for (tables_of settings h) i in
+    let stands : kept ≡ standing_of bands (opening_of kept) bids = subst (λ (o : Opening). kept ≡ standing_of bands o bids) opening fits.stands_after in
     let now = row_after (tables_of settings h) at' i placed kept fits.row fits.row_there in
     record {
       bids = bids;
       stands = stands;
       tells =
-          sym (placed_now settings i kept fits.row (opening_of kept) bids here fits.is_open start stands)
+          sym (placed_by (tables_of settings h) i kept fits.row (opening_of kept) bids fits.row_there fits.is_open start stands)
           ∙ ap told_placed (sym (seen_after settings h moment caller i (command.Bid i placed.maximum) (change.Bid at' i placed kept) (with_standing i kept fits.row) is now));
     }
 
 pub bid_told : (t : Tables) (settings : Settings) (h : History) (moment caller : ℕ) (k : Command) (result : Result Told KeepFault) (at' i : ℕ) (placed : bid.Bid) (kept : Kept) → t ≡ tables_of settings h
     → IsAccepted settings h moment caller k (change.Bid at' i placed kept) → IsOf moment caller k (change.Bid at' i placed kept)
-    → ((bids : List bid.Bid) → kept ≡ standing_of t.settings.bands (opening_of kept) bids → IfOk result (λ r. r ≡ Placed kept.count (floor t.settings.bands (opening_of kept) bids) kept.leader kept.price))
+    → ((bids : List bid.Bid) → kept ≡ standing_of (bands_for t i) (opening_of kept) bids → IfOk result (λ r. r ≡ Placed kept.count (floor (bands_for t i) (opening_of kept) bids) kept.leader kept.price))
     → IfOk result (IsTold settings h moment caller k)
-unfolding tables_of
 bid_told t settings h moment caller k result at' i placed kept e is own value =
     let known = telling settings h moment caller at' i placed kept (accepted_as settings h moment caller (command.Bid i placed.maximum) k (change.Bid at' i placed kept) own.same_command is) in
-    ok_as (λ r. r ≡ Placed kept.count (floor settings.bands (opening_of kept) known.bids) kept.leader kept.price) (IsTold settings h moment caller k) result
+    ok_as (λ r. r ≡ Placed kept.count (floor (bands_for (tables_of settings h) i) (opening_of kept) known.bids) kept.leader kept.price) (IsTold settings h moment caller k) result
     (λ r v. told_as settings h moment caller (command.Bid i placed.maximum) k r own.same_command (v ∙ known.tells))
     ((rw e at value) known.bids known.stands)

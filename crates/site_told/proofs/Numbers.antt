@@ -13,7 +13,7 @@ use Rattle.house_rows.specs.declared.settings.Settings.{Settings}
 use Rattle.house_rows.specs.declared.told.Told.{Told}
 use Rattle.house_rows.specs.declared.told.Told.TheVariants.{Registered, Added, Listing}
 use Rattle.house_rows.specs.History.{History}
-use Rattle.house_rows.specs.Items.{item_now, items, items_shown, shown}
+use Rattle.house_rows.specs.Items.{items_shown, shown_now}
 use Rattle.house_rows.specs.Limits.{most_categories, most_items, most_members}
 use Rattle.house_rows.specs.Listings.{listings}
 use Rattle.house_rows.specs.People.{categories, members}
@@ -51,16 +51,16 @@ add_told t settings h moment caller k result at' name e is own value =
 
 -- as many items are seen as were listed
 seen_count : (settings : Settings) (h : History) → length (items_shown settings h) ≡ length (listings h)
-unfolding items_shown items
-seen_count settings h = length-map (map (item_now settings.bands h) (listings h)) (shown settings) ∙ length-map (listings h) (item_now settings.bands h)
+unfolding items_shown
+seen_count settings h = length-map (listings h) (shown_now settings h)
 
 item_told : (settings : Settings) (h : History) (moment caller category : ℕ) (lot title text : List ℕ) (start : ℕ) (buy_now : Option ℕ) (end' : ℕ) (r : Told)
     → r ≡ Listing (length (tables_of settings h).items + 1) → IsTold settings h moment caller (command.List category lot title text start buy_now end') r
 unfolding tables_of
 item_told settings h moment caller category lot title text start buy_now end' r is =
-    let before : length (map (row_now settings.bands h) (listings h)) ≡ length (listings h) = length-map (listings h) (row_now settings.bands h) in
+    let before : length (map (row_now settings h) (listings h)) ≡ length (listings h) = length-map (listings h) (row_now settings h) in
     rw (seen_count settings (entry moment caller (command.List category lot title text start buy_now end') ∷ h)) (
-    rw (length-append (listings h) (record { item = length (listings h) + 1; seller = caller; category = category; lot = lot; title = title; text = text; start = start; buy_now = buy_now; end = end' } ∷ []))
+    rw (length-append (listings h) (record { item = length (listings h) + 1; seller = caller; category = category; lot = lot; title = title; text = text; start = start; buy_now = buy_now; end = end'; set = [] } ∷ []))
     (rw before at is))
 
 pub list_told : (t : Tables) (settings : Settings) (h : History) (moment caller : ℕ) (k : Command) (result : Result Told KeepFault) (at' : ℕ) (item : NewItem) → t ≡ tables_of settings h

@@ -16,12 +16,13 @@ use Rattle.house_rows.specs.declared.told.Told.TheVariants.{Bought, Closed, Sett
 use Rattle.house_rows.specs.Changed.{changed, is_item, with_purchase, with_settlement}
 use Rattle.house_rows.specs.Found.{due_at, row_at, terms_at}
 use Rattle.house_rows.specs.History.{History, counted}
-use Rattle.house_rows.specs.Items.{close_sells, is_due, item_now, items, items_shown, shown}
+use Rattle.house_rows.specs.Items.{close_sells, is_due, item_now, items_shown, shown_now}
 use Rattle.house_rows.specs.Listings.{Listing, listings}
 use Rattle.house_rows.specs.Tables.{ItemRow, Tables, row_now, tables_of}
 use Rattle.house_rows.specs.Told.{told_bought, told_settled}
 use Rattle.house_rows.proofs.ChangedRows.{purchase_number, settlement_number, there_is}
 use Rattle.house_rows.proofs.Put.{by_test}
+use Rattle.house_rows.proofs.Shown.{shown_row}
 use Rattle.site_told.proofs.Seen.{IsTold, accepted_as, ok_as, row_changed, seen_after, told_as}
 
 numbered : (i : ℕ) (row : ItemRow) → is_item i row ≡ true → row.item.terms.item ≡ i
@@ -34,9 +35,9 @@ unfolding changed
 row_bought t at' i buyer price row found =
     row_changed i (with_purchase i buyer price at') row t.items (λ r. ap (λ n. n == i) (purchase_number i buyer price at' r)) found
 
-bought_now : (settings : Settings) (i buyer price at' : ℕ) (row : ItemRow) → is_item i row ≡ true
-    → told_bought (Some (shown settings (with_purchase i buyer price at' row).item)) ≡ Bought i price
-bought_now settings i buyer price at' row here = rw here (ap (λ n. Bought n price) (numbered i row here))
+bought_now : (t : Tables) (i buyer price at' : ℕ) (row : ItemRow) → is_item i row ≡ true
+    → told_bought (Some (shown_row t (with_purchase i buyer price at' row))) ≡ Bought i price
+bought_now t i buyer price at' row here = rw here (ap (λ n. Bought n price) (numbered i row here))
 
 purchase_told : (settings : Settings) (h : History) (moment caller at' i buyer price : ℕ) → IsAccepted settings h moment caller (command.Buy i) (change.Buy at' i buyer price)
     → IsTold settings h moment caller (command.Buy i) (Bought i price)
@@ -44,7 +45,7 @@ purchase_told settings h moment caller at' i buyer price is =
     let fits = is.fits in
     let here = there_is (tables_of settings h) i fits.row fits.row_there in
     let now = row_bought (tables_of settings h) at' i buyer price fits.row fits.row_there in
-    sym (bought_now settings i buyer price at' fits.row here)
+    sym (bought_now (changed (tables_of settings h) (change.Buy at' i buyer price)) i buyer price at' fits.row here)
     ∙ ap told_bought (sym (seen_after settings h moment caller i (command.Buy i) (change.Buy at' i buyer price) (with_purchase i buyer price at' fits.row) is now))
 
 pub buy_told : (settings : Settings) (h : History) (moment caller : ℕ) (k : Command) (at' i buyer price : ℕ)
@@ -56,16 +57,16 @@ buy_told settings h moment caller k at' i buyer price is own =
 
 -- items are counted by their terms as everybody sees them and as their rows have them
 counted_seen : (settings : Settings) (h : History) (p : Terms → Bool) (ls : List Listing)
-    → counted (λ it. p it.item.terms) (map (shown settings) (map (item_now settings.bands h) ls)) ≡ counted (λ row. p row.item.terms) (map (row_now settings.bands h) ls)
+    → counted (λ it. p it.item.terms) (map (shown_now settings h) ls) ≡ counted (λ row. p row.item.terms) (map (row_now settings h) ls)
 counted_seen settings h p [] = refl
-counted_seen settings h p (l ∷ ls) = elim (by_test (p (item_now settings.bands h l).terms)) [
+counted_seen settings h p (l ∷ ls) = elim (by_test (p (item_now settings h l).terms)) [
   | inl is ↦ rw is (ap suc (counted_seen settings h p ls))
   | inr not ↦ rw not (counted_seen settings h p ls)
 ]
 
 due_told : (settings : Settings) (h : History) (moment caller : ℕ)
     → IsTold settings h moment caller command.Close (Closed (due_at (tables_of settings h) moment).sold (due_at (tables_of settings h) moment).unsold)
-unfolding items_shown items tables_of
+unfolding items_shown tables_of
 due_told settings h moment caller =
     rw (
       counted_seen settings h (λ terms. is_due moment terms && close_sells terms.leader) (listings h),
@@ -85,10 +86,10 @@ row_settled : (t : Tables) (at' i : ℕ) (row : ItemRow) → row_at t i ≡ Some
 unfolding changed
 row_settled t at' i row found = row_changed i (with_settlement i) row t.items (λ r. ap (λ n. n == i) (settlement_number i r)) found
 
-settled_now : (settings : Settings) (i : ℕ) (row : ItemRow) → is_item i row ≡ true
-    → told_settled settings.rate (Some (shown settings (with_settlement i row).item))
+settled_now : (settings : Settings) (t : Tables) (i : ℕ) (row : ItemRow) → is_item i row ≡ true
+    → told_settled settings.rate (Some (shown_row t (with_settlement i row)))
     ≡ Settlement (fee_of row.item.terms.price settings.rate) i (row.item.terms.price - fee_of row.item.terms.price settings.rate) row.item.terms.price
-settled_now settings i row here =
+settled_now settings t i row here =
     let price = row.item.terms.price in
     rw here (ap (λ n. Settlement (fee_of price settings.rate) n (price - fee_of price settings.rate) price) (numbered i row here))
 
@@ -104,7 +105,7 @@ sale_told settings h moment caller at' i row r found is tells =
     let here = there_is (tables_of settings h) i row found in
     let now = row_settled (tables_of settings h) at' i row found in
     tells
-    ∙ sym (settled_now settings i row here)
+    ∙ sym (settled_now settings (changed (tables_of settings h) (change.Settle at' i)) i row here)
     ∙ ap (told_settled settings.rate) (sym (seen_after settings h moment caller i (command.Settle i) (change.Settle at' i) (with_settlement i row) is now))
 
 pub settle_told : (t : Tables) (settings : Settings) (h : History) (moment caller : ℕ) (k : Command) (result : Result Told KeepFault) (at' i : ℕ) → t ≡ tables_of settings h

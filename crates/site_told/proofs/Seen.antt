@@ -9,7 +9,7 @@ use Rattle.house_rows.specs.declared.told.Told.{Told}
 use Rattle.house_rows.specs.Changed.{changed, is_item}
 use Rattle.house_rows.specs.Found.{row_at}
 use Rattle.house_rows.specs.History.{History}
-use Rattle.house_rows.specs.Items.{items_shown, shown, shown_at}
+use Rattle.house_rows.specs.Items.{items_shown, shown_at}
 use Rattle.house_rows.specs.Runs.{entry}
 use Rattle.house_rows.specs.Tables.{ItemRow, Tables, tables_of}
 use Rattle.house_rows.specs.Told.{told}
@@ -45,7 +45,8 @@ row_changed i f row (r ∷ rows) same found =
 
 -- an item as everybody sees it once the command is entered
 pub seen_after : (settings : Settings) (h : History) (moment caller i : ℕ) (command : Command) (made : Change) (row : ItemRow) → IsAccepted settings h moment caller command made
-    → row_at (changed (tables_of settings h) made) i ≡ Some row → shown_at (items_shown settings (entry moment caller command ∷ h)) i ≡ Some (shown settings row.item)
+    → row_at (changed (tables_of settings h) made) i ≡ Some row → shown_at (items_shown settings (entry moment caller command ∷ h)) i ≡ Some (shown_row (changed (tables_of settings h) made) row)
 seen_after settings h moment caller i command made row is found =
     shown_by_row settings (entry moment caller command ∷ h) i
-    ∙ ap (option_map (shown_row settings)) (ap (λ (t : Tables). row_at t i) (sym is.leads) ∙ found)
+    ∙ ap (λ (t : Tables). option_map (shown_row t) (row_at t i)) (sym is.leads)
+    ∙ ap (option_map (shown_row (changed (tables_of settings h) made))) found

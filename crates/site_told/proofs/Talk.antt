@@ -14,7 +14,6 @@ use Rattle.house_rows.specs.declared.told.Told.TheVariants.{Question, Rated}
 use Rattle.house_rows.specs.Changed.{changed, is_item}
 use Rattle.house_rows.specs.Found.{ask_count, row_at}
 use Rattle.house_rows.specs.History.{History, counted, is_less, put_by}
-use Rattle.house_rows.specs.Items.{shown}
 use Rattle.house_rows.specs.Questions.{Asked, answered, answers, ask_count as asked_count, asked, asked_key, questions}
 use Rattle.house_rows.specs.Ratings.{other_party}
 use Rattle.house_rows.specs.Runs.{entry}
@@ -24,6 +23,7 @@ use Rattle.house_rows.specs.Views.{own_questions}
 use Rattle.house_rows.proofs.ChangedRows.{there_is}
 use Rattle.house_rows.proofs.Own.{count_own}
 use Rattle.house_rows.proofs.Put.{by_test}
+use Rattle.house_rows.proofs.Shown.{shown_row}
 use Rattle.site_told.proofs.Seen.{IsTold, accepted_as, seen_after, told_as}
 
 -- questions are as many with their answers as without
@@ -68,9 +68,9 @@ row_rated : (t : Tables) (at' i from to : ℕ) (rating : Rating) (text : Bor (Li
 unfolding changed
 row_rated t at' i from to rating text row found = found
 
-rated_now : (settings : Settings) (i caller : ℕ) (rating : Rating) (row : ItemRow) → is_item i row ≡ true
-    → told_rated caller (Some rating) (Some (shown settings row.item)) ≡ Rated i rating (other_party row.item.terms.seller row.item.terms.leader caller)
-rated_now settings i caller rating row here =
+rated_now : (t : Tables) (i caller : ℕ) (rating : Rating) (row : ItemRow) → is_item i row ≡ true
+    → told_rated caller (Some rating) (Some (shown_row t row)) ≡ Rated i rating (other_party row.item.terms.seller row.item.terms.leader caller)
+rated_now t i caller rating row here =
     let same : row.item.terms.item ≡ i = grind (arith, nat_tests, here) in
     ap (λ n. Rated n rating (other_party row.item.terms.seller row.item.terms.leader caller)) same
 
@@ -82,7 +82,7 @@ rating_told settings h moment caller at' i to rating text is =
     let here = there_is (tables_of settings h) i fits.row fits.row_there in
     let now = row_rated (tables_of settings h) at' i caller to rating text fits.row fits.row_there in
     ap (Rated i rating) fits.receiver
-    ∙ sym (rated_now settings i caller rating fits.row here)
+    ∙ sym (rated_now (changed (tables_of settings h) (change.Feedback at' i caller to rating text)) i caller rating fits.row here)
     ∙ ap (told_rated caller (Some rating)) (sym (seen_after settings h moment caller i (command.Feedback i (Some rating) text.now) (change.Feedback at' i caller to rating text) fits.row is now))
 
 pub feedback_told : (settings : Settings) (h : History) (moment caller : ℕ) (k : Command) (at' i from to : ℕ) (rating : Rating) (text : Bor (List ℕ))

@@ -4,20 +4,22 @@ ghost use Rattle.proxy.specs.Bids.{floor, standing_of};
 ghost use Rattle.proxy.specs.Kept.{opening_of};
 ghost use Rattle.proxy.specs.declared.bid.Bid.{Bid as TheBid};
 ghost use Rattle.house_rows.specs.Keeping.{Faults};
+ghost use Rattle.house_rows.specs.Tables.{bands_for};
 
 use house_rows::{Keep, KeepFault, Told};
 use proxy::Standing;
 
-/// What a bid is told that leaves this standing. The clauses speak of whatever bids this is the
-/// standing of.
-pub(crate) fn placed<K: Keep>(keep: &K, standing: &Standing) -> Result<Told, KeepFault>
+/// What a bid on an item is told that leaves this standing. The clauses speak of whatever bids this
+/// is the standing of.
+pub(crate) fn placed<K: Keep>(keep: &K, item: u32, standing: &Standing) -> Result<Told, KeepFault>
     ensures value { K.is_honest keep.now → (bids : List TheBid)
-        → standing.now ≡ standing_of (K.content keep.now).settings.bands (opening_of standing.now) bids
+        → standing.now ≡ standing_of (bands_for (K.content keep.now) item) (opening_of standing.now) bids
         → IfOk result (λ r. r ≡ Told.Placed standing.now.count
-        (floor (K.content keep.now).settings.bands (opening_of standing.now) bids) standing.now.leader standing.now.price) }
+        (floor (bands_for (K.content keep.now) item) (opening_of standing.now) bids) standing.now.leader standing.now.price) }
     ensures faults { Faults result (K.is_honest keep.now) (K.is_failed keep.now) (K.content keep.now) }
 {
-    let floor = standing.floor(&keep.settings()?.bands);
+    let bands = keep.editions()?.bands_for(u64::from(item));
+    let floor = standing.floor(bands);
     Ok(Told::Placed {
         count: standing.count(),
         floor,

@@ -34,7 +34,7 @@ pub fn tell<K: Keep>(keep: &mut K, change: &Change<'_>) -> Result<Told, KeepFaul
         Change::Register { .. } => registered(keep),
         Change::AddCategory { .. } => added(keep),
         Change::List { .. } => listed(keep),
-        Change::Bid { standing, .. } => placed(keep, standing),
+        Change::Bid { item, standing, .. } => placed(keep, *item, standing),
         Change::Buy { item, price, .. } => Ok(Told::Bought {
             item: *item,
             price: *price,

@@ -1,28 +1,46 @@
--- What a keep knows of its house: its bands are those of the tables. And what it tells of a call that failed.
-use Rattle.std.proofs.Common.{◌≡◌, ◌∙◌, ℕ, Bool, true, false, ap, refl, sym}
-use Rattle.std.specs.Prelude.{◌↔◌, Err, IsErrOf}
+-- What a keep knows of its house: its band tables are those of the tables. And what it tells of a call that failed.
+use Rattle.std.proofs.Common.{◌≡◌, ◌∙◌, ℕ, List, Bool, true, false, ap, refl, subst, sym, Option}
+use Rattle.std.specs.Prelude.{◌↔◌, Err, IfSome, IsErrOf}
 use Rattle.std.specs.List.{AllByRecursion}
 use Rattle.sqlite_trees.specs.Tree.{Trees}
-use Rattle.house_rows.specs.Keeping.{AreSound, AreSoundBy, Faults, ItemRowFits}
-use Rattle.house_rows.specs.Tables.{Tables}
+use Rattle.house_rows.specs.Keeping.{AllStand, AreSound, AreSoundBy, Faults, FitsBy, StandsAt, StandsBy, StandsIn}
+use Rattle.house_rows.specs.Editions.{BandTables}
+use Rattle.house_rows.specs.Tables.{ItemRow, Tables}
 use Rattle.house_rows.specs.declared.fault.KeepFault.{KeepFault}
 use Rattle.house_rows.specs.declared.fault.KeepFault.TheVariants.{Store, Damaged}
+use Rattle.house_rows.specs.declared.item.Item.{Item}
+use Rattle.house_rows.specs.declared.item.Terms.{Terms}
 use Rattle.house_rows.specs.declared.people.Counts.{Counts}
-use Rattle.house_rows.specs.declared.settings.Settings.{Settings}
 use Rattle.store_rows.specs.ItemRows.{items_in}
 use Rattle.store_rows.specs.Tables.{tables_in}
+use Rattle.store_items.specs.RowsStanding.{ItemStands, RowsStand}
 use Rattle.store_rows.proofs.Sound.{rows_fit}
 use Rattle.store.specs.Kept.{House, IsKnown, is_failed}
 
-module _ (db : Trees) (settings : Settings) (counts : Counts) (clock : ℕ) (known : IsKnown settings counts clock db) where
-  pub known_bands : (tables_in db).settings.bands ≡ settings.bands
-  known_bands = ap (λ (s : Settings). s.bands) known.settings_are
+module _ (db : Trees) (editions : BandTables) (counts : Counts) (clock : ℕ) (known : IsKnown editions counts clock db) where
+  pub known_sound : AreSound (tables_in db) → AreSoundBy editions (tables_in db)
+  known_sound sound = record { sound = sound; same = sym known.editions_are }
 
-  pub known_sound : AreSound (tables_in db) → AreSoundBy settings.bands (tables_in db)
-  known_sound sound = record { sound = sound; same = sym known_bands }
+  pub known_rows : AreSound (tables_in db) → AllByRecursion (FitsBy editions) (items_in db)
+  known_rows sound = rows_fit db editions (known_sound sound)
 
-  pub known_rows : AreSound (tables_in db) → AllByRecursion (ItemRowFits settings.bands) (items_in db)
-  known_rows sound = rows_fit db settings.bands (known_sound sound)
+  -- what stands by the band tables that are known stands in the tables
+  pub one_stands : (item : Option Item) → IfSome item (λ it. StandsBy editions it.terms) → IfSome item (λ it. StandsIn (tables_in db) it.terms)
+  one_stands item = subst (λ (b : BandTables). IfSome item (λ it. StandsBy b it.terms)) (sym known.editions_are)
+
+  pub terms_stand : (terms : Option Terms) → IfSome terms (λ t. StandsBy editions t) → IfSome terms (λ t. StandsIn (tables_in db) t)
+  terms_stand terms = subst (λ (b : BandTables). IfSome terms (λ t. StandsBy b t)) (sym known.editions_are)
+
+  pub items_stand : (items : List Item) → AllByRecursion (λ it. StandsBy editions it.terms) items → AllByRecursion (λ it. StandsIn (tables_in db) it.terms) items
+  items_stand items = subst (λ (b : BandTables). AllByRecursion (λ (it : Item). StandsBy b it.terms) items) (sym known.editions_are)
+
+  pub all_stand : (test : ItemRow → Bool) → RowsStand editions test db → AllStand test (tables_in db)
+  unfolding tables_in
+  all_stand test = subst (λ (b : BandTables). RowsStand b test db) (sym known.editions_are)
+
+  -- so of what names an item
+  pub each_stands : {A : Type 0} (item : A → ℕ) (xs : List A) → AllByRecursion (λ x. ItemStands editions db (item x)) xs → AllByRecursion (λ x. StandsAt (tables_in db) (item x)) xs
+  each_stands {A} item xs = subst (λ (b : BandTables). AllByRecursion (λ (x : A). ItemStands b db (item x)) xs) (sym known.editions_are)
 
 -- a fault that is no damage is told as none
 no_damage : (fault told : KeepFault) (failed : Bool) → (failed ≡ false → told ≡ fault) → ((told ≡ Store) ↔ (failed ≡ true))

@@ -9,29 +9,29 @@ use Rattle.house_rows.specs.Changed.{changed, with_close, with_purchase, with_se
 use Rattle.house_rows.specs.Asks.{ChangeFits}
 use Rattle.house_rows.specs.Fits.{IsMoment}
 use Rattle.house_rows.specs.Found.{counts_of}
-use Rattle.house_rows.specs.Tables.{Tables}
+use Rattle.house_rows.specs.Tables.{Tables, band_tables}
 use Rattle.house_rows.specs.declared.change.Change.{Change}
 use Rattle.house_rows.specs.declared.change.Change.TheVariants.{Register, AddCategory, List as Listed, Bid, Buy, Close, Settle, Watch, Unwatch, Ask, Answer, Feedback}
 use Rattle.house_rows.specs.declared.people.Counts.{Counts}
-use Rattle.house_rows.specs.declared.settings.Settings.{Settings}
+use Rattle.house_rows.specs.Editions.{BandTables}
 use Rattle.store_rows.specs.Tables.{Changes, tables_in}
 use Rattle.store.specs.After.{clock_after, counts_after}
 use Rattle.store.specs.Kept.{IsKnown}
 
-settings_stay : (t : Tables) (change : Change) → (changed t change).settings ≡ t.settings
+editions_stay : (t : Tables) (change : Change) → band_tables (changed t change) ≡ band_tables t
 unfolding changed
-settings_stay t (Register moment name) = refl
-settings_stay t (AddCategory moment name) = refl
-settings_stay t (Listed moment item) = refl
-settings_stay t (Bid moment item placed standing) = refl
-settings_stay t (Buy moment item buyer price) = refl
-settings_stay t (Close moment) = refl
-settings_stay t (Settle moment item) = refl
-settings_stay t (Watch member item) = refl
-settings_stay t (Unwatch member item) = refl
-settings_stay t (Ask item asker number text) = refl
-settings_stay t (Answer moment item asker number text) = refl
-settings_stay t (Feedback moment item from to rating text) = refl
+editions_stay t (Register moment name) = refl
+editions_stay t (AddCategory moment name) = refl
+editions_stay t (Listed moment item) = refl
+editions_stay t (Bid moment item placed standing) = refl
+editions_stay t (Buy moment item buyer price) = refl
+editions_stay t (Close moment) = refl
+editions_stay t (Settle moment item) = refl
+editions_stay t (Watch member item) = refl
+editions_stay t (Unwatch member item) = refl
+editions_stay t (Ask item asker number text) = refl
+editions_stay t (Answer moment item asker number text) = refl
+editions_stay t (Feedback moment item from to rating text) = refl
 
 clock_moves : (t : Tables) (change : Change) → (changed t change).clock ≡ clock_after t.clock change
 unfolding changed
@@ -64,10 +64,10 @@ counts_move t (Answer moment item asker number text) = refl
 counts_move t (Feedback moment item from to rating text) = refl
 
 -- what was known is known of the tables after the change
-pub known_after : (settings : Settings) (counts : Counts) (clock : ℕ) (change : Change) (old new : Trees)
-    → IsKnown settings counts clock old → tables_in new ≡ changed (tables_in old) change → IsKnown settings (counts_after counts change) (clock_after clock change) new
-known_after settings counts clock change old new known is = record {
-  settings_are = ap (λ t. t.settings) is ∙ (settings_stay (tables_in old) change ∙ known.settings_are);
+pub known_after : (editions : BandTables) (counts : Counts) (clock : ℕ) (change : Change) (old new : Trees)
+    → IsKnown editions counts clock old → tables_in new ≡ changed (tables_in old) change → IsKnown editions (counts_after counts change) (clock_after clock change) new
+known_after editions counts clock change old new known is = record {
+  editions_are = ap band_tables is ∙ (editions_stay (tables_in old) change ∙ known.editions_are);
   counts_are = ap counts_of is ∙ (counts_move (tables_in old) change ∙ ap (λ c. counts_after c change) known.counts_are);
   clock_is = ap (λ t. t.clock) is ∙ (clock_moves (tables_in old) change ∙ ap (λ c. clock_after c change) known.clock_is);
 }

@@ -5,7 +5,7 @@ use Rattle.std.specs.List.{AllByRecursion}
 use Rattle.sqlite_trees.specs.Tree.{Trees}
 use Rattle.sqlite.specs.Effect.{Database}
 use Rattle.house_rows.specs.Fits.{IsItem}
-use Rattle.house_rows.specs.Keeping.{AreSound, ItemRowFits}
+use Rattle.house_rows.specs.Keeping.{AreSound, RowFits}
 use Rattle.house_rows.specs.Questions.{is_question}
 use Rattle.house_rows.specs.Tables.{ItemRow}
 use Rattle.store_rows.specs.House.{IsHouse}
@@ -25,7 +25,7 @@ sound_number db p sound = number (items_in db) sound.items
     first row rest true is others = is
     first row rest false is others = others
 
-    number : (rows : List ItemRow) → AllByRecursion (ItemRowFits (tables_in db).settings.bands) rows → IfSome (option_map (λ (row : ItemRow). row.item.terms.item) (find p rows)) IsItem
+    number : (rows : List ItemRow) → AllByRecursion (RowFits (tables_in db)) rows → IfSome (option_map (λ (row : ItemRow). row.item.terms.item) (find p rows)) IsItem
     number [] all = search
     number (row ∷ rows) all = first row (find p rows) (p row) all.0.item.terms.item (number rows all.1)
 

@@ -7,26 +7,43 @@ use Rattle.sqlite.specs.Held.{Held, held_code, state}
 use Rattle.sqlite.specs.State.{HasCleanDisk}
 use Rattle.house_rows.specs.Fits.{IsMoment}
 use Rattle.house_rows.specs.Found.{counts_of}
-use Rattle.house_rows.specs.Tables.{Tables}
+use Rattle.house_rows.specs.Editions.{BandTables}
+use Rattle.house_rows.specs.Tables.{Tables, band_tables}
 use Rattle.house_rows.specs.declared.people.Counts.{Counts}
+use Rattle.house_rows.specs.declared.edition.Edition.{Edition}
 use Rattle.house_rows.specs.declared.settings.Settings.{Settings}
 use Rattle.store_rows.specs.Tables.{IsAtRest, tables_in}
 
 -- the connection, and what is known of its tables without asking it
 pub record House (S : Type 0) : Type 0 where
   pub conn : Held S
-  pub settings : Settings
+  -- the settings, and all band tables
+  pub editions : BandTables
   pub counts : Counts
   pub clock : ℕ
   -- a call has answered `Store`
   pub failed : Bool
 
--- settings, counts and a house are stored as the tuples of their fields
+-- settings, editions, counts and a house are stored as the tuples of their fields
 abbrev pub settings_code : Coded Settings
 settings_code =
     code_by (List (ℕ × ℕ) × (ℕ × List ℕ)) (coded× (coded_list (coded× coded_ℕ coded_ℕ)) (coded× coded_ℕ (coded_list coded_ℕ)))
     (λ s. (s.bands, (s.rate, s.zone)))
     (λ p. record { bands = p.0; rate = p.1.0; zone = p.1.1 })
+    (λ _. refl)
+
+abbrev pub edition_code : Coded Edition
+edition_code =
+    code_by (ℕ × (ℕ × List (ℕ × ℕ))) (coded× coded_ℕ (coded× coded_ℕ (coded_list (coded× coded_ℕ coded_ℕ))))
+    (λ e. (e.edition, (e.first, e.bands)))
+    (λ p. record { edition = p.0; first = p.1.0; bands = p.1.1 })
+    (λ _. refl)
+
+abbrev pub editions_code : Coded BandTables
+editions_code =
+    code_by (Settings × List Edition) (coded× settings_code (coded_list edition_code))
+    (λ b. (b.settings, b.later))
+    (λ p. record { settings = p.0; later = p.1 })
     (λ _. refl)
 
 abbrev pub counts_code : Coded Counts
@@ -38,15 +55,15 @@ counts_code =
 
 abbrev pub house_code : {S : Type 0} → Coded S → Coded (House S)
 house_code {S} store =
-    code_by (Held S × (Settings × (Counts × (ℕ × Bool))))
-    (coded× (held_code store) (coded× settings_code (coded× counts_code (coded× coded_ℕ coded_bool))))
-    (λ k. (k.conn, (k.settings, (k.counts, (k.clock, k.failed)))))
-    (λ p. record { conn = p.0; settings = p.1.0; counts = p.1.1.0; clock = p.1.1.1.0; failed = p.1.1.1.1 })
+    code_by (Held S × (BandTables × (Counts × (ℕ × Bool))))
+    (coded× (held_code store) (coded× editions_code (coded× counts_code (coded× coded_ℕ coded_bool))))
+    (λ k. (k.conn, (k.editions, (k.counts, (k.clock, k.failed)))))
+    (λ p. record { conn = p.0; editions = p.1.0; counts = p.1.1.0; clock = p.1.1.1.0; failed = p.1.1.1.1 })
     (λ _. refl)
 
 -- what is known of the tables is so
-pub record IsKnown (settings : Settings) (counts : Counts) (clock : ℕ) (db : Trees) : Type 0 where
-  pub settings_are : (tables_in db).settings ≡ settings
+pub record IsKnown (editions : BandTables) (counts : Counts) (clock : ℕ) (db : Trees) : Type 0 where
+  pub editions_are : band_tables (tables_in db) ≡ editions
   pub counts_are : counts_of (tables_in db) ≡ counts
   pub clock_is : (tables_in db).clock ≡ clock
 
@@ -55,7 +72,7 @@ pub record IsKept {S : Type 0} (g : Ghosts S) (k : House S) : Type 0 where
   pub idle : k.conn.in_transaction ≡ false
   pub moment : IsMoment k.clock
   pub rests : k.failed ≡ false → HasCleanDisk (state g k.conn) → IsAtRest (state g k.conn)
-  pub known : k.failed ≡ false → HasCleanDisk (state g k.conn) → IsKnown k.settings k.counts k.clock (state g k.conn).now.trees
+  pub known : k.failed ≡ false → HasCleanDisk (state g k.conn) → IsKnown k.editions k.counts k.clock (state g k.conn).now.trees
 
 -- ---- what the clauses of a keep speak of
 

@@ -49,7 +49,7 @@ impl<S: Alter> SqlKeep<S> {
         match make_change(
             self.alloc,
             &mut self.conn,
-            &self.settings.bands,
+            &self.editions,
             counts,
             change,
         ) {

@@ -11,8 +11,8 @@ use crate::numbers::is_item_number;
 use crate::settled::told_fault;
 use cents::Cents;
 use house_rows::{
-    Category, Change, Counts, Due, Feedback, Item, Keep, KeepFault, Member, OwnBest, OwnBid,
-    Question, Ratings, Settings, Terms,
+    Category, Change, Counts, Due, Editions, Feedback, Item, Keep, KeepFault, Member, OwnBest,
+    OwnBid, Question, Ratings, Settings, Terms,
 };
 use proxy::Standing;
 use settle::Sold;
@@ -50,7 +50,7 @@ pub struct SqlKeep<S: Alter> {
     pub(crate) alloc: Global,
     pub(crate) conn: Connection<S>,
     // Kept, so that no call asks for them.
-    pub(crate) settings: Settings,
+    pub(crate) editions: Editions,
     pub(crate) counts: Counts,
     pub(crate) clock: u64,
     pub(crate) failed: bool,
@@ -65,7 +65,7 @@ impl<S: Alter> Model for SqlKeep<S> {
 
     ghost view = { λ k. record {
       conn = k.conn;
-      settings = k.settings;
+      editions = k.editions;
       counts = k.counts;
       clock = k.clock;
       failed = k.failed;
@@ -73,7 +73,7 @@ impl<S: Alter> Model for SqlKeep<S> {
 
     ghost invariant = { λ k. IsKept S.Store (record {
       conn = k.conn;
-      settings = k.settings;
+      editions = k.editions;
       counts = k.counts;
       clock = k.clock;
       failed = k.failed;
@@ -105,7 +105,12 @@ impl<S: Alter> Keep for SqlKeep<S> {
 
     fn settings(&self) -> Result<&Settings, KeepFault> {
         self.serves()?;
-        Ok(&self.settings)
+        Ok(self.editions.settings())
+    }
+
+    fn editions(&self) -> Result<&Editions, KeepFault> {
+        self.serves()?;
+        Ok(&self.editions)
     }
 
     fn clock(&mut self) -> Result<u64, KeepFault> {
@@ -172,7 +177,7 @@ impl<S: Alter> Keep for SqlKeep<S> {
         let Ok(item) = u32::try_from(item) else {
             return Ok(None);
         };
-        told!(self, item_at(&mut self.conn, &self.settings.bands, item))
+        told!(self, item_at(&mut self.conn, &self.editions, item))
     }
 
     #[tactic(auto, using(store_items::proofs::Small::no_item), unfolding(store_rows::specs::Tables::tables_in))]
@@ -181,7 +186,7 @@ impl<S: Alter> Keep for SqlKeep<S> {
         let Ok(item) = u32::try_from(item) else {
             return Ok(None);
         };
-        told!(self, terms_at(&mut self.conn, &self.settings.bands, item))
+        told!(self, terms_at(&mut self.conn, &self.editions, item))
     }
 
     #[tactic(auto, using(crate::proofs::Sound::sound_number, store_rows::proofs::Sound::items_fit, crate::proofs::Absent::no_lot), unfolding(store_rows::specs::Tables::tables_in))]
@@ -209,7 +214,7 @@ impl<S: Alter> Keep for SqlKeep<S> {
         };
         told!(
             self,
-            standing_at(&mut self.conn, &self.settings.bands, item)
+            standing_at(&mut self.conn, &self.editions, item)
         )
     }
 
@@ -307,7 +312,7 @@ impl<S: Alter> Keep for SqlKeep<S> {
         self.serves()?;
         told!(
             self,
-            due(self.alloc, &mut self.conn, &self.settings.bands, moment)
+            due(self.alloc, &mut self.conn, &self.editions, moment)
         )
     }
 
@@ -317,10 +322,10 @@ impl<S: Alter> Keep for SqlKeep<S> {
         let Ok(category) = u32::try_from(category) else {
             return Ok(Vec::new(self.alloc));
         };
-        let bands = &self.settings.bands;
+        let editions = &self.editions;
         told!(
             self,
-            items_in(self.alloc, &mut self.conn, bands, category, from)
+            items_in(self.alloc, &mut self.conn, editions, category, from)
         )
     }
 
@@ -330,10 +335,10 @@ impl<S: Alter> Keep for SqlKeep<S> {
         let Ok(member) = u32::try_from(member) else {
             return Ok(Vec::new(self.alloc));
         };
-        let bands = &self.settings.bands;
+        let editions = &self.editions;
         told!(
             self,
-            own_bids(self.alloc, &mut self.conn, bands, member, from)
+            own_bids(self.alloc, &mut self.conn, editions, member, from)
         )
     }
 
@@ -381,7 +386,7 @@ impl<S: Alter> Keep for SqlKeep<S> {
         self.serves()?;
         told!(
             self,
-            all_items(self.alloc, &mut self.conn, &self.settings.bands)
+            all_items(self.alloc, &mut self.conn, &self.editions)
         )
     }
 
@@ -403,10 +408,10 @@ impl<S: Alter> Keep for SqlKeep<S> {
         let Ok(member) = u32::try_from(member) else {
             return Ok(Vec::new(self.alloc));
         };
-        let bands = &self.settings.bands;
+        let editions = &self.editions;
         told!(
             self,
-            items_watched(self.alloc, &mut self.conn, bands, member)
+            items_watched(self.alloc, &mut self.conn, editions, member)
         )
     }
 
@@ -416,8 +421,8 @@ impl<S: Alter> Keep for SqlKeep<S> {
         let Ok(member) = u32::try_from(member) else {
             return Ok(Vec::new(self.alloc));
         };
-        let bands = &self.settings.bands;
-        told!(self, waiting_for(self.alloc, &mut self.conn, bands, member))
+        let editions = &self.editions;
+        told!(self, waiting_for(self.alloc, &mut self.conn, editions, member))
     }
 
     #[tactic(auto, using(crate::proofs::AbsentLists::no_first_waiting))]
@@ -426,10 +431,10 @@ impl<S: Alter> Keep for SqlKeep<S> {
         let Ok(member) = u32::try_from(member) else {
             return Ok(Vec::new(self.alloc));
         };
-        let bands = &self.settings.bands;
+        let editions = &self.editions;
         told!(
             self,
-            first_waiting(self.alloc, &mut self.conn, bands, member)
+            first_waiting(self.alloc, &mut self.conn, editions, member)
         )
     }
 
@@ -439,8 +444,8 @@ impl<S: Alter> Keep for SqlKeep<S> {
         let Ok(member) = u32::try_from(member) else {
             return Ok(Vec::new(self.alloc));
         };
-        let bands = &self.settings.bands;
-        told!(self, sales_to(self.alloc, &mut self.conn, bands, member))
+        let editions = &self.editions;
+        told!(self, sales_to(self.alloc, &mut self.conn, editions, member))
     }
 
     fn apply(&mut self, change: &Change<'_>) -> Result<(), KeepFault> {

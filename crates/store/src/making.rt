@@ -5,15 +5,15 @@ ghost use Rattle.sqlite.specs.Held.{state};
 ghost use Rattle.house_rows.specs.Asks.{ChangeFits, IsFree};
 ghost use Rattle.house_rows.specs.Found.{counts_of};
 ghost use Rattle.house_rows.specs.Keeping.{AreSound};
+ghost use Rattle.house_rows.specs.Tables.{band_tables};
 ghost use Rattle.house_rows.specs.declared.fault.KeepFault.TheVariants.{Damaged};
 ghost use Rattle.store_rows.specs.Tables.{Rests, tables_in};
 ghost use Rattle.store_rows.specs.Commits.{Commits};
 ghost use Rattle.store.specs.After.{counts_after};
 
-use house_rows::{Change, Counts, KeepFault};
+use house_rows::{Change, Counts, Editions, KeepFault};
 use sqlite::{Alter, Connection};
 use std::alloc::Global;
-use steps::Bands;
 use store_bids::bid;
 use store_items::{buy, close, list, settle};
 use store_people::{add_category, register};
@@ -24,14 +24,14 @@ use store_watches::{unwatch, watch};
 pub(crate) fn make_change<S: Alter>(
     alloc: Global,
     conn: &mut Connection<S>,
-    bands: &Bands,
+    editions: &Editions,
     after: Counts,
     change: &Change<'_>,
 ) -> Result<(), KeepFault>
     requires rests { Rests (state S.Store conn.old) }
     requires mode { conn.old.in_transaction ≡ false }
-    requires bands { HasCleanDisk (state S.Store conn.old)
-        → (tables_in (state S.Store conn.old).now.trees).settings.bands ≡ bands.now }
+    requires editions { HasCleanDisk (state S.Store conn.old)
+        → editions.now ≡ band_tables (tables_in (state S.Store conn.old).now.trees) }
     requires counted { HasCleanDisk (state S.Store conn.old)
         → after ≡ counts_after (counts_of (tables_in
         (state S.Store conn.old).now.trees)) change.now }
@@ -55,14 +55,14 @@ pub(crate) fn make_change<S: Alter>(
             item,
             placed,
             standing,
-        } => bid(conn, bands, moment, item, placed, &standing),
+        } => bid(conn, editions, moment, item, placed, &standing),
         Change::Buy {
             moment,
             item,
             buyer,
             price,
-        } => buy(conn, bands, moment, item, buyer, price),
-        Change::Settle { moment, item } => settle(conn, bands, moment, item),
+        } => buy(conn, editions, moment, item, buyer, price),
+        Change::Settle { moment, item } => settle(conn, editions, moment, item),
         Change::Watch { member, item } => watch(conn, member, item),
         Change::Unwatch { member, item } => unwatch(conn, member, item),
         Change::Ask {
@@ -86,6 +86,6 @@ pub(crate) fn make_change<S: Alter>(
             rating,
             text,
         } => give_feedback(conn, moment, item, from, to, rating, text),
-        Change::Close { moment } => close(conn, bands, alloc, moment),
+        Change::Close { moment } => close(conn, editions, alloc, moment),
     }
 }

@@ -16,7 +16,7 @@ ghost use Rattle.store.specs.Kept.{IsHonest, MayLeave, content};
 ghost use Rattle.store.specs.Opening.{Leaves, LeavesMade, LeavesStore, LeavesUpgraded};
 
 use crate::keep::SqlKeep;
-use house_rows::{Counts, KeepFault, Settings};
+use house_rows::{Counts, Editions, KeepFault, Settings};
 use sqlite::{Alter, Connection};
 use std::alloc::Global;
 use store_open::{Opened, make_house, open_house, upgrade_house};
@@ -53,7 +53,7 @@ impl<S: Alter + Drop> SqlKeep<S> {
             Ok(()) => Ok(SqlKeep {
                 alloc,
                 conn,
-                settings,
+                editions: Editions::new(alloc, settings),
                 counts: Counts {
                     members: 0,
                     categories: 0,
@@ -111,6 +111,15 @@ impl<S: Alter + Drop> SqlKeep<S> {
     {
         let house = open_house(alloc, conn)?;
         Ok(SqlKeep::of_house(alloc, house))
+=======
+        Ok(SqlKeep {
+            alloc,
+            conn: house.conn,
+            editions: Editions::new(alloc, house.settings),
+            counts: house.counts,
+            clock: house.clock,
+            failed: false,
+        })
     }
 
     /// As `open_or_return`, and after an error the store is dropped. So a clause says that there is such
@@ -215,7 +224,7 @@ impl<S: Alter + Drop> SqlKeep<S> {
         SqlKeep {
             alloc,
             conn: house.conn,
-            settings: house.settings,
+            editions: Editions::new(alloc, house.settings),
             counts: house.counts,
             clock: house.clock,
             failed: false,

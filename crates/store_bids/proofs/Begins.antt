@@ -13,22 +13,24 @@ use Rattle.proxy.proofs.Shapes.{accepted_shape}
 use Rattle.house_rows.specs.Asks.{BidFits}
 use Rattle.house_rows.specs.Changed.{is_item}
 use Rattle.house_rows.specs.declared.item.Terms.{Terms}
-use Rattle.house_rows.specs.Tables.{ItemRow, row_opening}
+use Rattle.house_rows.specs.Editions.{BandTables, bands_in}
+use Rattle.house_rows.specs.Tables.{ItemRow, band_tables, bands_for, row_opening}
 use Rattle.house_rows.proofs.ChangedRows.{room_for}
 use Rattle.store_rows.specs.ItemRows.{items_in}
 use Rattle.store_rows.specs.Sorted.{sorted_bids}
-use Rattle.store_rows.specs.Tables.{settings_in, tables_in}
+use Rattle.store_rows.specs.Tables.{tables_in}
 use Rattle.store_items.proofs.Rows.{item_there, unreserved}
 
 -- a standing after an accepted bid is one, from the start on
-pub bid_stands : (db : Trees) (bands : List (ℕ × ℕ)) (moment item : ℕ) (placed : Bid) (kept : Kept) → bands ≡ (settings_in db).bands → BidFits (tables_in db) moment item placed kept → is_standing bands kept ≡ true
-unfolding tables_in
-bid_stands db bands moment item placed kept same b =
+pub bid_stands : (db : Trees) (editions : BandTables) (moment item : ℕ) (placed : Bid) (kept : Kept) → editions ≡ band_tables (tables_in db) → BidFits (tables_in db) moment item placed kept
+    → is_standing (bands_in editions item) kept ≡ true
+bid_stands db editions moment item placed kept same b =
+    let bands : List (ℕ × ℕ) = bands_for (tables_in db) item in
     let opening : Opening = row_opening b.row in
     let last = b.accepted b.bids (record { member = placed.member; maximum = placed.maximum; no = length b.bids + 1 }) [] refl in
-    let room = room_for (settings_in db).bands opening b.bids placed.member placed.maximum last.accepted in
+    let room = room_for bands opening b.bids placed.member placed.maximum last.accepted in
     let few : length (one_more b.bids placed.member placed.maximum) ≤ 10000 = simp length-append (omega (arith, room)) in
-    rw (same, b.stands_after) (accepted_shape (settings_in db).bands opening (one_more b.bids placed.member placed.maximum) b.accepted few)
+    rw (same, b.stands_after) (accepted_shape bands opening (one_more b.bids placed.member placed.maximum) b.accepted few)
 
 pub bid_begins : (db : Trees) (moment item : ℕ) (placed : Bid) (kept : Kept) (t : Terms) → BidFits (tables_in db) moment item placed kept → option_map (λ (row : ItemRow). row.item.terms) (find (is_item item) (items_in db)) ≡ Some t
     → opening_of kept ≡ record { start = t.start; reserve = None }

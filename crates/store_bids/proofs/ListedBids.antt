@@ -7,6 +7,7 @@ use Rattle.house_rows.specs.Bids.{bid_key}
 use Rattle.house_rows.specs.Found.{own_bids}
 use Rattle.house_rows.specs.Limits.{most_shown}
 use Rattle.house_rows.specs.declared.item.OwnBid.{OwnBid}
+use Rattle.house_rows.specs.Editions.{BandTables}
 use Rattle.store_rows.specs.House.{IsHouse}
 use Rattle.store_rows.specs.ItemRows.{items_in}
 use Rattle.store_rows.specs.Rows.{bids_in}
@@ -33,11 +34,11 @@ module _ (db : Database) (member from : ℕ) (house : IsHouse db) where
   own_fewer shown ours are =
       fewer (tables_in db.trees) member from (items_rise db house) (firsts_rise bid_key (sorted_bids db.trees) (sorted_in_order bid_key (bids_in db.trees))) ours shown are
 
-  pub own_ours : (bands : List (ℕ × ℕ)) → FitsSoFar bands (tables_in db.trees) member from → AllByRecursion (λ row. number_of row < 2 ^ 32) (items_in db.trees)
+  pub own_ours : (editions : BandTables) → FitsSoFar editions (tables_in db.trees) member from → AllByRecursion (λ row. number_of row < 2 ^ 32) (items_in db.trees)
   unfolding tables_in
-  own_ours bands fit = fit.numbers
+  own_ours editions fit = fit.numbers
 
-  pub own_in_turn : (bands : List (ℕ × ℕ)) → FitsSoFar bands (tables_in db.trees) member from → FitFrom bands db.trees member 0 from
+  pub own_in_turn : (editions : BandTables) → FitsSoFar editions (tables_in db.trees) member from → FitFrom editions db.trees member 0 from
   unfolding tables_in
-  own_in_turn bands fit =
-      all_in_turn (tables_in db.trees) member from (items_rise db house) (firsts_rise bid_key (sorted_bids db.trees) (sorted_in_order bid_key (bids_in db.trees))) fit.numbers bands fit
+  own_in_turn editions fit =
+      all_in_turn (tables_in db.trees) member from (items_rise db house) (firsts_rise bid_key (sorted_bids db.trees) (sorted_in_order bid_key (bids_in db.trees))) fit.numbers editions fit

@@ -18,6 +18,7 @@ use Rattle.house_rows.specs.Tables.{ItemRow, Tables}
 use Rattle.house_rows.specs.declared.item.OwnBest.{OwnBest}
 use Rattle.house_rows.specs.declared.item.OwnBid.{OwnBid}
 use Rattle.house_rows.specs.declared.item.Terms.{Terms}
+use Rattle.house_rows.specs.Editions.{BandTables}
 use Rattle.house_rows.proofs.Put.{by_test}
 use Rattle.house_rows.proofs.Every.{found_is}
 use Rattle.store_rows.specs.ItemRows.{items_in}
@@ -210,17 +211,17 @@ module _ (t : Tables) (member from : ℕ) (rising : IsRisingBy number_of t.items
           few = subst (λ k. k < most_shown) (sym (so_many before n rest is)) few;
         }
 
-    in_turn : (bands : List (ℕ × ℕ)) → FitsSoFar bands t member from → (before rest : List ℕ) → numbers ≡ before ++ rest → FitInTurn bands t member (length (flat_map found before)) rest
-    in_turn bands fit before [] is = tt
-    in_turn bands fit before (n ∷ rest) is =
+    in_turn : (editions : BandTables) → FitsSoFar editions t member from → (before rest : List ℕ) → numbers ≡ before ++ rest → FitInTurn editions t member (length (flat_map found before)) rest
+    in_turn editions fit before [] is = tt
+    in_turn editions fit before (n ∷ rest) is =
         let one : flat_map found (before ++ n ∷ []) ≡ flat_map found before ++ found n = flat_map-append found before (n ∷ []) ∙ ap (λ l. flat_map found before ++ l) (append-nil (found n)) in
-        let more = in_turn bands fit (before ++ n ∷ []) rest (is ∙ sym (append_assoc before (n ∷ []) rest)) in (
+        let more = in_turn editions fit (before ++ n ∷ []) rest (is ∙ sym (append_assoc before (n ∷ []) rest)) in (
           λ few. fit.reached n (reached before n rest is few),
-          subst (λ many. FitInTurn bands t member many rest) (ap length one ∙ length-append (flat_map found before) (found n)) more,
+          subst (λ many. FitInTurn editions t member many rest) (ap length one ∙ length-append (flat_map found before) (found n)) more,
         )
 
-    pub all_in_turn : (bands : List (ℕ × ℕ)) → FitsSoFar bands t member from → FitInTurn bands t member 0 numbers
-    all_in_turn bands fit = in_turn bands fit [] numbers refl
+    pub all_in_turn : (editions : BandTables) → FitsSoFar editions t member from → FitInTurn editions t member 0 numbers
+    all_in_turn editions fit = in_turn editions fit [] numbers refl
 
 -- ---- one item
 

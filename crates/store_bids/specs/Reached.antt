@@ -5,9 +5,10 @@ use Rattle.sqlite_trees.specs.Tree.{Trees}
 use Rattle.house_rows.specs.Fits.{BidRowFits}
 use Rattle.house_rows.specs.Found.{all_items, best_of, own_bid}
 use Rattle.house_rows.specs.History.{counted}
-use Rattle.house_rows.specs.Keeping.{ItemRowFits}
+use Rattle.house_rows.specs.Keeping.{FitsBy}
 use Rattle.house_rows.specs.Limits.{most_shown}
 use Rattle.house_rows.specs.Tables.{Tables}
+use Rattle.house_rows.specs.Editions.{BandTables}
 use Rattle.store_rows.specs.Tables.{tables_in}
 use Rattle.store_bids.specs.OwnBids.{own_found, own_items}
 
@@ -18,20 +19,20 @@ pub record IsReached (t : Tables) (member from item : ℕ) : Type 0 where
   pub few : counted (λ b. (nat_lt 0 b.mine && nat_le from b.item) && nat_lt b.item item) (map (own_bid t member) (all_items t)) < most_shown
 
 -- an item's row fits, and so do the member's bids on it
-pub record FitsAt (bands : List (ℕ × ℕ)) (t : Tables) (member item : ℕ) : Type 0 where
-  pub row : AllByRecursion (λ row. row.item.terms.item ≡ item → ItemRowFits bands row) t.items
+pub record FitsAt (editions : BandTables) (t : Tables) (member item : ℕ) : Type 0 where
+  pub row : AllByRecursion (λ row. row.item.terms.item ≡ item → FitsBy editions row) t.items
   pub bids : AllByRecursion (λ b. b.bid.member ≡ member → b.item ≡ item → BidRowFits b) t.bids
 
 -- each item has a number of ours, and what a member's list reaches fits
-pub record FitsSoFar (bands : List (ℕ × ℕ)) (t : Tables) (member from : ℕ) : Type 0 where
+pub record FitsSoFar (editions : BandTables) (t : Tables) (member from : ℕ) : Type 0 where
   pub numbers : AllByRecursion (λ row. row.item.terms.item < 2 ^ 32) t.items
-  pub reached : (item : ℕ) → IsReached t member from item → FitsAt bands t member item
+  pub reached : (item : ℕ) → IsReached t member from item → FitsAt editions t member item
 
 -- of some items in turn each fits before which fewer than fifty were found
-abbrev pub FitInTurn : List (ℕ × ℕ) → Tables → ℕ → ℕ → List ℕ → Type 0
-FitInTurn bands t member many [] = Unit {0}
-FitInTurn bands t member many (n ∷ ns) = (many < most_shown → FitsAt bands t member n) × FitInTurn bands t member (many + length (own_found t member n)) ns
+abbrev pub FitInTurn : BandTables → Tables → ℕ → ℕ → List ℕ → Type 0
+FitInTurn editions t member many [] = Unit {0}
+FitInTurn editions t member many (n ∷ ns) = (many < most_shown → FitsAt editions t member n) × FitInTurn editions t member (many + length (own_found t member n)) ns
 
 -- the same of the items on which a member has bid, from a number on
-abbrev pub FitFrom : List (ℕ × ℕ) → Trees → ℕ → ℕ → ℕ → Type 0
-FitFrom bands db member many from = FitInTurn bands (tables_in db) member many (own_items db member from)
+abbrev pub FitFrom : BandTables → Trees → ℕ → ℕ → ℕ → Type 0
+FitFrom editions db member many from = FitInTurn editions (tables_in db) member many (own_items db member from)

@@ -11,15 +11,14 @@ ghost use Rattle.store_rows.specs.Tables.{tables_in};
 ghost use Rattle.store_rows.specs.Joined.{found_of};
 ghost use Rattle.store_bids.specs.OwnBids.{bid_told, own_found};
 ghost use Rattle.store_bids.specs.Reached.{FitsAt, FitInTurn};
-ghost use Rattle.store_items.specs.RowsStanding.{StandsIn};
+ghost use Rattle.store_items.specs.RowsStanding.{ItemStands};
 ghost use Rattle.store_rows.specs.Frames.{OnlyReads};
 
 use crate::own::own_best;
-use house_rows::{KeepFault, MOST_SHOWN, OwnBest, OwnBid, Terms};
+use house_rows::{Editions, KeepFault, MOST_SHOWN, OwnBest, OwnBid, Terms};
 use list_rows::push;
 use sqlite::{Alter, Connection};
 use std::alloc::Global;
-use steps::Bands;
 use store_items::terms_at;
 
 // What a member has bid on the item of these terms, if it is there and the member has bid on it.
@@ -46,7 +45,7 @@ fn own_bid(terms: Option<Terms>, best: OwnBest, member: u32) -> Option<OwnBid>
 fn own_bid_at<S: Alter>(
     alloc: Global,
     conn: &mut Connection<S>,
-    bands: &Bands,
+    editions: &Editions,
     item: u32,
     member: u32,
 ) -> Result<Option<OwnBid>, KeepFault>
@@ -57,13 +56,13 @@ fn own_bid_at<S: Alter>(
     ensures fits { IfOk result (λ bid. IfSome bid OwnBidFits) }
     ensures stands { HasCleanDisk (state S.Store conn.new)
         → IfOk result (λ bid. IfSome bid
-        (λ b. StandsIn bands.now (state S.Store conn.old).now.trees b.item)) }
+        (λ b. ItemStands editions.now (state S.Store conn.old).now.trees b.item)) }
     ensures here { HasCleanDisk (state S.Store conn.new)
-        → FitsAt bands.now (tables_in (state S.Store conn.old).now.trees) member item
+        → FitsAt editions.now (tables_in (state S.Store conn.old).now.trees) member item
         → ¬ (IsErrOf result Damaged) }
     ensures read { OnlyReads (state S.Store conn.old) (state S.Store conn.new) result }
 {
-    let terms = terms_at(conn, bands, item)?;
+    let terms = terms_at(conn, editions, item)?;
     let best = own_best(alloc, conn, item, member)?;
     Ok(own_bid(terms, best, member))
 }
@@ -72,7 +71,7 @@ fn own_bid_at<S: Alter>(
 fn add_own_bid<S: Alter>(
     alloc: Global,
     conn: &mut Connection<S>,
-    bands: &Bands,
+    editions: &Editions,
     item: u32,
     member: u32,
     found: &mut Vec<OwnBid>,
@@ -85,16 +84,16 @@ fn add_own_bid<S: Alter>(
     ensures fits { AllByRecursion OwnBidFits found.old.items
         → OnOk result (AllByRecursion OwnBidFits found.new.items) }
     ensures stands { HasCleanDisk (state S.Store conn.new)
-        → AllByRecursion (λ b. StandsIn bands.now (state S.Store conn.old).now.trees b.item)
+        → AllByRecursion (λ b. ItemStands editions.now (state S.Store conn.old).now.trees b.item)
         found.old.items
         → OnOk result (AllByRecursion
-        (λ b. StandsIn bands.now (state S.Store conn.old).now.trees b.item) found.new.items) }
+        (λ b. ItemStands editions.now (state S.Store conn.old).now.trees b.item) found.new.items) }
     ensures here { HasCleanDisk (state S.Store conn.new)
-        → FitsAt bands.now (tables_in (state S.Store conn.old).now.trees) member item
+        → FitsAt editions.now (tables_in (state S.Store conn.old).now.trees) member item
         → ¬ (IsErrOf result Damaged) }
     ensures read { OnlyReads (state S.Store conn.old) (state S.Store conn.new) result }
 {
-    match own_bid_at(alloc, conn, bands, item, member)? {
+    match own_bid_at(alloc, conn, editions, item, member)? {
         Some(bid) => push(found, bid),
         None => Ok(()),
     }
@@ -104,7 +103,7 @@ fn add_own_bid<S: Alter>(
 pub(crate) fn add_own_bids<S: Alter>(
     alloc: Global,
     conn: &mut Connection<S>,
-    bands: &Bands,
+    editions: &Editions,
     numbers: &[u32],
     member: u32,
     found: &mut Vec<OwnBid>,
@@ -118,12 +117,12 @@ pub(crate) fn add_own_bids<S: Alter>(
     ensures fits { AllByRecursion OwnBidFits found.old.items
         → OnOk result (AllByRecursion OwnBidFits found.new.items) }
     ensures stands { HasCleanDisk (state S.Store conn.new)
-        → AllByRecursion (λ b. StandsIn bands.now (state S.Store conn.old).now.trees b.item)
+        → AllByRecursion (λ b. ItemStands editions.now (state S.Store conn.old).now.trees b.item)
         found.old.items
         → OnOk result (AllByRecursion
-        (λ b. StandsIn bands.now (state S.Store conn.old).now.trees b.item) found.new.items) }
+        (λ b. ItemStands editions.now (state S.Store conn.old).now.trees b.item) found.new.items) }
     ensures reached { HasCleanDisk (state S.Store conn.new)
-        → FitInTurn bands.now (tables_in (state S.Store conn.old).now.trees) member
+        → FitInTurn editions.now (tables_in (state S.Store conn.old).now.trees) member
         (length found.old.items) numbers.now
         → ¬ (IsErrOf result Damaged) }
     ensures read { OnlyReads (state S.Store conn.old) (state S.Store conn.new) result }
@@ -132,7 +131,7 @@ pub(crate) fn add_own_bids<S: Alter>(
         if found.len() >= MOST_SHOWN {
             return Ok(());
         }
-        add_own_bid(alloc, conn, bands, *number, member, found)?;
+        add_own_bid(alloc, conn, editions, *number, member, found)?;
     }
     Ok(())
 }

@@ -13,16 +13,15 @@ ghost use Rattle.store_rows.specs.House.{Serves};
 ghost use Rattle.store_rows.specs.Tables.{tables_in};
 ghost use Rattle.store_bids.specs.OwnBids.{behind, found_from, numbers_from};
 ghost use Rattle.store_bids.specs.Reached.{FitFrom, FitsSoFar};
-ghost use Rattle.store_items.specs.RowsStanding.{StandsIn};
+ghost use Rattle.store_items.specs.RowsStanding.{ItemStands};
 ghost use Rattle.store_rows.specs.Frames.{OnlyReads};
 
 use crate::bid_lists::add_own_bids;
 use crate::look_ups::{items_bid_on, no_item};
-use house_rows::{KeepFault, MOST_SHOWN, OwnBid};
+use house_rows::{Editions, KeepFault, MOST_SHOWN, OwnBid};
 use list_rows::push;
 use sqlite::{Alter, Connection};
 use std::alloc::Global;
-use steps::Bands;
 
 // One more than the last number of 32 bits.
 const BEHIND_ALL: u64 = 4_294_967_296;
@@ -64,7 +63,7 @@ fn next_behind(numbers: &[u32], bids: usize) -> u64
 fn add_next_bids<S: Alter>(
     alloc: Global,
     conn: &mut Connection<S>,
-    bands: &Bands,
+    editions: &Editions,
     member: u32,
     from: u32,
     found: &mut Vec<OwnBid>,
@@ -82,24 +81,24 @@ fn add_next_bids<S: Alter>(
     ensures fits { AllByRecursion OwnBidFits found.old.items
         → OnOk result (AllByRecursion OwnBidFits found.new.items) }
     ensures stands { HasCleanDisk (state S.Store conn.new)
-        → AllByRecursion (λ b. StandsIn bands.now (state S.Store conn.old).now.trees b.item)
+        → AllByRecursion (λ b. ItemStands editions.now (state S.Store conn.old).now.trees b.item)
         found.old.items
         → OnOk result (AllByRecursion
-        (λ b. StandsIn bands.now (state S.Store conn.old).now.trees b.item) found.new.items) }
+        (λ b. ItemStands editions.now (state S.Store conn.old).now.trees b.item) found.new.items) }
     ensures reached { HasCleanDisk (state S.Store conn.new)
-        → FitFrom bands.now (state S.Store conn.old).now.trees member
+        → FitFrom editions.now (state S.Store conn.old).now.trees member
         (length found.old.items) from
         → ¬ (IsErrOf result Damaged) }
     ensures later { HasCleanDisk (state S.Store conn.new)
-        → FitFrom bands.now (state S.Store conn.old).now.trees member
+        → FitFrom editions.now (state S.Store conn.old).now.trees member
         (length found.old.items) from
-        → IfOk result (λ next. FitFrom bands.now (state S.Store conn.old).now.trees member
+        → IfOk result (λ next. FitFrom editions.now (state S.Store conn.old).now.trees member
         (length found.new.items) next) }
     ensures read { OnlyReads (state S.Store conn.old) (state S.Store conn.new) result }
 {
     let items = items_bid_on(alloc, conn, member, from)?;
     let numbers = numbers_from(alloc, &items, u64::from(from))?;
-    add_own_bids(alloc, conn, bands, &numbers, member, found)?;
+    add_own_bids(alloc, conn, editions, &numbers, member, found)?;
     Ok(next_behind(&numbers, items.len()))
 }
 
@@ -107,7 +106,7 @@ fn add_next_bids<S: Alter>(
 fn own_bids_from<S: Alter>(
     alloc: Global,
     conn: &mut Connection<S>,
-    bands: &Bands,
+    editions: &Editions,
     member: u32,
     from: u64,
 ) -> Result<Vec<OwnBid>, KeepFault>
@@ -118,16 +117,16 @@ fn own_bids_from<S: Alter>(
     ensures fits { IfOk result (λ found. AllByRecursion OwnBidFits found.items) }
     ensures stands { HasCleanDisk (state S.Store conn.new)
         → IfOk result (λ found. AllByRecursion
-        (λ b. StandsIn bands.now (state S.Store conn.old).now.trees b.item) found.items) }
+        (λ b. ItemStands editions.now (state S.Store conn.old).now.trees b.item) found.items) }
     ensures reached { HasCleanDisk (state S.Store conn.new)
-        → FitFrom bands.now (state S.Store conn.old).now.trees member 0 from
+        → FitFrom editions.now (state S.Store conn.old).now.trees member 0 from
         → ¬ (IsErrOf result Damaged) }
     ensures read { OnlyReads (state S.Store conn.old) (state S.Store conn.new) result }
 {
     let mut found = Vec::new(alloc);
     let mut next = from;
     'bids: while found.len() < MOST_SHOWN && next < BEHIND_ALL {
-        next = add_next_bids(alloc, conn, bands, member, next as u32, &mut found)?;
+        next = add_next_bids(alloc, conn, editions, member, next as u32, &mut found)?;
     }
     Ok(found)
 }
@@ -138,7 +137,7 @@ fn own_bids_from<S: Alter>(
 pub fn own_bids<S: Alter>(
     alloc: Global,
     conn: &mut Connection<S>,
-    bands: &Bands,
+    editions: &Editions,
     member: u32,
     from: u64,
 ) -> Result<Vec<OwnBid>, KeepFault>
@@ -149,17 +148,17 @@ pub fn own_bids<S: Alter>(
     ensures fits { IfOk result (λ found. AllByRecursion OwnBidFits found.items) }
     ensures stands { HasCleanDisk (state S.Store conn.new)
         → IfOk result (λ found. AllByRecursion
-        (λ b. StandsIn bands.now (state S.Store conn.old).now.trees b.item) found.items) }
+        (λ b. ItemStands editions.now (state S.Store conn.old).now.trees b.item) found.items) }
     ensures damaged { HasCleanDisk (state S.Store conn.new)
-        → AreSoundBy bands.now (tables_in (state S.Store conn.old).now.trees)
+        → AreSoundBy editions.now (tables_in (state S.Store conn.old).now.trees)
         → ¬ (IsErrOf result Damaged) }
     ensures reached { HasCleanDisk (state S.Store conn.new)
-        → FitsSoFar bands.now (tables_in (state S.Store conn.old).now.trees) member from
+        → FitsSoFar editions.now (tables_in (state S.Store conn.old).now.trees) member from
         → ¬ (IsErrOf result Damaged) }
     ensures read { OnlyReads (state S.Store conn.old) (state S.Store conn.new) result }
 {
     no_item(alloc, conn, "SELECT id FROM item WHERE id < 0 ORDER BY id")?;
-    let found = own_bids_from(alloc, conn, bands, member, from)?;
+    let found = own_bids_from(alloc, conn, editions, member, from)?;
     if found.len() >= MOST_SHOWN {
         return Ok(found);
     }

@@ -6,13 +6,15 @@ ghost use Rattle.sqlite.specs.Held.{state};
 ghost use Rattle.proxy.specs.Kept.{opening_of};
 ghost use Rattle.proxy.specs.Rows.{is_standing};
 ghost use Rattle.proxy.specs.declared.bid.Bid.{Bid as TheBid};
+ghost use Rattle.house_rows.specs.Editions.{bands_in};
+ghost use Rattle.house_rows.specs.Tables.{band_tables};
 ghost use Rattle.house_rows.specs.Asks.{BidFits, ChangeFits, IsFree};
 ghost use Rattle.house_rows.specs.Keeping.{AreSound};
 ghost use Rattle.house_rows.specs.declared.change.Change.TheVariants as change;
 ghost use Rattle.house_rows.specs.declared.fault.KeepFault.TheVariants.{Damaged};
 ghost use Rattle.store_rows.specs.House.{IsBegun, Serves};
 ghost use Rattle.store_items.specs.Items.{OfItem};
-ghost use Rattle.store_rows.specs.Tables.{Changes, IsNumbered, Rests, settings_in, tables_in};
+ghost use Rattle.store_rows.specs.Tables.{Changes, IsNumbered, Rests, tables_in};
 ghost use Rattle.store_items.specs.RowsStanding.{HasStandingItem};
 ghost use Rattle.store_items.specs.Sales.{StartsAt};
 ghost use Rattle.store_rows.specs.Frames.{OnlyReads, WritesMany};
@@ -21,7 +23,7 @@ ghost use Rattle.store_rows.specs.Commits.{Commits};
 use crate::look_ups::has_bid;
 use crate::rows::put_bid;
 use cents::Cents;
-use house_rows::KeepFault;
+use house_rows::{Editions, KeepFault};
 use proxy::{Bid, Standing};
 use sqlite::{Alter, Connection, Transaction};
 use steps::Bands;
@@ -54,26 +56,27 @@ fn begins_at(standing: &Standing, bands: &Bands, start: Cents) -> bool
 // Whether a standing begins where the item's bids do; Damaged where it doesn't.
 fn check_standing<S: Alter>(
     conn: &mut Connection<S>,
-    bands: &Bands,
+    editions: &Editions,
     item: u32,
     standing: &Standing,
 ) -> Result<(), KeepFault>
     requires { Serves (state S.Store conn.old) }
     ensures there { HasCleanDisk (state S.Store conn.new)
-        → OnOk result (HasStandingItem bands.now (state S.Store conn.old).now.trees item) }
+        → OnOk result (HasStandingItem editions.now (state S.Store conn.old).now.trees item) }
     ensures start { HasCleanDisk (state S.Store conn.new)
         → OnOk result (OfItem item (StartsAt (opening_of standing.now)) (state S.Store conn.old).now) }
     ensures led { OnOk result (is_some standing.now.top ≡ is_some standing.now.leader) }
-    ensures stands { OnOk result (is_standing bands.now standing.now ≡ true) }
+    ensures stands { OnOk result (is_standing (bands_in editions.now item) standing.now ≡ true) }
     ensures damaged { HasCleanDisk (state S.Store conn.new)
         → AreSound (tables_in (state S.Store conn.old).now.trees)
-        → bands.now ≡ (settings_in (state S.Store conn.old).now.trees).bands
+        → editions.now ≡ band_tables (tables_in (state S.Store conn.old).now.trees)
         → (moment : ℕ) (placed : TheBid)
         → BidFits (tables_in (state S.Store conn.old).now.trees) moment item placed standing.now
         → ¬ (IsErrOf result Damaged) }
     ensures read { OnlyReads (state S.Store conn.old) (state S.Store conn.new) result }
 {
-    let terms = terms_there(conn, bands, item)?;
+    let terms = terms_there(conn, editions, item)?;
+    let bands = editions.bands_for(u64::from(item));
     if begins_at(standing, bands, terms.start) {
         Ok(())
     } else {
@@ -103,24 +106,24 @@ fn check_free<S: Alter>(conn: &mut Connection<S>, item: u32, number: u32) -> Res
 // Whether a bid's number is free and its standing begins where the item's bids do.
 fn check_bid<S: Alter>(
     conn: &mut Connection<S>,
-    bands: &Bands,
+    editions: &Editions,
     item: u32,
     number: u32,
     standing: &Standing,
 ) -> Result<(), KeepFault>
     requires { Serves (state S.Store conn.old) }
     ensures there { HasCleanDisk (state S.Store conn.new)
-        → OnOk result (HasStandingItem bands.now (state S.Store conn.old).now.trees item) }
+        → OnOk result (HasStandingItem editions.now (state S.Store conn.old).now.trees item) }
     ensures start { HasCleanDisk (state S.Store conn.new)
         → OnOk result (OfItem item (StartsAt (opening_of standing.now)) (state S.Store conn.old).now) }
     ensures led { OnOk result (is_some standing.now.top ≡ is_some standing.now.leader) }
-    ensures stands { OnOk result (is_standing bands.now standing.now ≡ true) }
+    ensures stands { OnOk result (is_standing (bands_in editions.now item) standing.now ≡ true) }
     ensures free { HasCleanDisk (state S.Store conn.new)
         → OnOk result (list_any (λ b. (b.item == item) && (b.bid.no == number))
         (tables_in (state S.Store conn.old).now.trees).bids ≡ false) }
     ensures damaged { HasCleanDisk (state S.Store conn.new)
         → AreSound (tables_in (state S.Store conn.old).now.trees)
-        → bands.now ≡ (settings_in (state S.Store conn.old).now.trees).bands
+        → editions.now ≡ band_tables (tables_in (state S.Store conn.old).now.trees)
         → (moment : ℕ) (placed : TheBid)
         → BidFits (tables_in (state S.Store conn.old).now.trees) moment item placed standing.now
         → list_any (λ b. (b.item == item) && (b.bid.no == number))
@@ -128,7 +131,7 @@ fn check_bid<S: Alter>(
         → ¬ (IsErrOf result Damaged) }
     ensures read { OnlyReads (state S.Store conn.old) (state S.Store conn.new) result }
 {
-    check_standing(conn, bands, item, standing)?;
+    check_standing(conn, editions, item, standing)?;
     check_free(conn, item, number)
 }
 
@@ -160,12 +163,12 @@ fn write_bid<S: Alter>(
 }
 
 /// Places a bid on an item, which then stands as told. The moment is in seconds since
-/// 1970-01-01T00:00:00Z, the bands are those of the house. Damaged where the bid's number is taken,
+/// 1970-01-01T00:00:00Z, the band tables are those of the house. Damaged where the bid's number is taken,
 /// where there is no such item, where its row or the standing doesn't fit, or where the moment has
 /// more than 32 bits.
 pub fn bid<S: Alter>(
     conn: &mut Connection<S>,
-    bands: &Bands,
+    editions: &Editions,
     moment: u64,
     item: u32,
     placed: Bid,
@@ -173,15 +176,15 @@ pub fn bid<S: Alter>(
 ) -> Result<(), KeepFault>
     requires rests { Rests (state S.Store conn.old) }
     requires mode { conn.old.in_transaction ≡ false }
-    requires bands { HasCleanDisk (state S.Store conn.old)
-        → bands.now ≡ (settings_in (state S.Store conn.old).now.trees).bands }
+    requires editions { HasCleanDisk (state S.Store conn.old)
+        → editions.now ≡ band_tables (tables_in (state S.Store conn.old).now.trees) }
     ensures commit { Commits (change.Bid moment item placed standing.now) (state S.Store conn.old)
         (state S.Store conn.new) result }
     ensures there { HasCleanDisk (state S.Store conn.new)
-        → OnOk result (HasStandingItem bands.now (state S.Store conn.old).now.trees item) }
+        → OnOk result (HasStandingItem editions.now (state S.Store conn.old).now.trees item) }
     ensures start { HasCleanDisk (state S.Store conn.new)
         → OnOk result (OfItem item (StartsAt (opening_of standing.now)) (state S.Store conn.old).now) }
-    ensures stands { OnOk result (is_standing bands.now standing.now ≡ true) }
+    ensures stands { OnOk result (is_standing (bands_in editions.now item) standing.now ≡ true) }
     ensures moment { OnOk result (moment < 2 ^ 32) }
     ensures taken { HasCleanDisk (state S.Store conn.new)
         → OnOk result (IsFree (tables_in (state S.Store conn.old).now.trees)
@@ -195,7 +198,7 @@ pub fn bid<S: Alter>(
         → ¬ (IsErrOf result Damaged) }
 {
     let moment = stored_moment(moment)?;
-    check_bid(conn, bands, item, placed.no, standing)?;
+    check_bid(conn, editions, item, placed.no, standing)?;
     let mut tx = conn.transaction();
     write_bid(&mut tx, moment, item, placed, standing)?;
     commit(tx)

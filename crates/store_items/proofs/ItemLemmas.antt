@@ -169,10 +169,10 @@ pub record IsStorable (number : ℕ) (item : NewItem) : Type 0 where
   pub buy_now_low : IsSmall item.buy_now
   pub end_low : item.end < 2 ^ 32
 
-pub adds_item : (old new : State) (number : ℕ) (item : NewItem) (count : ℕ) (bands : List (ℕ × ℕ)) → IsStorable number item → IsUtf8 item.lot.now → IsUtf8 item.title.now → IsUtf8 item.text.now → IsHouse old.now
+pub adds_item : (old new : State) (number : ℕ) (item : NewItem) (count : ℕ) → IsStorable number item → IsUtf8 item.lot.now → IsUtf8 item.title.now → IsUtf8 item.text.now → IsHouse old.now
     → Executes put_item_text (Int (pos number) ∷ Int (pos item.seller) ∷ Int (pos item.category) ∷ Text item.lot.now ∷ Text item.title.now ∷ Text item.text.now ∷ Int (pos item.start) ∷ stored_maybe item.buy_now ∷ Int (pos item.end) ∷ []) old new (Ok count)
-    → AddsItem (new_item bands number item) old.now new.now
-adds_item old new number item count bands low lot_utf8 title_utf8 text_utf8 house h =
+    → AddsItem (new_item number item) old.now new.now
+adds_item old new number item count low lot_utf8 title_utf8 text_utf8 house h =
     let params = Int (pos number) ∷ Int (pos item.seller) ∷ Int (pos item.category) ∷ Text item.lot.now ∷ Text item.title.now ∷ Text item.text.now ∷ Int (pos item.start) ∷ stored_maybe item.buy_now ∷ Int (pos item.end) ∷ [] in
     let rows = old.now.trees 6 in
     let given : Row =
@@ -181,7 +181,7 @@ adds_item old new number item count bands low lot_utf8 title_utf8 text_utf8 hous
     let shaped = house.shaped.1.1.1.1.0 in
     let w = rw (cast_int (pos number), cast_null, cast_int (pos item.seller), cast_int (pos item.category), cast_int (pos item.start), cast_maybe item.buy_now, cast_int (pos item.end), cast_int (pos 0)) at
     (puts put_item_text 4 item_layout put_terms 17 params given refl put_item_is.0 put_item_is.1 refl old new count house.schema h) in
-    let back : item_row_in given ≡ new_item bands number item = rw (small number low.number_low, small item.seller low.seller_low, small item.category low.category_low, small item.start low.start_low, small item.end low.end_low, maybe_back item.buy_now low.buy_now_low, sym (no_bids bands item.start), text_back item.lot.now lot_utf8, text_back item.title.now title_utf8, text_back item.text.now text_utf8) refl in
+    let back : item_row_in given ≡ new_item number item = rw (small number low.number_low, small item.seller low.seller_low, small item.category low.category_low, small item.start low.start_low, small item.end low.end_low, maybe_back item.buy_now low.buy_now_low, sym (no_bids [] item.start), text_back item.lot.now lot_utf8, text_back item.title.now title_utf8, text_back item.text.now text_utf8) refl in
     record {
       house = still_house 6 _ old.now new.now house w (IsShaped-put_row given rows refl shaped);
       others = w.others;

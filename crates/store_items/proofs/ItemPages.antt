@@ -19,9 +19,10 @@ use Rattle.sqlite.specs.Listing.{understood}
 use Rattle.sqlite.specs.State.{State, Shown}
 use Rattle.house_rows.specs.Fits.{ItemFits}
 use Rattle.house_rows.specs.Found as found
-use Rattle.house_rows.specs.Keeping.{ItemRowFits}
+use Rattle.house_rows.specs.Keeping.{FitsBy}
 use Rattle.house_rows.specs.Tables.{ItemRow}
 use Rattle.house_rows.specs.declared.item.Item.{Item}
+use Rattle.house_rows.specs.Editions.{BandTables}
 use Rattle.house_rows.proofs.Put.{by_test}
 use Rattle.store_rows.specs.House.{IsHouse}
 use Rattle.store_rows.specs.ItemRows.{item_of, item_row_in, items_in}
@@ -133,18 +134,18 @@ module _ (category from : ℕ) (category_low : category < 2 ^ 32) (from_low : fr
       → map item_of rows ≡ take 50 (filter (keeps_item category from) (map (λ (row : ItemRow). row.item) (items_in old.now.trees)))
   items_shown rows none first = ap (map item_of) first.are ∙ sym (take-map item_of 50 first.all) ∙ ap (take 50) (all_shown first.all none first.shown)
 
-  pub items_held : (rows : List Row) → ShowsFirst 50 items_text params old new rows → (bands : List (ℕ × ℕ)) → AllByRecursion (ItemRowFits bands) (items_in old.now.trees) → AllByRecursion (ItemHolds bands) rows
-  items_held rows first bands fit =
+  pub items_held : (rows : List Row) → ShowsFirst 50 items_text params old new rows → (editions : BandTables) → AllByRecursion (FitsBy editions) (items_in old.now.trees) → AllByRecursion (ItemHolds editions) rows
+  items_held rows first editions fit =
       let order = in_order test item_shown params table first.all house.shaped.1.1.1.1.0.0 (lists items_text 6 test item_shown by_rowid _ items_is (λ db. refl) old new params first.all house first.shown) in
-      subst (AllByRecursion (ItemHolds bands)) (sym first.are) (all-take (ItemHolds bands) 50 first.all (rows_hold bands (ItemHolds bands) item_shown test params table first.all (item_row bands params) order fit))
+      subst (AllByRecursion (ItemHolds editions)) (sym first.are) (all-take (ItemHolds editions) 50 first.all (rows_hold editions (ItemHolds editions) item_shown test params table first.all (item_row editions params) order fit))
 
   abbrev keeps_row : ItemRow → Bool
   keeps_row row = keeps_item category from row.item
 
   -- the rows that are shown, where these fit
-  pub shown_held : (rows : List Row) → Shown stray_items_text here old new [] → ShowsFirst 50 items_text params old new rows → (bands : List (ℕ × ℕ))
-      → AllByRecursion (ItemRowFits bands) (take 50 (filter keeps_row (items_in old.now.trees))) → AllByRecursion (ItemHolds bands) rows
-  shown_held rows none first bands fit =
+  pub shown_held : (rows : List Row) → Shown stray_items_text here old new [] → ShowsFirst 50 items_text params old new rows → (editions : BandTables)
+      → AllByRecursion (FitsBy editions) (take 50 (filter keeps_row (items_in old.now.trees))) → AllByRecursion (ItemHolds editions) rows
+  shown_held rows none first editions fit =
       let kept = filter (passes test params) table in
       let show = shown_by item_shown params in
       let no_stray = none_passes stray_test (col 1 0 ∷ []) by_rowid here table [] (lists stray_items_text 6 stray_test (col 1 0 ∷ []) by_rowid _ stray_items_is (λ db. refl) old new here [] house none) refl in
@@ -153,18 +154,18 @@ module _ (category from : ℕ) (category_low : category < 2 ^ 32) (from_low : fr
       let typed : filter keeps_row (map item_row_in table) ≡ map item_row_in kept =
       filter-map keeps_row item_row_in table
       ∙ ap (map item_row_in) (sym (filter_same_on (λ r. IsRow r × (passes stray_test here r ≡ false)) (passes test params) (λ r. keeps_row (item_row_in r)) (λ r is. passing r is.0 is.1) table are)) in
-      let front = all_unmap (ItemRowFits bands) item_row_in (take 50 kept) (subst (AllByRecursion (ItemRowFits bands)) (ap (take 50) typed ∙ take-map item_row_in 50 kept) fit) in
-      let held = all_map (ItemHolds bands) show (take 50 kept) (all_weaker (λ r. ItemRowFits bands (item_row_in r)) (λ r. ItemHolds bands (show r)) (item_row bands params) (take 50 kept) front) in
-      subst (AllByRecursion (ItemHolds bands)) (sym (first.are ∙ ap (take 50) order ∙ take-map show 50 kept)) held
+      let front = all_unmap (FitsBy editions) item_row_in (take 50 kept) (subst (AllByRecursion (FitsBy editions)) (ap (take 50) typed ∙ take-map item_row_in 50 kept) fit) in
+      let held = all_map (ItemHolds editions) show (take 50 kept) (all_weaker (λ r. FitsBy editions (item_row_in r)) (λ r. ItemHolds editions (show r)) (item_row editions params) (take 50 kept) front) in
+      subst (AllByRecursion (ItemHolds editions)) (sym (first.are ∙ ap (take 50) order ∙ take-map show 50 kept)) held
 
   not_stray : (r : Row) → IsRow r → is_negative (rowid r) ≡ false → passes stray_test here r ≡ false
   not_stray r is none = stray_passes 3 0 category category_low r is.category is.number ∙ never (eqb (number_in (column r 3)) category) (is_negative (rowid r)) none
 
   -- a stray would be the first that is shown
-  no_stray_first : (bands : List (ℕ × ℕ)) (n : ℕ) (rows : List Row) → IsTable rows → AllByRecursion IsRow rows → AllByRecursion (ItemRowFits bands) (take (suc n) (filter keeps_row (map item_row_in rows)))
+  no_stray_first : (editions : BandTables) (n : ℕ) (rows : List Row) → IsTable rows → AllByRecursion IsRow rows → AllByRecursion (FitsBy editions) (take (suc n) (filter keeps_row (map item_row_in rows)))
       → AllByRecursion (λ r. passes stray_test here r ≡ false) rows
-  no_stray_first bands n [] up are fit = tt
-  no_stray_first bands n (r ∷ rows) up are fit =
+  no_stray_first editions n [] up are fit = tt
+  no_stray_first editions n (r ∷ rows) up are fit =
       elim (by_test (keeps_row (item_row_in r))) [
         | inl kept ↦ (let fits = (rw kept at fit).0 in
             let low : number_in (rowid r) < 2 ^ 32 = omega (arith, fits.item.terms.item.1) in
@@ -175,15 +176,15 @@ module _ (category from : ℕ) (category_low : category < 2 ^ 32) (from_low : fr
         | inr other ↦ (
           stray_passes 3 0 category category_low r are.0.category are.0.number
               ∙ not_kept (eqb (number_in (column r 3)) category) (is_negative (rowid r)) (nat_le from (number_in (rowid r))) (negative_over (rowid r) from from_low) other,
-          no_stray_first bands n rows up.1 are.1 (rw other at fit),
+          no_stray_first editions n rows up.1 are.1 (rw other at fit),
         )
       ]
 
   -- where all that is shown fits, there is no stray
-  pub no_stray_shown : ShowsSome stray_items_text here old new → (bands : List (ℕ × ℕ)) → AllByRecursion (ItemRowFits bands) (take 50 (filter keeps_row (items_in old.now.trees))) → ⊥
-  no_stray_shown some bands fit =
+  pub no_stray_shown : ShowsSome stray_items_text here old new → (editions : BandTables) → AllByRecursion (FitsBy editions) (take 50 (filter keeps_row (items_in old.now.trees))) → ⊥
+  no_stray_shown some editions fit =
       some_passes stray_test (col 1 0 ∷ []) by_rowid here table (some.first ∷ some.others) (lists stray_items_text 6 stray_test (col 1 0 ∷ []) by_rowid _ stray_items_is (λ db. refl) old new here _ house some.shown) some.first some.others refl
-      (no_stray_first bands 49 table house.shaped.1.1.1.1.0.0 (are_rows old.now house) fit)
+      (no_stray_first editions 49 table house.shaped.1.1.1.1.0.0 (are_rows old.now house) fit)
 
   -- where all fit, there is no stray
   pub no_stray_item : ShowsSome stray_items_text here old new → AllByRecursion (λ (row : ItemRow). ItemFits row.item) (items_in old.now.trees) → ⊥

@@ -37,7 +37,7 @@ adds_item row old new was next w =
 -- the new item has the number that comes next
 module _ (number moment : ℕ) (item : NewItem) (old mid new : Database) where
   with_next : number ≡ length (tables_in old.trees).items + 1
-      → Makes (λ t. record t { clock = moment; items = t.items ++ new_item (tables_in old.trees).settings.bands number item ∷ [] }) old new
+      → Makes (λ t. record t { clock = moment; items = t.items ++ new_item number item ∷ [] }) old new
       → Changes (Listed moment item) old new
   unfolding changed
   with_next next it = record {
@@ -45,7 +45,7 @@ module _ (number moment : ℕ) (item : NewItem) (old mid new : Database) where
     numbered = it.numbered;
     tables = subst (λ (n : ℕ). tables_in new.trees ≡ record (tables_in old.trees) {
       clock = moment;
-      items = (tables_in old.trees).items ++ new_item (tables_in old.trees).settings.bands n item ∷ [];
+      items = (tables_in old.trees).items ++ new_item n item ∷ [];
     }) next it.tables;
   }
 
@@ -54,9 +54,9 @@ module _ (number moment : ℕ) (item : NewItem) (old mid new : Database) where
   same_items = refl
 
   pub lists : IsNumbered old.trees → number ≡ length (items_in old.trees) + 1
-      → AddsItem (new_item (tables_in old.trees).settings.bands number item) old mid → SetsClock moment mid new
+      → AddsItem (new_item number item) old mid → SetsClock moment mid new
       → Changes (Listed moment item) old new
   lists was next one two =
-      let put = adds_item (new_item (tables_in old.trees).settings.bands number item) old mid was next one in
+      let put = adds_item (new_item number item) old mid was next one in
       let it = makes_both _ _ old mid new put (sets_clock moment mid new put.numbered two) in
       with_next (next ∙ ap (λ n. n + 1) same_items) (record { house = it.house; numbered = it.numbered; tables = it.tables })

@@ -21,9 +21,10 @@ use Rattle.house_rows.specs.Changed.{is_item}
 use Rattle.house_rows.specs.declared.item.Terms.{Terms}
 use Rattle.house_rows.specs.Fits.{TermsFit}
 use Rattle.house_rows.specs.Found.{row_at}
-use Rattle.house_rows.specs.Keeping.{AreSound, ItemRowFits}
+use Rattle.house_rows.specs.Editions.{BandTables}
+use Rattle.house_rows.specs.Keeping.{AreSound, FitsBy}
 use Rattle.house_rows.specs.Limits.{most_cents}
-use Rattle.house_rows.specs.Tables.{ItemRow, row_opening}
+use Rattle.house_rows.specs.Tables.{ItemRow, band_tables, bands_for, row_opening}
 use Rattle.house_rows.proofs.ChangedRows.{there_fits}
 use Rattle.house_rows.proofs.Every.{found_has}
 use Rattle.store_rows.specs.House.{IsHouse}
@@ -142,10 +143,10 @@ unbid_checked db house n low t s found fits stands is =
 
 -- ---- sound tables
 
--- the items of sound tables fit, by the bands of the house
-pub items_sound : (db : Trees) (bands : List (ℕ × ℕ)) → AreSound (tables_in db) → bands ≡ (settings_in db).bands → AllByRecursion (ItemRowFits bands) (items_in db)
+-- the items of sound tables fit, each by its own band table
+pub items_sound : (db : Trees) (editions : BandTables) → AreSound (tables_in db) → editions ≡ band_tables (tables_in db) → AllByRecursion (FitsBy editions) (items_in db)
 unfolding tables_in
-items_sound db bands sound same = rw same sound.items
+items_sound db editions sound same = rw same sound.items
 
 pub item_there : (db : Trees) (item : ℕ) (row : ItemRow) → row_at (tables_in db) item ≡ Some row → find (is_item item) (items_in db) ≡ Some row
 unfolding tables_in
@@ -159,9 +160,10 @@ purchase_unbid db moment item buyer price t s sound p found stands =
     let terms : Some p.row.item.terms ≡ Some t = ap (option_map (λ (row : ItemRow). row.item.terms)) (sym there) ∙ found in
     let standing : Some p.row.standing ≡ Some s = ap (option_map (λ (row : ItemRow). row.standing)) (sym there) ∙ stands in
     let fits = there_fits (tables_in db) item p.row sound p.row_there in
+    let bands : List (ℕ × ℕ) = bands_for (tables_in db) p.row.item.terms.item in
     let none : length fits.bids ≡ 0 = sym fits.count ∙ p.no_bid in
     let told : s ≡ record { start = p.row.item.terms.start; reserve = p.row.standing.reserve; price = p.row.item.terms.start; leader = None; top = None; second = None; count = 0 } =
-    (let e : s ≡ p.row.standing = cc in e) ∙ fits.stands ∙ ap (standing_of (tables_in db).settings.bands (row_opening p.row)) (no_bids fits.bids none) ∙ standing-none (tables_in db).settings.bands (row_opening p.row) in
+    (let e : s ≡ p.row.standing = cc in e) ∙ fits.stands ∙ ap (standing_of bands (row_opening p.row)) (no_bids fits.bids none) ∙ standing-none bands (row_opening p.row) in
     let start : t.start ≡ p.row.item.terms.start = (let e : t ≡ p.row.item.terms = cc in ap (λ (x : Terms). x.start) e) in
     rw (told, start) (let e : (p.row.item.terms.start == p.row.item.terms.start) ≡ true = grind (arith, nat_tests) in rw e refl)
   where

@@ -8,16 +8,17 @@ use Rattle.proxy.specs.Bids.{is_leader}
 use Rattle.settle.specs.Statement.{is_party}
 use Rattle.house_rows.specs.Changed.{is_item}
 use Rattle.house_rows.specs.Fits.{TermsFit}
-use Rattle.house_rows.specs.Keeping.{Stands}
+use Rattle.house_rows.specs.Keeping.{StandsBy}
 use Rattle.house_rows.specs.Pages.{sale_of}
 use Rattle.house_rows.specs.Tables.{ItemRow}
 use Rattle.house_rows.specs.Verdict.{was_sold}
 use Rattle.house_rows.specs.declared.item.Item.{Item}
 use Rattle.house_rows.specs.declared.item.Terms.{Terms}
+use Rattle.house_rows.specs.Editions.{BandTables}
 use Rattle.house_rows.proofs.Put.{by_test}
 use Rattle.store_rows.specs.ItemRows.{items_in}
 use Rattle.store_rows.specs.Tables.{tables_in}
-use Rattle.store_items.specs.RowsStanding.{HasStandingItem, RowsFit, RowsStand, StandsIn}
+use Rattle.store_items.specs.RowsStanding.{HasStandingItem, RowsFit, RowsStand, ItemStands}
 use Rattle.store_items.proofs.PartySales.{all_kept, buyer_is}
 use Rattle.store_items.proofs.Rows.{whole}
 
@@ -40,19 +41,19 @@ passed P p (x ∷ xs) told =
 pub terms_fit : (db : Trees) (test : ItemRow → Bool) (found : List Terms) → found ≡ map (λ (row : ItemRow). row.item.terms) (filter test (items_in db)) → AllByRecursion TermsFit found → RowsFit test db
 terms_fit db test found are fit = all_unmap TermsFit (λ (row : ItemRow). row.item.terms) (filter test (items_in db)) (rw are at fit)
 
-module _ (bands : List (ℕ × ℕ)) (db : Trees) where
+module _ (editions : BandTables) (db : Trees) where
   abbrev StandsRow : ItemRow → Type 0
-  StandsRow row = Stands bands row.item.terms
+  StandsRow row = StandsBy editions row.item.terms
 
-  pub terms_stand : (test : ItemRow → Bool) (found : List Terms) → found ≡ map (λ (row : ItemRow). row.item.terms) (filter test (items_in db)) → AllByRecursion (Stands bands) found → RowsStand bands test db
-  terms_stand test found are stand = all_unmap (Stands bands) (λ (row : ItemRow). row.item.terms) (filter test (items_in db)) (rw are at stand)
+  pub terms_stand : (test : ItemRow → Bool) (found : List Terms) → found ≡ map (λ (row : ItemRow). row.item.terms) (filter test (items_in db)) → AllByRecursion (StandsBy editions) found → RowsStand editions test db
+  terms_stand test found are stand = all_unmap (StandsBy editions) (λ (row : ItemRow). row.item.terms) (filter test (items_in db)) (rw are at stand)
 
-  pub items_stand : (test : ItemRow → Bool) (items : List Item) → items ≡ map (λ (row : ItemRow). row.item) (items_in db) → AllByRecursion (λ (it : Item). Stands bands it.terms) items → RowsStand bands test db
+  pub items_stand : (test : ItemRow → Bool) (items : List Item) → items ≡ map (λ (row : ItemRow). row.item) (items_in db) → AllByRecursion (λ (it : Item). StandsBy editions it.terms) items → RowsStand editions test db
   items_stand test items are stand =
-      all-filter StandsRow test (items_in db) (all_unmap (λ (it : Item). Stands bands it.terms) (λ (row : ItemRow). row.item) (items_in db) (rw are at stand))
+      all-filter StandsRow test (items_in db) (all_unmap (λ (it : Item). StandsBy editions it.terms) (λ (row : ItemRow). row.item) (items_in db) (rw are at stand))
 
   -- those that pass the test by which items were found
-  pub found_stand : (test : ItemRow → Bool) (found : List Terms) → found ≡ map (λ (row : ItemRow). row.item.terms) (filter test (items_in db)) → AllByRecursion (Stands bands) found
+  pub found_stand : (test : ItemRow → Bool) (found : List Terms) → found ≡ map (λ (row : ItemRow). row.item.terms) (filter test (items_in db)) → AllByRecursion (StandsBy editions) found
       → AllByRecursion (λ row. test row ≡ true → StandsRow row) (items_in db)
   found_stand test found are stand = all_kept StandsRow test (items_in db) (terms_stand test found are stand)
 
@@ -73,8 +74,8 @@ module _ (bands : List (ℕ × ℕ)) (db : Trees) where
       ]
 
   pub sales_stand : (member : ℕ) (sold led : List Terms) → 1 ≤ member → sold ≡ map (λ (row : ItemRow). row.item.terms) (filter (λ row. row.item.terms.seller == member) (items_in db))
-      → led ≡ map (λ (row : ItemRow). row.item.terms) (filter (λ row. is_leader row.item.terms.leader member) (items_in db)) → AllByRecursion (Stands bands) sold → AllByRecursion (Stands bands) led
-      → RowsStand bands (λ row. list_any (is_party member) (sale_of row.item.terms)) db
+      → led ≡ map (λ (row : ItemRow). row.item.terms) (filter (λ row. is_leader row.item.terms.leader member) (items_in db)) → AllByRecursion (StandsBy editions) sold → AllByRecursion (StandsBy editions) led
+      → RowsStand editions (λ row. list_any (is_party member) (sale_of row.item.terms)) db
   sales_stand member sold led some sold_is led_is one other =
       let mine : ItemRow → Bool = λ row. row.item.terms.seller == member in
       let leads : ItemRow → Bool = λ row. is_leader row.item.terms.leader member in
@@ -86,14 +87,14 @@ module _ (bands : List (ℕ × ℕ)) (db : Trees) where
 
   -- ---- what a member has bid
 
-  pub terms_in : (item : ℕ) (terms : Option Terms) → terms ≡ option_map (λ (row : ItemRow). row.item.terms) (find (is_item item) (items_in db)) → IfSome terms (Stands bands) → StandsIn bands db item
+  pub terms_in : (item : ℕ) (terms : Option Terms) → terms ≡ option_map (λ (row : ItemRow). row.item.terms) (find (is_item item) (items_in db)) → IfSome terms (StandsBy editions) → ItemStands editions db item
   unfolding tables_in
   terms_in item terms are stand = rw are at stand
 
   -- ---- an item that is looked up
 
-  pub has_standing_item : (item : ℕ) (t : Terms) → option_map (λ (row : ItemRow). row.item.terms) (find (is_item item) (items_in db)) ≡ Some t → TermsFit t → Stands bands t → HasStandingItem bands db item
+  pub has_standing_item : (item : ℕ) (t : Terms) → option_map (λ (row : ItemRow). row.item.terms) (find (is_item item) (items_in db)) ≡ Some t → TermsFit t → StandsBy editions t → HasStandingItem editions db item
   unfolding tables_in
   has_standing_item item t found fits stands =
       let row = whole (λ (row : ItemRow). row.item.terms) (find (is_item item) (items_in db)) t found in
-      record { row = row.0; row_there = row.1; fits = subst TermsFit (sym row.2) fits; stands = subst (Stands bands) (sym row.2) stands }
+      record { row = row.0; row_there = row.1; fits = subst TermsFit (sym row.2) fits; stands = subst (StandsBy editions) (sym row.2) stands }

@@ -79,15 +79,3 @@ are_standing bands r h =
 pub first : {A : Type 0} (P : A → Type 0) (xs : List A) → AllByRecursion P xs → IfSome (slice_get xs 0) P
 first P [] all = tt
 first P (x ∷ xs) all = all.0
-
-pub standing_fits : (old new : State) (answer : List Row) → IsHouse old.now → (n : ℕ) (bands : List (ℕ × ℕ)) → Shown standing_at_text (Int (pos n) ∷ []) old new answer → AllByRecursion (ItemRowFits bands) (items_in old.now.trees)
-    → IfSome (slice_get answer 0) (AreStanding bands)
-standing_fits old new answer house n bands h fit =
-    let params = Int (pos n) ∷ [] in
-    let rows = old.now.trees 6 in
-    let test = equals 0 ∷ [] in
-    let read = reads_as standing_at_text params old new house_schema house.schema _ standing_at_is.0 standing_at_is.2 standing_at_is.1 answer h in
-    let order = in_order test standing_shown params rows answer house.shaped.1.1.1.1.0.0 (listed 6 test standing_shown by_rowid (overlay old.now.trees []) params answer (read.answer Null)) in
-    let each = all_weaker _ (λ r. AreStanding bands (kept_columns r)) (are_standing bands) rows (all_unmap (ItemRowFits bands) item_row_in rows fit) in
-    let kept = all-filter (λ r. AreStanding bands (kept_columns r)) (passes test params) rows each in
-    first (AreStanding bands) answer (subst (AllByRecursion (AreStanding bands)) (sym order) (all_map (AreStanding bands) (shown_by standing_shown params) (filter (passes test params) rows) kept))

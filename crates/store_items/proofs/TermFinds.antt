@@ -21,9 +21,10 @@ use Rattle.sqlite.specs.Effect.{Database}
 use Rattle.sqlite.specs.State.{State, Shown}
 use Rattle.sqlite.proofs.Callers.{reads_as}
 use Rattle.proxy.specs.Bids.{is_leader}
-use Rattle.house_rows.specs.Keeping.{ItemRowFits}
+use Rattle.house_rows.specs.Keeping.{FitsBy}
 use Rattle.house_rows.specs.Items.{is_due, is_open}
 use Rattle.house_rows.specs.Tables.{ItemRow}
+use Rattle.house_rows.specs.Editions.{BandTables}
 use Rattle.house_rows.proofs.Put.{by_test}
 use Rattle.store_rows.specs.Schema.{house_schema, item_table}
 use Rattle.store_rows.specs.House.{IsHouse}
@@ -82,11 +83,11 @@ module _ (sql : List ℕ) (test : List Term) (is : AsksTerms sql test) (params :
       let order = in_order test terms_shown params rows answer house.shaped.1.1.1.1.0.0 (listed 6 test terms_shown by_rowid (overlay old.now.trees []) params answer (read.answer Null)) in
       typed_part terms_of item_row_in (λ (row : ItemRow). row.item.terms) keep IsRow test terms_shown params rows answer (λ r. refl) tests (are_rows old.now house) order
 
-  pub terms_held : (bands : List (ℕ × ℕ)) → AllByRecursion (ItemRowFits bands) (items_in old.now.trees) → AllByRecursion (TermsHold bands) answer
-  terms_held bands fit =
+  pub terms_held : (editions : BandTables) → AllByRecursion (FitsBy editions) (items_in old.now.trees) → AllByRecursion (TermsHold editions) answer
+  terms_held editions fit =
       let read = reads_as sql params old new house_schema house.schema _ is.0 is.2 is.1 answer h in
       let order = in_order test terms_shown params (old.now.trees 6) answer house.shaped.1.1.1.1.0.0 (listed 6 test terms_shown by_rowid (overlay old.now.trees []) params answer (read.answer Null)) in
-      rows_hold bands (TermsHold bands) terms_shown test params (old.now.trees 6) answer (terms_row bands params) order fit
+      rows_hold editions (TermsHold editions) terms_shown test params (old.now.trees 6) answer (terms_row editions params) order fit
 
 -- ---- the tests
 

@@ -1,10 +1,11 @@
--- Items whose rows fit, and stand by bands.
-use Rattle.std.specs.Prelude.{◌≡◌, ℕ, Bool, List, filter, Some, IfSome}
+-- Items whose rows fit, and stand, each by its own band table.
+use Rattle.std.specs.Prelude.{◌≡◌, ℕ, Bool, filter, Some, IfSome}
 use Rattle.std.specs.List.{AllByRecursion}
 use Rattle.sqlite_trees.specs.Tree.{Trees}
+use Rattle.house_rows.specs.Editions.{BandTables}
 use Rattle.house_rows.specs.Fits.{TermsFit}
 use Rattle.house_rows.specs.Found.{row_at, terms_at}
-use Rattle.house_rows.specs.Keeping.{Stands}
+use Rattle.house_rows.specs.Keeping.{StandsBy}
 use Rattle.house_rows.specs.Tables.{ItemRow}
 use Rattle.store_rows.specs.ItemRows.{items_in}
 use Rattle.store_rows.specs.Tables.{tables_in}
@@ -14,16 +15,16 @@ abbrev pub RowsFit : (ItemRow → Bool) → Trees → Type 0
 RowsFit test db = AllByRecursion (λ row. TermsFit row.item.terms) (filter test (items_in db))
 
 -- every item's row that passes a test stands
-abbrev pub RowsStand : List (ℕ × ℕ) → (ItemRow → Bool) → Trees → Type 0
-RowsStand bands test db = AllByRecursion (λ row. Stands bands row.item.terms) (filter test (items_in db))
+abbrev pub RowsStand : BandTables → (ItemRow → Bool) → Trees → Type 0
+RowsStand editions test db = AllByRecursion (λ row. StandsBy editions row.item.terms) (filter test (items_in db))
 
 -- the item of a number stands, if there is one
-abbrev pub StandsIn : List (ℕ × ℕ) → Trees → ℕ → Type 0
-StandsIn bands db item = IfSome (terms_at (tables_in db) item) (Stands bands)
+abbrev pub ItemStands : BandTables → Trees → ℕ → Type 0
+ItemStands editions db item = IfSome (terms_at (tables_in db) item) (StandsBy editions)
 
 -- there is an item of a number, whose row fits and stands
-pub record HasStandingItem (bands : List (ℕ × ℕ)) (db : Trees) (item : ℕ) : Type 0 where
+pub record HasStandingItem (editions : BandTables) (db : Trees) (item : ℕ) : Type 0 where
   pub row : ItemRow
   pub row_there : row_at (tables_in db) item ≡ Some row
   pub fits : TermsFit row.item.terms
-  pub stands : Stands bands row.item.terms
+  pub stands : StandsBy editions row.item.terms

@@ -3,6 +3,7 @@ use Rattle.std.specs.Prelude.{◌≡◌, ◌≤◌, ◌<◌, ◌+◌, ℕ, Bool,
 use Rattle.sqlite_value.specs.Order.{Row, column}
 use Rattle.proxy.specs.Rows.{is_shape}
 use Rattle.house_rows.specs.declared.item.Terms.{Terms}
+use Rattle.house_rows.specs.Editions.{BandTables, bands_in}
 use Rattle.house_rows.specs.Fits.{ItemFits, TermsFit}
 use Rattle.house_rows.specs.Limits.{most_cents}
 use Rattle.house_rows.specs.Verdict.{was_sold}
@@ -29,9 +30,6 @@ pub record AreSealed (bands : List (ℕ × ℕ)) (at : ℕ) (r : Row) : Type 0 w
   pub second : IfSome (maybe_number_in (column r (at + 1))) (λ n. n ≤ most_cents)
   pub stands : stands bands (terms_of r) (maybe_number_in (column r at)) (maybe_number_in (column r (at + 1))) ≡ true
 
--- what a query shows of an item, its maxima after the terms, or after the texts
-abbrev pub TermsHold : List (ℕ × ℕ) → Row → Type 0
-TermsHold bands r = TermsFit (terms_of r) × AreSealed bands 11 r
 
-abbrev pub ItemHolds : List (ℕ × ℕ) → Row → Type 0
-ItemHolds bands r = ItemFits (item_of r) × AreSealed bands 14 r
+abbrev pub ItemHolds : BandTables → Row → Type 0
+ItemHolds editions r = ItemFits (item_of r) × AreSealed (bands_in editions (item_of r).terms.item) 14 r

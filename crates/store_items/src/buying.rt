@@ -2,13 +2,14 @@
 ghost use Rattle.std.specs.Prelude.{◌≡◌, ◌<◌, ◌^◌, ◌==◌, ◌&&◌, ℕ, false, is_some, not, OnOk, IsErrOf};
 ghost use Rattle.sqlite.specs.State.{HasCleanDisk};
 ghost use Rattle.sqlite.specs.Held.{state};
+ghost use Rattle.house_rows.specs.Tables.{band_tables};
 ghost use Rattle.house_rows.specs.Asks.{ChangeFits, IsFree, PurchaseFits};
 ghost use Rattle.house_rows.specs.Keeping.{AreSound};
 ghost use Rattle.house_rows.specs.declared.change.Change.TheVariants.{Buy};
 ghost use Rattle.house_rows.specs.declared.fault.KeepFault.TheVariants.{Damaged};
 ghost use Rattle.store_rows.specs.House.{IsBegun, Serves};
 ghost use Rattle.store_items.specs.Items.{OfItem};
-ghost use Rattle.store_rows.specs.Tables.{Changes, IsNumbered, Rests, settings_in, tables_in};
+ghost use Rattle.store_rows.specs.Tables.{Changes, IsNumbered, Rests, tables_in};
 ghost use Rattle.store_items.specs.RowsStanding.{HasStandingItem};
 ghost use Rattle.store_items.specs.Sales.{IsUnbid};
 ghost use Rattle.store_rows.specs.Frames.{OnlyReads, WritesMany};
@@ -17,10 +18,9 @@ ghost use Rattle.store_rows.specs.Commits.{Commits};
 use crate::item::set_bought;
 use crate::looking::{standing_there, terms_there};
 use cents::Cents;
-use house_rows::{KeepFault, Terms};
+use house_rows::{Editions, KeepFault, Terms};
 use proxy::Standing;
 use sqlite::{Alter, Connection, Transaction};
-use steps::Bands;
 use store_rows::{commit, set_clock, stored_moment};
 
 // Whether nobody has bid. Of an item that was bought the standing is that of no bids, too.
@@ -34,24 +34,24 @@ fn is_unbid(terms: &Terms, standing: &Standing) -> bool
 // Whether nobody has bid on an item; Damaged where somebody has.
 fn check_unbid<S: Alter>(
     conn: &mut Connection<S>,
-    bands: &Bands,
+    editions: &Editions,
     item: u32,
 ) -> Result<(), KeepFault>
     requires { Serves (state S.Store conn.old) }
     ensures there { HasCleanDisk (state S.Store conn.new)
-        → OnOk result (HasStandingItem bands.now (state S.Store conn.old).now.trees item) }
+        → OnOk result (HasStandingItem editions.now (state S.Store conn.old).now.trees item) }
     ensures unbid { HasCleanDisk (state S.Store conn.new)
         → OnOk result (OfItem item IsUnbid (state S.Store conn.old).now) }
     ensures damaged { HasCleanDisk (state S.Store conn.new)
         → AreSound (tables_in (state S.Store conn.old).now.trees)
-        → bands.now ≡ (settings_in (state S.Store conn.old).now.trees).bands
+        → editions.now ≡ band_tables (tables_in (state S.Store conn.old).now.trees)
         → (moment buyer price : ℕ)
         → PurchaseFits (tables_in (state S.Store conn.old).now.trees) moment item buyer price
         → ¬ (IsErrOf result Damaged) }
     ensures read { OnlyReads (state S.Store conn.old) (state S.Store conn.new) result }
 {
-    let terms = terms_there(conn, bands, item)?;
-    let standing = standing_there(conn, bands, item)?;
+    let terms = terms_there(conn, editions, item)?;
+    let standing = standing_there(conn, editions, item)?;
     if is_unbid(&terms, &standing) {
         Ok(())
     } else {
@@ -85,12 +85,13 @@ fn write_purchase<S: Alter>(
 }
 
 /// Sells an item at once for its buy-now price. The moment is in seconds since
-/// 1970-01-01T00:00:00Z, the bands are those of the house. Damaged where there is no such item,
+/// 1970-01-01T00:00:00Z, the band tables are those of the
+/// house. Damaged where there is no such item,
 /// where somebody has bid on it, where its row doesn't fit, or where the moment has more than 32
 /// bits.
 pub fn buy<S: Alter>(
     conn: &mut Connection<S>,
-    bands: &Bands,
+    editions: &Editions,
     moment: u64,
     item: u32,
     buyer: u32,
@@ -98,12 +99,12 @@ pub fn buy<S: Alter>(
 ) -> Result<(), KeepFault>
     requires rests { Rests (state S.Store conn.old) }
     requires mode { conn.old.in_transaction ≡ false }
-    requires bands { HasCleanDisk (state S.Store conn.old)
-        → bands.now ≡ (settings_in (state S.Store conn.old).now.trees).bands }
+    requires editions { HasCleanDisk (state S.Store conn.old)
+        → editions.now ≡ band_tables (tables_in (state S.Store conn.old).now.trees) }
     ensures commit { Commits (Buy moment item buyer price) (state S.Store conn.old)
         (state S.Store conn.new) result }
     ensures there { HasCleanDisk (state S.Store conn.new)
-        → OnOk result (HasStandingItem bands.now (state S.Store conn.old).now.trees item) }
+        → OnOk result (HasStandingItem editions.now (state S.Store conn.old).now.trees item) }
     ensures unbid { HasCleanDisk (state S.Store conn.new)
         → OnOk result (OfItem item IsUnbid (state S.Store conn.old).now) }
     ensures moment { OnOk result (moment < 2 ^ 32) }
@@ -114,7 +115,7 @@ pub fn buy<S: Alter>(
         → ¬ (IsErrOf result Damaged) }
 {
     let moment = stored_moment(moment)?;
-    check_unbid(conn, bands, item)?;
+    check_unbid(conn, editions, item)?;
     let mut tx = conn.transaction();
     write_purchase(&mut tx, moment, item, buyer, price)?;
     commit(tx)

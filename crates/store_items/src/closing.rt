@@ -2,13 +2,14 @@
 ghost use Rattle.std.specs.Prelude.{◌≡◌, ◌<◌, ◌^◌, false, IfOk, OnOk, IsErrOf};
 ghost use Rattle.sqlite.specs.State.{HasCleanDisk};
 ghost use Rattle.sqlite.specs.Held.{state};
+ghost use Rattle.house_rows.specs.Tables.{band_tables};
 ghost use Rattle.house_rows.specs.Asks.{ChangeFits, IsFree};
 ghost use Rattle.house_rows.specs.Items.{is_due};
 ghost use Rattle.house_rows.specs.Keeping.{AreSound};
 ghost use Rattle.house_rows.specs.declared.change.Change.TheVariants.{Close};
 ghost use Rattle.house_rows.specs.declared.fault.KeepFault.TheVariants.{Damaged};
 ghost use Rattle.store_rows.specs.House.{IsBegun, Serves};
-ghost use Rattle.store_rows.specs.Tables.{Changes, IsNumbered, Rests, settings_in, tables_in};
+ghost use Rattle.store_rows.specs.Tables.{Changes, IsNumbered, Rests, tables_in};
 ghost use Rattle.store_items.specs.RowsStanding.{RowsFit, RowsStand};
 ghost use Rattle.store_items.specs.Sales.{IsDue, SetsItems, StartsFit, with_ends};
 ghost use Rattle.store_rows.specs.Frames.{OnlyReads, WritesMany};
@@ -16,17 +17,16 @@ ghost use Rattle.store_rows.specs.Commits.{Commits};
 
 use crate::item::set_closed;
 use crate::terms::due_terms;
-use house_rows::{KeepFault, Terms};
+use house_rows::{Editions, KeepFault, Terms};
 use sqlite::{Alter, Connection, Transaction};
 use std::alloc::Global;
-use steps::Bands;
 use store_rows::{commit, set_clock, stored_moment};
 
 // The items that are due, whose rows fit and stand.
 fn find_due<S: Alter>(
     alloc: Global,
     conn: &mut Connection<S>,
-    bands: &Bands,
+    editions: &Editions,
     moment: u32,
 ) -> Result<Vec<Terms>, KeepFault>
     requires { Serves (state S.Store conn.old) }
@@ -36,15 +36,15 @@ fn find_due<S: Alter>(
         → OnOk result (RowsFit (λ row. is_due moment row.item.terms)
         (state S.Store conn.old).now.trees) }
     ensures stands { HasCleanDisk (state S.Store conn.new)
-        → OnOk result (RowsStand bands.now (λ row. is_due moment row.item.terms)
+        → OnOk result (RowsStand editions.now (λ row. is_due moment row.item.terms)
         (state S.Store conn.old).now.trees) }
     ensures damaged { HasCleanDisk (state S.Store conn.new)
         → AreSound (tables_in (state S.Store conn.old).now.trees)
-        → bands.now ≡ (settings_in (state S.Store conn.old).now.trees).bands
+        → editions.now ≡ band_tables (tables_in (state S.Store conn.old).now.trees)
         → ¬ (IsErrOf result Damaged) }
     ensures read { OnlyReads (state S.Store conn.old) (state S.Store conn.new) result }
 {
-    due_terms(alloc, conn, bands, moment)
+    due_terms(alloc, conn, editions, moment)
 }
 
 // Closes the items within a transaction, each as sold where somebody leads.
@@ -90,26 +90,27 @@ fn write_close<S: Alter>(
 }
 
 /// Closes every open item whose end is at or before the moment: sold where somebody leads, else
-/// unsold. The moment is in seconds since 1970-01-01T00:00:00Z, the bands are those of the house.
+/// unsold. The moment is in seconds since 1970-01-01T00:00:00Z, the band tables are those of the
+/// house.
 /// Damaged where the row of an item that is due doesn't fit, or where the moment has more than 32
 /// bits.
 pub fn close<S: Alter>(
     conn: &mut Connection<S>,
-    bands: &Bands,
+    editions: &Editions,
     alloc: Global,
     moment: u64,
 ) -> Result<(), KeepFault>
     requires rests { Rests (state S.Store conn.old) }
     requires mode { conn.old.in_transaction ≡ false }
-    requires bands { HasCleanDisk (state S.Store conn.old)
-        → bands.now ≡ (settings_in (state S.Store conn.old).now.trees).bands }
+    requires editions { HasCleanDisk (state S.Store conn.old)
+        → editions.now ≡ band_tables (tables_in (state S.Store conn.old).now.trees) }
     ensures commit { Commits (Close moment) (state S.Store conn.old)
         (state S.Store conn.new) result }
     ensures fits { HasCleanDisk (state S.Store conn.new)
         → OnOk result (RowsFit (λ row. is_due moment row.item.terms)
         (state S.Store conn.old).now.trees) }
     ensures stands { HasCleanDisk (state S.Store conn.new)
-        → OnOk result (RowsStand bands.now (λ row. is_due moment row.item.terms)
+        → OnOk result (RowsStand editions.now (λ row. is_due moment row.item.terms)
         (state S.Store conn.old).now.trees) }
     ensures moment { OnOk result (moment < 2 ^ 32) }
     ensures damaged { HasCleanDisk (state S.Store conn.new)
@@ -119,7 +120,7 @@ pub fn close<S: Alter>(
         → ¬ (IsErrOf result Damaged) }
 {
     let moment = stored_moment(moment)?;
-    let due = find_due(alloc, conn, bands, moment)?;
+    let due = find_due(alloc, conn, editions, moment)?;
     let mut tx = conn.transaction();
     write_close(&mut tx, moment, &due)?;
     commit(tx)

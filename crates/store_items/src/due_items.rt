@@ -14,10 +14,9 @@ ghost use Rattle.store_rows.specs.Frames.{OnlyReads};
 
 use crate::item_reads::all_items;
 use crate::terms::due_terms;
-use house_rows::{Due, Item, KeepFault, State, Terms};
+use house_rows::{Due, Editions, Item, KeepFault, State, Terms};
 use sqlite::{Alter, Connection};
 use std::alloc::Global;
-use steps::Bands;
 
 // How many of the items somebody leads, and how many nobody.
 fn counts_of(due: &[Terms]) -> Due
@@ -62,21 +61,21 @@ fn due_counts_of(items: &[Item], moment: u64) -> Due
 fn due_by<S: Alter>(
     alloc: Global,
     conn: &mut Connection<S>,
-    bands: &Bands,
+    editions: &Editions,
     moment: u32,
 ) -> Result<Due, KeepFault>
     requires { Serves (state S.Store conn.old) }
     ensures value { HasCleanDisk (state S.Store conn.new)
         → IfOk result (λ due. due ≡ due_at (tables_in (state S.Store conn.old).now.trees) moment) }
     ensures stands { HasCleanDisk (state S.Store conn.new)
-        → OnOk result (RowsStand bands.now (λ row. is_due moment row.item.terms)
+        → OnOk result (RowsStand editions.now (λ row. is_due moment row.item.terms)
         (state S.Store conn.old).now.trees) }
     ensures damaged { HasCleanDisk (state S.Store conn.new)
-        → AreSoundBy bands.now (tables_in (state S.Store conn.old).now.trees)
+        → AreSoundBy editions.now (tables_in (state S.Store conn.old).now.trees)
         → ¬ (IsErrOf result Damaged) }
     ensures read { OnlyReads (state S.Store conn.old) (state S.Store conn.new) result }
 {
-    let due = due_terms(alloc, conn, bands, moment)?;
+    let due = due_terms(alloc, conn, editions, moment)?;
     Ok(counts_of(&due))
 }
 
@@ -84,21 +83,21 @@ fn due_by<S: Alter>(
 fn due_among_all<S: Alter>(
     alloc: Global,
     conn: &mut Connection<S>,
-    bands: &Bands,
+    editions: &Editions,
     moment: u64,
 ) -> Result<Due, KeepFault>
     requires { Serves (state S.Store conn.old) }
     ensures value { HasCleanDisk (state S.Store conn.new)
         → IfOk result (λ due. due ≡ due_at (tables_in (state S.Store conn.old).now.trees) moment) }
     ensures stands { HasCleanDisk (state S.Store conn.new)
-        → OnOk result (RowsStand bands.now (λ row. is_due moment row.item.terms)
+        → OnOk result (RowsStand editions.now (λ row. is_due moment row.item.terms)
         (state S.Store conn.old).now.trees) }
     ensures damaged { HasCleanDisk (state S.Store conn.new)
-        → AreSoundBy bands.now (tables_in (state S.Store conn.old).now.trees)
+        → AreSoundBy editions.now (tables_in (state S.Store conn.old).now.trees)
         → ¬ (IsErrOf result Damaged) }
     ensures read { OnlyReads (state S.Store conn.old) (state S.Store conn.new) result }
 {
-    let items = all_items(alloc, conn, bands)?;
+    let items = all_items(alloc, conn, editions)?;
     Ok(due_counts_of(&items, moment))
 }
 
@@ -107,22 +106,22 @@ fn due_among_all<S: Alter>(
 pub fn due<S: Alter>(
     alloc: Global,
     conn: &mut Connection<S>,
-    bands: &Bands,
+    editions: &Editions,
     moment: u64,
 ) -> Result<Due, KeepFault>
     requires { Serves (state S.Store conn.old) }
     ensures value { HasCleanDisk (state S.Store conn.new)
         → IfOk result (λ due. due ≡ due_at (tables_in (state S.Store conn.old).now.trees) moment) }
     ensures stands { HasCleanDisk (state S.Store conn.new)
-        → OnOk result (RowsStand bands.now (λ row. is_due moment row.item.terms)
+        → OnOk result (RowsStand editions.now (λ row. is_due moment row.item.terms)
         (state S.Store conn.old).now.trees) }
     ensures damaged { HasCleanDisk (state S.Store conn.new)
-        → AreSoundBy bands.now (tables_in (state S.Store conn.old).now.trees)
+        → AreSoundBy editions.now (tables_in (state S.Store conn.old).now.trees)
         → ¬ (IsErrOf result Damaged) }
     ensures read { OnlyReads (state S.Store conn.old) (state S.Store conn.new) result }
 {
     match u32::try_from(moment) {
-        Ok(moment) => due_by(alloc, conn, bands, moment),
-        Err(_) => due_among_all(alloc, conn, bands, moment),
+        Ok(moment) => due_by(alloc, conn, editions, moment),
+        Err(_) => due_among_all(alloc, conn, editions, moment),
     }
 }

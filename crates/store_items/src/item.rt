@@ -1,5 +1,5 @@
 //! The table of items: what is written.
-ghost use Rattle.std.specs.Prelude.{◌≡◌, ◌<◌, ◌^◌, IfSome, ℕ, List, if◌then◌else◌, OnOk, IsErrOf};
+ghost use Rattle.std.specs.Prelude.{◌≡◌, ◌<◌, ◌^◌, IfSome, if◌then◌else◌, OnOk, IsErrOf};
 ghost use Rattle.sqlite.specs.State.{HasCleanDisk};
 ghost use Rattle.sqlite.specs.Held.{state};
 ghost use Rattle.house_rows.specs.Changed.{new_item};
@@ -66,8 +66,7 @@ pub(crate) fn put_item<S: Alter>(
     requires { IsBegun (state S.Store tx.old.conn.now) }
     ensures same_reference { tx.new.conn.ghost_name ≡ tx.old.conn.ghost_name }
     ensures ok { HasCleanDisk (state S.Store tx.new.conn.now)
-        → (bands : List (ℕ × ℕ))
-        → OnOk result (AddsItem (new_item bands number (record item.now { end = end }))
+        → OnOk result (AddsItem (new_item number (record item.now { end = end }))
         (state S.Store tx.old.conn.now).now (state S.Store tx.new.conn.now).now) }
     ensures sound { ¬ (IsErrOf result Damaged) }
     ensures write { WritesOnce (state S.Store tx.old.conn.now)

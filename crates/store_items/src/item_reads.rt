@@ -3,12 +3,13 @@ ghost use Rattle.std.specs.Prelude.{◌≡◌, ◌==◌, ◌&&◌, true, find, m
 ghost use Rattle.sqlite.specs.State.{HasCleanDisk};
 ghost use Rattle.sqlite.specs.Held.{state};
 ghost use Rattle.proxy.specs.Rows.{is_standing};
+ghost use Rattle.house_rows.specs.Editions.{bands_in};
 ghost use Rattle.house_rows.specs.Changed.{is_item};
 ghost use Rattle.house_rows.specs.Tables.{ItemRow};
 ghost use Rattle.house_rows.specs.Text.{same_text};
 ghost use Rattle.std.specs.List.{AllByRecursion};
 ghost use Rattle.house_rows.specs.Fits.{ItemFits, StandingFits, TermsFit};
-ghost use Rattle.house_rows.specs.Keeping.{ItemRowFits, Stands};
+ghost use Rattle.house_rows.specs.Keeping.{FitsBy, StandsBy};
 ghost use Rattle.house_rows.specs.declared.fault.KeepFault.TheVariants.{Damaged};
 ghost use Rattle.store_rows.specs.House.{Serves};
 ghost use Rattle.store_rows.specs.ItemRows.{items_in};
@@ -16,17 +17,16 @@ ghost use Rattle.store_rows.specs.Frames.{OnlyReads};
 
 use crate::reads::{first_item, first_terms, item_list};
 use crate::standing::first_standing;
-use house_rows::{Item, KeepFault, Terms};
+use house_rows::{Editions, Item, KeepFault, Terms};
 use proxy::Standing;
 use sqlite::{Alter, Connection, params};
 use std::alloc::Global;
-use steps::Bands;
 use store_rows::{first_of, rows_shown};
 
-/// The item with a number. A row that doesn't stand by these bands is damaged.
+/// The item with a number. A row that doesn't stand by its band table is damaged.
 pub fn item_at<S: Alter>(
     conn: &mut Connection<S>,
-    bands: &Bands,
+    editions: &Editions,
     number: u32,
 ) -> Result<Option<Item>, KeepFault>
     requires { Serves (state S.Store conn.old) }
@@ -34,9 +34,9 @@ pub fn item_at<S: Alter>(
         → IfOk result (λ found. found ≡ option_map (λ (row : ItemRow). row.item)
         (find (is_item number) (items_in (state S.Store conn.old).now.trees))) }
     ensures fits { IfOk result (λ found. IfSome found ItemFits) }
-    ensures stands { IfOk result (λ found. IfSome found (λ it. Stands bands.now it.terms)) }
+    ensures stands { IfOk result (λ found. IfSome found (λ it. StandsBy editions.now it.terms)) }
     ensures damaged { HasCleanDisk (state S.Store conn.new)
-        → AllByRecursion (ItemRowFits bands.now) (items_in (state S.Store conn.old).now.trees)
+        → AllByRecursion (FitsBy editions.now) (items_in (state S.Store conn.old).now.trees)
         → ¬ (IsErrOf result Damaged) }
     ensures read { OnlyReads (state S.Store conn.old) (state S.Store conn.new) result }
 {
@@ -45,13 +45,14 @@ pub fn item_at<S: Alter>(
         "SELECT id, seller, category, start, buy_now, ending, state, closed, price, leader, count, lot, title, body, top, second FROM item WHERE id = ?1 ORDER BY id",
         params![number],
     )?;
-    first_item(bands, &rows)
+    first_item(editions, &rows)
 }
 
-/// The item with a number, without its texts. A row that doesn't stand by these bands is damaged.
+/// The item with a number, without its texts. A row that doesn't stand by its band table is
+/// damaged.
 pub fn terms_at<S: Alter>(
     conn: &mut Connection<S>,
-    bands: &Bands,
+    editions: &Editions,
     number: u32,
 ) -> Result<Option<Terms>, KeepFault>
     requires { Serves (state S.Store conn.old) }
@@ -59,12 +60,12 @@ pub fn terms_at<S: Alter>(
         → IfOk result (λ found. found ≡ option_map (λ (row : ItemRow). row.item.terms)
         (find (is_item number) (items_in (state S.Store conn.old).now.trees))) }
     ensures fits { IfOk result (λ found. IfSome found TermsFit) }
-    ensures stands { IfOk result (λ found. IfSome found (λ it. Stands bands.now it)) }
+    ensures stands { IfOk result (λ found. IfSome found (λ it. StandsBy editions.now it)) }
     ensures damaged { HasCleanDisk (state S.Store conn.new)
-        → AllByRecursion (ItemRowFits bands.now) (items_in (state S.Store conn.old).now.trees)
+        → AllByRecursion (FitsBy editions.now) (items_in (state S.Store conn.old).now.trees)
         → ¬ (IsErrOf result Damaged) }
     ensures here { HasCleanDisk (state S.Store conn.new)
-        → AllByRecursion (λ row. row.item.terms.item ≡ number → ItemRowFits bands.now row)
+        → AllByRecursion (λ row. row.item.terms.item ≡ number → FitsBy editions.now row)
         (items_in (state S.Store conn.old).now.trees)
         → ¬ (IsErrOf result Damaged) }
     ensures read { OnlyReads (state S.Store conn.old) (state S.Store conn.new) result }
@@ -74,14 +75,14 @@ pub fn terms_at<S: Alter>(
         "SELECT id, seller, category, start, buy_now, ending, state, closed, price, leader, count, top, second FROM item WHERE id = ?1 ORDER BY id",
         params![number],
     )?;
-    first_terms(bands, &rows)
+    first_terms(editions, &rows)
 }
 
 /// The standing of the bids on an item; of a bought item that of none. A row that is no standing by
-/// these bands is damaged.
+/// the item's band table is damaged.
 pub fn standing_at<S: Alter>(
     conn: &mut Connection<S>,
-    bands: &Bands,
+    editions: &Editions,
     number: u32,
 ) -> Result<Option<Standing>, KeepFault>
     requires { Serves (state S.Store conn.old) }
@@ -89,9 +90,9 @@ pub fn standing_at<S: Alter>(
         → IfOk result (λ found. found ≡ option_map (λ (row : ItemRow). row.standing)
         (find (is_item number) (items_in (state S.Store conn.old).now.trees))) }
     ensures fits { IfOk result (λ found. IfSome found StandingFits) }
-    ensures stands { IfOk result (λ found. IfSome found (λ s. is_standing bands.now s ≡ true)) }
+    ensures stands { IfOk result (λ found. IfSome found (λ s. is_standing (bands_in editions.now number) s ≡ true)) }
     ensures damaged { HasCleanDisk (state S.Store conn.new)
-        → AllByRecursion (ItemRowFits bands.now) (items_in (state S.Store conn.old).now.trees)
+        → AllByRecursion (FitsBy editions.now) (items_in (state S.Store conn.old).now.trees)
         → ¬ (IsErrOf result Damaged) }
     ensures read { OnlyReads (state S.Store conn.old) (state S.Store conn.new) result }
 {
@@ -100,7 +101,7 @@ pub fn standing_at<S: Alter>(
         "SELECT start, price, leader, top, second, count FROM item WHERE id = ?1 ORDER BY id",
         params![number],
     )?;
-    first_standing(bands, &rows)
+    first_standing(editions.bands_for(u64::from(number)), &rows)
 }
 
 /// The number of a seller's item with a lot.
@@ -128,11 +129,12 @@ pub fn item_with_lot<S: Alter>(
     first_of(&rows)
 }
 
-/// All items, by number. A row that doesn't stand by these bands is damaged.
+/// All items, by number. A row that doesn't stand by its band table is
+/// damaged.
 pub fn all_items<S: Alter>(
     alloc: Global,
     conn: &mut Connection<S>,
-    bands: &Bands,
+    editions: &Editions,
 ) -> Result<Vec<Item>, KeepFault>
     requires { Serves (state S.Store conn.old) }
     ensures items { HasCleanDisk (state S.Store conn.new)
@@ -140,9 +142,9 @@ pub fn all_items<S: Alter>(
         (items_in (state S.Store conn.old).now.trees)) }
     ensures fits { IfOk result (λ items. AllByRecursion ItemFits items.items) }
     ensures stands { IfOk result (λ items. AllByRecursion
-        (λ it. Stands bands.now it.terms) items.items) }
+        (λ it. StandsBy editions.now it.terms) items.items) }
     ensures damaged { HasCleanDisk (state S.Store conn.new)
-        → AllByRecursion (ItemRowFits bands.now) (items_in (state S.Store conn.old).now.trees)
+        → AllByRecursion (FitsBy editions.now) (items_in (state S.Store conn.old).now.trees)
         → ¬ (IsErrOf result Damaged) }
     ensures read { OnlyReads (state S.Store conn.old) (state S.Store conn.new) result }
 {
@@ -151,5 +153,5 @@ pub fn all_items<S: Alter>(
         "SELECT id, seller, category, start, buy_now, ending, state, closed, price, leader, count, lot, title, body, top, second FROM item ORDER BY id",
         &[],
     )?;
-    item_list(alloc, bands, &rows)
+    item_list(alloc, editions, &rows)
 }

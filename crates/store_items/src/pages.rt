@@ -3,7 +3,7 @@ ghost use Rattle.std.specs.Prelude.{◌≡◌, ◌==◌, ◌&&◌, filter, map, 
 ghost use Rattle.std.specs.List.{AllByRecursion};
 ghost use Rattle.house_rows.specs.Fits.{ItemFits};
 ghost use Rattle.house_rows.specs.Found.{items_in};
-ghost use Rattle.house_rows.specs.Keeping.{ItemRowFits, Stands};
+ghost use Rattle.house_rows.specs.Keeping.{FitsBy, StandsBy};
 ghost use Rattle.house_rows.specs.Limits.{most_shown};
 ghost use Rattle.house_rows.specs.Tables.{ItemRow};
 ghost use Rattle.house_rows.specs.declared.fault.KeepFault.TheVariants.{Damaged};
@@ -15,10 +15,9 @@ ghost use Rattle.store_rows.specs.Tables.{tables_in};
 ghost use Rattle.store_rows.specs.Frames.{OnlyReads};
 
 use crate::reads::item_list;
-use house_rows::{Item, KeepFault};
+use house_rows::{Editions, Item, KeepFault};
 use sqlite::{Alter, Connection, params};
 use std::alloc::Global;
-use steps::Bands;
 use store_rows::{bound_of, page_rows};
 
 // The items of a category, from a number on; at most fifty. It is damaged only where one of the rows
@@ -26,7 +25,7 @@ use store_rows::{bound_of, page_rows};
 fn items_from<S: Alter>(
     alloc: Global,
     conn: &mut Connection<S>,
-    bands: &Bands,
+    editions: &Editions,
     category: u32,
     from: u32,
 ) -> Result<Vec<Item>, KeepFault>
@@ -38,13 +37,13 @@ fn items_from<S: Alter>(
         (state S.Store conn.old).now.trees)))) }
     ensures fits { IfOk result (λ items. AllByRecursion ItemFits items.items) }
     ensures stands { IfOk result (λ items. AllByRecursion
-        (λ it. Stands bands.now it.terms) items.items) }
+        (λ it. StandsBy editions.now it.terms) items.items) }
     ensures damaged { HasCleanDisk (state S.Store conn.new)
-        → AllByRecursion (ItemRowFits bands.now)
+        → AllByRecursion (FitsBy editions.now)
         (stored.items_in (state S.Store conn.old).now.trees)
         → ¬ (IsErrOf result Damaged) }
     ensures reached { HasCleanDisk (state S.Store conn.new)
-        → AllByRecursion (ItemRowFits bands.now) (take most_shown
+        → AllByRecursion (FitsBy editions.now) (take most_shown
         (filter (λ row. (row.item.terms.category == category) && nat_le from row.item.terms.item)
         (stored.items_in (state S.Store conn.old).now.trees)))
         → ¬ (IsErrOf result Damaged) }
@@ -58,14 +57,14 @@ fn items_from<S: Alter>(
         "SELECT id, seller, category, start, buy_now, ending, state, closed, price, leader, count, lot, title, body, top, second FROM item WHERE category = ?1 AND id >= ?2 ORDER BY id",
         params![category, from],
     )?;
-    item_list(alloc, bands, &rows)
+    item_list(alloc, editions, &rows)
 }
 
 /// The items of a category, from a number on; at most fifty.
 pub fn items_in<S: Alter>(
     alloc: Global,
     conn: &mut Connection<S>,
-    bands: &Bands,
+    editions: &Editions,
     category: u32,
     from: u64,
 ) -> Result<Vec<Item>, KeepFault>
@@ -75,12 +74,12 @@ pub fn items_in<S: Alter>(
         (tables_in (state S.Store conn.old).now.trees) category from) }
     ensures fits { IfOk result (λ items. AllByRecursion ItemFits items.items) }
     ensures stands { IfOk result (λ items. AllByRecursion
-        (λ it. Stands bands.now it.terms) items.items) }
+        (λ it. StandsBy editions.now it.terms) items.items) }
     ensures damaged { HasCleanDisk (state S.Store conn.new)
-        → AllByRecursion (ItemRowFits bands.now)
+        → AllByRecursion (FitsBy editions.now)
         (stored.items_in (state S.Store conn.old).now.trees)
         → ¬ (IsErrOf result Damaged) }
     ensures read { OnlyReads (state S.Store conn.old) (state S.Store conn.new) result }
 {
-    items_from(alloc, conn, bands, category, bound_of(from))
+    items_from(alloc, conn, editions, category, bound_of(from))
 }

@@ -2,13 +2,13 @@
 ghost use Rattle.std.specs.Prelude.{◌≡◌, ◌<◌, ◌++◌, true, [], ◌∷◌, IfOk, IfSome, IsErrOf, OnOk, map, option_map, slice_get};
 ghost use Rattle.std.specs.List.{AllByRecursion};
 ghost use Rattle.house_rows.specs.Fits.{ItemFits, TermsFit};
-ghost use Rattle.house_rows.specs.Keeping.{Stands};
+ghost use Rattle.house_rows.specs.Keeping.{Stands, StandsBy};
 ghost use Rattle.house_rows.specs.declared.fault.KeepFault.TheVariants.{Damaged};
 ghost use Rattle.store_rows.specs.ItemRows.{item_of, terms_of};
 ghost use Rattle.store_items.specs.Standing.{AreSealed, ItemHolds, TermsHold, is_bought, stands};
 
 use cents::Cents;
-use house_rows::{Item, KeepFault, State, Terms};
+use house_rows::{Editions, Item, KeepFault, State, Terms};
 use list_rows::push;
 use proxy::Standing;
 use sqlite::Row;
@@ -77,69 +77,68 @@ fn judge(bands: &Bands, terms: &Terms, row: &Row, at: usize) -> Result<(), KeepF
     judge_by(bands, terms, top, second)
 }
 
-// The terms that a row tells, which stand by these bands. What is sealed comes after them.
-fn terms_read(bands: &Bands, row: &Row) -> Result<Terms, KeepFault>
     ensures value { IfOk result (λ it. it ≡ terms_of row.now) }
     ensures fits { IfOk result TermsFit }
-    ensures stands { IfOk result (λ it. Stands bands.now it) }
-    ensures damaged { TermsHold bands.now row.now → ¬ (IsErrOf result Damaged) }
+    ensures stands { IfOk result (λ it. StandsBy editions.now it) }
+    ensures damaged { TermsHold editions.now row.now → ¬ (IsErrOf result Damaged) }
 {
     let terms = Terms::read(row)?;
+    let bands = editions.bands_for(u64::from(terms.item));
     judge(bands, &terms, row, 11)?;
     Ok(terms)
 }
 
-// The item that a row tells, which stands by these bands. What is sealed comes after its texts.
-fn item_read(bands: &Bands, row: &Row) -> Result<Item, KeepFault>
     ensures value { IfOk result (λ it. it ≡ item_of row.now) }
     ensures fits { IfOk result ItemFits }
-    ensures stands { IfOk result (λ it. Stands bands.now it.terms) }
-    ensures damaged { ItemHolds bands.now row.now → ¬ (IsErrOf result Damaged) }
+    ensures stands { IfOk result (λ it. StandsBy editions.now it.terms) }
+    ensures damaged { ItemHolds editions.now row.now → ¬ (IsErrOf result Damaged) }
 {
     let item = Item::read(row)?;
+    let bands = editions.bands_for(u64::from(item.terms.item));
     judge(bands, &item.terms, row, 14)?;
     Ok(item)
 }
 
 /// The terms that the first of the rows tells.
-pub(crate) fn first_terms(bands: &Bands, rows: &[Row]) -> Result<Option<Terms>, KeepFault>
+pub(crate) fn first_terms(editions: &Editions, rows: &[Row]) -> Result<Option<Terms>, KeepFault>
     ensures value { IfOk result (λ found. found ≡ option_map terms_of (slice_get rows.now 0)) }
     ensures fits { IfOk result (λ found. IfSome found TermsFit) }
-    ensures stands { IfOk result (λ found. IfSome found (λ it. Stands bands.now it)) }
-    ensures damaged { IfSome (slice_get rows.now 0) (TermsHold bands.now)
+    ensures stands { IfOk result (λ found. IfSome found (λ it. StandsBy editions.now it)) }
+    ensures damaged { IfSome (slice_get rows.now 0) (TermsHold editions.now)
         → ¬ (IsErrOf result Damaged) }
 {
     match rows.first() {
         None => Ok(None),
-        Some(row) => Ok(Some(terms_read(bands, row)?)),
+        Some(row) => Ok(Some(terms_read(editions, row)?)),
     }
 }
 
 /// The item that the first of the rows tells.
-pub(crate) fn first_item(bands: &Bands, rows: &[Row]) -> Result<Option<Item>, KeepFault>
+pub(crate) fn first_item(editions: &Editions, rows: &[Row]) -> Result<Option<Item>, KeepFault>
     ensures value { IfOk result (λ found. found ≡ option_map item_of (slice_get rows.now 0)) }
     ensures fits { IfOk result (λ found. IfSome found ItemFits) }
-    ensures stands { IfOk result (λ found. IfSome found (λ it. Stands bands.now it.terms)) }
-    ensures damaged { IfSome (slice_get rows.now 0) (ItemHolds bands.now)
+    ensures stands { IfOk result (λ found. IfSome found (λ it. StandsBy editions.now it.terms)) }
+    ensures damaged { IfSome (slice_get rows.now 0) (ItemHolds editions.now)
         → ¬ (IsErrOf result Damaged) }
 {
     match rows.first() {
         None => Ok(None),
-        Some(row) => Ok(Some(item_read(bands, row)?)),
+        Some(row) => Ok(Some(item_read(editions, row)?)),
     }
 }
 
 // Adds the terms that a row tells.
-fn add_terms(bands: &Bands, row: &Row, all: &mut Vec<Terms>) -> Result<(), KeepFault>
+fn add_terms(editions: &Editions, row: &Row, all: &mut Vec<Terms>) -> Result<(), KeepFault>
     ensures value { OnOk result (all.new.items ≡ all.old.items ++ terms_of row.now ∷ []) }
     ensures fits { AllByRecursion TermsFit all.old.items
         → OnOk result (AllByRecursion TermsFit all.new.items) }
-    ensures stands { AllByRecursion (λ it. Stands bands.now it) all.old.items
-        → OnOk result (AllByRecursion (λ it. Stands bands.now it) all.new.items) }
-    ensures damaged { TermsHold bands.now row.now → ¬ (IsErrOf result Damaged) }
+    ensures stands { AllByRecursion (λ it. StandsBy editions.now it) all.old.items
+        → OnOk result (AllByRecursion (λ it. StandsBy editions.now it) all.new.items) }
+    ensures damaged { TermsHold editions.now row.now → ¬ (IsErrOf result Damaged) }
 {
     // As `terms_read`: the prover wants Option and Cents, which Terms holds, named where one is added.
     let terms = Terms::read(row)?;
+    let bands = editions.bands_for(u64::from(terms.item));
     let top = maybe_cents_at(row, 11)?;
     let second = maybe_cents_at(row, 12)?;
     judge_by(bands, &terms, top, second)?;
@@ -149,45 +148,45 @@ fn add_terms(bands: &Bands, row: &Row, all: &mut Vec<Terms>) -> Result<(), KeepF
 /// The terms that rows tell.
 pub(crate) fn terms_list(
     alloc: Global,
-    bands: &Bands,
+    editions: &Editions,
     rows: &[Row],
 ) -> Result<Vec<Terms>, KeepFault>
     ensures value { IfOk result (λ all. all.items ≡ map terms_of rows.now) }
     ensures fits { IfOk result (λ all. AllByRecursion TermsFit all.items) }
-    ensures stands { IfOk result (λ all. AllByRecursion (λ it. Stands bands.now it) all.items) }
-    ensures damaged { AllByRecursion (TermsHold bands.now) rows.now → ¬ (IsErrOf result Damaged) }
+    ensures stands { IfOk result (λ all. AllByRecursion (λ it. StandsBy editions.now it) all.items) }
+    ensures damaged { AllByRecursion (TermsHold editions.now) rows.now → ¬ (IsErrOf result Damaged) }
 {
     let mut all = Vec::new(alloc);
     for row in rows {
-        add_terms(bands, row, &mut all)?;
+        add_terms(editions, row, &mut all)?;
     }
     Ok(all)
 }
 
 // Adds the item that a row tells.
-fn add_item(bands: &Bands, row: &Row, all: &mut Vec<Item>) -> Result<(), KeepFault>
+fn add_item(editions: &Editions, row: &Row, all: &mut Vec<Item>) -> Result<(), KeepFault>
     ensures value { OnOk result (all.new.items ≡ all.old.items ++ item_of row.now ∷ []) }
     ensures fits { AllByRecursion ItemFits all.old.items
         → OnOk result (AllByRecursion ItemFits all.new.items) }
-    ensures stands { AllByRecursion (λ it. Stands bands.now it.terms) all.old.items
-        → OnOk result (AllByRecursion (λ it. Stands bands.now it.terms) all.new.items) }
-    ensures damaged { ItemHolds bands.now row.now → ¬ (IsErrOf result Damaged) }
+    ensures stands { AllByRecursion (λ it. StandsBy editions.now it.terms) all.old.items
+        → OnOk result (AllByRecursion (λ it. StandsBy editions.now it.terms) all.new.items) }
+    ensures damaged { ItemHolds editions.now row.now → ¬ (IsErrOf result Damaged) }
 {
-    let item = item_read(bands, row)?;
+    let item = item_read(editions, row)?;
     push(all, item)
 }
 
 /// The items that rows tell.
-pub(crate) fn item_list(alloc: Global, bands: &Bands, rows: &[Row]) -> Result<Vec<Item>, KeepFault>
+pub(crate) fn item_list(alloc: Global, editions: &Editions, rows: &[Row]) -> Result<Vec<Item>, KeepFault>
     ensures value { IfOk result (λ all. all.items ≡ map item_of rows.now) }
     ensures fits { IfOk result (λ all. AllByRecursion ItemFits all.items) }
     ensures stands { IfOk result (λ all. AllByRecursion
-        (λ it. Stands bands.now it.terms) all.items) }
-    ensures damaged { AllByRecursion (ItemHolds bands.now) rows.now → ¬ (IsErrOf result Damaged) }
+        (λ it. StandsBy editions.now it.terms) all.items) }
+    ensures damaged { AllByRecursion (ItemHolds editions.now) rows.now → ¬ (IsErrOf result Damaged) }
 {
     let mut all = Vec::new(alloc);
     for row in rows {
-        add_item(bands, row, &mut all)?;
+        add_item(editions, row, &mut all)?;
     }
     Ok(all)
 }

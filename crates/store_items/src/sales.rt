@@ -20,12 +20,11 @@ ghost use Rattle.store_rows.specs.Frames.{OnlyReads};
 
 use crate::item_reads::all_items;
 use crate::terms::{terms_led_by, terms_of_seller};
-use house_rows::{KeepFault, State, Terms};
+use house_rows::{Editions, KeepFault, State, Terms};
 use list_rows::push;
 use settle::Sold;
 use sqlite::{Alter, Connection};
 use std::alloc::Global;
-use steps::Bands;
 
 // The sale of an item of these terms, if it was sold.
 fn sale(terms: &Terms) -> Option<Sold>
@@ -99,7 +98,7 @@ fn by_number(mut sold: Vec<Terms>, mut led: Vec<Terms>) -> Result<Vec<Terms>, Ke
 fn sales_of_member<S: Alter>(
     alloc: Global,
     conn: &mut Connection<S>,
-    bands: &Bands,
+    editions: &Editions,
     member: u32,
 ) -> Result<Vec<Sold>, KeepFault>
     requires serves { Serves (state S.Store conn.old) }
@@ -108,19 +107,19 @@ fn sales_of_member<S: Alter>(
         → IfOk result (λ sales. sales.items ≡ sales_to
         (tables_in (state S.Store conn.old).now.trees) member) }
     ensures stands { HasCleanDisk (state S.Store conn.new)
-        → OnOk result (RowsStand bands.now
+        → OnOk result (RowsStand editions.now
         (λ row. list_any (is_party member) (sale_of row.item.terms))
         (state S.Store conn.old).now.trees) }
     ensures fits { IfOk result (λ sales. All IsSale sales.items) }
     ensures apart { IfOk result (λ sales. AllPairs (λ a b. a.item ≢ b.item) sales.items) }
     ensures few { IfOk result (λ sales. length sales.items ≤ most_items) }
     ensures damaged { HasCleanDisk (state S.Store conn.new)
-        → AreSoundBy bands.now (tables_in (state S.Store conn.old).now.trees)
+        → AreSoundBy editions.now (tables_in (state S.Store conn.old).now.trees)
         → ¬ (IsErrOf result Damaged) }
     ensures read { OnlyReads (state S.Store conn.old) (state S.Store conn.new) result }
 {
-    let sold = terms_of_seller(alloc, conn, bands, member)?;
-    let led = terms_led_by(alloc, conn, bands, member)?;
+    let sold = terms_of_seller(alloc, conn, editions, member)?;
+    let led = terms_led_by(alloc, conn, editions, member)?;
     let items = by_number(sold, led)?;
     // Items with one number have no place of their own: no statement shows such.
     if !rise(&items) {
@@ -133,25 +132,25 @@ fn sales_of_member<S: Alter>(
 fn sales_of_nobody<S: Alter>(
     alloc: Global,
     conn: &mut Connection<S>,
-    bands: &Bands,
+    editions: &Editions,
 ) -> Result<Vec<Sold>, KeepFault>
     requires { Serves (state S.Store conn.old) }
     ensures value { HasCleanDisk (state S.Store conn.new)
         → IfOk result (λ sales. sales.items ≡ sales_to
         (tables_in (state S.Store conn.old).now.trees) 0) }
     ensures stands { HasCleanDisk (state S.Store conn.new)
-        → OnOk result (RowsStand bands.now
+        → OnOk result (RowsStand editions.now
         (λ row. list_any (is_party 0) (sale_of row.item.terms))
         (state S.Store conn.old).now.trees) }
     ensures fits { IfOk result (λ sales. All IsSale sales.items) }
     ensures apart { IfOk result (λ sales. AllPairs (λ a b. a.item ≢ b.item) sales.items) }
     ensures few { IfOk result (λ sales. length sales.items ≤ most_items) }
     ensures damaged { HasCleanDisk (state S.Store conn.new)
-        → AreSoundBy bands.now (tables_in (state S.Store conn.old).now.trees)
+        → AreSoundBy editions.now (tables_in (state S.Store conn.old).now.trees)
         → ¬ (IsErrOf result Damaged) }
     ensures read { OnlyReads (state S.Store conn.old) (state S.Store conn.new) result }
 {
-    all_items(alloc, conn, bands)?;
+    all_items(alloc, conn, editions)?;
     Ok(Vec::new(alloc))
 }
 
@@ -160,7 +159,7 @@ fn sales_of_nobody<S: Alter>(
 pub fn sales_to<S: Alter>(
     alloc: Global,
     conn: &mut Connection<S>,
-    bands: &Bands,
+    editions: &Editions,
     member: u32,
 ) -> Result<Vec<Sold>, KeepFault>
     requires { Serves (state S.Store conn.old) }
@@ -168,20 +167,20 @@ pub fn sales_to<S: Alter>(
         → IfOk result (λ sales. sales.items ≡ sales_to
         (tables_in (state S.Store conn.old).now.trees) member) }
     ensures stands { HasCleanDisk (state S.Store conn.new)
-        → OnOk result (RowsStand bands.now
+        → OnOk result (RowsStand editions.now
         (λ row. list_any (is_party member) (sale_of row.item.terms))
         (state S.Store conn.old).now.trees) }
     ensures fits { IfOk result (λ sales. All IsSale sales.items) }
     ensures apart { IfOk result (λ sales. AllPairs (λ a b. a.item ≢ b.item) sales.items) }
     ensures few { IfOk result (λ sales. length sales.items ≤ most_items) }
     ensures damaged { HasCleanDisk (state S.Store conn.new)
-        → AreSoundBy bands.now (tables_in (state S.Store conn.old).now.trees)
+        → AreSoundBy editions.now (tables_in (state S.Store conn.old).now.trees)
         → ¬ (IsErrOf result Damaged) }
     ensures read { OnlyReads (state S.Store conn.old) (state S.Store conn.new) result }
 {
     if member == 0 {
-        sales_of_nobody(alloc, conn, bands)
+        sales_of_nobody(alloc, conn, editions)
     } else {
-        sales_of_member(alloc, conn, bands, member)
+        sales_of_member(alloc, conn, editions, member)
     }
 }

@@ -2,13 +2,14 @@
 ghost use Rattle.std.specs.Prelude.{◌≡◌, ◌<◌, ◌^◌, false, OnOk, IsErrOf};
 ghost use Rattle.sqlite.specs.State.{HasCleanDisk};
 ghost use Rattle.sqlite.specs.Held.{state};
+ghost use Rattle.house_rows.specs.Tables.{band_tables};
 ghost use Rattle.house_rows.specs.Asks.{ChangeFits, HasItem, IsFree};
 ghost use Rattle.house_rows.specs.Keeping.{AreSound};
 ghost use Rattle.house_rows.specs.declared.change.Change.TheVariants.{Settle};
 ghost use Rattle.house_rows.specs.declared.fault.KeepFault.TheVariants.{Damaged};
 ghost use Rattle.store_rows.specs.House.{IsBegun, Serves};
 ghost use Rattle.store_items.specs.Items.{OfItem};
-ghost use Rattle.store_rows.specs.Tables.{Changes, IsNumbered, Rests, settings_in, tables_in};
+ghost use Rattle.store_rows.specs.Tables.{Changes, IsNumbered, Rests, tables_in};
 ghost use Rattle.store_items.specs.RowsStanding.{HasStandingItem};
 ghost use Rattle.store_items.specs.Sales.{StartFits};
 ghost use Rattle.store_rows.specs.Frames.{OnlyReads, WritesMany};
@@ -16,30 +17,29 @@ ghost use Rattle.store_rows.specs.Commits.{Commits};
 
 use crate::item::set_settled;
 use crate::looking::terms_there;
-use house_rows::KeepFault;
+use house_rows::{Editions, KeepFault};
 use sqlite::{Alter, Connection, Transaction};
-use steps::Bands;
 use store_rows::{commit, set_clock, stored_moment};
 
 // Whether the row of an item fits; Damaged where there is none.
 fn check_terms<S: Alter>(
     conn: &mut Connection<S>,
-    bands: &Bands,
+    editions: &Editions,
     item: u32,
 ) -> Result<(), KeepFault>
     requires { Serves (state S.Store conn.old) }
     ensures there { HasCleanDisk (state S.Store conn.new)
-        → OnOk result (HasStandingItem bands.now (state S.Store conn.old).now.trees item) }
+        → OnOk result (HasStandingItem editions.now (state S.Store conn.old).now.trees item) }
     ensures fits { HasCleanDisk (state S.Store conn.new)
         → OnOk result (OfItem item StartFits (state S.Store conn.old).now) }
     ensures damaged { HasCleanDisk (state S.Store conn.new)
         → AreSound (tables_in (state S.Store conn.old).now.trees)
-        → bands.now ≡ (settings_in (state S.Store conn.old).now.trees).bands
+        → editions.now ≡ band_tables (tables_in (state S.Store conn.old).now.trees)
         → HasItem (tables_in (state S.Store conn.old).now.trees) item
         → ¬ (IsErrOf result Damaged) }
     ensures read { OnlyReads (state S.Store conn.old) (state S.Store conn.new) result }
 {
-    terms_there(conn, bands, item)?;
+    terms_there(conn, editions, item)?;
     Ok(())
 }
 
@@ -66,23 +66,23 @@ fn write_settlement<S: Alter>(
     set_clock(tx, moment)
 }
 
-/// Settles the sale of an item. The moment is in seconds since 1970-01-01T00:00:00Z, the bands are
+/// Settles the sale of an item. The moment is in seconds since 1970-01-01T00:00:00Z, the editions are
 /// those of the house. Damaged where there is no such item, where its row doesn't fit, or where the
 /// moment has more than 32 bits.
 pub fn settle<S: Alter>(
     conn: &mut Connection<S>,
-    bands: &Bands,
+    editions: &Editions,
     moment: u64,
     item: u32,
 ) -> Result<(), KeepFault>
     requires rests { Rests (state S.Store conn.old) }
     requires mode { conn.old.in_transaction ≡ false }
-    requires bands { HasCleanDisk (state S.Store conn.old)
-        → bands.now ≡ (settings_in (state S.Store conn.old).now.trees).bands }
+    requires editions { HasCleanDisk (state S.Store conn.old)
+        → editions.now ≡ band_tables (tables_in (state S.Store conn.old).now.trees) }
     ensures commit { Commits (Settle moment item) (state S.Store conn.old)
         (state S.Store conn.new) result }
     ensures there { HasCleanDisk (state S.Store conn.new)
-        → OnOk result (HasStandingItem bands.now (state S.Store conn.old).now.trees item) }
+        → OnOk result (HasStandingItem editions.now (state S.Store conn.old).now.trees item) }
     ensures moment { OnOk result (moment < 2 ^ 32) }
     ensures damaged { HasCleanDisk (state S.Store conn.new)
         → AreSound (tables_in (state S.Store conn.old).now.trees)
@@ -91,7 +91,7 @@ pub fn settle<S: Alter>(
         → ¬ (IsErrOf result Damaged) }
 {
     let moment = stored_moment(moment)?;
-    check_terms(conn, bands, item)?;
+    check_terms(conn, editions, item)?;
     let mut tx = conn.transaction();
     write_settlement(&mut tx, moment, item)?;
     commit(tx)

@@ -6,7 +6,7 @@ ghost use Rattle.sqlite.specs.Held.{state};
 ghost use Rattle.proxy.specs.Bids.{is_leader};
 ghost use Rattle.house_rows.specs.Fits.{TermsFit};
 ghost use Rattle.house_rows.specs.Items.{is_due};
-ghost use Rattle.house_rows.specs.Keeping.{ItemRowFits, Stands};
+ghost use Rattle.house_rows.specs.Keeping.{FitsBy, StandsBy};
 ghost use Rattle.house_rows.specs.Tables.{ItemRow};
 ghost use Rattle.house_rows.specs.declared.fault.KeepFault.TheVariants.{Damaged};
 ghost use Rattle.store_rows.specs.House.{Serves};
@@ -14,17 +14,16 @@ ghost use Rattle.store_rows.specs.ItemRows.{items_in};
 ghost use Rattle.store_rows.specs.Frames.{OnlyReads};
 
 use crate::reads::terms_list;
-use house_rows::{KeepFault, Terms};
+use house_rows::{Editions, KeepFault, Terms};
 use sqlite::{Alter, Connection, params};
 use std::alloc::Global;
-use steps::Bands;
 use store_rows::rows_shown;
 
 /// The items that a member sells, without their texts.
 pub fn terms_of_seller<S: Alter>(
     alloc: Global,
     conn: &mut Connection<S>,
-    bands: &Bands,
+    editions: &Editions,
     seller: u32,
 ) -> Result<Vec<Terms>, KeepFault>
     requires { Serves (state S.Store conn.old) }
@@ -33,9 +32,9 @@ pub fn terms_of_seller<S: Alter>(
         (filter (λ row. row.item.terms.seller == seller)
         (items_in (state S.Store conn.old).now.trees))) }
     ensures fits { IfOk result (λ terms. AllByRecursion TermsFit terms.items) }
-    ensures stands { IfOk result (λ terms. AllByRecursion (Stands bands.now) terms.items) }
+    ensures stands { IfOk result (λ terms. AllByRecursion (StandsBy editions.now) terms.items) }
     ensures damaged { HasCleanDisk (state S.Store conn.new)
-        → AllByRecursion (ItemRowFits bands.now) (items_in (state S.Store conn.old).now.trees)
+        → AllByRecursion (FitsBy editions.now) (items_in (state S.Store conn.old).now.trees)
         → ¬ (IsErrOf result Damaged) }
     ensures read { OnlyReads (state S.Store conn.old) (state S.Store conn.new) result }
 {
@@ -44,14 +43,14 @@ pub fn terms_of_seller<S: Alter>(
         "SELECT id, seller, category, start, buy_now, ending, state, closed, price, leader, count, top, second FROM item WHERE seller = ?1 ORDER BY id",
         params![seller],
     )?;
-    terms_list(alloc, bands, &rows)
+    terms_list(alloc, editions, &rows)
 }
 
 /// The items that a member leads, or has bought, without their texts.
 pub(crate) fn terms_led_by<S: Alter>(
     alloc: Global,
     conn: &mut Connection<S>,
-    bands: &Bands,
+    editions: &Editions,
     member: u32,
 ) -> Result<Vec<Terms>, KeepFault>
     requires { Serves (state S.Store conn.old) }
@@ -60,9 +59,9 @@ pub(crate) fn terms_led_by<S: Alter>(
         (filter (λ row. is_leader row.item.terms.leader member)
         (items_in (state S.Store conn.old).now.trees))) }
     ensures fits { IfOk result (λ terms. AllByRecursion TermsFit terms.items) }
-    ensures stands { IfOk result (λ terms. AllByRecursion (Stands bands.now) terms.items) }
+    ensures stands { IfOk result (λ terms. AllByRecursion (StandsBy editions.now) terms.items) }
     ensures damaged { HasCleanDisk (state S.Store conn.new)
-        → AllByRecursion (ItemRowFits bands.now) (items_in (state S.Store conn.old).now.trees)
+        → AllByRecursion (FitsBy editions.now) (items_in (state S.Store conn.old).now.trees)
         → ¬ (IsErrOf result Damaged) }
     ensures read { OnlyReads (state S.Store conn.old) (state S.Store conn.new) result }
 {
@@ -71,7 +70,7 @@ pub(crate) fn terms_led_by<S: Alter>(
         "SELECT id, seller, category, start, buy_now, ending, state, closed, price, leader, count, top, second FROM item WHERE leader = ?1 ORDER BY id",
         params![member],
     )?;
-    terms_list(alloc, bands, &rows)
+    terms_list(alloc, editions, &rows)
 }
 
 /// The open items whose end is at or before a moment, without their texts. The moment is in seconds
@@ -79,7 +78,7 @@ pub(crate) fn terms_led_by<S: Alter>(
 pub(crate) fn due_terms<S: Alter>(
     alloc: Global,
     conn: &mut Connection<S>,
-    bands: &Bands,
+    editions: &Editions,
     moment: u32,
 ) -> Result<Vec<Terms>, KeepFault>
     requires { Serves (state S.Store conn.old) }
@@ -88,9 +87,9 @@ pub(crate) fn due_terms<S: Alter>(
         (filter (λ row. is_due moment row.item.terms)
         (items_in (state S.Store conn.old).now.trees))) }
     ensures fits { IfOk result (λ terms. AllByRecursion TermsFit terms.items) }
-    ensures stands { IfOk result (λ terms. AllByRecursion (Stands bands.now) terms.items) }
+    ensures stands { IfOk result (λ terms. AllByRecursion (StandsBy editions.now) terms.items) }
     ensures damaged { HasCleanDisk (state S.Store conn.new)
-        → AllByRecursion (ItemRowFits bands.now) (items_in (state S.Store conn.old).now.trees)
+        → AllByRecursion (FitsBy editions.now) (items_in (state S.Store conn.old).now.trees)
         → ¬ (IsErrOf result Damaged) }
     ensures read { OnlyReads (state S.Store conn.old) (state S.Store conn.new) result }
 {
@@ -100,5 +99,5 @@ pub(crate) fn due_terms<S: Alter>(
         "SELECT id, seller, category, start, buy_now, ending, state, closed, price, leader, count, top, second FROM item WHERE state = 0 AND ending >= 0 AND ending <= ?1 ORDER BY id",
         params![moment],
     )?;
-    terms_list(alloc, bands, &rows)
+    terms_list(alloc, editions, &rows)
 }

@@ -1,7 +1,7 @@
 -- What is found in a table whose rows fit, fits.
-use Rattle.std.proofs.Common.{◌≡◌, ℕ, zero, suc, List, [], ◌∷◌, length, take, map, filter, Bool, true, ◌∙◌, ap, sym, arith, inl, inr, refl, Bor, Option, Some, None, Result, Ok, Err}
+use Rattle.std.proofs.Common.{◌≡◌, ℕ, zero, suc, List, [], ◌∷◌, length, take, map, filter, Bool, true, ◌∙◌, ap, sym, subst, arith, inl, inr, refl, Bor, Option, Some, None, Result, Ok, Err}
 use Rattle.std.specs.Option.{option_copied}
-use Rattle.std.specs.Prelude.{IfOk, IfSome, OnOk, Vec, find, is_some, option_map, ◌&&◌, nat_le, nat_lt}
+use Rattle.std.specs.Prelude.{IfOk, IfSome, OnOk, Vec, find, is_some, option_map, ◌==◌, ◌&&◌, nat_le, nat_lt}
 use Rattle.std.specs.List.{AllByRecursion}
 use Rattle.std.proofs.lemmas.Bool.Decides.{nat_tests}
 use Rattle.proxy.specs.declared.bid.Bid.{Bid}
@@ -11,12 +11,13 @@ use Rattle.proxy.specs.Kept.{Kept}
 use Rattle.proxy.proofs.Placed.{standing-none}
 use Rattle.house_rows.specs.declared.item.Item.{Item}
 use Rattle.house_rows.specs.declared.item.OwnBid.{OwnBid}
-use Rattle.house_rows.specs.Fits.{IsItem, IsMember, ItemFits, OwnBidFits, StandingFits}
-use Rattle.house_rows.specs.Found.{all_items, own_bid, own_bids}
+use Rattle.house_rows.specs.Fits.{IsItem, IsMember, ItemFits, OwnBidFits, StandingFits, TermsFit}
+use Rattle.house_rows.specs.Found.{all_items, item_at, item_with_lot, own_bid, own_bids, standing_at, terms_at}
 use Rattle.house_rows.specs.Changed.{is_item}
-use Rattle.house_rows.specs.Keeping.{AllStand, AreSound, ItemRowFits, Stands, StandsAt}
+use Rattle.house_rows.specs.Keeping.{AllStand, AreSound, ItemRowFits, RowFits, StandsAt, StandsIn}
 use Rattle.house_rows.specs.Limits.{most_shown}
-use Rattle.house_rows.specs.Tables.{ItemRow, Tables, row_opening}
+use Rattle.house_rows.specs.Tables.{ItemRow, Tables, bands_for, row_opening}
+use Rattle.house_rows.specs.Text.{same_text}
 use Rattle.house_rows.proofs.Every.{every_as, every_map}
 use Rattle.house_rows.proofs.Put.{by_test}
 use Rattle.house_rows.proofs.Standing.{row_stands}
@@ -64,20 +65,20 @@ passed P p (x ∷ xs) all = elim (by_test (p x)) [ inl is ↦ rw is ((all.0, is)
 
 pub items_fit : (t : Tables) → AreSound t → AllByRecursion ItemFits (all_items t)
 items_fit t sound = every_map (λ (row : ItemRow). row.item) ItemFits t.items
-    (every_as (ItemRowFits t.settings.bands) (λ (row : ItemRow). ItemFits row.item) t.items (λ row fits. fits.item) sound.items)
+    (every_as (RowFits t) (λ (row : ItemRow). ItemFits row.item) t.items (λ row fits. fits.item) sound.items)
 
-pub items_stand : (t : Tables) → AreSound t → AllByRecursion (λ (it : Item). Stands t.settings.bands it.terms) (all_items t)
-items_stand t sound = every_map (λ (row : ItemRow). row.item) (λ (it : Item). Stands t.settings.bands it.terms) t.items
-    (every_as (ItemRowFits t.settings.bands) (λ (row : ItemRow). Stands t.settings.bands row.item.terms) t.items (row_stands t.settings.bands) sound.items)
+pub items_stand : (t : Tables) → AreSound t → AllByRecursion (λ (it : Item). StandsIn t it.terms) (all_items t)
+items_stand t sound = every_map (λ (row : ItemRow). row.item) (λ (it : Item). StandsIn t it.terms) t.items
+    (every_as (RowFits t) (λ (row : ItemRow). StandsIn t row.item.terms) t.items (λ row fits. row_stands (bands_for t row.item.terms.item) row fits) sound.items)
 
 -- whichever rows of items are looked at, they stand
 pub all_stand : (t : Tables) (test : ItemRow → Bool) → AreSound t → AllStand test t
-all_stand t test sound = filter_fits (λ (row : ItemRow). Stands t.settings.bands row.item.terms) test t.items
-    (every_as (ItemRowFits t.settings.bands) (λ (row : ItemRow). Stands t.settings.bands row.item.terms) t.items (row_stands t.settings.bands) sound.items)
+all_stand t test sound = filter_fits (λ (row : ItemRow). StandsIn t row.item.terms) test t.items
+    (every_as (RowFits t) (λ (row : ItemRow). StandsIn t row.item.terms) t.items (λ row fits. row_stands (bands_for t row.item.terms.item) row fits) sound.items)
 
 pub stands_at : (t : Tables) → AreSound t → (item : ℕ) → StandsAt t item
-stands_at t sound item = some_as (λ (row : ItemRow). row.item.terms) (ItemRowFits t.settings.bands) (Stands t.settings.bands) _ (row_stands t.settings.bands)
-    (find_fits (ItemRowFits t.settings.bands) (is_item item) t.items sound.items)
+stands_at t sound item = some_as (λ (row : ItemRow). row.item.terms) (RowFits t) (StandsIn t) _ (λ row fits. row_stands (bands_for t row.item.terms.item) row fits)
+    (find_fits (RowFits t) (is_item item) t.items sound.items)
 
 each : {A : Type 0} (P : A → Type 0) → ((x : A) → P x) → (xs : List A) → AllByRecursion P xs
 each P all [] = tt
@@ -113,3 +114,39 @@ own_bids_fit t member from sound =
     (every_as ItemFits (λ (it : Item). IsItem it.terms.item) (all_items t) (λ it fits. fits.terms.item) (items_fit t sound)) in
     take_fits OwnBidFits most_shown (filter test made)
     (every_as (λ (b : OwnBid). IsItem b.item × (test b ≡ true)) OwnBidFits (filter test made) (λ b one. record { item = one.0; mine = let is = one.1 in grind (arith, nat_tests, is) }) (passed (λ (b : OwnBid). IsItem b.item) test made known))
+
+-- what is found in tables that are sound, here those that a keep's fields are, fits and stands
+pub terms_fit : (t u : Tables) → t ≡ u → AreSound t → (i : ℕ) → IfSome (terms_at t i) TermsFit
+terms_fit t u same sound i = some_as (λ (row : ItemRow). row.item.terms) (RowFits t) TermsFit _ (λ row fits. fits.item.terms) (find_fits (RowFits t) (is_item i) t.items sound.items)
+
+pub terms_stand : (t u : Tables) → t ≡ u → AreSound t → (i : ℕ) → IfSome (terms_at t i) (StandsIn u)
+terms_stand t u same sound i = subst (λ (x : Tables). IfSome (terms_at t i) (StandsIn x)) same (stands_at t sound i)
+
+pub item_fits : (t u : Tables) → t ≡ u → AreSound t → (i : ℕ) → IfSome (item_at t i) ItemFits
+item_fits t u same sound i = some_as (λ (row : ItemRow). row.item) (RowFits t) ItemFits _ (λ row fits. fits.item) (find_fits (RowFits t) (is_item i) t.items sound.items)
+
+pub item_stands : (t u : Tables) → t ≡ u → AreSound t → (i : ℕ) → IfSome (item_at t i) (λ it. StandsIn u it.terms)
+item_stands t u same sound i =
+    subst (λ (x : Tables). IfSome (item_at t i) (λ it. StandsIn x it.terms)) same
+    (some_as (λ (row : ItemRow). row.item) (RowFits t) (λ (it : Item). StandsIn t it.terms) _ (λ row fits. row_stands (bands_for t row.item.terms.item) row fits)
+    (find_fits (RowFits t) (is_item i) t.items sound.items))
+
+pub standing_fit : (t u : Tables) → t ≡ u → AreSound t → (i : ℕ) → IfSome (standing_at t i) StandingFits
+standing_fit t u same sound i =
+    some_as (λ (row : ItemRow). row.standing) (RowFits t) StandingFits _ (λ row fits. standing_fits (bands_for t row.item.terms.item) row fits) (find_fits (RowFits t) (is_item i) t.items sound.items)
+
+pub lot_fits : (t u : Tables) → t ≡ u → AreSound t → (seller : ℕ) (lot : List ℕ) → IfSome (item_with_lot t seller lot) IsItem
+lot_fits t u same sound seller lot =
+    some_as (λ (row : ItemRow). row.item.terms.item) (RowFits t) IsItem _ (λ row fits. fits.item.terms.item)
+    (find_fits (RowFits t) (λ row. (row.item.terms.seller == seller) && same_text row.item.lot lot) t.items sound.items)
+
+pub those_stand : (t : Tables) (p : Item → Bool) → AreSound t → AllByRecursion (λ (it : Item). StandsIn t it.terms) (filter p (all_items t))
+those_stand t p sound = filter_fits (λ (it : Item). StandsIn t it.terms) p (all_items t) (items_stand t sound)
+
+pub first_stand : (t : Tables) (n : ℕ) (p : Item → Bool) → AreSound t → AllByRecursion (λ (it : Item). StandsIn t it.terms) (take n (filter p (all_items t)))
+first_stand t n p sound = take_fits (λ (it : Item). StandsIn t it.terms) n (filter p (all_items t)) (those_stand t p sound)
+
+pub ok_items_stand : {Z E : Type 0} (t u : Tables) → t ≡ u → (r : Result (Vec Item Z) E) (xs : List Item) → IfOk r (λ v. v.items ≡ xs) → AllByRecursion (λ (it : Item). StandsIn t it.terms) xs
+    → IfOk r (λ v. AllByRecursion (λ (it : Item). StandsIn u it.terms) v.items)
+ok_items_stand t u same r xs is all =
+    subst (λ (x : Tables). IfOk r (λ v. AllByRecursion (λ (it : Item). StandsIn x it.terms) v.items)) same (ok_items (λ xs. AllByRecursion (λ (it : Item). StandsIn t it.terms) xs) r xs is all)

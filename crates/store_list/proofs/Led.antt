@@ -16,7 +16,7 @@ use Rattle.house_rows.specs.Changed.{changed, is_item, new_item, with_close, wit
 use Rattle.house_rows.specs.Found.{best_of, row_at}
 use Rattle.house_rows.specs.History.{Key, is_less, put_by}
 use Rattle.house_rows.specs.Items.{is_due}
-use Rattle.house_rows.specs.Keeping.{AreInTurn, AreSound, ItemRowFits}
+use Rattle.house_rows.specs.Keeping.{AreInTurn, AreSound, RowFits}
 use Rattle.house_rows.specs.Tables.{ItemRow, Tables}
 use Rattle.house_rows.specs.Verdict.{was_sold}
 use Rattle.house_rows.proofs.ChangedRows.{close_number, purchase_number, settlement_number, standing_other}
@@ -129,7 +129,7 @@ pub led_after : (t : Tables) (change : Change) → AreSound t → AllByRecursion
 unfolding changed
 led_after t (Register moment name) sound led fits = led
 led_after t (AddCategory moment name) sound led fits = led
-led_after t (Listed moment item) sound led fits = every_more (IsLed t.bids) t.items (new_item t.settings.bands (length t.items + 1) item) led (rw nobody tt)
+led_after t (Listed moment item) sound led fits = every_more (IsLed t.bids) t.items (new_item (length t.items + 1) item) led (rw nobody tt)
 led_after t (Bid moment item placed standing) sound led fits =
     every_map (with_standing item standing) (IsLed (put_by bid_key (record { item = item; bid = placed }) t.bids)) t.items
     (every_both (IsLed t.bids) (λ row. row_at t (number_of row) ≡ Some row) (λ row. IsLed (put_by bid_key (record { item = item; bid = placed }) t.bids) (with_standing item standing row)) t.items
@@ -158,5 +158,5 @@ leads_among t bids member numbers (row ∷ rows) same complete led = (
 )
 
 -- what was sold has a buyer
-pub sold_led : (bands : List (ℕ × ℕ)) (rows : List ItemRow) → AllByRecursion (ItemRowFits bands) rows → AllByRecursion (λ row. was_sold row.item.terms.state ≡ true → is_some row.item.terms.leader ≡ true) rows
-sold_led bands rows fit = every_as (ItemRowFits bands) (λ row. was_sold row.item.terms.state ≡ true → is_some row.item.terms.leader ≡ true) rows (λ row fits. fits.item.terms.sold_led) fit
+pub sold_led : (t u : Tables) → t ≡ u → AreSound t → AllByRecursion (λ row. was_sold row.item.terms.state ≡ true → is_some row.item.terms.leader ≡ true) t.items
+sold_led t u same sound = every_as (RowFits t) (λ row. was_sold row.item.terms.state ≡ true → is_some row.item.terms.leader ≡ true) t.items (λ row fits. fits.item.terms.sold_led) sound.items

@@ -7,9 +7,9 @@ use Rattle.settle.specs.Statement.{IsSale, is_party}
 use Rattle.settle.specs.declared.sale.Sold.{Sold}
 use Rattle.house_rows.specs.Fits.{IsMember, IsMoment}
 use Rattle.house_rows.specs.Found.{sales_to}
-use Rattle.house_rows.specs.Keeping.{AreInTurn, AreSound, ItemRowFits}
+use Rattle.house_rows.specs.Keeping.{AreInTurn, AreSound, ItemRowFits, RowFits}
 use Rattle.house_rows.specs.Limits.{last_moment, most_items}
-use Rattle.house_rows.specs.Tables.{ItemRow, Tables}
+use Rattle.house_rows.specs.Tables.{ItemRow, Tables, bands_for}
 use Rattle.house_rows.specs.Verdict.{was_sold}
 use Rattle.house_rows.proofs.Put.{by_test}
 use Rattle.list_items.specs.Sales.{sale_if_sold}
@@ -35,12 +35,12 @@ sale_fits bands row fits sold =
     let buyer = buyer_fits row.item.terms.leader row.item.terms.seller (terms.sold_led sold) terms.leader terms.apart in
     record { item = terms.item; seller = terms.seller; buyer = buyer.0; parties = buyer.1; closed = closed_fits row.item.terms.closed terms.closed }
 
-sales_fit : (bands : List (ℕ × ℕ)) (rows : List ItemRow) → AllByRecursion (ItemRowFits bands) rows → All IsSale (filter_map of_row rows)
-sales_fit bands [] all = All-nil IsSale
-sales_fit bands (row ∷ rows) all =
+sales_fit : (t : Tables) (rows : List ItemRow) → AllByRecursion (RowFits t) rows → All IsSale (filter_map of_row rows)
+sales_fit t [] all = All-nil IsSale
+sales_fit t (row ∷ rows) all =
     elim (by_test (was_sold row.item.terms.state)) [
-      | inl is ↦ rw is (All-cons IsSale _ (filter_map of_row rows) (sale_fits bands row all.0 is) (sales_fit bands rows all.1))
-      | inr not ↦ rw not (sales_fit bands rows all.1)
+      | inl is ↦ rw is (All-cons IsSale _ (filter_map of_row rows) (sale_fits (bands_for t row.item.terms.item) row all.0 is) (sales_fit t rows all.1))
+      | inr not ↦ rw not (sales_fit t rows all.1)
     ]
 
 -- sales of greater and greater items
@@ -86,7 +86,7 @@ sales_few (row ∷ rows) =
     elim (by_test (was_sold row.item.terms.state)) [ inl is ↦ rw is (omega arith) | inr not ↦ rw not (omega arith) ]
 
 pub sales_to_fit : (t : Tables) (member : ℕ) → AreSound t → All IsSale (sales_to t member)
-sales_to_fit t member sound = rw (sales_are t t.items member refl) (All-filter (is_party member) IsSale (filter_map of_row t.items) (sales_fit t.settings.bands t.items sound.items))
+sales_to_fit t member sound = rw (sales_are t t.items member refl) (All-filter (is_party member) IsSale (filter_map of_row t.items) (sales_fit t t.items sound.items))
 
 pub sales_to_apart : (t : Tables) (member : ℕ) → AreSound t → AllPairs (λ (a : Sold) (b : Sold). a.item ≢ b.item) (sales_to t member)
 sales_to_apart t member sound =

@@ -5,8 +5,8 @@ ghost use Rattle.house_rows.specs.declared.fault.KeepFault.TheVariants as fault;
 
 use crate::{bids, watches};
 use house_rows::{
-    Category, Change, Counts, Due, Feedback, Item, Keep, KeepFault, Member, OwnBest, OwnBid,
-    Question, Ratings, Settings, Terms,
+    Category, Change, Counts, Due, Editions, Feedback, Item, Keep, KeepFault, Member, OwnBest,
+    OwnBid, Question, Ratings, Settings, Terms,
 };
 use list_bids::Bids;
 use list_items::Items;
@@ -23,7 +23,8 @@ use std::marker::Model;
 #[derive(Debug, Drop)]
 pub struct ListKeep {
     pub(crate) alloc: Global,
-    pub(crate) settings: Settings,
+    // With the settings.
+    pub(crate) editions: Editions,
     pub(crate) clock: u64,
     pub(crate) members: Members,
     pub(crate) categories: Categories,
@@ -42,7 +43,7 @@ impl Model for ListKeep {
     ghost use Rattle.store_list.specs.Kept.{IsKept};
 
     ghost view = { λ k. record {
-      settings = k.settings;
+      settings = k.editions.settings;
       clock = k.clock;
       members = k.members;
       categories = k.categories;
@@ -53,8 +54,8 @@ impl Model for ListKeep {
       feedback = k.feedback;
     } };
 
-    ghost invariant = { λ k. IsKept (record {
-      settings = k.settings;
+    ghost invariant = { λ k. IsKept k.editions.later (record {
+      settings = k.editions.settings;
       clock = k.clock;
       members = k.members;
       categories = k.categories;
@@ -77,7 +78,7 @@ impl ListKeep {
     {
         Ok(ListKeep {
             alloc,
-            settings,
+            editions: Editions::new(alloc, settings),
             clock: 0,
             members: Members::new(alloc),
             categories: Categories::new(alloc),
@@ -100,7 +101,11 @@ impl Keep for ListKeep {
     ghost may_leave = { λ k t. t ≡ k };
 
     fn settings(&self) -> Result<&Settings, KeepFault> {
-        Ok(&self.settings)
+        Ok(self.editions.settings())
+    }
+
+    fn editions(&self) -> Result<&Editions, KeepFault> {
+        Ok(&self.editions)
     }
 
     fn clock(&mut self) -> Result<u64, KeepFault> {

@@ -1,18 +1,19 @@
 -- Of sound tables every stored row fits.
-use Rattle.std.proofs.Common.{ℕ, List}
+use Rattle.std.proofs.Common.{◌≡◌}
 use Rattle.std.specs.List.{AllByRecursion}
 use Rattle.sqlite_trees.specs.Tree.{Trees}
 use Rattle.house_rows.specs.Bids.{bid_key}
 use Rattle.house_rows.specs.Changed.{question_key}
 use Rattle.house_rows.specs.Fits.{BidRowFits, FeedbackFits, ItemFits, QuestionFits, WatchRowFits}
-use Rattle.house_rows.specs.Keeping.{AreSound, AreSoundBy, ItemRowFits}
+use Rattle.house_rows.specs.Keeping.{AreSound, AreSoundBy, FitsBy}
+use Rattle.house_rows.specs.Editions.{BandTables}
 use Rattle.house_rows.specs.Ratings.{feedback_key}
-use Rattle.house_rows.specs.Tables.{ItemRow}
+use Rattle.house_rows.specs.Tables.{ItemRow, band_tables}
 use Rattle.house_rows.specs.Watches.{watch_key}
 use Rattle.house_rows.proofs.Every.{every_as}
 use Rattle.store_rows.specs.ItemRows.{items_in}
 use Rattle.store_rows.specs.Rows.{bids_in, feedback_in, questions_in, watches_in}
-use Rattle.store_rows.specs.Tables.{settings_in, tables_in}
+use Rattle.store_rows.specs.Tables.{tables_in}
 use Rattle.store_rows.proofs.Shown.{every_stored}
 
 module _ (db : Trees) (sound : AreSound (tables_in db)) where
@@ -34,8 +35,8 @@ module _ (db : Trees) (sound : AreSound (tables_in db)) where
 
 pub items_fit : (db : Trees) → AreSound (tables_in db) → AllByRecursion (λ (row : ItemRow). ItemFits row.item) (items_in db)
 unfolding tables_in
-items_fit db sound = every_as (ItemRowFits (settings_in db).bands) (λ (row : ItemRow). ItemFits row.item) (items_in db) (λ row fits. fits.item) sound.items
+items_fit db sound = every_as (FitsBy (band_tables (tables_in db))) (λ (row : ItemRow). ItemFits row.item) (items_in db) (λ row fits. fits.item) sound.items
 
-pub rows_fit : (db : Trees) (bands : List (ℕ × ℕ)) → AreSoundBy bands (tables_in db) → AllByRecursion (ItemRowFits bands) (items_in db)
+pub rows_fit : (db : Trees) (editions : BandTables) → AreSoundBy editions (tables_in db) → AllByRecursion (FitsBy editions) (items_in db)
 unfolding tables_in
-rows_fit db bands sound = rw sound.same sound.sound.items
+rows_fit db editions sound = rw sound.same sound.sound.items

@@ -13,15 +13,14 @@ ghost use Rattle.store_rows.specs.House.{Serves};
 ghost use Rattle.store_rows.specs.Rows.{questions_in};
 ghost use Rattle.store_rows.specs.Tables.{tables_in};
 ghost use Rattle.store_talk.specs.Waiting.{waiting_in};
-ghost use Rattle.store_items.specs.RowsStanding.{StandsIn};
+ghost use Rattle.store_items.specs.RowsStanding.{ItemStands};
 ghost use Rattle.store_rows.specs.Frames.{OnlyReads};
 
 use crate::question_lists::waiting_on;
 use crate::question_pages::first_waiting_on;
-use house_rows::{KeepFault, MOST_SHOWN, Question, Terms};
+use house_rows::{Editions, KeepFault, MOST_SHOWN, Question, Terms};
 use sqlite::{Alter, Connection};
 use std::alloc::Global;
-use steps::Bands;
 use store_items::terms_of_seller;
 
 // Adds the questions on an item that wait to those found.
@@ -76,7 +75,7 @@ fn waiting_on_each<S: Alter>(
 pub fn waiting_for<S: Alter>(
     alloc: Global,
     conn: &mut Connection<S>,
-    bands: &Bands,
+    editions: &Editions,
     member: u32,
 ) -> Result<Vec<Question>, KeepFault>
     requires { Serves (state S.Store conn.old) }
@@ -85,14 +84,14 @@ pub fn waiting_for<S: Alter>(
         (tables_in (state S.Store conn.old).now.trees) member) }
     ensures stands { HasCleanDisk (state S.Store conn.new)
         → IfOk result (λ asked. AllByRecursion
-        (λ q. StandsIn bands.now (state S.Store conn.old).now.trees q.item) asked.items) }
+        (λ q. ItemStands editions.now (state S.Store conn.old).now.trees q.item) asked.items) }
     ensures fits { IfOk result (λ asked. AllByRecursion QuestionFits asked.items) }
     ensures damaged { HasCleanDisk (state S.Store conn.new)
-        → AreSoundBy bands.now (tables_in (state S.Store conn.old).now.trees)
+        → AreSoundBy editions.now (tables_in (state S.Store conn.old).now.trees)
         → ¬ (IsErrOf result Damaged) }
     ensures read { OnlyReads (state S.Store conn.old) (state S.Store conn.new) result }
 {
-    let own = terms_of_seller(alloc, conn, bands, member)?;
+    let own = terms_of_seller(alloc, conn, editions, member)?;
     waiting_on_each(alloc, conn, &own)
 }
 
@@ -160,7 +159,7 @@ fn first_on_each<S: Alter>(
 pub fn first_waiting<S: Alter>(
     alloc: Global,
     conn: &mut Connection<S>,
-    bands: &Bands,
+    editions: &Editions,
     member: u32,
 ) -> Result<Vec<Question>, KeepFault>
     requires { Serves (state S.Store conn.old) }
@@ -169,13 +168,13 @@ pub fn first_waiting<S: Alter>(
         (tables_in (state S.Store conn.old).now.trees) member) }
     ensures stands { HasCleanDisk (state S.Store conn.new)
         → IfOk result (λ asked. AllByRecursion
-        (λ q. StandsIn bands.now (state S.Store conn.old).now.trees q.item) asked.items) }
+        (λ q. ItemStands editions.now (state S.Store conn.old).now.trees q.item) asked.items) }
     ensures fits { IfOk result (λ asked. AllByRecursion QuestionFits asked.items) }
     ensures damaged { HasCleanDisk (state S.Store conn.new)
-        → AreSoundBy bands.now (tables_in (state S.Store conn.old).now.trees)
+        → AreSoundBy editions.now (tables_in (state S.Store conn.old).now.trees)
         → ¬ (IsErrOf result Damaged) }
     ensures read { OnlyReads (state S.Store conn.old) (state S.Store conn.new) result }
 {
-    let own = terms_of_seller(alloc, conn, bands, member)?;
+    let own = terms_of_seller(alloc, conn, editions, member)?;
     first_on_each(alloc, conn, &own)
 }

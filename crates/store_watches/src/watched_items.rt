@@ -5,7 +5,7 @@ ghost use Rattle.sqlite.specs.State.{HasCleanDisk};
 ghost use Rattle.sqlite.specs.Held.{state};
 ghost use Rattle.house_rows.specs.Fits.{ItemFits};
 ghost use Rattle.house_rows.specs.Found.{items_watched, watch_count};
-ghost use Rattle.house_rows.specs.Keeping.{AreSound, AreSoundBy, ItemRowFits, Stands};
+ghost use Rattle.house_rows.specs.Keeping.{AreSound, AreSoundBy, FitsBy, StandsBy};
 ghost use Rattle.house_rows.specs.Tables.{ItemRow};
 ghost use Rattle.house_rows.specs.declared.fault.KeepFault.TheVariants.{Damaged};
 ghost use Rattle.store_rows.specs.House.{Serves};
@@ -15,11 +15,10 @@ ghost use Rattle.store_watches.specs.Watched.{item_found};
 ghost use Rattle.store_rows.specs.Frames.{OnlyReads};
 
 use crate::list::watched_by;
-use house_rows::{Item, KeepFault};
+use house_rows::{Editions, Item, KeepFault};
 use list_rows::push;
 use sqlite::{Alter, Connection};
 use std::alloc::Global;
-use steps::Bands;
 use store_items::item_at;
 
 /// How many items a member watches.
@@ -44,7 +43,7 @@ pub fn watch_count<S: Alter>(
 // Adds the item with a number to those found, if it is there.
 fn add_item<S: Alter>(
     conn: &mut Connection<S>,
-    bands: &Bands,
+    editions: &Editions,
     number: u32,
     items: &mut Vec<Item>,
 ) -> Result<(), KeepFault>
@@ -54,14 +53,14 @@ fn add_item<S: Alter>(
         ++ item_found (state S.Store conn.old).now.trees number) }
     ensures fits { AllByRecursion ItemFits items.old.items
         → OnOk result (AllByRecursion ItemFits items.new.items) }
-    ensures stands { AllByRecursion (λ it. Stands bands.now it.terms) items.old.items
-        → OnOk result (AllByRecursion (λ it. Stands bands.now it.terms) items.new.items) }
+    ensures stands { AllByRecursion (λ it. StandsBy editions.now it.terms) items.old.items
+        → OnOk result (AllByRecursion (λ it. StandsBy editions.now it.terms) items.new.items) }
     ensures damaged { HasCleanDisk (state S.Store conn.new)
-        → AllByRecursion (ItemRowFits bands.now) (items_in (state S.Store conn.old).now.trees)
+        → AllByRecursion (FitsBy editions.now) (items_in (state S.Store conn.old).now.trees)
         → ¬ (IsErrOf result Damaged) }
     ensures read { OnlyReads (state S.Store conn.old) (state S.Store conn.new) result }
 {
-    match item_at(conn, bands, number)? {
+    match item_at(conn, editions, number)? {
         Some(item) => push(items, item),
         None => Ok(()),
     }
@@ -71,7 +70,7 @@ fn add_item<S: Alter>(
 fn items_at<S: Alter>(
     alloc: Global,
     conn: &mut Connection<S>,
-    bands: &Bands,
+    editions: &Editions,
     numbers: &[u32],
 ) -> Result<Vec<Item>, KeepFault>
     requires { Serves (state S.Store conn.old) }
@@ -80,16 +79,16 @@ fn items_at<S: Alter>(
         (item_found (state S.Store conn.old).now.trees) numbers.now) }
     ensures fits { IfOk result (λ items. AllByRecursion ItemFits items.items) }
     ensures stands { IfOk result (λ items. AllByRecursion
-        (λ it. Stands bands.now it.terms) items.items) }
+        (λ it. StandsBy editions.now it.terms) items.items) }
     ensures small { AllByRecursion (λ n. n < 2 ^ 64) numbers.now }
     ensures damaged { HasCleanDisk (state S.Store conn.new)
-        → AllByRecursion (ItemRowFits bands.now) (items_in (state S.Store conn.old).now.trees)
+        → AllByRecursion (FitsBy editions.now) (items_in (state S.Store conn.old).now.trees)
         → ¬ (IsErrOf result Damaged) }
     ensures read { OnlyReads (state S.Store conn.old) (state S.Store conn.new) result }
 {
     let mut items = Vec::new(alloc);
     for number in numbers {
-        add_item(conn, bands, *number, &mut items)?;
+        add_item(conn, editions, *number, &mut items)?;
     }
     Ok(items)
 }
@@ -98,7 +97,7 @@ fn items_at<S: Alter>(
 pub fn items_watched<S: Alter>(
     alloc: Global,
     conn: &mut Connection<S>,
-    bands: &Bands,
+    editions: &Editions,
     member: u32,
 ) -> Result<Vec<Item>, KeepFault>
     requires { Serves (state S.Store conn.old) }
@@ -107,12 +106,12 @@ pub fn items_watched<S: Alter>(
         (tables_in (state S.Store conn.old).now.trees) member) }
     ensures fits { IfOk result (λ items. AllByRecursion ItemFits items.items) }
     ensures stands { IfOk result (λ items. AllByRecursion
-        (λ it. Stands bands.now it.terms) items.items) }
+        (λ it. StandsBy editions.now it.terms) items.items) }
     ensures damaged { HasCleanDisk (state S.Store conn.new)
-        → AreSoundBy bands.now (tables_in (state S.Store conn.old).now.trees)
+        → AreSoundBy editions.now (tables_in (state S.Store conn.old).now.trees)
         → ¬ (IsErrOf result Damaged) }
     ensures read { OnlyReads (state S.Store conn.old) (state S.Store conn.new) result }
 {
     let numbers = watched_by(alloc, conn, member)?;
-    items_at(alloc, conn, bands, &numbers)
+    items_at(alloc, conn, editions, &numbers)
 }

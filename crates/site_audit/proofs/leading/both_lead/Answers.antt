@@ -1,6 +1,5 @@
 use Rattle.std.proofs.Common.{◌∙◌, ap, refl}
 use Rattle.house_laws.specs.Covered.{LeadsBy}
-use Rattle.house_rows.specs.Bids.{bids_on}
 use Rattle.site_audit.specs.Places.{keep_of}
 use Rattle.site_audit.proofs.Pairs.{left_err, right_err, seen_from, seen_gave, sound_if}
 use Rattle.site_audit.proofs.leading.both_lead.Goals as goal
@@ -9,7 +8,7 @@ pub returns-in_err-leads_by-clause-lead : goal.returns-in_err-leads_by-clause-le
 returns-in_err-leads_by-clause-lead g c = λ honest honest' settings h k is is' e d.
     let n = g.K.Keep in
     let b = c.args.bid in
-    let P : Type 0 = LeadsBy settings.bands b.member b.maximum (bids_on h b.item) × LeadsBy settings.bands b.member c.args.maximum (bids_on k b.item) in
+    let P : Type 0 = LeadsBy settings h b.item b.member b.maximum × LeadsBy settings k b.item b.member c.args.maximum in
     let same = ap n.content c.keep_mut.ensures.keep in
     let a = c.keep_mut.result.now in
     let right = keep_of c.args.right.now in
@@ -23,7 +22,7 @@ pub returns-in_err-leads_by-2-clause-lead : goal.returns-in_err-leads_by-2-claus
 returns-in_err-leads_by-2-clause-lead g c = λ honest honest' settings h k is is' e d.
     let n = g.K.Keep in
     let b = c.args.bid in
-    let P : Type 0 = LeadsBy settings.bands b.member b.maximum (bids_on h b.item) × LeadsBy settings.bands b.member c.args.maximum (bids_on k b.item) in
+    let P : Type 0 = LeadsBy settings h b.item b.member b.maximum × LeadsBy settings k b.item b.member c.args.maximum in
     let same = ap n.content c.keep_mut-2.ensures.keep in
     let left = keep_of c.args.left.now in
     let a = c.keep_mut-2.result.now in

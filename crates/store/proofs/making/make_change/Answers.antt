@@ -1,5 +1,5 @@
--- The counts after a change number what it adds, and the bands are those of the tables.
-use Rattle.std.proofs.Common.{ap, sym, ◌∙◌}
+-- The counts after a change number what it adds.
+use Rattle.std.proofs.Common.{ap, ◌∙◌}
 use Rattle.sqlite.specs.Held.{state}
 use Rattle.house_rows.specs.Found.{counts_of}
 use Rattle.house_rows.specs.declared.people.Counts.{Counts}
@@ -21,19 +21,3 @@ pub list-requires-clause-numbered : goal.list-requires-clause-numbered
 unfolding tables_in
 list-requires-clause-numbered g c = λ honest.
     ap (λ (k : Counts). k.items) (c.requires.counted honest ∙ ap (counts_after (counts_of (tables_in (state g.S.Store c.args.conn.now).now.trees))) c.in-List.is)
-
-pub bid-requires-clause-bands : goal.bid-requires-clause-bands
-unfolding tables_in
-bid-requires-clause-bands g c = λ honest. sym (c.requires.bands honest)
-
-pub buy-requires-clause-bands : goal.buy-requires-clause-bands
-unfolding tables_in
-buy-requires-clause-bands g c = λ honest. sym (c.requires.bands honest)
-
-pub settle-requires-clause-bands : goal.settle-requires-clause-bands
-unfolding tables_in
-settle-requires-clause-bands g c = λ honest. sym (c.requires.bands honest)
-
-pub close-requires-clause-bands : goal.close-requires-clause-bands
-unfolding tables_in
-close-requires-clause-bands g c = λ honest. sym (c.requires.bands honest)

@@ -39,5 +39,5 @@ pub returns-clause-stands : goal.returns-clause-stands
 returns-clause-stands g c clean =
     let db = (state g.S.Store c.args.conn.now).now.trees in
     let before = clean_before (state g.S.Store c.terms_at.new.conn) (state g.S.Store c.own_best.new.conn) c.own_best.ensures.read.crash clean in
-    let here = terms_in c.args.bands.now db c.args.item c.in_ok-terms.terms (c.in_ok-terms.ensures.found before) c.in_ok-terms.ensures.stands in
-    bid_stands c.args.bands.now db c.args.member c.args.item c.own_bid.result (returns-clause-value g c clean) here
+    let here = terms_in c.args.editions.now db c.args.item c.in_ok-terms.terms (c.in_ok-terms.ensures.found before) c.in_ok-terms.ensures.stands in
+    bid_stands c.args.editions.now db c.args.member c.args.item c.own_bid.result (returns-clause-value g c clean) here

@@ -11,7 +11,7 @@ use Rattle.store_rows.proofs.StartLemmas.{shown_before}
 use Rattle.store_rows.proofs.StateLemmas.{plain_at}
 use Rattle.store_rows.proofs.Steps.{both_same, clean_before}
 use Rattle.store_items.proofs.ItemRising.{number_of}
-use Rattle.store_items.specs.RowsStanding.{StandsIn}
+use Rattle.store_items.specs.RowsStanding.{ItemStands}
 use Rattle.store_bids.specs.OwnBids.{found_from}
 use Rattle.store_bids.specs.Reached.{FitFrom}
 use Rattle.store_bids.specs.Strays.{far_items_text}
@@ -49,18 +49,18 @@ pub returns-then-len-ge-MOST_SHOWN-clause-stands : goal.returns-then-len-ge-MOST
 returns-then-len-ge-MOST_SHOWN-clause-stands g c clean =
     let mid = state g.S.Store c.no_item.new.conn in
     let before = clean_before mid (state g.S.Store c.own_bids_from.new.conn) c.own_bids_from.ensures.read.crash clean in
-    subst (λ (db : Database). AllByRecursion (λ (b : OwnBid). StandsIn c.args.bands.now db.trees b.item) c.in_ok-found.found.items) (c.in_ok-no_item.ensures.read.same before).0.now_is (c.in_ok-found.ensures.stands clean)
+    subst (λ (db : Database). AllByRecursion (λ (b : OwnBid). ItemStands c.args.editions.now db.trees b.item) c.in_ok-found.found.items) (c.in_ok-no_item.ensures.read.same before).0.now_is (c.in_ok-found.ensures.stands clean)
 
 pub returns-in_err-no_item-clause-reached : goal.returns-in_err-no_item-clause-reached
 returns-in_err-no_item-clause-reached g c clean fit is =
     let old = state g.S.Store c.args.conn.now in
     let mid = state g.S.Store c.no_item.new.conn in
     let house = (c.requires (clean_before old mid c.no_item.ensures.read.crash clean)).1 in
-    no_low_item old mid house (c.no_item.ensures.damaged clean (search rules)) (own_ours old.now c.args.member c.args.from house c.args.bands.now fit)
+    no_low_item old mid house (c.no_item.ensures.damaged clean (search rules)) (own_ours old.now c.args.member c.args.from house c.args.editions.now fit)
 
 pub returns-in_err-no_item-clause-damaged : goal.returns-in_err-no_item-clause-damaged
 returns-in_err-no_item-clause-damaged g c clean sound is =
-    returns-in_err-no_item-clause-reached g c clean (all_fit c.args.bands.now (tables_in (state g.S.Store c.args.conn.now).now.trees) c.args.member c.args.from sound) is
+    returns-in_err-no_item-clause-reached g c clean (all_fit c.args.editions.now (tables_in (state g.S.Store c.args.conn.now).now.trees) c.args.member c.args.from sound) is
 
 pub returns-in_err-found-clause-reached : goal.returns-in_err-found-clause-reached
 returns-in_err-found-clause-reached g c clean fit is =
@@ -69,12 +69,12 @@ returns-in_err-found-clause-reached g c clean fit is =
     let before = clean_before mid (state g.S.Store c.own_bids_from.new.conn) c.own_bids_from.ensures.read.crash clean in
     let same = (c.in_ok-no_item.ensures.read.same before).0.now_is in
     let house = (c.requires (clean_before old mid c.no_item.ensures.read.crash before)).1 in
-    let turn = subst (λ (db : Database). FitFrom c.args.bands.now db.trees c.args.member 0 c.args.from) (sym same) (own_in_turn old.now c.args.member c.args.from house c.args.bands.now fit) in
+    let turn = subst (λ (db : Database). FitFrom c.args.editions.now db.trees c.args.member 0 c.args.from) (sym same) (own_in_turn old.now c.args.member c.args.from house c.args.editions.now fit) in
     c.own_bids_from.ensures.reached clean turn (search rules)
 
 pub returns-in_err-found-clause-damaged : goal.returns-in_err-found-clause-damaged
 returns-in_err-found-clause-damaged g c clean sound is =
-    returns-in_err-found-clause-reached g c clean (all_fit c.args.bands.now (tables_in (state g.S.Store c.args.conn.now).now.trees) c.args.member c.args.from sound) is
+    returns-in_err-found-clause-reached g c clean (all_fit c.args.editions.now (tables_in (state g.S.Store c.args.conn.now).now.trees) c.args.member c.args.from sound) is
 
 pub returns-in_err-no_item-2-clause-reached : goal.returns-in_err-no_item-2-clause-reached
 returns-in_err-no_item-2-clause-reached g c clean fit is =
@@ -87,11 +87,11 @@ returns-in_err-no_item-2-clause-reached g c clean fit is =
     let house = (c.requires (clean_before old first c.no_item.ensures.read.crash early)).1 in
     let same = (both_same old first mid (c.in_ok-no_item.ensures.read.same early) (c.in_ok-found.ensures.read.same late)).0.now_is in
     no_far_item mid new (subst IsHouse (sym same) house) (c.no_item-2.ensures.damaged clean (search rules))
-    (subst (λ (db : Database). AllByRecursion (λ row. number_of row < 2 ^ 32) (items_in db.trees)) (sym same) (own_ours old.now c.args.member c.args.from house c.args.bands.now fit))
+    (subst (λ (db : Database). AllByRecursion (λ row. number_of row < 2 ^ 32) (items_in db.trees)) (sym same) (own_ours old.now c.args.member c.args.from house c.args.editions.now fit))
 
 pub returns-in_err-no_item-2-clause-damaged : goal.returns-in_err-no_item-2-clause-damaged
 returns-in_err-no_item-2-clause-damaged g c clean sound is =
-    returns-in_err-no_item-2-clause-reached g c clean (all_fit c.args.bands.now (tables_in (state g.S.Store c.args.conn.now).now.trees) c.args.member c.args.from sound) is
+    returns-in_err-no_item-2-clause-reached g c clean (all_fit c.args.editions.now (tables_in (state g.S.Store c.args.conn.now).now.trees) c.args.member c.args.from sound) is
 
 pub returns-clause-value : goal.returns-clause-value
 returns-clause-value g c clean =
@@ -115,4 +115,4 @@ returns-clause-stands g c clean =
     let mid = state g.S.Store c.own_bids_from.new.conn in
     let late = clean_before mid (state g.S.Store c.no_item-2.new.conn) c.no_item-2.ensures.read.crash clean in
     let early = clean_before first mid c.own_bids_from.ensures.read.crash late in
-    subst (λ (db : Database). AllByRecursion (λ (b : OwnBid). StandsIn c.args.bands.now db.trees b.item) c.in_ok-found.found.items) (c.in_ok-no_item.ensures.read.same early).0.now_is (c.in_ok-found.ensures.stands late)
+    subst (λ (db : Database). AllByRecursion (λ (b : OwnBid). ItemStands c.args.editions.now db.trees b.item) c.in_ok-found.found.items) (c.in_ok-no_item.ensures.read.same early).0.now_is (c.in_ok-found.ensures.stands late)

@@ -8,7 +8,7 @@ use Rattle.house_rows.specs.declared.item.OwnBid.{OwnBid}
 use Rattle.store_rows.specs.Sorted.{sorted_bids}
 use Rattle.store_rows.specs.Tables.{tables_in}
 use Rattle.store_rows.proofs.Steps.{both_same, both_survive, clean_before}
-use Rattle.store_items.specs.RowsStanding.{StandsIn}
+use Rattle.store_items.specs.RowsStanding.{ItemStands}
 use Rattle.store_bids.specs.OwnBids.{found_from, items_bid_on, numbers_from, own_found}
 use Rattle.store_bids.specs.Reached.{FitFrom}
 use Rattle.store_bids.proofs.InTurn.{all_added, none_left}
@@ -34,10 +34,10 @@ bids-preserved g c =
       few = c.in_ok-next.ensures.few;
       fits = c.in_ok-next.ensures.fits held.fits;
       stands = λ clean. (let before = clean_before mid new crash clean in
-          let P = λ (db : Database) (b : OwnBid). StandsIn c.args.bands.now db.trees b.item in
+          let P = λ (db : Database) (b : OwnBid). ItemStands c.args.editions.now db.trees b.item in
           subst (λ (db : Database). AllByRecursion (P db) c.bids.found.items → AllByRecursion (P db) c.add_next_bids.new.found.items) (held.same before).0.now_is (c.in_ok-next.ensures.stands clean) (held.stands before));
       reached = λ clean fit. (let before = clean_before mid new crash clean in
-          subst (λ (db : Database). FitFrom c.args.bands.now db.trees c.args.member (length c.bids.found.items) c.bids.next → FitFrom c.args.bands.now db.trees c.args.member (length c.add_next_bids.new.found.items) c.in_ok-next.next)
+          subst (λ (db : Database). FitFrom c.args.editions.now db.trees c.args.member (length c.bids.found.items) c.bids.next → FitFrom c.args.editions.now db.trees c.args.member (length c.add_next_bids.new.found.items) c.in_ok-next.next)
           (held.same before).0.now_is (c.in_ok-next.ensures.later clean) (held.reached before fit));
     }
 
@@ -47,7 +47,7 @@ returns-in_err-next-clause-reached g c clean fit is =
     let new = state g.S.Store c.add_next_bids.new.conn in
     let held = c.bids.invariant in
     let before = clean_before mid new c.add_next_bids.ensures.read.crash clean in
-    let turn = subst (λ (db : Database). FitFrom c.args.bands.now db.trees c.args.member (length c.bids.found.items) c.bids.next) (sym (held.same before).0.now_is) (held.reached before fit) in
+    let turn = subst (λ (db : Database). FitFrom c.args.editions.now db.trees c.args.member (length c.bids.found.items) c.bids.next) (sym (held.same before).0.now_is) (held.reached before fit) in
     c.add_next_bids.ensures.reached clean turn (search rules)
 
 pub returns-clause-value : goal.returns-clause-value

@@ -1,6 +1,7 @@
-use Rattle.std.proofs.Common.{◌<◌, ◌^◌, arith, sym, ◌∙◌, true≢false}
+use Rattle.std.proofs.Common.{◌≡◌, ℕ, List, true, ◌<◌, ◌^◌, arith, sym, subst, ◌∙◌, true≢false}
 use Rattle.sqlite.specs.Held.{state}
 use Rattle.proxy.specs.Kept.{opening_of}
+use Rattle.proxy.specs.Rows.{is_standing}
 use Rattle.store_bids.proofs.Begins.{bid_begins, bid_stands}
 use Rattle.store_items.proofs.Rows.{standing_checked}
 use Rattle.store_items.proofs.RowsStanding.{has_standing_item}
@@ -16,9 +17,9 @@ pub returns-else-begins_at-clause-damaged : goal.returns-else-begins_at-clause-d
 returns-else-begins_at-clause-damaged g c clean sound bands moment placed fits _ =
     let db = (state g.S.Store c.args.conn.now).now.trees in
     let start = bid_begins db moment c.args.item placed c.args.standing.now c.in_ok-terms.terms fits (c.in_ok-terms.ensures.found clean) in
-    let stands = bid_stands db c.args.bands.now moment c.args.item placed c.args.standing.now bands fits in
+    let stands = subst (λ (b : List (ℕ × ℕ)). is_standing b c.args.standing.now ≡ true) (sym c.bands_for-bands.ensures) (bid_stands db c.args.editions.now moment c.args.item placed c.args.standing.now bands fits) in
     true≢false (sym (c.begins_at.ensures.all start stands) ∙ c.if-begins_at.false)
 
 pub returns-then-begins_at-clause-there : goal.returns-then-begins_at-clause-there
 returns-then-begins_at-clause-there g c clean =
-    has_standing_item c.args.bands.now (state g.S.Store c.args.conn.now).now.trees c.args.item c.in_ok-terms.terms (c.in_ok-terms.ensures.found clean) c.in_ok-terms.ensures.fits c.in_ok-terms.ensures.stands
+    has_standing_item c.args.editions.now (state g.S.Store c.args.conn.now).now.trees c.args.item c.in_ok-terms.terms (c.in_ok-terms.ensures.found clean) c.in_ok-terms.ensures.fits c.in_ok-terms.ensures.stands

@@ -25,4 +25,4 @@ returns-else-is_unbid-clause-damaged g c clean sound bands moment buyer price fi
 pub returns-then-is_unbid-clause-there : goal.returns-then-is_unbid-clause-there
 returns-then-is_unbid-clause-there g c clean =
     let mid : HasCleanDisk (state g.S.Store c.terms_there.new.conn) = omega (arith, c.standing_there.ensures.read.crash.clean) in
-    has_standing_item c.args.bands.now (state g.S.Store c.args.conn.now).now.trees c.args.item c.in_ok-terms.terms (c.in_ok-terms.ensures.found mid) c.in_ok-terms.ensures.fits c.in_ok-terms.ensures.stands
+    has_standing_item c.args.editions.now (state g.S.Store c.args.conn.now).now.trees c.args.item c.in_ok-terms.terms (c.in_ok-terms.ensures.found mid) c.in_ok-terms.ensures.fits c.in_ok-terms.ensures.stands

@@ -8,7 +8,7 @@ use Rattle.store_items.proofs.closing.close.Goals as goal
 
 pub returns-in_err-due-clause-damaged : goal.returns-in_err-due-clause-damaged
 returns-in_err-due-clause-damaged g c clean sound fits =
-    let none = c.in_err-due.ensures.damaged clean sound (c.requires.bands (omega (arith, c.find_due.ensures.read.crash.clean))) in
+    let none = c.in_err-due.ensures.damaged clean sound (c.requires.editions (omega (arith, c.find_due.ensures.read.crash.clean))) in
     search (rules, none)
 
 pub returns-clause-commit : goal.returns-clause-commit

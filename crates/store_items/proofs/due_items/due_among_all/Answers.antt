@@ -8,7 +8,7 @@ use Rattle.store_items.proofs.RowsStanding.{items_stand}
 use Rattle.store_items.proofs.due_items.due_among_all.Goals as goal
 
 pub returns-in_err-items-clause-damaged : goal.returns-in_err-items-clause-damaged
-returns-in_err-items-clause-damaged g c clean sound is = c.in_err-items.ensures.damaged clean (rows_fit (state g.S.Store c.args.conn.now).now.trees c.args.bands.now sound) (search rules)
+returns-in_err-items-clause-damaged g c clean sound is = c.in_err-items.ensures.damaged clean (rows_fit (state g.S.Store c.args.conn.now).now.trees c.args.editions.now sound) (search rules)
 
 pub returns-clause-value : goal.returns-clause-value
 returns-clause-value g c clean =
@@ -20,4 +20,4 @@ returns-clause-value g c clean =
 
 pub returns-clause-stands : goal.returns-clause-stands
 returns-clause-stands g c clean =
-    items_stand c.args.bands.now (state g.S.Store c.args.conn.now).now.trees (λ row. is_due c.args.moment row.item.terms) c.in_ok-items.items.items (c.in_ok-items.ensures.items clean) c.in_ok-items.ensures.stands
+    items_stand c.args.editions.now (state g.S.Store c.args.conn.now).now.trees (λ row. is_due c.args.moment row.item.terms) c.in_ok-items.items.items (c.in_ok-items.ensures.items clean) c.in_ok-items.ensures.stands

@@ -5,7 +5,7 @@ use Rattle.store_items.proofs.ItemLemmas.{IsStorable, adds_item}
 use Rattle.store_items.proofs.item.put_item.Goals as goal
 
 pub returns-clause-ok : goal.returns-clause-ok
-returns-clause-ok g c clean bands =
+returns-clause-ok g c clean =
     let house = c.run.ensures.house clean in
     let item = record c.args.item.now { end = c.args.end } in
     let lot = subst IsUtf8 c.stored_text-lot.ensures c.stored_text-lot.utf8 in
@@ -39,4 +39,4 @@ returns-clause-ok g c clean bands =
       c.stored_maybe_cents-buy_now.ensures.value,
       bound_maybe c.args.item.now.buy_now,
     ) at (c.run.ensures.ran clean))
-    (λ _ ran. adds_item _ _ c.args.number item ran.0 bands low lot title text house ran.1)
+    (λ _ ran. adds_item _ _ c.args.number item ran.0 low lot title text house ran.1)

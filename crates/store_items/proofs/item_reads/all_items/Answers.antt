@@ -21,5 +21,5 @@ returns-clause-items g c clean =
 pub returns-clause-damaged : goal.returns-clause-damaged
 returns-clause-damaged g c clean fits =
     let same : c.deref.result.now ≡ c.in_ok-rows.rows.items = search rules in
-    let hold = items_hold (state g.S.Store c.args.conn.now) (state g.S.Store c.rows_shown.new.conn) c.in_ok-rows.rows.items (c.rows_shown.ensures.house clean) c.args.bands.now fits (c.in_ok-rows.ensures.rows clean) in
-    c.item_list.ensures.damaged (subst (AllByRecursion (ItemHolds c.args.bands.now)) (sym same) hold)
+    let hold = items_hold (state g.S.Store c.args.conn.now) (state g.S.Store c.rows_shown.new.conn) c.in_ok-rows.rows.items (c.rows_shown.ensures.house clean) c.args.editions.now fits (c.in_ok-rows.ensures.rows clean) in
+    c.item_list.ensures.damaged (subst (AllByRecursion (ItemHolds c.args.editions.now)) (sym same) hold)

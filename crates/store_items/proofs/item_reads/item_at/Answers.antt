@@ -23,5 +23,5 @@ pub returns-clause-damaged : goal.returns-clause-damaged
 returns-clause-damaged g c clean fits =
     let shown = rw c.params-to_sql.ensures at (c.in_ok-rows.ensures.rows clean) in
     let same : c.deref.result.now ≡ c.in_ok-rows.rows.items = search rules in
-    let holds = item_holds (state g.S.Store c.args.conn.now) (state g.S.Store c.rows_shown.new.conn) c.in_ok-rows.rows.items (c.rows_shown.ensures.house clean) c.args.bands.now fits c.args.number shown in
-    c.first_item.ensures.damaged (subst (λ l. IfSome (slice_get l 0) (ItemHolds c.args.bands.now)) (sym same) holds)
+    let holds = item_holds (state g.S.Store c.args.conn.now) (state g.S.Store c.rows_shown.new.conn) c.in_ok-rows.rows.items (c.rows_shown.ensures.house clean) c.args.editions.now fits c.args.number shown in
+    c.first_item.ensures.damaged (subst (λ l. IfSome (slice_get l 0) (ItemHolds c.args.editions.now)) (sym same) holds)

@@ -23,13 +23,13 @@ pub returns-clause-damaged : goal.returns-clause-damaged
 returns-clause-damaged g c clean fits =
     let shown = rw c.params-to_sql.ensures at (c.in_ok-rows.ensures.rows clean) in
     let same : c.deref.result.now ≡ c.in_ok-rows.rows.items = search rules in
-    let holds = terms_hold (state g.S.Store c.args.conn.now) (state g.S.Store c.rows_shown.new.conn) c.in_ok-rows.rows.items (c.rows_shown.ensures.house clean) c.args.bands.now fits c.args.number shown in
-    c.first_terms.ensures.damaged (subst (λ l. IfSome (slice_get l 0) (TermsHold c.args.bands.now)) (sym same) holds)
+    let holds = terms_hold (state g.S.Store c.args.conn.now) (state g.S.Store c.rows_shown.new.conn) c.in_ok-rows.rows.items (c.rows_shown.ensures.house clean) c.args.editions.now fits c.args.number shown in
+    c.first_terms.ensures.damaged (subst (λ l. IfSome (slice_get l 0) (TermsHold c.args.editions.now)) (sym same) holds)
 
 pub returns-clause-here : goal.returns-clause-here
 returns-clause-here g c clean fits =
     let low : c.args.number < 2 ^ 32 = omega (arith, c.ranges.number) in
     let shown = rw c.params-to_sql.ensures at (c.in_ok-rows.ensures.rows clean) in
     let same : c.deref.result.now ≡ c.in_ok-rows.rows.items = search rules in
-    let holds = terms_here (state g.S.Store c.args.conn.now) (state g.S.Store c.rows_shown.new.conn) c.in_ok-rows.rows.items (c.rows_shown.ensures.house clean) c.args.bands.now c.args.number low shown fits in
-    c.first_terms.ensures.damaged (subst (λ l. IfSome (slice_get l 0) (TermsHold c.args.bands.now)) (sym same) holds)
+    let holds = terms_here (state g.S.Store c.args.conn.now) (state g.S.Store c.rows_shown.new.conn) c.in_ok-rows.rows.items (c.rows_shown.ensures.house clean) c.args.editions.now c.args.number low shown fits in
+    c.first_terms.ensures.damaged (subst (λ l. IfSome (slice_get l 0) (TermsHold c.args.editions.now)) (sym same) holds)

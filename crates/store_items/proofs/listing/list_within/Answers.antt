@@ -1,6 +1,5 @@
-use Rattle.std.proofs.Common.{arith, rules, []}
+use Rattle.std.proofs.Common.{arith, rules}
 use Rattle.sqlite.specs.Held.{state}
-use Rattle.store_rows.specs.Tables.{tables_in}
 use Rattle.store_rows.proofs.StateLemmas.{ok_then}
 use Rattle.store_items.proofs.Listed.{lists}
 use Rattle.store_items.proofs.listing.list_within.Goals as goal
@@ -11,11 +10,10 @@ returns-clause-ok g c clean =
     lists c.args.number c.args.moment (record c.args.item.now { end = c.args.end })
     (state g.S.Store c.args.tx.now.conn.now).now (state g.S.Store c.put_item.new.tx.conn.now).now (state g.S.Store c.set_clock.new.tx.conn.now).now
     (c.requires.numbered (omega (arith, c.set_clock.ensures.write.crash.clean, c.put_item.ensures.write.crash.clean))) (c.requires.next (omega (arith, c.set_clock.ensures.write.crash.clean, c.put_item.ensures.write.crash.clean)))
-    (c.in_ok-put_item.ensures.ok (omega (arith, c.set_clock.ensures.write.crash.clean)) (tables_in (state g.S.Store c.args.tx.now.conn.now).now.trees).settings.bands) w)
+    (c.in_ok-put_item.ensures.ok (omega (arith, c.set_clock.ensures.write.crash.clean))) w)
 
--- the new item is said for any steps of bids
 pub set_clock-requires : goal.set_clock-requires
 set_clock-requires g c = record {
-  serves = λ clean. ((c.in_ok-put_item.ensures.write.inside clean).is_open, (c.in_ok-put_item.ensures.ok clean []).house);
+  serves = λ clean. ((c.in_ok-put_item.ensures.write.inside clean).is_open, (c.in_ok-put_item.ensures.ok clean).house);
   begun = search rules;
 }

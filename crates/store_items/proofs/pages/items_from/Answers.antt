@@ -2,7 +2,7 @@ use Rattle.std.proofs.Common.{◌≡◌, ◌<◌, ◌^◌, ◌∙◌, ap, arith,
 use Rattle.std.specs.List.{AllByRecursion}
 use Rattle.sqlite.specs.Held.{state}
 use Rattle.house_rows.specs.Fits.{ItemFits}
-use Rattle.house_rows.specs.Keeping.{ItemRowFits}
+use Rattle.house_rows.specs.Keeping.{FitsBy}
 use Rattle.house_rows.specs.Tables.{ItemRow}
 use Rattle.house_rows.proofs.Every.{every_as}
 use Rattle.store_items.specs.Standing.{ItemHolds}
@@ -39,15 +39,15 @@ returns-clause-damaged g c clean fits =
     let from_low : c.args.from < 2 ^ 32 = omega (arith, c.ranges.from) in
     let first = rw (c.params-to_sql-2.ensures, c.params-to_sql-3.ensures) at (c.in_ok-rows.ensures.rows clean) in
     let same : c.deref.result.now ≡ c.in_ok-rows.rows.items = search rules in
-    let held = items_held c.args.category c.args.from category_low from_low (state g.S.Store c.args.conn.now) (state g.S.Store c.page_rows.new.conn) (c.page_rows.ensures.house clean) c.in_ok-rows.rows.items first c.args.bands.now fits in
-    c.item_list.ensures.damaged (subst (AllByRecursion (ItemHolds c.args.bands.now)) (sym same) held)
+    let held = items_held c.args.category c.args.from category_low from_low (state g.S.Store c.args.conn.now) (state g.S.Store c.page_rows.new.conn) (c.page_rows.ensures.house clean) c.in_ok-rows.rows.items first c.args.editions.now fits in
+    c.item_list.ensures.damaged (subst (AllByRecursion (ItemHolds c.args.editions.now)) (sym same) held)
 
 pub returns-in_err-rows-clause-damaged : goal.returns-in_err-rows-clause-damaged
 returns-in_err-rows-clause-damaged g c clean fits is =
     let category_low : c.args.category < 2 ^ 32 = omega (arith, c.ranges.category) in
     let from_low : c.args.from < 2 ^ 32 = omega (arith, c.ranges.from) in
     let some = rw c.params-to_sql.ensures at (c.page_rows.ensures.damaged clean (search rules)) in
-    no_stray_item c.args.category c.args.from category_low from_low (state g.S.Store c.args.conn.now) (state g.S.Store c.page_rows.new.conn) (c.page_rows.ensures.house clean) some (every_as (ItemRowFits c.args.bands.now) (λ (row : ItemRow). ItemFits row.item) _ (λ row fit. fit.item) fits)
+    no_stray_item c.args.category c.args.from category_low from_low (state g.S.Store c.args.conn.now) (state g.S.Store c.page_rows.new.conn) (c.page_rows.ensures.house clean) some (every_as (FitsBy c.args.editions.now) (λ (row : ItemRow). ItemFits row.item) _ (λ row fit. fit.item) fits)
 
 pub returns-clause-reached : goal.returns-clause-reached
 returns-clause-reached g c clean fits =
@@ -56,12 +56,12 @@ returns-clause-reached g c clean fits =
     let none = rw c.params-to_sql.ensures at (c.in_ok-rows.ensures.no_stray clean) in
     let first = rw (c.params-to_sql-2.ensures, c.params-to_sql-3.ensures) at (c.in_ok-rows.ensures.rows clean) in
     let same : c.deref.result.now ≡ c.in_ok-rows.rows.items = search rules in
-    let held = shown_held c.args.category c.args.from category_low from_low (state g.S.Store c.args.conn.now) (state g.S.Store c.page_rows.new.conn) (c.page_rows.ensures.house clean) c.in_ok-rows.rows.items none first c.args.bands.now fits in
-    c.item_list.ensures.damaged (subst (AllByRecursion (ItemHolds c.args.bands.now)) (sym same) held)
+    let held = shown_held c.args.category c.args.from category_low from_low (state g.S.Store c.args.conn.now) (state g.S.Store c.page_rows.new.conn) (c.page_rows.ensures.house clean) c.in_ok-rows.rows.items none first c.args.editions.now fits in
+    c.item_list.ensures.damaged (subst (AllByRecursion (ItemHolds c.args.editions.now)) (sym same) held)
 
 pub returns-in_err-rows-clause-reached : goal.returns-in_err-rows-clause-reached
 returns-in_err-rows-clause-reached g c clean fits is =
     let category_low : c.args.category < 2 ^ 32 = omega (arith, c.ranges.category) in
     let from_low : c.args.from < 2 ^ 32 = omega (arith, c.ranges.from) in
     let some = rw c.params-to_sql.ensures at (c.page_rows.ensures.damaged clean (search rules)) in
-    no_stray_shown c.args.category c.args.from category_low from_low (state g.S.Store c.args.conn.now) (state g.S.Store c.page_rows.new.conn) (c.page_rows.ensures.house clean) some c.args.bands.now fits
+    no_stray_shown c.args.category c.args.from category_low from_low (state g.S.Store c.args.conn.now) (state g.S.Store c.page_rows.new.conn) (c.page_rows.ensures.house clean) some c.args.editions.now fits

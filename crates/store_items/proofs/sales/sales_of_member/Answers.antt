@@ -3,7 +3,7 @@ use Rattle.std.specs.List.{AllByRecursion}
 use Rattle.sqlite.specs.Effect.{Database}
 use Rattle.sqlite.specs.Held.{state}
 use Rattle.proxy.specs.Bids.{is_leader}
-use Rattle.house_rows.specs.Keeping.{ItemRowFits}
+use Rattle.house_rows.specs.Keeping.{FitsBy}
 use Rattle.house_rows.specs.Pages.{sale_of}
 use Rattle.house_rows.specs.Tables.{ItemRow}
 use Rattle.store_rows.specs.ItemRows.{items_in}
@@ -16,13 +16,13 @@ use Rattle.store_rows.proofs.Steps.{clean_before}
 use Rattle.store_items.proofs.sales.sales_of_member.Goals as goal
 
 pub returns-in_err-sold-clause-damaged : goal.returns-in_err-sold-clause-damaged
-returns-in_err-sold-clause-damaged g c clean sound is = c.in_err-sold.ensures.damaged clean (rows_fit (state g.S.Store c.args.conn.now).now.trees c.args.bands.now sound) (search rules)
+returns-in_err-sold-clause-damaged g c clean sound is = c.in_err-sold.ensures.damaged clean (rows_fit (state g.S.Store c.args.conn.now).now.trees c.args.editions.now sound) (search rules)
 
 pub returns-in_err-led-clause-damaged : goal.returns-in_err-led-clause-damaged
 returns-in_err-led-clause-damaged g c clean sound is =
     let before = clean_before (state g.S.Store c.terms_of_seller.new.conn) (state g.S.Store c.terms_led_by.new.conn) c.terms_led_by.ensures.read.crash clean in
     c.in_err-led.ensures.damaged clean
-    (subst (λ (db : Database). AllByRecursion (ItemRowFits c.args.bands.now) (items_in db.trees)) (sym (c.in_ok-sold.ensures.read.same before).0.now_is) (rows_fit (state g.S.Store c.args.conn.now).now.trees c.args.bands.now sound)) (search rules)
+    (subst (λ (db : Database). AllByRecursion (FitsBy c.args.editions.now) (items_in db.trees)) (sym (c.in_ok-sold.ensures.read.same before).0.now_is) (rows_fit (state g.S.Store c.args.conn.now).now.trees c.args.editions.now sound)) (search rules)
 
 pub returns-then-not-rise-clause-damaged : goal.returns-then-not-rise-clause-damaged
 returns-then-not-rise-clause-damaged g c clean sound is =
@@ -89,4 +89,4 @@ returns-clause-stands g c clean =
     let same = (c.in_ok-sold.ensures.read.same before).0.now_is in
     let led_is = c.in_ok-led.ensures.terms clean ∙ ap (λ (db : Database). map (λ (row : ItemRow). row.item.terms) (filter (λ row. is_leader row.item.terms.leader c.args.member) (items_in db.trees))) same in
     ok_so c.sales_of.result
-    (sales_stand c.args.bands.now old.now.trees c.args.member c.in_ok-sold.sold.items c.in_ok-led.led.items c.requires.numbered (c.in_ok-sold.ensures.terms before) led_is c.in_ok-sold.ensures.stands c.in_ok-led.ensures.stands)
+    (sales_stand c.args.editions.now old.now.trees c.args.member c.in_ok-sold.sold.items c.in_ok-led.led.items c.requires.numbered (c.in_ok-sold.ensures.terms before) led_is c.in_ok-sold.ensures.stands c.in_ok-led.ensures.stands)

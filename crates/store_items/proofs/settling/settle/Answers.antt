@@ -8,7 +8,7 @@ use Rattle.store_items.proofs.settling.settle.Goals as goal
 
 pub returns-in_err-check_terms-clause-damaged : goal.returns-in_err-check_terms-clause-damaged
 returns-in_err-check_terms-clause-damaged g c clean sound fits =
-    let bands = c.requires.bands (omega (arith, c.check_terms.ensures.read.crash.clean)) in
+    let bands = c.requires.editions (omega (arith, c.check_terms.ensures.read.crash.clean)) in
     let none = c.in_err-check_terms.ensures.damaged clean sound bands (fits.row, fits.row_there) in
     search (rules, none)
 

@@ -29,5 +29,5 @@ returns-clause-damaged g c clean fits =
     let items = c.in_ok-rows.rows.items in
     let same : c.deref.result.now ≡ items = search rules in
     let shown = rw c.params-to_sql.ensures at (c.in_ok-rows.ensures.rows clean) in
-    c.terms_list.ensures.damaged (subst (AllByRecursion (TermsHold c.args.bands.now)) (sym same)
-    (terms_held terms_led_by_text (equals 13 ∷ []) terms_led_by_is (Int (pos c.args.member) ∷ []) (state g.S.Store c.args.conn.now) (state g.S.Store c.rows_shown.new.conn) items (c.rows_shown.ensures.house clean) shown c.args.bands.now fits))
+    c.terms_list.ensures.damaged (subst (AllByRecursion (TermsHold c.args.editions.now)) (sym same)
+    (terms_held terms_led_by_text (equals 13 ∷ []) terms_led_by_is (Int (pos c.args.member) ∷ []) (state g.S.Store c.args.conn.now) (state g.S.Store c.rows_shown.new.conn) items (c.rows_shown.ensures.house clean) shown c.args.editions.now fits))

@@ -10,7 +10,7 @@ use Rattle.store_rows.specs.Rows.{questions_in}
 use Rattle.store_rows.proofs.StateLemmas.{ok_then}
 use Rattle.store_rows.proofs.Tested.{all-take}
 use Rattle.store_talk.specs.Waiting.{waiting_in}
-use Rattle.store_items.specs.RowsStanding.{StandsIn}
+use Rattle.store_items.specs.RowsStanding.{ItemStands}
 use Rattle.store_rows.proofs.Sound.{questions_fit, rows_fit}
 use Rattle.store_talk.proofs.WaitingStanding.{waiting_stand}
 use Rattle.store_rows.proofs.Steps.{clean_before}
@@ -18,7 +18,7 @@ use Rattle.store_talk.proofs.WaitingItems.{waiting_found}
 use Rattle.store_talk.proofs.waiting.first_waiting.Goals as goal
 
 pub returns-in_err-own-clause-damaged : goal.returns-in_err-own-clause-damaged
-returns-in_err-own-clause-damaged g c clean sound is = c.in_err-own.ensures.damaged clean (rows_fit (state g.S.Store c.args.conn.now).now.trees c.args.bands.now sound) (search rules)
+returns-in_err-own-clause-damaged g c clean sound is = c.in_err-own.ensures.damaged clean (rows_fit (state g.S.Store c.args.conn.now).now.trees c.args.editions.now sound) (search rules)
 
 pub returns-clause-value : goal.returns-clause-value
 returns-clause-value g c clean =
@@ -45,6 +45,6 @@ pub returns-clause-stands : goal.returns-clause-stands
 returns-clause-stands g c clean =
     let old = state g.S.Store c.args.conn.now in
     let before = clean_before (state g.S.Store c.terms_of_seller.new.conn) (state g.S.Store c.first_on_each.new.conn) c.first_on_each.ensures.read.crash clean in
-    let P = λ (q : Question). StandsIn c.args.bands.now old.now.trees q.item in
-    let stand = all-take P most_shown _ (waiting_stand c.args.bands.now old.now.trees c.args.member c.in_ok-own.own.items (c.in_ok-own.ensures.terms before) c.in_ok-own.ensures.stands) in
+    let P = λ (q : Question). ItemStands c.args.editions.now old.now.trees q.item in
+    let stand = all-take P most_shown _ (waiting_stand c.args.editions.now old.now.trees c.args.member c.in_ok-own.own.items (c.in_ok-own.ensures.terms before) c.in_ok-own.ensures.stands) in
     ok_then c.first_on_each.result (returns-clause-value g c clean) (λ asked e. subst (AllByRecursion P) (sym e) stand)

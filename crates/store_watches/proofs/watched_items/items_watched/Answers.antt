@@ -2,7 +2,7 @@ use Rattle.std.proofs.Common.{◌≡◌, ◌<◌, ◌^◌, ◌∙◌, ap, flat_m
 use Rattle.std.specs.List.{AllByRecursion}
 use Rattle.sqlite.specs.Effect.{Database}
 use Rattle.sqlite.specs.Held.{state}
-use Rattle.house_rows.specs.Keeping.{ItemRowFits}
+use Rattle.house_rows.specs.Keeping.{FitsBy}
 use Rattle.store_rows.specs.ItemRows.{items_in}
 use Rattle.store_rows.proofs.StateLemmas.{ok_then}
 use Rattle.store_watches.specs.Watched.{item_found}
@@ -34,4 +34,4 @@ returns-clause-damaged g c clean sound =
     let old = state g.S.Store c.args.conn.now in
     let mid = state g.S.Store c.watched_by.new.conn in
     let before = clean_before mid (state g.S.Store c.items_at.new.conn) c.items_at.ensures.read.crash clean in
-    c.items_at.ensures.damaged clean (subst (λ (db : Database). AllByRecursion (ItemRowFits c.args.bands.now) (items_in db.trees)) (sym (c.in_ok-numbers.ensures.read.same before).0.now_is) (rows_fit old.now.trees c.args.bands.now sound))
+    c.items_at.ensures.damaged clean (subst (λ (db : Database). AllByRecursion (FitsBy c.args.editions.now) (items_in db.trees)) (sym (c.in_ok-numbers.ensures.read.same before).0.now_is) (rows_fit old.now.trees c.args.editions.now sound))

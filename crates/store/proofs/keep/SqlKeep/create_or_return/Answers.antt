@@ -7,7 +7,7 @@ invariant_of-result g c = record {
   idle = c.make_house.ensures.mode c.in-Ok.ensures.blank.0;
   moment = omega arith;
   rests = λ going honest. (c.in-Ok.ensures.ok honest).0;
-  known = λ going honest. known_new _ _ (c.in-Ok.ensures.ok honest).1;
+  known = λ going honest. known_new _ _ _ c.new.ensures (c.in-Ok.ensures.ok honest).1;
 }
 
 -- an error leaves what is so

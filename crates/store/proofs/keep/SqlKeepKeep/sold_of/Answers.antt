@@ -3,7 +3,7 @@ use Rattle.std.specs.Prelude.{Err}
 use Rattle.sqlite.specs.Held.{state}
 use Rattle.sqlite.specs.State.{HasCleanDisk}
 use Rattle.store_rows.specs.Tables.{tables_in}
-use Rattle.store.proofs.Known.{known_bands, known_sound, told_sound, works}
+use Rattle.store.proofs.Known.{all_stand, known_sound, told_sound, works}
 use Rattle.store.proofs.keep.SqlKeepKeep.sold_of.Goals as goal
 
 pub returns-in-Err-clause-faults : goal.returns-in-Err-clause-faults
@@ -18,4 +18,4 @@ unfolding tables_in
 returns-in-Ok-sales_to-clause-stands g c = λ honest.
     let before : HasCleanDisk (state g.S.Store c.self.inside.conn) = omega (arith, c.in-Ok-sales_to.ensures.read.crash.clean, honest) in
     let same : c.in-Ok.member ≡ c.args.member = search rules in
-    rw (← c.self.view_is, known_bands _ _ _ _ (c.self.invariant.known (works _ _ c.self.view_is c.in_ok-serves.ensures.ok) before), ← same) (c.in-Ok-sales_to.ensures.stands honest)
+    rw (← c.self.view_is, ← same) (all_stand _ _ _ _ (c.self.invariant.known (works _ _ c.self.view_is c.in_ok-serves.ensures.ok) before) _ (c.in-Ok-sales_to.ensures.stands honest))

@@ -2,7 +2,7 @@ use Rattle.std.proofs.Common.{ap, arith}
 use Rattle.std.specs.Prelude.{Err}
 use Rattle.sqlite.specs.Held.{state}
 use Rattle.sqlite.specs.State.{HasCleanDisk}
-use Rattle.store.proofs.Known.{known_bands, known_rows, told_sound, works}
+use Rattle.store.proofs.Known.{known_rows, terms_stand, told_sound, works}
 use Rattle.store.proofs.keep.SqlKeepKeep.terms.Goals as goal
 
 pub returns-in-Err-clause-faults : goal.returns-in-Err-clause-faults
@@ -15,4 +15,4 @@ returns-in-Err-clause-faults g c = rw (← c.self.view_is)
 pub returns-in-Ok-terms_at-clause-stands : goal.returns-in-Ok-terms_at-clause-stands
 returns-in-Ok-terms_at-clause-stands g c = λ honest.
     let before : HasCleanDisk (state g.S.Store c.self.inside.conn) = omega (arith, c.in-Ok-terms_at.ensures.read.crash.clean, honest) in
-    rw (← c.self.view_is, known_bands _ _ _ _ (c.self.invariant.known (works _ _ c.self.view_is c.in_ok-serves.ensures.ok) before)) c.in-Ok-terms_at.ensures.stands
+    rw (← c.self.view_is) (terms_stand _ _ _ _ (c.self.invariant.known (works _ _ c.self.view_is c.in_ok-serves.ensures.ok) before) _ c.in-Ok-terms_at.ensures.stands)

@@ -2,7 +2,8 @@ use Rattle.std.proofs.Common.{ap, arith}
 use Rattle.std.specs.Prelude.{Err}
 use Rattle.sqlite.specs.Held.{state}
 use Rattle.sqlite.specs.State.{HasCleanDisk}
-use Rattle.store.proofs.Known.{known_bands, known_sound, told_sound, works}
+use Rattle.house_rows.specs.declared.talk.Question.{Question}
+use Rattle.store.proofs.Known.{each_stands, known_sound, told_sound, works}
 use Rattle.store.proofs.keep.SqlKeepKeep.waiting_for.Goals as goal
 
 pub returns-in-Err-clause-faults : goal.returns-in-Err-clause-faults
@@ -15,4 +16,4 @@ returns-in-Err-clause-faults g c = rw (← c.self.view_is)
 pub returns-in-Ok-waiting_for-clause-stands : goal.returns-in-Ok-waiting_for-clause-stands
 returns-in-Ok-waiting_for-clause-stands g c = λ honest.
     let before : HasCleanDisk (state g.S.Store c.self.inside.conn) = omega (arith, c.in-Ok-waiting_for.ensures.read.crash.clean, honest) in
-    rw (← c.self.view_is, known_bands _ _ _ _ (c.self.invariant.known (works _ _ c.self.view_is c.in_ok-serves.ensures.ok) before)) (c.in-Ok-waiting_for.ensures.stands honest)
+    rw (← c.self.view_is) (each_stands _ _ _ _ (c.self.invariant.known (works _ _ c.self.view_is c.in_ok-serves.ensures.ok) before) (λ (q : Question). q.item) _ (c.in-Ok-waiting_for.ensures.stands honest))

@@ -9,11 +9,11 @@ list-requires c = record { room = (fits_here c.args.self.now _ (change.List c.ar
 
 pub invariant_of-self-2 : goal.invariant_of-self-2
 unfolding changed
-invariant_of-self-2 c = kept_after c.args.self.now _ _ (change.List c.args.moment c.args.item.now) c.self.view_is c.self.invariant c.requires.fits (c.in_ok-list.ensures.whole.free) (rw (c.in_ok-list.ensures.listed c.self.inside.settings.bands) refl)
+invariant_of-self-2 c = kept_after c.args.self.now _ _ (change.List c.args.moment c.args.item.now) c.self.view_is c.self.invariant c.requires.fits (c.in_ok-list.ensures.whole.free) (rw c.in_ok-list.ensures.listed refl)
 
 pub returns : goal.returns
 unfolding changed
-returns c = makes_ok c.args.self.now _ _ (change.List c.args.moment c.args.item.now) c.self.view_is (c.in_ok-list.ensures.whole.free) (rw (c.in_ok-list.ensures.listed c.self.inside.settings.bands) refl)
+returns c = makes_ok c.args.self.now _ _ (change.List c.args.moment c.args.item.now) c.self.view_is (c.in_ok-list.ensures.whole.free) (rw c.in_ok-list.ensures.listed refl)
 
 pub returns-in_err-list : goal.returns-in_err-list
 unfolding changed

@@ -6,8 +6,7 @@ use Rattle.house_rows.specs.Fits.{ItemFits}
 use Rattle.house_rows.specs.Limits.{most_shown}
 use Rattle.house_rows.specs.Tables.{ItemRow}
 use Rattle.store_list.proofs.Fitting.{filter_fits, items_fit, ok_items, take_fits}
-use Rattle.house_rows.specs.Keeping.{Stands}
-use Rattle.store_list.proofs.Fitting.{items_stand}
+use Rattle.store_list.proofs.Fitting.{first_stand, ok_items_stand}
 use Rattle.store_list.proofs.keep.ListKeepKeep.items_in.Goals as goal
 
 pub returns-clause-value : goal.returns-clause-value
@@ -22,6 +21,5 @@ returns-clause-fits c =
     ok_items (λ xs. AllByRecursion ItemFits xs) c.in_category.result (take most_shown listed) c.in_category.ensures.value (take_fits ItemFits most_shown listed (filter_fits ItemFits is_listed rows fits))
 
 pub returns-clause-stands : goal.returns-clause-stands
-returns-clause-stands c = λ _. rw (← c.self.view_is)
-    (ok_items (λ xs. AllByRecursion (λ (it : Item). Stands c.self.inside.settings.bands it.terms) xs) c.in_category.result _ c.in_category.ensures.value
-    (take_fits (λ (it : Item). Stands c.self.inside.settings.bands it.terms) most_shown _ (filter_fits (λ (it : Item). Stands c.self.inside.settings.bands it.terms) _ _ (items_stand _ c.self.invariant.sound))))
+returns-clause-stands c = λ _. ok_items_stand _ _ c.self.view_is c.in_category.result _ c.in_category.ensures.value
+    (first_stand _ most_shown (λ (it : Item). (it.terms.category == c.args.category) && nat_le c.args.from it.terms.item) c.self.invariant.sound)

@@ -13,7 +13,7 @@ pub sales_of-requires : goal.sales_of-requires
 sales_of-requires c = record {
   complete = leads_among c.args.self.now c.self.inside.bids c.args.member c.deref.result.now c.self.inside.items (rw (← c.self.view_is) refl)
       (λ item mine. rw c.deref.ensures.value (c.in_ok-bid_on.ensures.value c.args.self.now item (rw (← c.self.view_is) refl) mine)) c.self.invariant.led;
-  led = sold_led c.self.inside.settings.bands c.self.inside.items c.self.invariant.sound.items;
+  led = sold_led _ _ c.self.view_is c.self.invariant.sound;
 }
 
 pub returns-clause-value : goal.returns-clause-value

@@ -1,15 +1,11 @@
 use Rattle.std.specs.List.{AllByRecursion}
 use Rattle.house_rows.specs.Fits.{ItemFits}
 use Rattle.store_list.proofs.Fitting.{filter_fits, items_fit, ok_items}
-use Rattle.house_rows.specs.declared.item.Item.{Item}
-use Rattle.house_rows.specs.Keeping.{Stands}
-use Rattle.store_list.proofs.Fitting.{items_stand}
+use Rattle.store_list.proofs.Fitting.{ok_items_stand, those_stand}
 use Rattle.store_list.proofs.keep.ListKeepKeep.watches_of.Goals as goal
 
 pub returns-clause-fits : goal.returns-clause-fits
 returns-clause-fits c = ok_items (λ xs. AllByRecursion ItemFits xs) c.items_watched.result _ c.items_watched.ensures.value (filter_fits ItemFits _ _ (items_fit _ c.self.invariant.sound))
 
 pub returns-clause-stands : goal.returns-clause-stands
-returns-clause-stands c = λ _. rw (← c.self.view_is)
-    (ok_items (λ xs. AllByRecursion (λ (it : Item). Stands c.self.inside.settings.bands it.terms) xs) c.items_watched.result _ c.items_watched.ensures.value
-    (filter_fits (λ (it : Item). Stands c.self.inside.settings.bands it.terms) _ _ (items_stand _ c.self.invariant.sound)))
+returns-clause-stands c = λ _. ok_items_stand _ _ c.self.view_is c.items_watched.result _ c.items_watched.ensures.value (those_stand _ _ c.self.invariant.sound)
