@@ -199,7 +199,7 @@ rated_same settings bands w i x y h k rows d (Unwatch j) near = refl
 rated_same settings bands w i x y h k rows d (Ask j text) near = refl
 rated_same settings bands w i x y h k rows d (Answer j asker number text) near = refl
 
-surplus_stays : (settings : Settings) (bands : List (ℕ × ℕ)) (w i x y : ℕ) (h k : History) (number d : ℕ) (command : Command) → x ≤ y → is_bid_by w i d command ≡ false → BidCovered bands i x command
+surplus_stays : (bands : List (ℕ × ℕ)) (w i x y : ℕ) (h k : History) (number d : ℕ) (command : Command) → x ≤ y → is_bid_by w i d command ≡ false → BidCovered bands i x command
     → IsSurplus bands None w x y (bids_on h i) (bids_on k i) → IsSurplus bands None w x y (bids_on h i ++ bid_in i number d command) (bids_on k i ++ bid_in i number d command)
 surplus_stays bands w i x y h k number d (Bid j maximum) le differ covered s =
     elim (by_test (j == i)) [
