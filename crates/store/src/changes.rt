@@ -46,13 +46,7 @@ impl<S: Alter> SqlKeep<S> {
         let Some(counts) = counts_after(self.counts, change) else {
             return Err(KeepFault::Damaged);
         };
-        match make_change(
-            self.alloc,
-            &mut self.conn,
-            &self.editions,
-            counts,
-            change,
-        ) {
+        match make_change(self.alloc, &mut self.conn, &self.editions, counts, change) {
             Ok(()) => {
                 self.counts = counts;
                 self.clock = clock;

@@ -212,10 +212,7 @@ impl<S: Alter> Keep for SqlKeep<S> {
         let Ok(item) = u32::try_from(item) else {
             return Ok(None);
         };
-        told!(
-            self,
-            standing_at(&mut self.conn, &self.editions, item)
-        )
+        told!(self, standing_at(&mut self.conn, &self.editions, item))
     }
 
     #[tactic(auto, using(crate::proofs::Absent::no_best_of, crate::proofs::Absent::no_best_at))]
@@ -384,10 +381,7 @@ impl<S: Alter> Keep for SqlKeep<S> {
     #[tactic(auto, unfolding(store_rows::specs::Tables::tables_in))]
     fn items(&mut self) -> Result<Vec<Item>, KeepFault> {
         self.serves()?;
-        told!(
-            self,
-            all_items(self.alloc, &mut self.conn, &self.editions)
-        )
+        told!(self, all_items(self.alloc, &mut self.conn, &self.editions))
     }
 
     #[tactic(auto, using(store_rows::proofs::Sound::questions_fit), unfolding(store_rows::specs::Tables::tables_in))]
@@ -422,7 +416,10 @@ impl<S: Alter> Keep for SqlKeep<S> {
             return Ok(Vec::new(self.alloc));
         };
         let editions = &self.editions;
-        told!(self, waiting_for(self.alloc, &mut self.conn, editions, member))
+        told!(
+            self,
+            waiting_for(self.alloc, &mut self.conn, editions, member)
+        )
     }
 
     #[tactic(auto, using(crate::proofs::AbsentLists::no_first_waiting))]

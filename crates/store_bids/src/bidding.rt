@@ -163,9 +163,9 @@ fn write_bid<S: Alter>(
 }
 
 /// Places a bid on an item, which then stands as told. The moment is in seconds since
-/// 1970-01-01T00:00:00Z, the band tables are those of the house. Damaged where the bid's number is taken,
-/// where there is no such item, where its row or the standing doesn't fit, or where the moment has
-/// more than 32 bits.
+/// 1970-01-01T00:00:00Z, the band tables are those of the house. Damaged where the bid's number is
+/// taken, where there is no such item, where its row or the standing doesn't fit, or where the
+/// moment has more than 32 bits.
 pub fn bid<S: Alter>(
     conn: &mut Connection<S>,
     editions: &Editions,

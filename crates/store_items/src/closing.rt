@@ -91,9 +91,8 @@ fn write_close<S: Alter>(
 
 /// Closes every open item whose end is at or before the moment: sold where somebody leads, else
 /// unsold. The moment is in seconds since 1970-01-01T00:00:00Z, the band tables are those of the
-/// house.
-/// Damaged where the row of an item that is due doesn't fit, or where the moment has more than 32
-/// bits.
+/// house. Damaged where the row of an item that is due doesn't fit, or where the moment has more
+/// than 32 bits.
 pub fn close<S: Alter>(
     conn: &mut Connection<S>,
     editions: &Editions,

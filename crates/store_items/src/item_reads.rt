@@ -90,7 +90,8 @@ pub fn standing_at<S: Alter>(
         → IfOk result (λ found. found ≡ option_map (λ (row : ItemRow). row.standing)
         (find (is_item number) (items_in (state S.Store conn.old).now.trees))) }
     ensures fits { IfOk result (λ found. IfSome found StandingFits) }
-    ensures stands { IfOk result (λ found. IfSome found (λ s. is_standing (bands_in editions.now number) s ≡ true)) }
+    ensures stands { IfOk result (λ found. IfSome found
+        (λ s. is_standing (bands_in editions.now number) s ≡ true)) }
     ensures damaged { HasCleanDisk (state S.Store conn.new)
         → AllByRecursion (FitsBy editions.now) (items_in (state S.Store conn.old).now.trees)
         → ¬ (IsErrOf result Damaged) }
@@ -129,8 +130,7 @@ pub fn item_with_lot<S: Alter>(
     first_of(&rows)
 }
 
-/// All items, by number. A row that doesn't stand by its band table is
-/// damaged.
+/// All items, by number. A row that doesn't stand by its band table is damaged.
 pub fn all_items<S: Alter>(
     alloc: Global,
     conn: &mut Connection<S>,

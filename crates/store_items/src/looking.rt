@@ -18,8 +18,8 @@ use house_rows::{Editions, KeepFault, Terms};
 use proxy::Standing;
 use sqlite::{Alter, Connection};
 
-/// An item without its texts; Damaged where there is none, or where its row doesn't stand by
-/// its band table.
+/// An item without its texts; Damaged where there is none, or where its row doesn't stand by its
+/// band table.
 pub fn terms_there<S: Alter>(
     conn: &mut Connection<S>,
     editions: &Editions,
@@ -45,8 +45,7 @@ pub fn terms_there<S: Alter>(
     }
 }
 
-/// The standing of the bids on an item, by the item's band table; Damaged where there is no
-/// item.
+/// The standing of the bids on an item, by the item's band table; Damaged where there is no item.
 pub(crate) fn standing_there<S: Alter>(
     conn: &mut Connection<S>,
     editions: &Editions,

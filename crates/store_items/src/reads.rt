@@ -177,7 +177,11 @@ fn add_item(editions: &Editions, row: &Row, all: &mut Vec<Item>) -> Result<(), K
 }
 
 /// The items that rows tell.
-pub(crate) fn item_list(alloc: Global, editions: &Editions, rows: &[Row]) -> Result<Vec<Item>, KeepFault>
+pub(crate) fn item_list(
+    alloc: Global,
+    editions: &Editions,
+    rows: &[Row],
+) -> Result<Vec<Item>, KeepFault>
     ensures value { IfOk result (λ all. all.items ≡ map item_of rows.now) }
     ensures fits { IfOk result (λ all. AllByRecursion ItemFits all.items) }
     ensures stands { IfOk result (λ all. AllByRecursion

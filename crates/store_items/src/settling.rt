@@ -66,9 +66,9 @@ fn write_settlement<S: Alter>(
     set_clock(tx, moment)
 }
 
-/// Settles the sale of an item. The moment is in seconds since 1970-01-01T00:00:00Z, the editions are
-/// those of the house. Damaged where there is no such item, where its row doesn't fit, or where the
-/// moment has more than 32 bits.
+/// Settles the sale of an item. The moment is in seconds since 1970-01-01T00:00:00Z, the band
+/// tables are those of the house. Damaged where there is no such item, where its row doesn't fit,
+/// or where the moment has more than 32 bits.
 pub fn settle<S: Alter>(
     conn: &mut Connection<S>,
     editions: &Editions,
