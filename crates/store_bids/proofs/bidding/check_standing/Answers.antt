@@ -17,7 +17,7 @@ pub returns-else-begins_at-clause-damaged : goal.returns-else-begins_at-clause-d
 returns-else-begins_at-clause-damaged g c clean sound bands moment placed fits _ =
     let db = (state g.S.Store c.args.conn.now).now.trees in
     let start = bid_begins db moment c.args.item placed c.args.standing.now c.in_ok-terms.terms fits (c.in_ok-terms.ensures.found clean) in
-    let stands = subst (λ (b : List (ℕ × ℕ)). is_standing b c.args.standing.now ≡ true) (sym c.bands_for-bands.ensures) (bid_stands db c.args.editions.now moment c.args.item placed c.args.standing.now bands fits) in
+    let stands = subst (λ (b : List (ℕ × ℕ)). is_standing b c.args.standing.now ≡ true) (sym (rw c.from.ensures at c.bands_for-bands.ensures)) (bid_stands db c.args.editions.now moment c.args.item placed c.args.standing.now bands fits) in
     true≢false (sym (c.begins_at.ensures.all start stands) ∙ c.if-begins_at.false)
 
 pub returns-then-begins_at-clause-there : goal.returns-then-begins_at-clause-there

@@ -27,4 +27,4 @@ returns-clause-damaged g c clean fits =
     let low : c.args.number < 2 ^ 32 = omega (arith, c.ranges.number) in
     let holds = standing_holds (state g.S.Store c.args.conn.now) (state g.S.Store c.rows_shown.new.conn) c.in_ok-rows.rows.items (c.rows_shown.ensures.house clean) c.args.editions.now c.args.number low shown fits in
     let table = λ (bands : List (ℕ × ℕ)). IfSome (slice_get c.deref.result.now 0) (AreStanding bands) in
-    c.first_standing.ensures.damaged (subst table (sym c.bands_for.ensures) (subst (λ l. IfSome (slice_get l 0) (AreStanding (bands_in c.args.editions.now c.args.number))) (sym same) holds))
+    c.first_standing.ensures.damaged (subst table (sym (rw c.from.ensures at c.bands_for.ensures)) (subst (λ l. IfSome (slice_get l 0) (AreStanding (bands_in c.args.editions.now c.args.number))) (sym same) holds))
