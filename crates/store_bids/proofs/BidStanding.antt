@@ -1,5 +1,5 @@
 -- What a member has bid is handed out of items whose rows stand.
-use Rattle.std.proofs.Common.{◌≡◌, ℕ, List, find, option_map, Option, Some, None, refl, sym, subst, arith}
+use Rattle.std.proofs.Common.{◌≡◌, ℕ, find, option_map, Option, Some, None, refl, sym, subst, arith}
 use Rattle.std.specs.Prelude.{IfSome, nat_lt}
 use Rattle.std.specs.List.{AllByRecursion}
 use Rattle.std.proofs.lemmas.Bool.Decides.{nat_tests}

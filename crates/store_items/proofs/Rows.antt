@@ -32,7 +32,7 @@ use Rattle.store_rows.specs.ItemRows.{is_state, item_row_in, items_in}
 use Rattle.store_rows.specs.Rows.{maybe_number_in, number_in}
 use Rattle.store_rows.proofs.RowLemmas.{filter_same_on, one_row}
 use Rattle.store_items.specs.Items.{OfItem}
-use Rattle.store_rows.specs.Tables.{settings_in, tables_in}
+use Rattle.store_rows.specs.Tables.{tables_in}
 use Rattle.store_items.specs.Sales.{IsUnbid, StartFits, StartsAt}
 use Rattle.store_items.proofs.ItemLemmas.{fits_state, kept_opening}
 

@@ -1,27 +1,17 @@
 -- What the columns of an item whose row fits tell of its standing.
-use Rattle.std.proofs.Common.{◌≡◌, ◌≤◌, ◌<◌, ◌^◌, ◌∙◌, ℕ, pos, true, nat_le, List, [], ◌∷◌, filter, slice_get, Option, Some, None, IfSome, refl, sym, ap, subst, arith, true≢false}
+use Rattle.std.proofs.Common.{◌≡◌, ◌≤◌, ◌<◌, ◌^◌, ◌∙◌, ℕ, true, nat_le, List, [], ◌∷◌, slice_get, Option, Some, None, IfSome, refl, sym, ap, subst, arith, true≢false}
 use Rattle.std.specs.List.{AllByRecursion}
-use Rattle.sqlite_value.specs.declared.value.Value.TheVariants.{Null, Int}
 use Rattle.sqlite_value.specs.Order.{Row, column}
-use Rattle.sqlite_sql.specs.Program.{overlay}
-use Rattle.sqlite_keyed.proofs.ListLemmas.{all-filter, all_map, all_unmap, all_weaker}
 use Rattle.sqlite_keyed.proofs.RuleLemmas.{first_of_both, second_of_both}
-use Rattle.sqlite.specs.State.{State, Shown}
-use Rattle.sqlite.proofs.Callers.{reads_as}
 use Rattle.proxy.specs.Rows.{is_standing}
 use Rattle.proxy.proofs.Shapes.{accepted_shape}
 use Rattle.house_rows.specs.Fits.{IsWithin}
 use Rattle.house_rows.specs.Keeping.{ItemRowFits}
 use Rattle.house_rows.specs.Limits.{most_bids, most_cents, most_members}
-use Rattle.store_rows.specs.Schema.{house_schema}
 use Rattle.store_rows.specs.Rows.{maybe_number_in, number_in}
-use Rattle.store_rows.specs.ItemRows.{item_row_in, items_in, kept_columns, kept_from}
-use Rattle.store_rows.specs.House.{IsHouse}
-use Rattle.store_rows.specs.Plain.{passes, shown_by}
+use Rattle.store_rows.specs.ItemRows.{item_row_in, kept_columns, kept_from}
 use Rattle.store_items.proofs.ItemColumns.{weaker}
-use Rattle.store_rows.proofs.Select.{by_rowid, equals, in_order, listed}
 use Rattle.store_items.specs.Columns.{AreStanding}
-use Rattle.store_items.proofs.ItemMeaning.{standing_at_is, standing_at_text, standing_shown}
 use Rattle.store_items.proofs.ItemLemmas.{kept_start}
 
 -- top and second are amounts, where the top that is told is one

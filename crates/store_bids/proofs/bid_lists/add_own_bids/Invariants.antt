@@ -17,7 +17,7 @@ invariant-loop-number g l =
     let now = state g.S.Store l.conn in
     let t = tables_in old.now.trees in
     let F = own_found t l.member in
-    let P = λ (b : OwnBid). StandsIn l.editions old.now.trees b.item in
+    let P = λ (b : OwnBid). ItemStands l.editions old.now.trees b.item in
     record {
       survives : Survives old now (λ _. ⊥);
       same : HasCleanDisk now → IsUnchanged old now;
