@@ -1,5 +1,5 @@
 -- What is kept stays so, and what a change promises once it is made.
-use Rattle.std.proofs.Common.{◌≡◌, List, [], ◌∙◌, ap, sym, subst, Result, Ok, Err}
+use Rattle.std.proofs.Common.{◌≡◌, List, [], ◌∙◌, ap, ap₂, sym, subst, Result, Ok, Err}
 use Rattle.std.specs.Prelude.{IsErrAnd, OnOk}
 use Rattle.house_rows.specs.declared.change.Change.{Change}
 use Rattle.house_rows.specs.declared.fault.KeepFault.{KeepFault}
@@ -8,6 +8,7 @@ use Rattle.house_rows.specs.Asks.{ChangeFits, IsFree}
 use Rattle.house_rows.specs.Changed.{changed}
 use Rattle.house_rows.specs.Keeping.{AreSound}
 use Rattle.house_rows.specs.declared.edition.Edition.{Edition}
+use Rattle.house_rows.specs.declared.settings.Settings.{Settings}
 use Rattle.house_rows.specs.Editions.{BandTables}
 use Rattle.house_rows.specs.Tables.{Tables, band_tables}
 use Rattle.store_list.specs.Kept.{IsKept}
@@ -78,4 +79,6 @@ kept_in {later = later} f (Err e) x y z old change same kept fits made makes = s
 
 -- the band tables that a keep holds are all that its tables have
 pub first_alone : (editions : BandTables) (t u : Tables) → t ≡ u → t.settings ≡ editions.settings → editions.later ≡ [] → editions ≡ band_tables u
-first_alone editions t u same settings alone = cc (ap (λ (x : Tables). x.settings) same)
+first_alone editions t u same settings alone =
+    let both : Settings → List Edition → BandTables = λ s l. record { settings = s; later = l } in
+    ap₂ both (sym settings ∙ ap (λ (x : Tables). x.settings) same) alone
