@@ -111,15 +111,6 @@ impl<S: Alter + Drop> SqlKeep<S> {
     {
         let house = open_house(alloc, conn)?;
         Ok(SqlKeep::of_house(alloc, house))
-=======
-        Ok(SqlKeep {
-            alloc,
-            conn: house.conn,
-            editions: Editions::new(alloc, house.settings),
-            counts: house.counts,
-            clock: house.clock,
-            failed: false,
-        })
     }
 
     /// As `open_or_return`, and after an error the store is dropped. So a clause says that there is such

@@ -30,6 +30,9 @@ pub record AreSealed (bands : List (ℕ × ℕ)) (at : ℕ) (r : Row) : Type 0 w
   pub second : IfSome (maybe_number_in (column r (at + 1))) (λ n. n ≤ most_cents)
   pub stands : stands bands (terms_of r) (maybe_number_in (column r at)) (maybe_number_in (column r (at + 1))) ≡ true
 
+-- what a query shows of an item, its maxima after the terms, or after the texts
+abbrev pub TermsHold : BandTables → Row → Type 0
+TermsHold editions r = TermsFit (terms_of r) × AreSealed (bands_in editions (terms_of r).item) 11 r
 
 abbrev pub ItemHolds : BandTables → Row → Type 0
 ItemHolds editions r = ItemFits (item_of r) × AreSealed (bands_in editions (item_of r).terms.item) 14 r

@@ -77,6 +77,8 @@ fn judge(bands: &Bands, terms: &Terms, row: &Row, at: usize) -> Result<(), KeepF
     judge_by(bands, terms, top, second)
 }
 
+// The terms that a row tells, which stand by their band table. What is sealed comes after them.
+fn terms_read(editions: &Editions, row: &Row) -> Result<Terms, KeepFault>
     ensures value { IfOk result (λ it. it ≡ terms_of row.now) }
     ensures fits { IfOk result TermsFit }
     ensures stands { IfOk result (λ it. StandsBy editions.now it) }
@@ -88,6 +90,8 @@ fn judge(bands: &Bands, terms: &Terms, row: &Row, at: usize) -> Result<(), KeepF
     Ok(terms)
 }
 
+// The item that a row tells, which stands by its band table. What is sealed comes after its texts.
+fn item_read(editions: &Editions, row: &Row) -> Result<Item, KeepFault>
     ensures value { IfOk result (λ it. it ≡ item_of row.now) }
     ensures fits { IfOk result ItemFits }
     ensures stands { IfOk result (λ it. StandsBy editions.now it.terms) }
