@@ -1,5 +1,5 @@
 -- Two runs that look alike to a member give it the same replies.
-use Rattle.std.proofs.Common.{◌≡◌, ℕ, List, [], ◌∷◌, true, false, refl, ◌∙◌, ap, sym, arith, inl, inr, ◌⊎◌, Option, Some, None}
+use Rattle.std.proofs.Common.{◌≡◌, ℕ, List, [], ◌∷◌, true, false, refl, ◌∙◌, ap, sym, arith, inl, inr, map, ◌⊎◌, Option, Some, None}
 use Rattle.std.specs.Prelude.{◌==◌, if◌then◌else◌}
 use Rattle.std.proofs.lemmas.Bool.Decides.{nat_tests}
 use Rattle.house_rows.specs.declared.command.Command.{Command}
@@ -12,7 +12,7 @@ use Rattle.house_rows.specs.declared.reply.Reply.TheVariants.{Shows}
 use Rattle.house_rows.specs.declared.settings.Settings.{Settings}
 use Rattle.house_rows.specs.declared.told.Told.{Told}
 use Rattle.house_rows.specs.History.{Entry, History}
-use Rattle.house_rows.specs.Runs.{Agrees, AreTwins, AreTwinsFrom, Twin, entered, entry, is_of, next, rendered_from, rendered_to, replies_to, reply, reply_if}
+use Rattle.house_rows.specs.Runs.{Agrees, AreTwins, AreTwinsFrom, Twin, entered, entry, history_from, is_of, next, rendered_from, rendered_to, replies_to, reply, reply_if}
 use Rattle.house_rows.specs.Told.{told}
 use Rattle.house_rows.specs.Verdict.{verdict}
 use Rattle.house_rows.specs.Views.{own_view, public_view}
@@ -75,7 +75,8 @@ entered_own : (v : Option Refusal) (c : ℕ) (h k : History) (t : ℕ) (command 
 entered_own None c h k t command e = own_step c h k t command e
 entered_own (Some refusal) c h k t command e = e
 
-own_other : {F : Type 0} (settings : Settings) (c : ℕ) (h : History) (m : Message F) → is_of c m ≡ false → own_view (next settings h m) c ≡ own_view h c
+-- and so does the message itself
+pub own_other : {F : Type 0} (settings : Settings) (c : ℕ) (h : History) (m : Message F) → is_of c m ≡ false → own_view (next settings h m) c ≡ own_view h c
 unfolding next
 own_other settings c h (Order t caller command) other = entered_other (verdict settings h t caller command) c h (entry t caller command) other
 own_other settings c h (Read caller q) other = refl
@@ -95,7 +96,7 @@ own_kept : {F : Type 0} (settings : Settings) (c : ℕ) (h k : History) (m : Mes
 own_kept settings c h k m alike =
     elim (by_test (is_of c m)) [ inl is ↦ own_mine settings c h k m is alike | inr other ↦ own_other settings c h m other ∙ alike.own ∙ sym (own_other settings c k m other) ]
 
-own_next : {F : Type 0} (settings : Settings) (c : ℕ) (h k : History) (m n : Message F) → (m ≡ n) ⊎ ((is_of c m ≡ false) × (is_of c n ≡ false)) → AreAlike settings c h k
+pub own_next : {F : Type 0} (settings : Settings) (c : ℕ) (h k : History) (m n : Message F) → (m ≡ n) ⊎ ((is_of c m ≡ false) × (is_of c n ≡ false)) → AreAlike settings c h k
     → own_view (next settings h m) c ≡ own_view (next settings k n) c
 own_next settings c h k m n same alike =
     elim same [ inl e ↦ rw (← e) (own_kept settings c h k m alike) | inr others ↦ own_other settings c h m others.0 ∙ alike.own ∙ sym (own_other settings c k n others.1) ]
@@ -118,6 +119,17 @@ rendered_here meant rendered settings c h k x y same alike after =
       | inr others ↦ rw (others.0, others.1) refl
     ]
 
+-- after elements that are equal or not the member's the histories are alike again, where what is public and what waits agree
+pub alike_next : {A F : Type 0} (meant : A → Message F) (settings : Settings) (c : ℕ) (h k : History) (x y : A)
+    → (x ≡ y) ⊎ ((is_of c (meant x) ≡ false) × (is_of c (meant y) ≡ false)) → AreAlike settings c h k
+    → Agrees settings c (next settings h (meant x)) (next settings k (meant y))
+    → AreAlike settings c (next settings h (meant x)) (next settings k (meant y))
+alike_next meant settings c h k x y same alike after = record {
+  public = after.public;
+  own = own_next settings c h k (meant x) (meant y) (meant_alike meant c x y same) alike;
+  waiting = after.waiting;
+}
+
 -- all rendered replies to a member are the same
 pub rendered_same : {A B F : Type 0} (meant : A → Message F) (rendered : A → Reply F → B) (settings : Settings) (c : ℕ) (h k : History) (left right : List A)
     → AreAlike settings c h k → AreTwinsFrom meant settings c h k left right
@@ -126,15 +138,22 @@ rendered_same meant rendered settings c h k [] [] alike twin = refl
 rendered_same meant rendered settings c h k [] (y ∷ ys) alike twin = absurd twin
 rendered_same meant rendered settings c h k (x ∷ xs) [] alike twin = absurd twin
 rendered_same meant rendered settings c h k (x ∷ xs) (y ∷ ys) alike twin =
-    let alike' : AreAlike settings c (next settings h (meant x)) (next settings k (meant y)) = record {
-      public = twin.1.public;
-      own = own_next settings c h k (meant x) (meant y) (meant_alike meant c x y twin.0) alike;
-      waiting = twin.1.waiting;
-    } in
+    let alike' = alike_next meant settings c h k x y twin.0 alike twin.1 in
     rw (
       rendered_here meant rendered settings c h k x y twin.0 alike twin.1,
       rendered_same meant rendered settings c (next settings h (meant x)) (next settings k (meant y)) xs ys alike' twin.2,
     ) refl
+
+-- and the histories after them are alike again
+pub alike_again : {A F : Type 0} (meant : A → Message F) (settings : Settings) (c : ℕ) (h k : History) (left right : List A)
+    → AreAlike settings c h k → AreTwinsFrom meant settings c h k left right
+    → AreAlike settings c (history_from settings h (map meant left)) (history_from settings k (map meant right))
+alike_again meant settings c h k [] [] alike twin = alike
+alike_again meant settings c h k [] (y ∷ ys) alike twin = absurd twin
+alike_again meant settings c h k (x ∷ xs) [] alike twin = absurd twin
+alike_again meant settings c h k (x ∷ xs) (y ∷ ys) alike twin =
+    alike_again meant settings c (next settings h (meant x)) (next settings k (meant y)) xs ys
+    (alike_next meant settings c h k x y twin.0 alike twin.1) twin.2
 
 pub isolation : {A B F : Type 0} (meant : A → Message F) (rendered : A → Reply F → B) (settings : Settings) (c : ℕ) (left right : List A)
     → AreTwins meant settings c left right → rendered_to meant rendered settings c left ≡ rendered_to meant rendered settings c right

@@ -12,3 +12,8 @@ pub mod StatementLines
 pub mod Near
 pub mod CoveredRuns
 pub mod CoveredLeads
+pub mod Lives
+pub mod Purchases
+pub mod BidsShown
+pub mod Asking
+pub mod AskedSeen

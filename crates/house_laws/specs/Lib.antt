@@ -10,3 +10,6 @@ pub mod EdgeRows
 pub mod Watching
 pub mod Deals
 pub mod Statements
+pub mod Lives
+pub mod TwinLives
+pub mod Asking

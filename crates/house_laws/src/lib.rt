@@ -9,6 +9,7 @@
 mod course;
 mod edges;
 mod prices;
+mod privacy;
 mod secrecy;
 mod statements;
 mod surplus;
@@ -20,9 +21,15 @@ pub use course::{
     rows_of_a_history_fit, sales_balance, states_only_move_forward,
 };
 pub use edges::{edges_of_rules, members_watch_200};
-pub use prices::{best_offer_leads, prices_depend_on_deals, prices_never_fall};
-pub use secrecy::{commands_step_equally, isolation, replies_depend_on_views, views_are_local};
+pub use prices::{
+    best_offer_leads, prices_depend_on_deals, prices_never_fall, purchases_cost_the_buy_now_price,
+};
+pub use privacy::{questions_are_private_until_answered, sellers_learn_what_is_shown};
+pub use secrecy::{
+    commands_step_equally, isolation, isolation_from_any_point, isolation_over_crashes,
+    replies_depend_on_views, views_are_local,
+};
 pub use statements::statements_have_each_sale_once;
 pub use surplus::{covers_show_in_the_end, surplus_is_invisible, surplus_needs_its_premises};
-pub use twins::twin_runs_may_differ;
+pub use twins::{twin_lives_may_differ, twin_runs_may_differ};
 pub use worked::{worked_rows, wrong_readings_differ};

@@ -1,13 +1,15 @@
 //! What the price of an item is by, and what bidders can rely on.
-ghost use Rattle.std.specs.Prelude.{◌≡◌, ◌≤◌, ◌<◌, ◌++◌, ℕ, List, length, max, false, Some, MatchOption};
+ghost use Rattle.std.specs.Prelude.{◌≡◌, ◌≤◌, ◌<◌, ◌++◌, ◌∷◌, ℕ, List, length, max, true, false, None, Some, MatchOption};
 ghost use Rattle.steps.specs.Table.{IsBandTable, over};
 ghost use Rattle.proxy.specs.Bids.{greatest, second};
+ghost use Rattle.house_rows.specs.declared.command.Command.TheVariants.{Buy};
 ghost use Rattle.house_rows.specs.declared.settings.Settings.{Settings};
 ghost use Rattle.house_rows.specs.Bids.{bids_on};
 ghost use Rattle.house_rows.specs.History.{Entry, History};
 ghost use Rattle.house_rows.specs.Items.{is_bought, leader_of, price_of};
 ghost use Rattle.house_rows.specs.Listings.{Listing, bands_by, listing_at, listings};
-ghost use Rattle.house_rows.specs.Verdict.{IsHistory};
+ghost use Rattle.house_rows.specs.Runs.{entry};
+ghost use Rattle.house_rows.specs.Verdict.{IsHistory, verdict};
 ghost use Rattle.house_laws.specs.Deals.{deals_on};
 
 /// The price of a listed item never falls, whatever follows: bids, a purchase, a close or a
@@ -37,6 +39,19 @@ pub fn best_offer_leads()
         → is_bought h l.item ≡ false
         → MatchOption (second (bids_on h l.item)) (price_of bands h l ≡ l.start)
         (λ offer. price_of bands h l ≤ max l.start (over bands offer)) }
+{}
+
+/// An item that was bought at once costs its buy-now price. Who bought it stays its buyer, whatever
+/// follows.
+pub fn purchases_cost_the_buy_now_price()
+    ensures price { (settings : Settings) (h : History) (l : Listing) → IsHistory settings h
+        → listing_at (listings h) l.item ≡ Some l → is_bought h l.item ≡ true
+        → l.buy_now ≡ Some (price_of settings.bands h l) }
+    ensures buyer { (settings : Settings) (h : History) (moment caller : ℕ) (later : List Entry)
+        (l : Listing) → listing_at (listings h) l.item ≡ Some l
+        → verdict settings h moment caller (Buy l.item) ≡ None
+        → (is_bought (later ++ entry moment caller (Buy l.item) ∷ h) l.item ≡ true)
+        × (leader_of (later ++ entry moment caller (Buy l.item) ∷ h) l ≡ Some caller) }
 {}
 
 /// Leader, price and count of bids of an item depend on its bids and its purchase alone, and the

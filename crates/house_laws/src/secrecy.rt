@@ -1,6 +1,7 @@
 //! Isolation, and the three parts that it follows from.
-ghost use Rattle.std.specs.Prelude.{◌≡◌, ◌==◌, ◌∷◌, ℕ, List, None, true, false};
+ghost use Rattle.std.specs.Prelude.{◌≡◌, ◌==◌, ◌∷◌, ℕ, List, map, None, true, false};
 ghost use Rattle.house_laws.specs.Alike.{AreAlike};
+ghost use Rattle.house_laws.specs.Lives.{AreTwinLives, Life, lives_history, rendered_in_lives};
 ghost use Rattle.house_rows.specs.declared.command.Command.{Command};
 ghost use Rattle.house_rows.specs.declared.command.Command.TheVariants.{Ask};
 ghost use Rattle.house_rows.specs.declared.message.Message.{Message};
@@ -11,9 +12,9 @@ ghost use Rattle.house_rows.specs.History.{Entry, History};
 ghost use Rattle.house_rows.specs.Listings.{is_seller, listing_at, listings};
 ghost use Rattle.house_rows.specs.Pages.{page_of};
 ghost use Rattle.house_rows.specs.Questions.{waiting};
-ghost use Rattle.house_rows.specs.Runs.{AreTwins, Twin, entry, rendered_to, replies_to};
+ghost use Rattle.house_rows.specs.Runs.{AreTwins, AreTwinsFrom, Twin, entry, history_from, rendered_from, rendered_to, replies_to};
 ghost use Rattle.house_rows.specs.Told.{told};
-ghost use Rattle.house_rows.specs.Verdict.{verdict};
+ghost use Rattle.house_rows.specs.Verdict.{IsHistory, verdict};
 ghost use Rattle.house_rows.specs.Views.{own_view, public_view};
 
 /// For every number `c`, the house's 0 among them: where two runs are twins for it, all replies to it
@@ -29,6 +30,49 @@ pub fn isolation<A, B, F>()
     ensures rendered { (meant : A → Message F) (rendered : A → Reply F → B) (settings : Settings) (c : ℕ) (left right : List A)
         → AreTwins meant settings c left right
         → rendered_to meant rendered settings c left ≡ rendered_to meant rendered settings c right }
+{}
+
+/// Isolation from any point on: for every number `c` and any two histories that are alike for it, where
+/// two runs from there on are twins for it, all replies to it are the same, and the histories after
+/// them are alike again. So it holds over whatever follows too.
+///
+/// `isolation` is the case of two new houses. The histories may be any lists of entries, those that a
+/// house makes among them.
+#[tactic(auto, using(crate::proofs::Alike::rendered_same, crate::proofs::Alike::alike_again))]
+pub fn isolation_from_any_point<A, B, F>()
+    ensures rendered { (meant : A → Message F) (rendered : A → Reply F → B) (settings : Settings)
+        (c : ℕ) (h k : History) (left right : List A)
+        → AreAlike settings c h k → AreTwinsFrom meant settings c h k left right
+        → rendered_from meant rendered settings c h left
+        ≡ rendered_from meant rendered settings c k right }
+    ensures alike_again { (meant : A → Message F) (settings : Settings)
+        (c : ℕ) (h k : History) (left right : List A)
+        → AreAlike settings c h k → AreTwinsFrom meant settings c h k left right
+        → AreAlike settings c (history_from settings h (map meant left))
+        (history_from settings k (map meant right)) }
+{}
+
+/// Isolation over crashes: for every number `c` and any two histories that are alike for it, where lives
+/// from there on are twins for it, all replies to it that were answered are the same, life by life, and
+/// the histories after them are alike again.
+///
+/// So it is whatever a crash kept of what others had in flight, as long as everybody sees the same. Of
+/// what the member itself had in flight the same must be kept: `twin_lives_may_differ` has lives in
+/// which it isn't. After lives of a history there is a history, from which the next life goes on.
+#[tactic(auto, using(crate::proofs::Lives::rendered_lives, crate::proofs::Lives::alike_after_lives, crate::proofs::Lives::lives_are_histories))]
+pub fn isolation_over_crashes<A, B, F>()
+    ensures rendered { (meant : A → Message F) (rendered : A → Reply F → B) (settings : Settings)
+        (c : ℕ) (h k : History) (left right : List (Life A))
+        → AreAlike settings c h k → AreTwinLives meant settings c h k left right
+        → rendered_in_lives meant rendered settings c h left
+        ≡ rendered_in_lives meant rendered settings c k right }
+    ensures alike_again { (meant : A → Message F) (settings : Settings)
+        (c : ℕ) (h k : History) (left right : List (Life A))
+        → AreAlike settings c h k → AreTwinLives meant settings c h k left right
+        → AreAlike settings c (lives_history meant settings h left)
+        (lives_history meant settings k right) }
+    ensures history { (meant : A → Message F) (settings : Settings) (h : History) (lives : List (Life A))
+        → IsHistory settings h → IsHistory settings (lives_history meant settings h lives) }
 {}
 
 /// Local: no accepted entry of another changes what a member has of its own, and of others' entries

@@ -1,4 +1,5 @@
-//! Twin runs that differ: the premise of isolation is met by them.
+//! Twin runs and twin lives that differ: the premises of isolation are met by them.
+ghost use Rattle.house_laws.specs.TwinLives.{KeptBidMakesNoTwin, OwnChoiceIsTold, OwnChoiceMakesNoTwin, SealedLivesAreTwins, TwinLivesGetTheseReplies};
 ghost use Rattle.house_laws.specs.TwinRuns.{CappedPriceMakesNoTwin, LowMaximumCapsThePrice, OwnMessageMakesNoTwin, SealedMaximaMakeTwins, TwinsGetTheseReplies};
 
 /// Two runs of eight messages in which another's sealed maximum differs are twins for a member, and
@@ -10,4 +11,16 @@ pub fn twin_runs_may_differ<F>()
     ensures low_maximum_caps_the_price { LowMaximumCapsThePrice }
     ensures capped_price_makes_no_twin { CappedPriceMakesNoTwin F }
     ensures own_message_makes_no_twin { OwnMessageMakesNoTwin F }
+{}
+
+/// Two lives of a house, twice: another's sealed maximum differs, and so does whether a crash kept
+/// another's watch. They are twins for a member, and what it is told in them. Where the crash kept its
+/// own watch in one of them alone, they look alike to it, it is told other things, and they are no
+/// twins. Nor are they where another's bid was kept in one. `specs/TwinLives.antt` has the messages.
+pub fn twin_lives_may_differ<F>()
+    ensures sealed_lives_are_twins { SealedLivesAreTwins F }
+    ensures twin_lives_get_these_replies { TwinLivesGetTheseReplies F }
+    ensures own_choice_is_told { OwnChoiceIsTold F }
+    ensures own_choice_makes_no_twin { OwnChoiceMakesNoTwin F }
+    ensures kept_bid_makes_no_twin { KeptBidMakesNoTwin F }
 {}
