@@ -1,5 +1,5 @@
 -- A question that has no answer is hidden from all but its asker and the seller.
-use Rattle.std.proofs.Common.{◌≡◌, ℕ, ◌+◌, ◌≤◌, List, [], ◌∷◌, ◌++◌, map, filter, length, subst, Bool, true, false, not, refl, ◌∙◌, ap, sym, arith, inl, inr, ◌⊎◌, Option, Some, None}
+use Rattle.std.proofs.Common.{◌≡◌, ℕ, ◌+◌, ◌≤◌, List, [], ◌∷◌, ◌++◌, map, filter, subst, Bool, true, false, not, refl, ◌∙◌, ap, sym, arith, inl, inr, ◌⊎◌, Option, Some, None}
 use Rattle.std.specs.Prelude.{◌==◌, ◌&&◌, ◌||◌, is_some}
 use Rattle.std.specs.List.{AllByRecursion, AllZip, list_any}
 use Rattle.std.proofs.lemmas.Bool.Decides.{nat_tests}
@@ -7,7 +7,6 @@ use Rattle.std.proofs.lemmas.List.{append-nil}
 use Rattle.proxy.specs.Rules.{first_failing}
 use Rattle.house_rows.specs.declared.command.Command.{Command}
 use Rattle.house_rows.specs.declared.command.Command.TheVariants.{Answer, Ask, Feedback}
-use Rattle.house_rows.specs.declared.rating.Rating.{Rating}
 use Rattle.house_rows.specs.declared.refusal.Refusal.TheVariants.{AlreadyAnswered, Range, SellerOnly, Unknown}
 use Rattle.house_rows.specs.declared.settings.Settings.{Settings}
 use Rattle.house_rows.specs.declared.talk.Feedback as row
@@ -135,7 +134,7 @@ answers_step settings h t c (Answer i asker number text) none all =
 answers_step settings h t c (Ask i text) none all =
     let q : Asked = record { item = i; asker = c; number = ask_count (asked h) c i + 1; text = text } in
     let more : AllByRecursion (IsCounted (put_by asked_key q (asked h))) (answers h) =
-        every_as (IsCounted (asked h)) (IsCounted (put_by asked_key q (asked h))) (answers h) (λ r is. still_counted q r (asked h) is) all in
+    every_as (IsCounted (asked h)) (IsCounted (put_by asked_key q (asked h))) (answers h) (λ r is. still_counted q r (asked h) is) all in
     simp append-nil more
 answers_step settings h t c command none all = simp append-nil all
 
@@ -167,9 +166,9 @@ ask_published h t d i text none =
     let given = answers h in
     let answers_it : Asked → Bool = λ r. is_some (answer_to given r) in
     let e : filter (λ q. is_some q.answer) (map (answered given) (put_by asked_key q (asked h))) ≡ filter (λ q. is_some q.answer) (map (answered given) (asked h)) =
-        filter_made (λ (q : Question). is_some q.answer) (answered given) (put_by asked_key q (asked h))
-        ∙ ap (map (answered given)) (filter_put_other asked_key answers_it q (asked h) (rw none refl))
-        ∙ sym (filter_made (λ (q : Question). is_some q.answer) (answered given) (asked h)) in
+    filter_made (λ (q : Question). is_some q.answer) (answered given) (put_by asked_key q (asked h))
+    ∙ ap (map (answered given)) (filter_put_other asked_key answers_it q (asked h) (rw none refl))
+    ∙ sym (filter_made (λ (q : Question). is_some q.answer) (answered given) (asked h)) in
     simp append-nil e
 
 ask_item : (settings : Settings) (h : History) (t d i : ℕ) (text : List ℕ) (l : Listing) → item_now settings.bands (entry t d (Ask i text) ∷ h) l ≡ item_now settings.bands h l

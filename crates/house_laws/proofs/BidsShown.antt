@@ -1,5 +1,5 @@
 -- What others learn of a bid: what everybody is shown of the item.
-use Rattle.std.proofs.Common.{◌≡◌, ℕ, List, [], ◌∷◌, ◌++◌, map, subst, Bool, true, false, refl, ◌∙◌, ap, sym, arith, inl, inr, Option, Some, None}
+use Rattle.std.proofs.Common.{◌≡◌, ℕ, List, [], ◌∷◌, map, subst, Bool, true, false, refl, ◌∙◌, ap, sym, arith, inl, inr, Option, Some, None}
 use Rattle.std.specs.Prelude.{◌==◌, if◌then◌else◌, unwrap_or}
 use Rattle.std.specs.List.{AllByRecursion}
 use Rattle.std.proofs.lemmas.Bool.Decides.{nat_tests}
@@ -24,7 +24,7 @@ use Rattle.house_rows.specs.Views.{public_view}
 use Rattle.house_rows.proofs.Lists.{map_twice}
 use Rattle.house_rows.proofs.Numbered.{numbered}
 use Rattle.house_rows.proofs.Own.{own_local}
-use Rattle.house_rows.proofs.Passed.{find_item, item_from, own_pass, shown_is}
+use Rattle.house_rows.proofs.Passed.{item_from, own_pass, shown_is}
 use Rattle.house_rows.proofs.Put.{by_test}
 use Rattle.house_laws.specs.Alike.{AreAlike}
 use Rattle.house_laws.proofs.Output.{categories_same, feedback_same, items_same, members_same, published_same}

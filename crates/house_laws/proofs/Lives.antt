@@ -11,7 +11,7 @@ use Rattle.house_rows.proofs.Next.{next_is_history}
 use Rattle.house_rows.proofs.Put.{by_test}
 use Rattle.house_laws.specs.Alike.{AreAlike}
 use Rattle.house_laws.specs.Lives.{AreTwinLives, EndsLookAlike, HaveSameChoices, InFlight, IsSameChoice, Life, LivesLookAlike, answered_history, chosen_history, life_history, lives_history, rendered_in_lives}
-use Rattle.house_laws.proofs.Alike.{alike_again, alike_next, own_next, own_other, rendered_same}
+use Rattle.house_laws.proofs.Alike.{alike_again, own_next, own_other, rendered_same}
 
 -- what is another's leaves a member's own view, whether it is in or out
 own_chosen : {A F : Type 0} (meant : A → Message F) (settings : Settings) (c : ℕ) (h : History) (x : A) (is_in : Bool)

@@ -1,5 +1,5 @@
 -- What is bought at once: what it costs, and that its buyer stays.
-use Rattle.std.proofs.Common.{◌≡◌, ℕ, List, [], ◌∷◌, ◌++◌, Bool, true, false, refl, arith, inl, inr, Option, Some, None}
+use Rattle.std.proofs.Common.{◌≡◌, ℕ, List, [], ◌∷◌, ◌++◌, Bool, true, refl, arith, inl, inr, Option, Some, None}
 use Rattle.std.specs.Prelude.{◌==◌, find, is_some, unwrap_or}
 use Rattle.std.proofs.lemmas.Bool.Decides.{nat_tests}
 use Rattle.house_rows.specs.declared.command.Command.TheVariants.{Buy}
@@ -58,5 +58,5 @@ pub buyer_stays : (settings : Settings) (h : History) (t c : ℕ) (later : List 
     → (is_bought (later ++ entry t c (Buy l.item) ∷ h) l.item ≡ true) × (leader_of (later ++ entry t c (Buy l.item) ∷ h) l ≡ Some c)
 buyer_stays settings h t c later l listed none =
     let found : purchase_of (later ++ entry t c (Buy l.item) ∷ h) l.item ≡ Some (bought_by t c l.item) =
-        purchase_later (entry t c (Buy l.item) ∷ h) later l.item (bought_by t c l.item) (purchase_now settings h t c l listed none) in
+    purchase_later (entry t c (Buy l.item) ∷ h) later l.item (bought_by t c l.item) (purchase_now settings h t c l listed none) in
     (rw found refl, rw found refl)

@@ -6,7 +6,12 @@ use Rattle.house_rows.specs.Questions.{Asked, answer_to, answers, ask_count, ask
 
 -- the question that a member asks on an item: its next one there
 abbrev pub new_question : History → ℕ → ℕ → List ℕ → Asked
-new_question h asker item text = record { item = item; asker = asker; number = ask_count (asked h) asker item + 1; text = text }
+new_question h asker item text = record {
+  item = item;
+  asker = asker;
+  number = ask_count (asked h) asker item + 1;
+  text = text;
+}
 
 -- whether there is an answer to it
 abbrev pub is_answered : History → Asked → Bool

@@ -13,17 +13,21 @@ use Rattle.house_rows.specs.declared.told.Told.TheVariants.{Placed}
 use Rattle.house_laws.specs.Examples.{settings, setup}
 use Rattle.house_laws.specs.Lives.{AreTwinLives, Life, LivesLookAlike, replies_in_lives}
 
--- two lives: messages are answered, and then one is in flight, which is in or out; in the second life a read is answered
-abbrev pub two_lives : {F : Type 0} → List (Message F) → Message F → Bool → Message F → List (Life (Message F))
+-- two lives: messages are answered, and then one is in flight, which is in or out; in the second
+-- life a read is answered
+abbrev pub two_lives : {F : Type 0} → List (Message F) → Message F → Bool → Message F
+    → List (Life (Message F))
 two_lives answered in_flight is_in read =
     record { answered = answered; in_flight = Some (record { element = in_flight; is_in = is_in }) }
     ∷ record { answered = read ∷ []; in_flight = None } ∷ []
 
 -- from the setup on they look alike to Ben, and are twins for Ben
-abbrev pub LookAlikeToBen : {F : Type 0} → List (Life (Message F)) → List (Life (Message F)) → Type 0
+abbrev pub LookAlikeToBen : {F : Type 0} → List (Life (Message F)) → List (Life (Message F))
+    → Type 0
 LookAlikeToBen left right = LivesLookAlike (λ m. m) settings 2 setup setup left right
 
-abbrev pub AreTwinsForBen : {F : Type 0} → List (Life (Message F)) → List (Life (Message F)) → Type 0
+abbrev pub AreTwinsForBen : {F : Type 0} → List (Life (Message F)) → List (Life (Message F))
+    → Type 0
 AreTwinsForBen left right = AreTwinLives (λ m. m) settings 2 setup setup left right
 
 -- what Ben is told in them
@@ -54,7 +58,8 @@ atlas_at price leader count floor = record {
   floor = Some floor;
 }
 
--- Ben bids 10.00 and Cid an amount, Cid's watch is in flight, and in the second life Ben reads the item
+-- Ben bids 10.00 and Cid an amount, Cid's watch is in flight, and in the second life Ben reads the
+-- item
 abbrev pub others_watch : {F : Type 0} → ℕ → Bool → List (Life (Message F))
 others_watch amount is_in = two_lives
     (Order 1001 2 (Bid 1 1000) ∷ Order 1002 3 (Bid 1 amount) ∷ [])
@@ -76,12 +81,14 @@ TwinLivesGetTheseReplies F = told_to_ben {F = F} (others_watch 8000 false) ≡
 abbrev pub own_watch : {F : Type 0} → Bool → List (Life (Message F))
 own_watch is_in = two_lives [] (Order 1001 2 (Watch 1)) is_in (Read 2 query.MyWatches)
 
--- whether the crash kept the watch, nobody else can see. So lives in which it did and didn't look alike, and yet Ben is told another
--- thing: that its own choices are the same has to be asked
+-- nobody else can see whether the crash kept the watch. So lives in which it did and didn't look
+-- alike, and yet Ben is told another thing: that the choice on its own message is the same has to
+-- be asked
 abbrev pub OwnChoiceIsTold : Type 0 → Type 0
 OwnChoiceIsTold F =
     LookAlikeToBen {F = F} (own_watch true) (own_watch false)
-    × (told_to_ben {F = F} (own_watch true) ≡ [] ∷ (Shows (Items (atlas_at 500 None 0 500 ∷ [])) ∷ []) ∷ [])
+    × (told_to_ben {F = F} (own_watch true)
+    ≡ [] ∷ (Shows (Items (atlas_at 500 None 0 500 ∷ [])) ∷ []) ∷ [])
     × (told_to_ben {F = F} (own_watch false) ≡ [] ∷ (Shows (Items []) ∷ []) ∷ [])
 
 abbrev pub OwnChoiceMakesNoTwin : Type 0 → Type 0

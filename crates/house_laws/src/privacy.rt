@@ -14,9 +14,9 @@ ghost use Rattle.house_laws.specs.Alike.{AreAlike};
 ghost use Rattle.house_laws.specs.Asking.{IsOutsider, is_answered, new_question};
 
 /// A question is seen by its asker and the seller alone until it is answered. Its asker has it among
-/// its own, and it waits for the seller. To every other member the house looks as if nothing had been
-/// asked; and whatever follows, as long as the question has no answer, it looks as if another text had
-/// been asked. By `replies_depend_on_views` no read and no verdict tells such a member more.
+/// its own, and it waits for the seller. To every other member the house looks as if nothing had
+/// been asked. Whatever follows, as long as the question has no answer, it looks as if another text
+/// had been asked. By `replies_depend_on_views` no read and no verdict tells such a member more.
 pub fn questions_are_private_until_answered()
     ensures asker { (moment asker item : ℕ) (text : List ℕ) (h : History) (later : List Entry)
         → Contains (own_questions (later ++ entry moment asker (Ask item text) ∷ h) asker)
@@ -42,8 +42,8 @@ pub fn questions_are_private_until_answered()
 {}
 
 /// A seller learns of a bid only what everybody is shown of the item. Take two histories that are
-/// alike for it, and a bid on its item in each, by anybody and of any maxima: where the item is then
-/// shown the same, the histories are alike for it again. So it is for whoever else hasn't bid.
+/// alike for it, and a bid on its item in each, by anybody and of any maxima. Where the item is then
+/// shown the same, the histories are alike for it again. So it is for all others that haven't bid.
 pub fn sellers_learn_what_is_shown()
     ensures seller { (settings : Settings) (moment left right x y : ℕ) (h k : History) (l : Listing)
         → listing_at (listings h) l.item ≡ Some l → AreAlike settings l.seller h k

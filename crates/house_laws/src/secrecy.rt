@@ -32,12 +32,12 @@ pub fn isolation<A, B, F>()
         → rendered_to meant rendered settings c left ≡ rendered_to meant rendered settings c right }
 {}
 
-/// Isolation from any point on: for every number `c` and any two histories that are alike for it, where
-/// two runs from there on are twins for it, all replies to it are the same, and the histories after
-/// them are alike again. So it holds over whatever follows too.
+/// Isolation from any point on: for every number `c` and any two histories that are alike for it,
+/// where two runs from there on are twins for it, all replies to it are the same, and the histories
+/// after them are alike again. So it goes on over whatever follows.
 ///
-/// `isolation` is the case of two new houses. The histories may be any lists of entries, those that a
-/// house makes among them.
+/// `isolation` is the case of two new houses. The histories may be any lists of entries, those that
+/// a house makes among them.
 #[tactic(auto, using(crate::proofs::Alike::rendered_same, crate::proofs::Alike::alike_again))]
 pub fn isolation_from_any_point<A, B, F>()
     ensures rendered { (meant : A → Message F) (rendered : A → Reply F → B) (settings : Settings)
@@ -52,13 +52,14 @@ pub fn isolation_from_any_point<A, B, F>()
         (history_from settings k (map meant right)) }
 {}
 
-/// Isolation over crashes: for every number `c` and any two histories that are alike for it, where lives
-/// from there on are twins for it, all replies to it that were answered are the same, life by life, and
-/// the histories after them are alike again.
+/// Isolation over crashes: for every number `c` and any two histories that are alike for it, where
+/// lives from there on are twins for it, the replies at its answered places are the same, life by
+/// life, and the histories after them are alike again.
 ///
-/// So it is whatever a crash kept of what others had in flight, as long as everybody sees the same. Of
-/// what the member itself had in flight the same must be kept: `twin_lives_may_differ` has lives in
-/// which it isn't. After lives of a history there is a history, from which the next life goes on.
+/// So it is whatever a crash kept of what others had in flight, as long as everybody sees the same.
+/// Of what the member itself had in flight the same has to be kept: `twin_lives_may_differ` has
+/// lives in which it isn't. After lives of a history there is a history, from which the next life
+/// goes on.
 #[tactic(auto, using(crate::proofs::Lives::rendered_lives, crate::proofs::Lives::alike_after_lives, crate::proofs::Lives::lives_are_histories))]
 pub fn isolation_over_crashes<A, B, F>()
     ensures rendered { (meant : A → Message F) (rendered : A → Reply F → B) (settings : Settings)
@@ -71,8 +72,9 @@ pub fn isolation_over_crashes<A, B, F>()
         → AreAlike settings c h k → AreTwinLives meant settings c h k left right
         → AreAlike settings c (lives_history meant settings h left)
         (lives_history meant settings k right) }
-    ensures history { (meant : A → Message F) (settings : Settings) (h : History) (lives : List (Life A))
-        → IsHistory settings h → IsHistory settings (lives_history meant settings h lives) }
+    ensures history { (meant : A → Message F) (settings : Settings) (h : History)
+        (lives : List (Life A)) → IsHistory settings h
+        → IsHistory settings (lives_history meant settings h lives) }
 {}
 
 /// Local: no accepted entry of another changes what a member has of its own, and of others' entries

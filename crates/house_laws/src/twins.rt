@@ -14,9 +14,10 @@ pub fn twin_runs_may_differ<F>()
 {}
 
 /// Two lives of a house, twice: another's sealed maximum differs, and so does whether a crash kept
-/// another's watch. They are twins for a member, and what it is told in them. Where the crash kept its
-/// own watch in one of them alone, they look alike to it, it is told other things, and they are no
-/// twins. Nor are they where another's bid was kept in one. `specs/TwinLives.antt` has the messages.
+/// another's watch. They are twins for a member, and this is what it is told in them. Where the crash
+/// kept its own watch in one of them alone, they look alike to it, it is told other things, and they
+/// are no twins. Nor are they where another's bid was kept in one of them alone.
+/// `specs/TwinLives.antt` has the messages.
 pub fn twin_lives_may_differ<F>()
     ensures sealed_lives_are_twins { SealedLivesAreTwins F }
     ensures twin_lives_get_these_replies { TwinLivesGetTheseReplies F }
