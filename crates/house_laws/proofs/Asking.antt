@@ -13,7 +13,7 @@ use Rattle.house_rows.specs.declared.talk.Feedback as row
 use Rattle.house_rows.specs.declared.talk.Question.{Question}
 use Rattle.house_rows.specs.Bids.{bids_on}
 use Rattle.house_rows.specs.History.{Entry, History, clock, is_less, put_by}
-use Rattle.house_rows.specs.Items.{closings, item_now, items, items_shown, leader_of, purchases, settlements}
+use Rattle.house_rows.specs.Items.{closings, items_shown, leader_of, purchases, settlements}
 use Rattle.house_rows.specs.Listings.{Listing, is_seller, listing_at, listings}
 use Rattle.house_rows.specs.People.{categories, members}
 use Rattle.house_rows.specs.Questions.{Asked, answer_to, answered, answers, ask_count, asked, asked_key, is_question, names, published, questions, waiting, with_question}
@@ -24,13 +24,14 @@ use Rattle.house_rows.specs.Verdict.{IsHistory, answer_rules, by_terms, rules, v
 use Rattle.house_rows.specs.Views.{own_maxima, own_questions, own_view, own_watches, public_view}
 use Rattle.house_rows.specs.Watches.{watches}
 use Rattle.house_rows.proofs.Every.{every_as, every_map, every_more, every_put, some_has}
-use Rattle.house_rows.proofs.Lists.{filter_made, map_same}
+use Rattle.house_rows.proofs.Lists.{filter_made}
 use Rattle.house_rows.proofs.Own.{own_local}
 use Rattle.house_rows.proofs.Passed.{item_pass, own_pass}
 use Rattle.house_rows.proofs.Put.{by_test, filter_put_other}
 use Rattle.house_rows.proofs.RangedTables.{every_filter}
 use Rattle.house_laws.specs.Alike.{AreAlike}
 use Rattle.house_laws.specs.Asking.{IsOutsider, is_answered, new_question}
+use Rattle.house_laws.proofs.Seen.{items_same_each}
 use Rattle.house_laws.proofs.Waiting.{waiting_local}
 
 -- an asker's question on an item
@@ -171,14 +172,9 @@ ask_published h t d i text none =
     ∙ sym (filter_made (λ (q : Question). is_some q.answer) (answered given) (asked h)) in
     simp append-nil e
 
-ask_item : (settings : Settings) (h : History) (t d i : ℕ) (text : List ℕ) (l : Listing) → item_now settings.bands (entry t d (Ask i text) ∷ h) l ≡ item_now settings.bands h l
-ask_item settings h t d i text l = simp append-nil
-
 ask_items : (settings : Settings) (h : History) (t d i : ℕ) (text : List ℕ) → items_shown settings (entry t d (Ask i text) ∷ h) ≡ items_shown settings h
-unfolding items_shown items
 ask_items settings h t d i text =
-    let e = map_same (item_now settings.bands (entry t d (Ask i text) ∷ h)) (item_now settings.bands h) (listings h) (ask_item settings h t d i text) in
-    rw (append-nil (listings h), e) refl
+    items_same_each settings (entry t d (Ask i text) ∷ h) h (append-nil (listings h)) (λ l. simp append-nil)
 
 ask_public : (settings : Settings) (h : History) (t d i : ℕ) (text : List ℕ) → answer_to (answers h) (new_question h d i text) ≡ None
     → public_view settings (entry t d (Ask i text) ∷ h) ≡ public_view settings h
@@ -366,13 +362,9 @@ own_zip i d n (q ∷ qs) (r ∷ rs) c other zip =
       | inr keys ↦ rw (keys.0.asker, keys.1.asker, other) rest
     ]
 
-retold_item : (settings : Settings) (i d n : ℕ) (h k : History) → Retold i d n h k → (l : Listing) → item_now settings.bands h l ≡ item_now settings.bands k l
-retold_item settings i d n h k r l = rw (r.bought, r.closed, r.settled, r.bids l.item) refl
-
 retold_items : (settings : Settings) (i d n : ℕ) (h k : History) → Retold i d n h k → items_shown settings h ≡ items_shown settings k
-unfolding items_shown items
 retold_items settings i d n h k r =
-    rw (r.lots, map_same (item_now settings.bands h) (item_now settings.bands k) (listings k) (retold_item settings i d n h k r)) refl
+    items_same_each settings h k r.lots (λ l. rw (r.bought, r.closed, r.settled, r.bids l.item) refl)
 
 retold_published : (i d n : ℕ) (h k : History) → ((q : Asked) → HasKey i d n q → answer_to (answers k) q ≡ None) → Retold i d n h k → published h ≡ published k
 unfolding published questions

@@ -13,7 +13,7 @@ use Rattle.house_rows.specs.declared.refusal.Refusal.TheVariants.{OwnItem}
 use Rattle.house_rows.specs.declared.settings.Settings.{Settings}
 use Rattle.house_rows.specs.Bids.{bids_on}
 use Rattle.house_rows.specs.History.{History, clock}
-use Rattle.house_rows.specs.Items.{item_now, items, items_shown, shown, shown_at}
+use Rattle.house_rows.specs.Items.{items_shown, shown_at}
 use Rattle.house_rows.specs.Listings.{Listing, listing_at, listings}
 use Rattle.house_rows.specs.People.{categories, members}
 use Rattle.house_rows.specs.Questions.{published, questions, waiting}
@@ -27,11 +27,8 @@ use Rattle.house_rows.proofs.Own.{own_local}
 use Rattle.house_rows.proofs.Passed.{item_from, own_pass, shown_is}
 use Rattle.house_rows.proofs.Put.{by_test}
 use Rattle.house_laws.specs.Alike.{AreAlike}
+use Rattle.house_laws.proofs.Seen.{items_seen, seen}
 use Rattle.house_laws.proofs.Output.{categories_same, feedback_same, items_same, members_same, published_same}
-
--- a listed item as everybody sees it
-abbrev seen : Settings → History → Listing → ItemShown
-seen settings h l = shown settings (item_now settings.bands h l)
 
 -- an item, or what is shown in its place
 abbrev in_place : ℕ → Option ItemShown → ItemShown → ItemShown
@@ -62,23 +59,17 @@ each_item settings h t c i m ls [] all = tt
 each_item settings h t c i m ls (l ∷ some) all = (one_item settings h t c i m ls l all.0, each_item settings h t c i m ls some all.1)
 
 -- the items after a bid: the one item in its place, and the others as before
-list_after : (settings : Settings) (h : History) (t c i m : ℕ) (ls : List Listing) → AllByRecursion (λ l. listing_at ls l.item ≡ Some l) ls
-    → map (shown settings) (map (item_now settings.bands (entry t c (Bid i m) ∷ h)) ls)
-    ≡ map (in_place i (item_from settings (entry t c (Bid i m) ∷ h) (listing_at ls i))) (map (shown settings) (map (item_now settings.bands h) ls))
-list_after settings h t c i m ls all =
-    let k : History = entry t c (Bid i m) ∷ h in
-    let o : Option ItemShown = item_from settings k (listing_at ls i) in
-    map_twice (item_now settings.bands k) (shown settings) ls
-    ∙ map_each (seen settings k) (λ l. in_place i o (seen settings h l)) ls (each_item settings h t c i m ls ls all)
-    ∙ sym (map_twice (seen settings h) (in_place i o) ls)
-    ∙ ap (map (in_place i o)) (sym (map_twice (item_now settings.bands h) (shown settings) ls))
-
 items_after : (settings : Settings) (h : History) (t c i m : ℕ)
     → items_shown settings (entry t c (Bid i m) ∷ h)
     ≡ map (in_place i (item_from settings (entry t c (Bid i m) ∷ h) (listing_at (listings h) i))) (items_shown settings h)
-unfolding items_shown items
 items_after settings h t c i m =
-    rw (append-nil (listings h)) (list_after settings h t c i m (listings h) (numbered h).own)
+    let k : History = entry t c (Bid i m) ∷ h in
+    let o : Option ItemShown = item_from settings k (listing_at (listings h) i) in
+    items_seen settings k
+    ∙ ap (map (seen settings k)) (append-nil (listings h))
+    ∙ map_each (seen settings k) (λ l. in_place i o (seen settings h l)) (listings h) (each_item settings h t c i m (listings h) (listings h) (numbered h).own)
+    ∙ sym (map_twice (seen settings h) (in_place i o) (listings h))
+    ∙ ap (map (in_place i o)) (sym (items_seen settings h))
 
 shown_after : (settings : Settings) (h : History) (t c i m : ℕ)
     → shown_at (items_shown settings (entry t c (Bid i m) ∷ h)) i ≡ item_from settings (entry t c (Bid i m) ∷ h) (listing_at (listings h) i)

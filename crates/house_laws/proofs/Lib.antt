@@ -13,6 +13,7 @@ pub mod Near
 pub mod CoveredRuns
 pub mod CoveredLeads
 pub mod Lives
+pub mod Seen
 pub mod Purchases
 pub mod BidsShown
 pub mod Asking

@@ -1,0 +1,24 @@
+-- Items as everybody sees them, one by one.
+use Rattle.std.proofs.Common.{◌≡◌, List, map, ◌∙◌, ap, sym}
+use Rattle.house_rows.specs.declared.item.ItemShown.{ItemShown}
+use Rattle.house_rows.specs.declared.settings.Settings.{Settings}
+use Rattle.house_rows.specs.History.{History}
+use Rattle.house_rows.specs.Items.{item_now, items, items_shown, shown}
+use Rattle.house_rows.specs.Listings.{Listing, listings}
+use Rattle.house_rows.proofs.Lists.{map_same, map_twice}
+
+-- a listed item as everybody sees it
+abbrev pub seen : Settings → History → Listing → ItemShown
+seen settings h l = shown settings (item_now settings.bands h l)
+
+pub items_seen : (settings : Settings) (h : History) → items_shown settings h ≡ map (seen settings h) (listings h)
+unfolding items_shown items
+items_seen settings h = map_twice (item_now settings.bands h) (shown settings) (listings h)
+
+-- where each item looks the same, all do
+pub items_same_each : (settings : Settings) (h k : History) → listings h ≡ listings k → ((l : Listing) → seen settings h l ≡ seen settings k l) → items_shown settings h ≡ items_shown settings k
+items_same_each settings h k lots each =
+    items_seen settings h
+    ∙ map_same (seen settings h) (seen settings k) (listings h) each
+    ∙ ap (map (seen settings k)) lots
+    ∙ sym (items_seen settings k)
