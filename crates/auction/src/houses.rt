@@ -2,9 +2,8 @@
 ghost use Rattle.std.specs.Prelude.{◌≡◌, [], false, IfErr, IfOk};
 ghost use Rattle.house_rows.specs.Tables.{tables_of};
 
-use crate::ends::Ends;
 use crate::files::{StoreInFile, create_house, open_keep, upgrade_keep};
-use house_rows::{Keep, KeepFault, Settings};
+use house_rows::{Ends, Keep, KeepFault, Settings};
 use std::alloc::Global;
 use store::SqlKeep;
 use store_list::ListKeep;

@@ -3,10 +3,9 @@ ghost use Rattle.std.specs.Prelude.{◌≡◌, ◌≤◌, ◌↔◌, ℕ, List, 
 ghost use Rattle.std.specs.Io.KnownBytes.{Keeps};
 ghost use Rattle.auction.specs.Listed.{HasAll, HasDealt, HasTaken, IsKnown};
 
-use crate::ends::Ends;
 use crate::fault::{Fault, ended};
 use crate::serve::{begun, sound};
-use house_rows::Keep;
+use house_rows::{Ends, Keep};
 use office::{ImportFault, Imported, Lister, check_member, import};
 use std::alloc::Global;
 use std::io::{Read, Write};

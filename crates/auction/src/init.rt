@@ -3,8 +3,8 @@ ghost use Rattle.std.specs.Prelude.{◌≡◌, ◌≤◌, OnOk};
 ghost use Rattle.std.specs.Io.KnownBytes.{Appends};
 ghost use Rattle.auction.specs.Printed.{created};
 
-use crate::ends::Ends;
 use crate::fault::{Fault, ended};
+use house_rows::Ends;
 use std::io::Write;
 
 // Tells that a house is made.

@@ -13,7 +13,6 @@
 #![tactic(auto)]
 
 mod audit;
-mod ends;
 mod fault;
 mod files;
 mod houses;

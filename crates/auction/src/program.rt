@@ -7,7 +7,6 @@ ghost use Rattle.auction.specs.Faults.{IsOfKeep, IsOfSettings};
 ghost use Rattle.auction_words.specs.Houses.{IsNew};
 
 use crate::audit::{Run, audit_run};
-use crate::ends::Ends;
 use crate::fault::{Fault, ended};
 use crate::files::StoreInFile;
 use crate::houses::{KeepInFile, KeepInMemory};
@@ -26,7 +25,7 @@ use auction_words::{
 };
 use clap::Error;
 use device::{Reading, Writing};
-use house_rows::KeepFault;
+use house_rows::{Ends, KeepFault};
 use office::Lister;
 use site::Site;
 use sqlite::{File, FileStore};

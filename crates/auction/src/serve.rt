@@ -9,9 +9,8 @@ ghost use Rattle.site.specs.Answers.{zone_of};
 ghost use Rattle.site_connections.specs.Turns.{ServesOne, TakesEach, TakesOne};
 ghost use Rattle.site_serve.specs.Serving.{keep_of};
 
-use crate::ends::Ends;
 use crate::fault::{Fault, ended};
-use house_rows::Keep;
+use house_rows::{Ends, Keep};
 use site::Site;
 use site_connections::{Connections, serve_each};
 use std::alloc::Global;

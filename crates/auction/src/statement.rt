@@ -5,12 +5,11 @@ ghost use Rattle.settle.specs.Calendar.{day_text};
 ghost use Rattle.auction.specs.Inquired.{IsUnasked};
 ghost use Rattle.auction.specs.Stated.{HasRead, HasStated, account_text};
 
-use crate::ends::Ends;
 use crate::fault::{Fault, ended};
 use crate::serve::sound;
 use auction_words::StatementWords;
 use device::Sink;
-use house_rows::Keep;
+use house_rows::{Ends, Keep};
 use office::statement;
 use settle::{Day, Statement};
 use std::alloc::Global;

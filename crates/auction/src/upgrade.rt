@@ -3,8 +3,8 @@ ghost use Rattle.std.specs.Prelude.{◌≡◌, ◌≤◌, OnOk};
 ghost use Rattle.std.specs.Io.KnownBytes.{Appends};
 ghost use Rattle.auction.specs.Printed.{upgraded_line, upgraded_word};
 
-use crate::ends::Ends;
 use crate::fault::{Fault, ended};
+use house_rows::Ends;
 use std::io::Write;
 
 // What is told of a house that is upgraded, and of one that was of version 2 before.

@@ -6,7 +6,7 @@ use Rattle.house_rows.specs.declared.command.Command.TheVariants.{Buy}
 use Rattle.house_rows.specs.declared.settings.Settings.{Settings}
 use Rattle.house_rows.specs.History.{Entry, History}
 use Rattle.house_rows.specs.Items.{Purchase, close_sells, is_bought, is_settled, is_taken, leader_of, price_of, purchase_in, purchase_of, purchases}
-use Rattle.house_rows.specs.Listings.{Listing, listing_at, listings}
+use Rattle.house_rows.specs.Listings.{Listing, bands_by, listing_at, listings}
 use Rattle.house_rows.specs.Runs.{entry}
 use Rattle.house_rows.specs.Verdict.{IsHistory, verdict}
 use Rattle.house_rows.proofs.AcceptedBids.{bought_known}
@@ -20,7 +20,7 @@ some_amount (Some amount) some = refl
 
 -- it costs the buy-now price
 pub costs_buy_now : (settings : Settings) (h : History) (l : Listing) → IsHistory settings h → listing_at (listings h) l.item ≡ Some l → is_bought h l.item ≡ true
-    → l.buy_now ≡ Some (price_of settings.bands h l)
+    → l.buy_now ≡ Some (price_of (bands_by settings l) h l)
 costs_buy_now settings h l is listed bought =
     let known = bought_known settings h l is listed bought in
     let has : is_some l.buy_now ≡ true = known.1 in

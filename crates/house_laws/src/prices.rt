@@ -46,7 +46,7 @@ pub fn best_offer_leads()
 pub fn purchases_cost_the_buy_now_price()
     ensures price { (settings : Settings) (h : History) (l : Listing) → IsHistory settings h
         → listing_at (listings h) l.item ≡ Some l → is_bought h l.item ≡ true
-        → l.buy_now ≡ Some (price_of settings.bands h l) }
+        → l.buy_now ≡ Some (price_of (bands_by settings l) h l) }
     ensures buyer { (settings : Settings) (h : History) (moment caller : ℕ) (later : List Entry)
         (l : Listing) → listing_at (listings h) l.item ≡ Some l
         → verdict settings h moment caller (Buy l.item) ≡ None

@@ -7,7 +7,7 @@ ghost use Rattle.store.specs.Closing.{HoldHouse, IsEnded, IsLeft};
 ghost use Rattle.store_rows.specs.Tables.{tables_in};
 
 use crate::keep::SqlKeep;
-use house_rows::KeepFault;
+use house_rows::{Ends, KeepFault};
 use sqlite::{Error, ErrorCode, FileStore};
 use sqlite_disk::{Disk, Files};
 
@@ -55,5 +55,13 @@ impl<D: Disk + Drop> SqlKeep<FileStore<D>> {
                 Err(fault)
             }
         }
+    }
+}
+
+impl<D: Disk + Drop> Ends for SqlKeep<FileStore<D>> {
+    ghost is_ended = { IsEnded D.Disk };
+
+    fn end(self) -> Result<(), KeepFault> {
+        self.close()
     }
 }
