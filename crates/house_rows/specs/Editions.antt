@@ -8,7 +8,7 @@ abbrev pub bands_among : List (ℕ × ℕ) → List Edition → ℕ → List (�
 bands_among before [] item = before
 bands_among before (e ∷ editions) item = bands_among (if nat_le e.first item then e.bands else before) editions item
 
--- what the house was set up with, its first band table among it, and the editions behind that
+-- what the house was set up with, its first band table among it, and the later editions
 pub record BandTables : Type 0 where
   pub settings : Settings
   pub later : List Edition
