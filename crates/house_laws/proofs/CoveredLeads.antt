@@ -1,17 +1,16 @@
 -- A covered bid shows in the end: its bidder leads by its maximum, and by the amount above it where that stands in its place.
-use Rattle.std.proofs.Common.{◌≡◌, ◌≢◌, ℕ, ◌+◌, ◌<◌, ◌≤◌, List, [], ◌∷◌, ◌++◌, length, length-append, map, filter, Bool, true, false, refl, ◌∙◌, ap, sym, subst, arith, inl, inr, ◌⊎◌, ◌↔◌, Option, Some, None}
+use Rattle.std.proofs.Common.{◌≡◌, ℕ, ◌+◌, ◌<◌, ◌≤◌, List, [], ◌∷◌, ◌++◌, length, length-append, map, true, refl, ◌∙◌, ap, sym, subst, arith, inl, inr, Option, Some, None}
 use Rattle.std.specs.Prelude.{◌==◌}
 use Rattle.std.proofs.lemmas.Bool.Decides.{nat_tests}
 use Rattle.std.proofs.lemmas.List.{append_assoc, map-append}
-use Rattle.std.proofs.lemmas.List.Elements.{filter-append}
 use Rattle.steps.specs.Table.{IsBandTable}
 use Rattle.proxy.specs.Opening.{Opening}
 use Rattle.proxy.specs.Accepted.{AreAccepted}
 use Rattle.proxy.specs.declared.bid.Bid as bid
-use Rattle.proxy.specs.Bids.{bids_by, bids_not_by, greatest, leader, second, top}
-use Rattle.proxy.specs.Surplus.{AreCovered, Covers, IsSurplus}
+use Rattle.proxy.specs.Bids.{bids_by, greatest, second, top}
+use Rattle.proxy.specs.Surplus.{Covers}
 use Rattle.proxy.proofs.Rises.{maximum_below, maxima_rise}
-use Rattle.proxy.proofs.Surpluses.{first_or_above, others_covered, surplus_tops}
+use Rattle.proxy.proofs.Surpluses.{surplus_tops}
 use Rattle.house_rows.specs.declared.command.Command.TheVariants.{Bid}
 use Rattle.house_rows.specs.declared.item.ItemShown.{ItemShown}
 use Rattle.house_rows.specs.declared.message.Message.{Message}
@@ -22,7 +21,6 @@ use Rattle.house_rows.specs.Bids.{bids_on}
 use Rattle.house_rows.specs.History.{Entry, History}
 use Rattle.house_rows.specs.Items.{items_shown, shown_at, shown_now}
 use Rattle.house_rows.specs.Listings.{Listing, bands_by, listed_opening, listing_at, listings}
-use Rattle.house_rows.specs.Limits.{most_cents}
 use Rattle.house_rows.specs.Runs.{Agrees, AreTwins, AreTwinsFrom, entered, entry, history_from, history_of, next}
 use Rattle.house_rows.specs.Verdict.{IsHistory, Rule, bid_rules, verdict}
 use Rattle.house_rows.specs.Views.{Public, public_view}
@@ -33,9 +31,8 @@ use Rattle.house_rows.proofs.Passed.{item_from, item_pass, own_pass, shown_is}
 use Rattle.house_rows.proofs.Put.{by_test}
 use Rattle.house_rows.proofs.RangedBids.{listed_more}
 use Rattle.house_rows.proofs.RangedTalk.{listing_is}
-use Rattle.house_laws.specs.Covered.{IsCovered, IsCoveredBid, IsLedByBoth, LeadsBy, Sealed, bid_message, raised, with_maximum}
+use Rattle.house_laws.specs.Covered.{IsCovered, IsCoveredBid, IsLedByBoth, Sealed, bid_message, raised, with_maximum}
 use Rattle.house_laws.proofs.CoveredRuns.{covered_twins, after_bid, grows, history_append, last_near, mine, raised_is}
-use Rattle.house_laws.proofs.Near.{Near}
 
 -- every history along a list is one of accepted entries
 pub run_is_history : {F : Type 0} (settings : Settings) (h : History) (ms : List (Message F)) → IsHistory settings h → IsHistory settings (history_from settings h ms)

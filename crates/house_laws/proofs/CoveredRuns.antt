@@ -1,16 +1,16 @@
 -- A run in which a covered bid is raised is a twin for everybody but its bidder.
-use Rattle.std.proofs.Common.{◌≡◌, ◌≢◌, ℕ, ◌+◌, ◌-◌, ◌<◌, ◌≤◌, List, [], ◌∷◌, ◌++◌, length, length-append, map, filter, take, drop, Bool, true, false, not, refl, ◌∙◌, ap, sym, subst, arith, inl, inr, ◌⊎◌, Option, Some, None}
-use Rattle.std.specs.Prelude.{◌==◌, ◌&&◌}
+use Rattle.std.proofs.Common.{◌≡◌, ◌≢◌, ℕ, ◌+◌, ◌-◌, ◌<◌, ◌≤◌, List, [], ◌∷◌, ◌++◌, length, length-append, map, take, drop, true, false, not, refl, ◌∙◌, ap, sym, subst, arith, inl, inr, Option, Some, None}
+use Rattle.std.specs.Prelude.{◌==◌}
 use Rattle.std.specs.List.{AllByRecursion}
 use Rattle.std.proofs.lemmas.Bool.Decides.{nat_tests}
-use Rattle.std.proofs.lemmas.List.{append-nil, append_assoc, map-append}
+use Rattle.std.proofs.lemmas.List.{append-nil, append_assoc}
 use Rattle.std.proofs.lemmas.List.Elements.{filter-append}
 use Rattle.std.proofs.Math.Seq.{drop-append-add, take-append_seam}
 use Rattle.steps.specs.Table.{IsBandTable, over}
 use Rattle.proxy.specs.declared.bid.Bid as bid
-use Rattle.proxy.specs.Bids.{bids_by, bids_not_by, greatest, leader, second, top}
+use Rattle.proxy.specs.Bids.{bids_by, bids_not_by, greatest, leader, top}
 use Rattle.proxy.specs.Rules.{first_failing}
-use Rattle.proxy.specs.Surplus.{AreCovered, Covers}
+use Rattle.proxy.specs.Surplus.{AreCovered}
 use Rattle.proxy.proofs.Judged.{accepted_above}
 use Rattle.proxy.proofs.Leads.{leader_greatest, not_by-more_other}
 use Rattle.proxy.proofs.Surpluses.{first_or_above, others_covered, surplus_own}

@@ -1,19 +1,19 @@
 -- Items as everybody sees them, one by one.
-use Rattle.std.proofs.Common.{◌≡◌, List, map, ◌∙◌, ap, sym}
+use Rattle.std.proofs.Common.{◌≡◌, map, ◌∙◌, ap, refl, sym}
 use Rattle.house_rows.specs.declared.item.ItemShown.{ItemShown}
 use Rattle.house_rows.specs.declared.settings.Settings.{Settings}
 use Rattle.house_rows.specs.History.{History}
-use Rattle.house_rows.specs.Items.{item_now, items, items_shown, shown}
+use Rattle.house_rows.specs.Items.{items_shown, shown_now}
 use Rattle.house_rows.specs.Listings.{Listing, listings}
-use Rattle.house_rows.proofs.Lists.{map_same, map_twice}
+use Rattle.house_rows.proofs.Lists.{map_same}
 
 -- a listed item as everybody sees it
 abbrev pub seen : Settings → History → Listing → ItemShown
-seen settings h l = shown settings (item_now settings.bands h l)
+seen settings h l = shown_now settings h l
 
 pub items_seen : (settings : Settings) (h : History) → items_shown settings h ≡ map (seen settings h) (listings h)
-unfolding items_shown items
-items_seen settings h = map_twice (item_now settings.bands h) (shown settings) (listings h)
+unfolding items_shown
+items_seen settings h = refl
 
 -- where each item looks the same, all do
 pub items_same_each : (settings : Settings) (h k : History) → listings h ≡ listings k → ((l : Listing) → seen settings h l ≡ seen settings k l) → items_shown settings h ≡ items_shown settings k

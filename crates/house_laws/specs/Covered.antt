@@ -1,5 +1,5 @@
 -- A run in which one bid of the last leader may as well be raised.
-use Rattle.std.specs.Prelude.{◌≡◌, ℕ, ◌+◌, ◌-◌, ◌≤◌, ◌<◌, List, [], ◌∷◌, ◌++◌, false, ◌==◌, Some, None, length, map, take, drop}
+use Rattle.std.specs.Prelude.{◌≡◌, ℕ, ◌+◌, ◌-◌, ◌≤◌, ◌<◌, List, ◌∷◌, ◌++◌, false, ◌==◌, Some, None, length, map, take, drop}
 use Rattle.proxy.specs.Bids.{bids_by, leader, second, top}
 use Rattle.proxy.specs.Surplus.{Covers}
 use Rattle.house_rows.specs.declared.command.Command.TheVariants.{Bid}

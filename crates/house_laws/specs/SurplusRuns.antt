@@ -1,5 +1,5 @@
 -- A run with a covered surplus, and what the premises of that are for.
-use Rattle.std.specs.Prelude.{◌≡◌, ℕ, List, [], ◌∷◌, ◌++◌}
+use Rattle.std.specs.Prelude.{ℕ, List, [], ◌∷◌, ◌++◌}
 use Rattle.house_rows.specs.declared.command.Command.TheVariants.{Bid}
 use Rattle.house_rows.specs.declared.message.Message.{Message}
 use Rattle.house_rows.specs.declared.message.Message.TheVariants.{Order}
