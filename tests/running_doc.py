@@ -47,7 +47,7 @@ def trimmed(text):
 def lines(program):
     """The table and the help have each line of the faults, and each script that the table names has the line."""
     help_text = subprocess.run([program, "--help"], capture_output=True, text=True, timeout=60).stdout
-    source = (ROOT / "crates" / "auction" / "src" / "fault.rt").read_text()
+    source = (ROOT / "crates" / "auction_runs" / "src" / "fault.rt").read_text()
     rows = re.findall(r"^\|([^|]*)\|[^|]*\|[^|]*\|([^|]*)\|$", PAGE, re.M)
     named, line = {}, ""
     for first, scripts in rows:

@@ -1,8 +1,8 @@
 //! Files that are read.
 ghost use Rattle.std.specs.Prelude.{IfErr};
-ghost use Rattle.auction.specs.Faults.{IsOfInput};
+ghost use Rattle.auction_runs.specs.Faults.{IsOfInput};
 
-use crate::fault::Fault;
+use auction_runs::Fault;
 use device::Reading;
 use std::fs::File;
 use std::io;

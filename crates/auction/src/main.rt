@@ -6,27 +6,16 @@
 //! list with itself after a sealed bid in it is raised.
 //!
 //! Promised: each fault has its line on standard error and its exit status, and the program ends
-//! with 0 where there is none. What is answered is what the site answers, what is listed and stated
-//! is what the office lists and states; here words become a house, a reader and a writer. Read
-//! `program` first, and then `init`, `serve`, `replay`, `import`, `statement`, `upgrade`, `audit` and
-//! `surplus`. What the words say is read by `auction_words`.
+//! with 0 where there is none. Here words become a house, a reader and a writer: `auction_words`
+//! reads what the words say, and a run of `auction_runs` does what they ask for. Read `program`
+//! first, and then `houses` and `files`.
 #![tactic(auto)]
 
-mod audit;
-mod fault;
 mod files;
 mod houses;
-mod import;
-mod init;
 mod input;
 mod listener;
 mod program;
-mod replay;
-mod serve;
-mod setup;
-mod statement;
-mod surplus;
-mod upgrade;
 
 use std::process::ExitCode;
 

@@ -3,22 +3,17 @@ ghost use Rattle.std.specs.Prelude.{◌≡◌, ◌≤◌, ◌⊎◌, false, IfEr
 ghost use Rattle.settle.specs.Zoned.{IsZoneOf};
 ghost use Rattle.site.specs.Answers.{zone_of};
 ghost use Rattle.site_serve.specs.Serving.{keep_of};
-ghost use Rattle.auction.specs.Faults.{IsOfKeep, IsOfSettings};
+ghost use Rattle.auction_runs.specs.Faults.{IsOfKeep, IsOfSettings};
 ghost use Rattle.auction_words.specs.Houses.{IsNew};
 
-use crate::audit::{Run, audit_run};
-use crate::fault::{Fault, ended};
 use crate::files::StoreInFile;
 use crate::houses::{KeepInFile, KeepInMemory};
-use crate::import::import_run;
-use crate::init::init_run;
 use crate::input::{open_input, open_source};
 use crate::listener::Listener;
-use crate::replay::replay_run;
-use crate::serve::{answer_each, serve_run};
-use crate::statement::{Inquiry, statement_run};
-use crate::surplus::{Raise, Trial, surplus_run};
-use crate::upgrade::upgrade_run;
+use auction_runs::{
+    Fault, Inquiry, Raise, Run, Trial, answer_each, audit_run, ended, import_run, init_run,
+    replay_run, serve_run, statement_run, surplus_run, upgrade_run,
+};
 use auction_words::{
     AuditWords, HouseWords, ImportWords, Replay, Serve, StatementWords, SurplusWords, Task,
     read_settings, read_task, same_settings,

@@ -1,8 +1,0 @@
-use Rattle.std.proofs.Common.{true}
-use Rattle.auction.proofs.Outcomes.{of_value}
-use Rattle.auction.proofs.surplus.surplus_run.Goals as goal
-
-pub returns-clause-covered : goal.returns-clause-covered
-returns-clause-covered g c =
-    λ e. of_value _ c.tell_surplus.result true (c.status.ensures.equal.0 e)
-    c.tell_surplus.ensures.told

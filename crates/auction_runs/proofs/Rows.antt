@@ -1,0 +1,145 @@
+-- The rows of a lot file that was imported.
+use Rattle.std.proofs.Common.{◌≡◌, ◌≢◌, ◌∙◌, ◌++◌, ℕ, ◌≤◌, List, [], ◌∷◌, Bool, true, Option, Some, None, Result, Ok, Err, ap, arith, subst}
+use Rattle.std.specs.Prelude.{IfOk, OnOk, is_some}
+use Rattle.std.specs.Io.KnownBytes.{Appends, Keeps}
+use Rattle.std.specs.List.{FoldsTo}
+use Rattle.house_rows.specs.Keeping.{IsRead}
+use Rattle.house_rows.specs.Pages.{member_at}
+use Rattle.house_rows.specs.Tables.{Tables}
+use Rattle.office.specs.Imports.{HasListed, HasOrdered, IsCounted}
+use Rattle.office.specs.Lines.{totals_line}
+use Rattle.office.specs.Tallies.{counted, nothing}
+use Rattle.office.specs.declared.order.Lister.{Lister}
+use Rattle.office.specs.declared.outcome.Outcome.{Outcome}
+use Rattle.office.specs.declared.outcome.Outcome.TheVariants as outcome
+use Rattle.office.specs.declared.tally.Imported.{Imported}
+use Rattle.settle.specs.Zoned.{IsZoneOf}
+use Rattle.settle.specs.declared.zone.Zone.{Zone}
+use Rattle.site.specs.Answers.{IsStep}
+use Rattle.site_asks.specs.declared.asked.Asked.{Asked}
+use Rattle.steps.specs.Reading.{records_of}
+use Rattle.auction_runs.specs.Listed.{HasAll, HasDealt, HasTaken, IsHad}
+use Rattle.auction_runs.specs.declared.fault.Fault.{Fault}
+
+-- what follows where a result that is the same went well, from what is so of both
+pub ok_of_both : {T E F Done : Type 0} (P Q : T → Type 0) (r : Result T E) (s : Result T F)
+    → IfOk r (λ x. s ≡ Ok x) → OnOk r Done → IfOk s P → ((x : T) → Done → P x → Q x) → IfOk r Q
+ok_of_both P Q (Ok x) s same done p f = f x done (subst (λ v. IfOk v P) same p)
+ok_of_both P Q (Err e) s same done p f = tt
+
+-- what grew and was then kept has grown
+grown : (a b c : Option (List ℕ)) (x : List ℕ) → Keeps b c → Appends a b x → Appends a c x
+grown None b c x keeps p = tt
+grown (Some a) None c x keeps p = absurd p
+grown (Some a) (Some b) None x keeps p = absurd keeps
+grown (Some a) (Some b) (Some c) x keeps p = keeps ∙ p
+
+-- what an import leaves of the keep that was given, from what each of its calls says
+abbrev pub taken : {K : Type 0} (content : K → Tables) (is_failed : K → Bool)
+    (is_honest : K → Type 0) (may_leave : K → Tables → Type 0) (is_ended : K → Type 0)
+    (by : Lister) (given kept asked begun left last : K) (zone : Zone) → kept ≡ given
+    → IsRead content is_failed is_honest may_leave kept asked
+    → (is_honest asked → is_some (member_at (content kept).members by.member) ≡ true)
+    → begun ≡ asked → (is_honest asked → IsZoneOf (content asked).settings.zone zone)
+    → HasOrdered (IsStep content is_failed is_honest may_leave zone) by begun left
+    → last ≡ left → is_ended last
+    → HasTaken content is_failed is_honest may_leave is_ended by given
+taken content is_failed is_honest may_leave is_ended by given kept asked begun left last zone kept_is
+    read known begun_is kept_zone ordered last_is ended = record {
+      asked = asked;
+      member = record {
+        read = subst (λ k. IsRead content is_failed is_honest may_leave k asked) kept_is read;
+        known = subst (λ k. is_honest asked
+            → is_some (member_at (content k).members by.member) ≡ true) kept_is known;
+      };
+      zone = zone;
+      kept_zone = kept_zone;
+      left = left;
+      ordered = subst (λ k. HasOrdered (IsStep content is_failed is_honest may_leave zone) by k left)
+          begun_is ordered;
+      ended = subst is_ended last_is ended;
+    }
+
+-- and what of the rows of its file
+pub dealt : {K R : Type 0} (content : K → Tables) (is_failed : K → Bool)
+    (is_honest : K → Type 0) (may_leave : K → Tables → Type 0) (is_ended : K → Type 0)
+    (remaining : R → Option (List ℕ)) (by : Lister) (given begun : K)
+    (house : HasTaken content is_failed is_honest may_leave is_ended by given)
+    (lots : Result R Fault) (mine : R) (before between after : Option (List ℕ)) (told : Imported)
+    → lots ≡ Ok mine → begun ≡ house.asked → Keeps between after
+    → ((text : List ℕ) → remaining mine ≡ Some text
+    → HasListed (IsStep content is_failed is_honest may_leave house.zone)
+    (λ printed. Appends before between (printed ++ totals_line told))
+    by (records_of text) told begun house.left)
+    → (reader : R) → lots ≡ Ok reader → (text : List ℕ) → remaining reader ≡ Some text
+    → HasDealt content is_failed is_honest may_leave is_ended by text before after given told
+dealt content is_failed is_honest may_leave is_ended remaining by given begun house lots mine before
+    between after told opened begun_is keeps rows_of reader is text gives =
+    let same : reader ≡ mine = cc (opened, is) in
+    let found = rows_of text (subst (λ r. remaining r ≡ Some text) same gives) in
+    record {
+      house = house;
+      listed = subst (λ k. HasListed (IsStep content is_failed is_honest may_leave house.zone)
+          (λ printed. Appends before after (printed ++ totals_line told))
+          by (records_of text) told k house.left) begun_is (record {
+            rows = found.rows;
+            all = found.all;
+            printed = found.printed;
+            imported = found.imported;
+            shown = grown before between after (found.printed ++ totals_line told) keeps
+                found.shown;
+          });
+    }
+
+-- a count of refused rows never falls
+grows : (t : Imported) (o : Outcome) → t.refused ≤ (counted t o).refused
+grows t outcome.Listed = omega arith
+grows t outcome.There = omega arith
+grows t outcome.Refused = omega arith
+
+-- and a refused row raises it
+not_refused : (t : Imported) (o : Outcome) → (counted t o).refused ≤ 0 → o ≢ outcome.Refused
+not_refused t outcome.Listed few = λ same. cc
+not_refused t outcome.There few = λ same. cc
+not_refused t outcome.Refused few = λ same. absurd (omega (arith, few))
+
+-- however many rows follow
+grows_on : {K : Type 0} (Step : Asked → List ℕ → K → K → Type 0) (by : Lister)
+    (rows : List (List (List ℕ))) (p q : K × Imported × List ℕ)
+    → FoldsTo (IsCounted Step by) p rows q → p.1.refused ≤ q.1.refused
+grows_on Step by [] p q folds = rw folds (omega arith)
+grows_on Step by (row ∷ rows) p q (mid, step, rest) =
+    let later = grows_on Step by rows mid q rest in
+    let now = grows p.1 step.outcome in
+    let same : mid.1.refused ≡ (counted p.1 step.outcome).refused = ap (λ t. t.refused) step.count in
+    omega (arith, later, now, same)
+
+-- where none was counted as refused, none was
+pub all_had : {K : Type 0} (Step : Asked → List ℕ → K → K → Type 0) (by : Lister)
+    (rows : List (List (List ℕ))) (p q : K × Imported × List ℕ)
+    → FoldsTo (IsCounted Step by) p rows q → q.1.refused ≡ 0 → FoldsTo (IsHad Step by) p rows q
+all_had Step by [] p q folds none = folds
+all_had Step by (row ∷ rows) p q (mid, step, rest) none =
+    let later = grows_on Step by rows mid q rest in
+    let same : mid.1.refused ≡ (counted p.1 step.outcome).refused = ap (λ t. t.refused) step.count in
+    let few : (counted p.1 step.outcome).refused ≤ 0 = omega (arith, later, same, none) in (
+      mid,
+      record { dealt = step; had = not_refused p.1 step.outcome few },
+      all_had Step by rows mid q rest none,
+    )
+
+-- an import that refused no row
+pub has_all : {K : Type 0} (content : K → Tables) (is_failed : K → Bool)
+    (is_honest : K → Type 0) (may_leave : K → Tables → Type 0) (is_ended : K → Type 0)
+    (by : Lister) (text : List ℕ) (before after : Option (List ℕ)) (given : K) (told : Imported)
+    → told.refused ≡ 0
+    → HasDealt content is_failed is_honest may_leave is_ended by text before after given told
+    → HasAll content is_failed is_honest may_leave is_ended by text before after given
+has_all content is_failed is_honest may_leave is_ended by text before after given told none run =
+    record {
+      told = told;
+      run = run;
+      had = all_had (IsStep content is_failed is_honest may_leave run.house.zone) by run.listed.rows
+          (run.house.asked, nothing, []) (run.house.left, told, run.listed.printed)
+          run.listed.imported none;
+    }

@@ -1,0 +1,17 @@
+use Rattle.std.proofs.Common.{subst}
+use Rattle.std.specs.Cow.{cow_slice_items}
+use Rattle.auction_runs.specs.Setup.{IsCreated}
+use Rattle.auction_runs.proofs.Outcomes.{on_ok_then}
+use Rattle.site_asks.specs.Asked.{IsAsked}
+use Rattle.auction_runs.proofs.setup.order.Goals as goal
+
+pub returns-clause-taken : goal.returns-clause-taken
+returns-clause-taken g c =
+    let (asked, by_text, step) = c.answer.ensures.step in
+    on_ok_then c.taken.result c.taken.ensures (λ created. record {
+      asked = asked;
+      by_text = subst (λ text. IsAsked text asked) c.as_bytes.ensures.value by_text;
+      reply = cow_slice_items c.answer.result;
+      step = step;
+      created = subst IsCreated c.deref.ensures.value created;
+    })

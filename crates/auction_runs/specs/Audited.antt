@@ -1,0 +1,121 @@
+-- What an audit's run tells.
+use Rattle.std.specs.Prelude.{◌≡◌, ◌≢◌, ◌⊎◌, ℕ, List, [], map, length, Bool, true, false, Option, IfSome, Result, Ok, Err}
+use Rattle.std.specs.List.{AllZip}
+use Rattle.std.specs.Io.KnownBytes.{Appends}
+use Rattle.house_rows.specs.declared.settings.Settings.{Settings}
+use Rattle.house_rows.specs.History.{History}
+use Rattle.house_rows.specs.Tables.{Tables, tables_of}
+use Rattle.house_rows.specs.Verdict.{IsHistory}
+use Rattle.settle.specs.Zoned.{IsZoneOf}
+use Rattle.settle.specs.declared.zone.Zone.{Zone}
+use Rattle.site_audit.specs.Audits.{IsVerdict}
+use Rattle.site_audit.specs.Messages.{IsCutInto}
+use Rattle.site_audit.specs.Places.{Heard, IsHeard}
+use Rattle.site_audit.specs.declared.verdict.Verdict.{Verdict}
+use Rattle.site_audit.specs.declared.verdict.Verdict.TheVariants.{Equal, Apart}
+use Rattle.wire.specs.Frame.{IsFront}
+use Rattle.wire.specs.declared.fault.WireFault.{WireFault}
+use Rattle.auction_runs.specs.Faults.{IsOfKeep}
+use Rattle.auction_runs.specs.Printed.{apart_line, equal_line}
+use Rattle.auction_runs.specs.declared.audit.Run.{Run}
+use Rattle.auction_runs.specs.declared.fault.Fault.{Fault}
+use Rattle.auction_runs.specs.declared.fault.Fault.TheVariants.{Memory, Read, Write, Broken}
+use Rattle.auction_runs.specs.declared.fault.Side.{Side}
+use Rattle.auction_runs.specs.declared.fault.Side.TheVariants.{Left, Right}
+
+-- a source is open, and where its bytes are known they are these messages
+abbrev pub HasMessages : {S : Type 0} → (S → Option (List ℕ)) → Result S Fault → List (List ℕ)
+    → Type 0
+HasMessages bytes_of (Ok source) texts = IfSome (bytes_of source) (λ s. IsCutInto s texts [])
+HasMessages bytes_of (Err fault) texts = ⊥
+
+-- bytes are no list of messages: whole ones, and then a rest that begins with what is none
+pub record IsBroken (bytes : List ℕ) : Type 0 where
+  pub texts : List (List ℕ)
+  pub rest : List ℕ
+  pub cut : IsCutInto bytes texts rest
+  pub more : rest ≢ []
+  pub fault : WireFault
+  pub begins : IsFront rest (Err fault)
+
+-- why a side gives no messages: its source can't be opened; or memory was refused, the source failed,
+-- or its bytes, where they are known, are no list
+abbrev pub IsUnread : {S : Type 0} → (S → Option (List ℕ)) → Side → Result S Fault → Fault → Type 0
+IsUnread bytes_of side (Ok source) fault = (fault ≡ Memory) ⊎ ((fault ≡ Read)
+    ⊎ ((fault ≡ Broken side) × IfSome (bytes_of source) IsBroken))
+IsUnread bytes_of side (Err told) fault = fault ≡ told
+
+-- why two sources give no messages, the left one first
+abbrev pub AreUnread : {L R : Type 0} → (L → Option (List ℕ)) → (R → Option (List ℕ))
+    → Result L Fault → Result R Fault → Fault → Type 0
+AreUnread left_bytes right_bytes left right fault = IsUnread left_bytes Left left fault
+    ⊎ ((lefts : List (List ℕ)) × HasMessages left_bytes left lefts
+    × IsUnread right_bytes Right right fault)
+
+-- why two runs are not compared: a keep told so, or a side gives no messages
+abbrev pub IsUncompared : {K L R : Type 0} → (L → Option (List ℕ)) → (R → Option (List ℕ))
+    → Run K L → Run K R → Fault → Type 0
+IsUncompared left_bytes right_bytes left right fault =
+    IsOfKeep fault ⊎ AreUnread left_bytes right_bytes left.source right.source fault
+
+-- what an audit of two lists says, over two keeps and by a zone
+abbrev pub Finds : {K : Type 0} → (K → Tables) → (K → Bool) → (K → Type 0) → ℕ → Zone
+    → List (List ℕ) → List (List ℕ) → K → K → K → K → Verdict → Type 0
+Finds content is_failed is_honest c zone lefts rights left right left_new right_new verdict =
+    is_honest left_new → is_honest right_new
+    → (settings others : Settings) (h k : History)
+    → IsHistory settings h → IsHistory others k
+    → content left ≡ tables_of settings h → content right ≡ tables_of others k
+    → (left_heard right_heard : List Heard)
+    → AllZip IsHeard lefts left_heard → AllZip IsHeard rights right_heard
+    → IsVerdict content is_failed settings zone c left_heard right_heard
+    left right left_new right_new (Ok verdict)
+
+-- the messages of two sources were compared over two keeps, and this was found
+pub record HasFound {K L R : Type 0} (content : K → Tables) (is_failed : K → Bool)
+    (is_honest : K → Type 0) (left_bytes : L → Option (List ℕ)) (right_bytes : R → Option (List ℕ))
+    (c : ℕ) (zone : Zone) (left_source : Result L Fault) (right_source : Result R Fault)
+    (left right left_new right_new : K) (verdict : Verdict) : Type 0 where
+  pub lefts : List (List ℕ)
+  pub rights : List (List ℕ)
+  pub left_messages : HasMessages left_bytes left_source lefts
+  pub right_messages : HasMessages right_bytes right_source rights
+  pub found : Finds content is_failed is_honest c zone lefts rights left right left_new right_new
+      verdict
+
+-- the messages of two runs were compared over their houses, and this was found
+pub record HasAudited {K L R : Type 0} (content : K → Tables) (is_failed : K → Bool)
+    (is_honest : K → Type 0) (left_bytes : L → Option (List ℕ)) (right_bytes : R → Option (List ℕ))
+    (c : ℕ) (left : Run K L) (right : Run K R) (verdict : Verdict) : Type 0 where
+  pub lefts : List (List ℕ)
+  pub rights : List (List ℕ)
+  pub left_messages : HasMessages left_bytes left.source lefts
+  pub right_messages : HasMessages right_bytes right.source rights
+  pub zone : Zone
+  pub kept_zone : is_honest left.keep → IsZoneOf (content left.keep).settings.zone zone
+  pub left_keep : K
+  pub right_keep : K
+  pub found : Finds content is_failed is_honest c zone lefts rights left.keep right.keep
+      left_keep right_keep verdict
+
+-- a verdict was told, and whether the runs are equal
+abbrev pub IsTold : Option (List ℕ) → Option (List ℕ) → Verdict → Bool → Type 0
+IsTold before after (Equal replies) true = Appends before after (equal_line (length replies.items))
+IsTold before after (Equal replies) false = ⊥
+IsTold before after (Apart step) true = ⊥
+IsTold before after (Apart step) false = Appends before after (apart_line step)
+
+-- what was found of two runs was told
+pub record HasTold {K L R : Type 0} (content : K → Tables) (is_failed : K → Bool)
+    (is_honest : K → Type 0) (left_bytes : L → Option (List ℕ)) (right_bytes : R → Option (List ℕ))
+    (c : ℕ) (left : Run K L) (right : Run K R) (before after : Option (List ℕ)) (equal : Bool) :
+    Type 0 where
+  pub verdict : Verdict
+  pub audited : HasAudited content is_failed is_honest left_bytes right_bytes c left right verdict
+  pub told : IsTold before after verdict equal
+
+-- why nothing, or not all, was told: the runs are not compared, or the output failed
+abbrev pub IsUntold : {K L R : Type 0} → (L → Option (List ℕ)) → (R → Option (List ℕ))
+    → Run K L → Run K R → Fault → Type 0
+IsUntold left_bytes right_bytes left right fault =
+    (fault ≡ Write) ⊎ IsUncompared left_bytes right_bytes left right fault

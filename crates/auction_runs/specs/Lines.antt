@@ -1,0 +1,50 @@
+-- The lines on standard error.
+use Rattle.std.specs.Prelude.{ℕ, List, Option, Some, None, ◌++◌, codes, decimal}
+use Rattle.auction_runs.specs.declared.fault.Fault.{Fault}
+use Rattle.auction_runs.specs.declared.fault.Fault.TheVariants.{Memory, Store, Damaged, Bands, Zone, Read, Write, Socket, Date, Order, Member, Broken}
+use Rattle.auction_runs.specs.declared.fault.Fault.TheVariants as lots
+use Rattle.auction_runs.specs.declared.fault.Side.{Side}
+use Rattle.auction_runs.specs.declared.fault.Side.TheVariants.{Left, Right, Only}
+use Rattle.steps.specs.Fault.{name_of, row_of}
+use Rattle.steps.specs.declared.fault.BandsFault.{BandsFault}
+use Rattle.steps.specs.declared.fault.BandsFault.TheVariants.{Csv, Head, Row, First, Order as OutOfOrder, Falls, TooMany, Device, Memory as NoMemory}
+
+-- a fault's name, and its row where it has one
+abbrev pub named_with : List ℕ → Option ℕ → List ℕ
+named_with name None = codes "auction: bands: " ++ name
+named_with name (Some row) = codes "auction: bands: " ++ name ++ codes " " ++ decimal row
+
+-- the line of a fault of a band table
+abbrev pub bands_line : BandsFault → List ℕ
+bands_line NoMemory = codes "auction: memory"
+bands_line Csv = named_with (name_of Csv) None
+bands_line Head = named_with (name_of Head) None
+bands_line (Row row) = named_with (name_of (Row row)) (Some row)
+bands_line First = named_with (name_of First) None
+bands_line (OutOfOrder row) = named_with (name_of (OutOfOrder row)) (Some row)
+bands_line (Falls row) = named_with (name_of (Falls row)) (Some row)
+bands_line TooMany = named_with (name_of TooMany) None
+bands_line Device = named_with (name_of Device) None
+
+-- the word for a file of messages
+abbrev pub side_name : Side → List ℕ
+side_name Left = codes "LEFT"
+side_name Right = codes "RIGHT"
+side_name Only = codes "LIST"
+
+-- the line of a fault
+abbrev pub line_of : Fault → List ℕ
+line_of Memory = codes "auction: memory"
+line_of Store = codes "auction: file: Store"
+line_of Damaged = codes "auction: file: Damaged"
+line_of (Bands fault) = bands_line fault
+line_of Zone = codes "auction: zone"
+line_of Read = codes "auction: input: Read"
+line_of Write = codes "auction: output: Write"
+line_of Socket = codes "auction: socket"
+line_of Date = codes "auction: date"
+line_of Order = codes "auction: order"
+line_of Member = codes "auction: no member"
+line_of lots.Head = codes "auction: lots: Head"
+line_of lots.Csv = codes "auction: lots: Csv"
+line_of (Broken side) = codes "auction: " ++ side_name side ++ codes " is no list of messages"

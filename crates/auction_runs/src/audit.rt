@@ -1,0 +1,208 @@
+//! `audit`: two runs of messages, compared as one member sees them.
+ghost use Rattle.std.specs.Prelude.{◌≡◌, ◌≤◌, ◌⊎◌, ◌↔◌, true, Ok, IfErr, IfOk, OnOk, map};
+ghost use Rattle.std.specs.Io.KnownBytes.{Appends};
+ghost use Rattle.auction_runs.specs.Audited.{AreUnread, HasAudited, HasFound, HasMessages, HasTold, IsTold, IsUncompared, IsUnread, IsUntold};
+ghost use Rattle.auction_runs.specs.Faults.{IsOfKeep, fault_of_messages};
+ghost use Rattle.auction_runs.specs.Printed.{apart_line, equal_line};
+ghost use Rattle.settle.specs.Zoned.{IsZoneOf};
+ghost use Rattle.site.specs.Answers.{zone_of};
+ghost use Rattle.site_serve.specs.Serving.{keep_of};
+
+use crate::fault::{Fault, Side, ended};
+use crate::serve::begun;
+use device::Source;
+use house_rows::Keep;
+use site::Site;
+use site_audit::{MessagesFault, Verdict, audit, read_messages};
+use std::alloc::Global;
+use std::io::Write;
+
+/// One side of an audit: a new house, and where its messages come from, or why they can't be read.
+#[derive(Drop)]
+pub struct Run<K: Drop, S: Drop> {
+    /// The keep of the house.
+    pub keep: K,
+    /// The source of the messages.
+    pub source: Result<S, Fault>,
+}
+
+// Why a side gives no list of messages.
+fn fault_of(fault: MessagesFault, side: Side) -> Fault
+    ensures { result ≡ fault_of_messages side fault }
+{
+    match fault {
+        MessagesFault::Read => Fault::Read,
+        MessagesFault::Memory => Fault::Memory,
+        MessagesFault::Broken(_) => Fault::Broken(side),
+    }
+}
+
+/// The messages of a side.
+pub fn messages<S: Source + Drop>(
+    alloc: Global,
+    source: Result<S, Fault>,
+    side: Side,
+) -> Result<Vec<Vec<u8>>, Fault>
+    ensures ok { IfOk result (λ list. HasMessages S.left source (map (λ m. m.items) list.items)) }
+    ensures fault { IfErr result (λ fault. IsUnread S.left side source fault) }
+{
+    let mut source = source?;
+    match read_messages(alloc, &mut source) {
+        Ok(messages) => Ok(messages),
+        Err(fault) => Err(fault_of(fault, side)),
+    }
+}
+
+/// The sites over two keeps.
+pub fn both_begun<K: Keep + Drop>(
+    alloc: Global,
+    left: K,
+    right: K,
+) -> Result<(Site<K>, Site<K>), Fault>
+    ensures left { IfOk result (λ sites. keep_of sites.0 ≡ left) }
+    ensures right { IfOk result (λ sites. keep_of sites.1 ≡ right) }
+    ensures zone { K.is_honest left → IfOk result (λ sites.
+        IsZoneOf (K.content left).settings.zone (zone_of sites.0)) }
+    ensures fault { IfErr result IsOfKeep }
+{
+    let left_site = begun(alloc, left)?;
+    match begun(alloc, right) {
+        Ok(right_site) => Ok((left_site, right_site)),
+        Err(fault) => Err(fault),
+    }
+}
+
+// What an audit of the messages of two sources finds, over two sites. What is wrong on the left is
+// told before what is wrong on the right.
+fn compare_over<L: Source + Drop, R: Source + Drop, K: Keep + Drop>(
+    alloc: Global,
+    left: &mut Site<K>,
+    right: &mut Site<K>,
+    left_source: Result<L, Fault>,
+    right_source: Result<R, Fault>,
+    caller: u64,
+) -> Result<Verdict, Fault>
+    ensures found { IfOk result (HasFound K.content K.is_failed K.is_honest L.left R.left caller
+        (zone_of left.old) left_source right_source
+        (keep_of left.old) (keep_of right.old) (keep_of left.new) (keep_of right.new)) }
+    ensures fault { IfErr result (λ fault. IsOfKeep fault
+        ⊎ AreUnread L.left R.left left_source right_source fault) }
+{
+    let lefts = messages(alloc, left_source, Side::Left)?;
+    let rights = messages(alloc, right_source, Side::Right)?;
+    Ok(audit(alloc, left, right, &lefts, &rights, caller)?)
+}
+
+// What an audit of two runs finds.
+fn compare<L: Source + Drop, R: Source + Drop, K: Keep + Drop>(
+    alloc: Global,
+    left: Run<K, L>,
+    right: Run<K, R>,
+    caller: u64,
+) -> Result<Verdict, Fault>
+    ensures found { IfOk result
+        (HasAudited K.content K.is_failed K.is_honest L.left R.left caller left right) }
+    ensures fault { IfErr result (IsUncompared L.left R.left left right) }
+{
+    let (mut left_site, mut right_site) = both_begun(alloc, left.keep, right.keep)?;
+    compare_over(
+        alloc,
+        &mut left_site,
+        &mut right_site,
+        left.source,
+        right.source,
+        caller,
+    )
+}
+
+// Tells that the runs are equal, with so many replies.
+fn tell_equal<W: Write>(output: &mut W, count: usize) -> Result<(), Fault>
+    ensures told { OnOk result
+        (Appends (W.contents output.old) (W.contents output.new) (equal_line count)) }
+    ensures fault { IfErr result (λ fault. fault ≡ Fault.Write) }
+{
+    match writeln!(output, "equal, {count} replies") {
+        Ok(()) => Ok(()),
+        Err(_) => Err(Fault::Write),
+    }
+}
+
+// Tells that they are apart from a place on.
+fn tell_apart<W: Write>(output: &mut W, step: u64) -> Result<(), Fault>
+    ensures told { OnOk result
+        (Appends (W.contents output.old) (W.contents output.new) (apart_line step)) }
+    ensures fault { IfErr result (λ fault. fault ≡ Fault.Write) }
+{
+    match writeln!(output, "apart at step {step}") {
+        Ok(()) => Ok(()),
+        Err(_) => Err(Fault::Write),
+    }
+}
+
+// Tells a verdict, and whether the runs are equal.
+fn tell<W: Write>(output: &mut W, verdict: &Verdict) -> Result<bool, Fault>
+    ensures told { IfOk result
+        (IsTold (W.contents output.old) (W.contents output.new) verdict.now) }
+    ensures fault { IfErr result (λ fault. fault ≡ Fault.Write) }
+{
+    match verdict {
+        Verdict::Equal { replies } => {
+            tell_equal(output, replies.len())?;
+            Ok(true)
+        }
+        Verdict::Apart { step } => {
+            tell_apart(output, *step)?;
+            Ok(false)
+        }
+    }
+}
+
+/// Compares two runs of messages over new houses as a member sees them, and tells what was found.
+/// Ok is whether they are equal. What is wrong on the left is told before what is wrong on the
+/// right.
+pub fn tell_compared<L: Source + Drop, R: Source + Drop, W: Write, K: Keep + Drop>(
+    alloc: Global,
+    left: Run<K, L>,
+    right: Run<K, R>,
+    caller: u64,
+    output: &mut W,
+) -> Result<bool, Fault>
+    ensures told { IfOk result
+        (HasTold K.content K.is_failed K.is_honest L.left R.left caller left right
+        (W.contents output.old) (W.contents output.new)) }
+    ensures fault { IfErr result (IsUntold L.left R.left left right) }
+{
+    let verdict = compare(alloc, left, right, caller)?;
+    tell(output, &verdict)
+}
+
+/// The exit status for what was found: 0 where the runs are equal, and else 1. A fault is told in
+/// its line.
+pub fn status<E: Write>(errors: &mut E, equal: Result<bool, Fault>) -> u8
+    ensures equal { (result ≡ 0) ↔ (equal ≡ Ok true) }
+    ensures within { result ≤ 1 }
+{
+    match equal {
+        Ok(true) => 0,
+        Ok(false) => 1,
+        Err(fault) => ended(errors, Err(fault)),
+    }
+}
+
+/// The same as an exit status: 0 where the runs are equal, and else 1. A fault is told in its line
+/// on `errors`.
+pub fn audit_run<L: Source + Drop, R: Source + Drop, W: Write, E: Write, K: Keep + Drop>(
+    alloc: Global,
+    left: Run<K, L>,
+    right: Run<K, R>,
+    caller: u64,
+    output: &mut W,
+    errors: &mut E,
+) -> u8
+    ensures equal { result ≡ 0
+        → HasTold K.content K.is_failed K.is_honest L.left R.left caller left right
+        (W.contents output.old) (W.contents output.new) true }
+    ensures within { result ≤ 1 }
+{
+    status(errors, tell_compared(alloc, left, right, caller, output))
+}

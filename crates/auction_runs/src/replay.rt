@@ -1,0 +1,116 @@
+//! `replay`: the answers to the messages of an input, over a new house.
+ghost use Rattle.std.specs.Prelude.{◌≡◌, ◌≤◌, IfSome, OnOk};
+ghost use Rattle.auction_runs.specs.Replayed.{HasRecorded, HasReplayed, IsRecorded};
+ghost use Rattle.auction_runs.specs.Setup.{IsSetUp};
+ghost use Rattle.settle.specs.Zoned.{IsZoneOf};
+ghost use Rattle.site.specs.Answers.{IsStep, zone_of};
+ghost use Rattle.site_serve.specs.Serving.{IsFlushed, keep_of};
+
+use crate::fault::{Fault, ended};
+use crate::serve::begun;
+use crate::setup::set_up;
+use auction_words::Replay;
+use device::{Sink, Source, give_all};
+use house_rows::Keep;
+use site::Site;
+use site_serve::serve;
+use std::alloc::Global;
+use std::io::Write;
+
+// Sets the house up, where that is asked for.
+fn prepare<K: Keep + Drop>(site: &mut Site<K>, asked: Replay) -> Result<(), Fault>
+    ensures set_up { OnOk result
+        (IsSetUp (IsStep K.content K.is_failed K.is_honest K.may_leave (zone_of site.old))
+        asked.preset (keep_of site.old) (keep_of site.new)) }
+    ensures zone { zone_of site.new ≡ zone_of site.old }
+{
+    if asked.preset { set_up(site) } else { Ok(()) }
+}
+
+// Appends the public record and a newline.
+fn append_record<W: Sink, K: Keep + Drop>(sink: &mut W, site: &mut Site<K>) -> Result<(), Fault>
+    ensures recorded { OnOk result
+        (HasRecorded K.content K.is_failed K.is_honest K.may_leave
+        (W.taken sink.old) (W.taken sink.new) (keep_of site.old) (keep_of site.new)) }
+    ensures handed_on { OnOk result (W.handed_on sink.new ≡ W.taken sink.new) }
+{
+    let record = site.record()?;
+    give_all(sink, record.as_slice()).map_err(|_| Fault::Write)?;
+    give_all(sink, b"\n").map_err(|_| Fault::Write)?;
+    sink.flush().map_err(|_| Fault::Write)
+}
+
+// Appends the record, where that is asked for.
+fn finish<W: Sink, K: Keep + Drop>(
+    sink: &mut W,
+    site: &mut Site<K>,
+    asked: Replay,
+) -> Result<(), Fault>
+    ensures recorded { OnOk result
+        (IsRecorded K.content K.is_failed K.is_honest K.may_leave asked.record
+        (W.taken sink.old) (W.taken sink.new) (keep_of site.old) (keep_of site.new)) }
+    ensures handed_on { OnOk result (IsFlushed W.handed_on W.taken sink.old sink.new) }
+{
+    if asked.record {
+        append_record(sink, site)
+    } else {
+        Ok(())
+    }
+}
+
+// Answers all messages of the source over a site, whose zone is that of its keep.
+fn answer_over<R: Source, W: Sink, K: Keep + Drop>(
+    alloc: Global,
+    source: &mut R,
+    sink: &mut W,
+    site: &mut Site<K>,
+    asked: Replay,
+) -> Result<(), Fault>
+    ensures replayed { (K.is_honest (keep_of site.old)
+        → IsZoneOf (K.content (keep_of site.old)).settings.zone (zone_of site.old))
+        → OnOk result (IfSome (R.left source.old) (λ stream.
+        HasReplayed K.content K.is_failed K.is_honest K.may_leave asked stream
+        (W.taken sink.old) (W.taken sink.new) (keep_of site.old))) }
+    ensures handed_on { OnOk result (IsFlushed W.handed_on W.taken sink.old sink.new) }
+{
+    prepare(site, asked)?;
+    serve(alloc, source, sink, site, u64::MAX)?;
+    finish(sink, site, asked)
+}
+
+// Answers all messages of the source.
+fn answer_all<R: Source, W: Sink, K: Keep + Drop>(
+    alloc: Global,
+    source: &mut R,
+    sink: &mut W,
+    keep: K,
+    asked: Replay,
+) -> Result<(), Fault>
+    ensures replayed { OnOk result (IfSome (R.left source.old) (λ stream.
+        HasReplayed K.content K.is_failed K.is_honest K.may_leave asked stream
+        (W.taken sink.old) (W.taken sink.new) keep)) }
+    ensures handed_on { OnOk result (IsFlushed W.handed_on W.taken sink.old sink.new) }
+{
+    let mut site = begun(alloc, keep)?;
+    answer_over(alloc, source, sink, &mut site, asked)
+}
+
+/// Answers all messages of a source over a new house, and gives the exit status. A fault is told in
+/// its line on `errors`. However the stream ends, the record that was asked for follows the last
+/// answer; where a device fails there is none.
+pub fn replay_run<R: Source, W: Sink, K: Keep + Drop, E: Write>(
+    alloc: Global,
+    source: &mut R,
+    sink: &mut W,
+    errors: &mut E,
+    keep: K,
+    asked: Replay,
+) -> u8
+    ensures replayed { result ≡ 0 → IfSome (R.left source.old) (λ stream.
+        HasReplayed K.content K.is_failed K.is_honest K.may_leave asked stream
+        (W.taken sink.old) (W.taken sink.new) keep) }
+    ensures handed_on { result ≡ 0 → IsFlushed W.handed_on W.taken sink.old sink.new }
+    ensures within { result ≤ 1 }
+{
+    ended(errors, answer_all(alloc, source, sink, keep, asked))
+}

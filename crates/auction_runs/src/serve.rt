@@ -1,0 +1,160 @@
+//! `serve`: the answers to the messages of connections, one connection after the other.
+ghost use Rattle.std.specs.Prelude.{◌≡◌, ◌≤◌, ◌⊎◌, IfErr, IfOk, IsOk, OnOk};
+ghost use Rattle.std.specs.Io.KnownBytes.{Appends};
+ghost use Rattle.auction_runs.specs.Faults.{IsOfKeep};
+ghost use Rattle.auction_runs.specs.Printed.{listening, served};
+ghost use Rattle.settle.specs.Zoned.{IsZoneOf};
+ghost use Rattle.settle.specs.declared.zone.Zone.{Zone};
+ghost use Rattle.site.specs.Answers.{zone_of};
+ghost use Rattle.site_connections.specs.Turns.{ServesOne, TakesEach, TakesOne};
+ghost use Rattle.site_serve.specs.Serving.{keep_of};
+
+use crate::fault::{Fault, ended};
+use house_rows::{Ends, Keep};
+use site::Site;
+use site_connections::{Connections, serve_each};
+use std::alloc::Global;
+use std::io::Write;
+
+// How many messages of a connection are answered.
+const MOST: u64 = 10_000;
+
+/// The site over a keep.
+pub fn begun<K: Keep + Drop>(alloc: Global, keep: K) -> Result<Site<K>, Fault>
+    ensures keep { IfOk result (λ site. keep_of site ≡ keep) }
+    ensures zone { K.is_honest keep → IfOk result (λ site.
+        IsZoneOf (K.content keep).settings.zone (zone_of site)) }
+    ensures fault { IfErr result IsOfKeep }
+{
+    Ok(Site::new(alloc, keep)?)
+}
+
+/// The keep, once a site could begin over it: so what is wrong with a house is told before what else
+/// is asked of it.
+pub fn sound<K: Keep + Drop>(alloc: Global, keep: K) -> Result<K, Fault>
+    ensures same { IfOk result (λ same. same ≡ keep) }
+    ensures zone { K.is_honest keep → IfOk result (λ same. (zone : Zone)
+        × IsZoneOf (K.content same).settings.zone zone) }
+{
+    let site = begun(alloc, keep)?;
+    Ok(site.end())
+}
+
+// Tells that connections are waited for.
+fn tell_listening<W: Write>(output: &mut W) -> Result<(), Fault>
+    ensures told { OnOk result
+        (Appends (W.contents output.old) (W.contents output.new) listening) }
+    ensures fault { IfErr result (λ fault. fault ≡ Fault.Write) }
+{
+    match writeln!(output, "listening") {
+        Ok(()) => Ok(()),
+        Err(_) => Err(Fault::Write),
+    }
+}
+
+// Tells how many connections were answered.
+fn tell_served<W: Write>(output: &mut W, count: u64) -> Result<(), Fault>
+    ensures { OnOk result (Appends (W.contents output.old) (W.contents output.new) (served count)) }
+{
+    match writeln!(output, "served {count}") {
+        Ok(()) => Ok(()),
+        Err(_) => Err(Fault::Write),
+    }
+}
+
+// Serves so many connections, one after the other.
+fn serve_all<C: Connections, K: Keep + Drop>(
+    alloc: Global,
+    connections: &mut C,
+    count: u64,
+    site: &mut Site<K>,
+) -> Result<(), Fault>
+    ensures each { OnOk result (TakesEach (TakesOne
+        (ServesOne K.content K.is_failed K.is_honest K.may_leave (zone_of site.old)
+        C.Input.left C.Input.has_failed C.Output.taken C.Output.handed_on C.Output.has_failed MOST)
+        C.accepts C.ends) count
+        (connections.old, keep_of site.old) (connections.new, keep_of site.new)) }
+    ensures fault { IfErr result (λ fault. fault ≡ Fault.Socket) }
+{
+    match serve_each(alloc, connections, count, site, MOST) {
+        Ok(()) => Ok(()),
+        Err(_) => Err(Fault::Socket),
+    }
+}
+
+// Tells that connections are waited for, and serves so many.
+fn listen<W: Write, C: Connections, K: Keep + Drop>(
+    alloc: Global,
+    connections: &mut C,
+    count: u64,
+    output: &mut W,
+    site: &mut Site<K>,
+) -> Result<(), Fault>
+    ensures told { OnOk result
+        (Appends (W.contents output.old) (W.contents output.new) listening) }
+    ensures each { OnOk result (TakesEach (TakesOne
+        (ServesOne K.content K.is_failed K.is_honest K.may_leave (zone_of site.old)
+        C.Input.left C.Input.has_failed C.Output.taken C.Output.handed_on C.Output.has_failed MOST)
+        C.accepts C.ends) count
+        (connections.old, keep_of site.old) (connections.new, keep_of site.new)) }
+    ensures fault { IfErr result (λ fault. (fault ≡ Fault.Write) ⊎ (fault ≡ Fault.Socket)) }
+{
+    tell_listening(output)?;
+    serve_all(alloc, connections, count, site)
+}
+
+/// Tells that connections are waited for, serves so many of them, one after the other, each by at
+/// most 10000 messages, and gives the keep back, which nothing else has changed.
+pub fn answer_each<W: Write, C: Connections, K: Keep + Drop>(
+    alloc: Global,
+    connections: &mut C,
+    count: u64,
+    output: &mut W,
+    site: Site<K>,
+) -> Result<K, Fault>
+    ensures told { OnOk result
+        (Appends (W.contents output.old) (W.contents output.new) listening) }
+    ensures each { IfOk result (λ keep. TakesEach (TakesOne
+        (ServesOne K.content K.is_failed K.is_honest K.may_leave (zone_of site)
+        C.Input.left C.Input.has_failed C.Output.taken C.Output.handed_on C.Output.has_failed MOST)
+        C.accepts C.ends) count (connections.old, keep_of site) (connections.new, keep)) }
+    ensures fault { IfErr result (λ fault. (fault ≡ Fault.Write) ⊎ (fault ≡ Fault.Socket)) }
+{
+    let mut site = site;
+    let answered = listen(alloc, connections, count, output, &mut site);
+    let keep = site.end();
+    match answered {
+        Ok(()) => Ok(keep),
+        Err(fault) => Err(fault),
+    }
+}
+
+// Ends the keep, and tells how many connections were answered.
+fn finish<W: Write, K: Ends>(output: &mut W, keep: K, count: u64) -> Result<(), Fault>
+    ensures told { OnOk result
+        (Appends (W.contents output.old) (W.contents output.new) (served count)) }
+    ensures ended { OnOk result (K.is_ended keep) }
+{
+    keep.end()?;
+    tell_served(output, count)
+}
+
+/// Ends the keep over which so many connections were answered, tells their number, and gives the
+/// exit status. A fault, one of serving them too, is told in its line on `errors`.
+pub fn serve_run<W: Write, E: Write, K: Ends>(
+    output: &mut W,
+    errors: &mut E,
+    answered: Result<K, Fault>,
+    count: u64,
+) -> u8
+    ensures done { result ≡ 0 → Appends (W.contents output.old) (W.contents output.new)
+        (served count) }
+    ensures ok { result ≡ 0 → IsOk answered }
+    ensures ended { result ≡ 0 → IfOk answered K.is_ended }
+    ensures within { result ≤ 1 }
+{
+    match answered {
+        Ok(keep) => ended(errors, finish(output, keep, count)),
+        Err(fault) => ended(errors, Err(fault)),
+    }
+}

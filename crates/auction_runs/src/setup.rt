@@ -1,0 +1,72 @@
+//! The house that `--preset` begins with.
+ghost use Rattle.std.specs.Prelude.{◌≡◌, true, OnOk};
+ghost use Rattle.auction_runs.specs.Setup.{IsCreated, IsSetUp, IsTaken};
+ghost use Rattle.site.specs.Answers.{IsStep, zone_of};
+ghost use Rattle.site_serve.specs.Serving.{keep_of};
+
+use crate::fault::Fault;
+use house_rows::Keep;
+use site::Site;
+use wire::{failed_store, no_memory};
+
+pub(crate) const ANA: &str =
+    "POST /members HTTP/1.1\r\nhost: h\r\nx-member: 0\r\nx-moment: 1000\r\n\
+    content-length: 14\r\n\r\n{\"name\":\"Ana\"}";
+
+pub(crate) const BEN: &str =
+    "POST /members HTTP/1.1\r\nhost: h\r\nx-member: 0\r\nx-moment: 1000\r\n\
+    content-length: 14\r\n\r\n{\"name\":\"Ben\"}";
+
+pub(crate) const CID: &str =
+    "POST /members HTTP/1.1\r\nhost: h\r\nx-member: 0\r\nx-moment: 1000\r\n\
+    content-length: 14\r\n\r\n{\"name\":\"Cid\"}";
+
+pub(crate) const BOOKS: &str =
+    "POST /categories HTTP/1.1\r\nhost: h\r\nx-member: 0\r\nx-moment: 1000\r\n\
+    content-length: 16\r\n\r\n{\"name\":\"Books\"}";
+
+pub(crate) const ATLAS: &str =
+    "POST /items HTTP/1.1\r\nhost: h\r\nx-member: 1\r\nx-moment: 1000\r\n\
+    content-length: 74\r\n\r\n\
+    {\"category\":1,\"end\":5000,\"lot\":\"A1\",\"start\":500,\"text\":\"\",\"title\":\"Atlas\"}";
+
+// Whether a message of the setup was taken, by its answer.
+fn taken(answer: &[u8]) -> Result<(), Fault>
+    ensures { OnOk result (IsCreated answer.now) }
+{
+    if answer.starts_with(b"HTTP/1.1 201 ") {
+        Ok(())
+    } else if answer == no_memory(false) {
+        Err(Fault::Memory)
+    } else if answer == failed_store(false) {
+        Err(Fault::Store)
+    } else {
+        Err(Fault::Damaged)
+    }
+}
+
+// Has a message of the setup answered, which has to be taken.
+fn order<K: Keep + Drop>(site: &mut Site<K>, message: &str) -> Result<(), Fault>
+    ensures taken { OnOk result
+        (IsTaken (IsStep K.content K.is_failed K.is_honest K.may_leave (zone_of site.old))
+        (keep_of site.old) message.now (keep_of site.new)) }
+    ensures zone { zone_of site.new ≡ zone_of site.old }
+{
+    taken(&site.answer(message.as_bytes()))
+}
+
+/// Sets a new house up: three members, a category and an item of the first member.
+///
+/// Damaged is answered where the house isn't new.
+pub fn set_up<K: Keep + Drop>(site: &mut Site<K>) -> Result<(), Fault>
+    ensures taken { OnOk result
+        (IsSetUp (IsStep K.content K.is_failed K.is_honest K.may_leave (zone_of site.old))
+        true (keep_of site.old) (keep_of site.new)) }
+    ensures zone { zone_of site.new ≡ zone_of site.old }
+{
+    order(site, ANA)?;
+    order(site, BEN)?;
+    order(site, CID)?;
+    order(site, BOOKS)?;
+    order(site, ATLAS)
+}

@@ -1,0 +1,149 @@
+//! `surplus`: whether it shows to another member how much higher a covered bid is sealed.
+ghost use Rattle.std.specs.Prelude.{◌≡◌, ◌≤◌, ◌⊎◌, true, IfErr, IfOk, OnOk};
+ghost use Rattle.std.specs.Io.KnownBytes.{Appends};
+ghost use Rattle.auction_runs.specs.Audited.{IsUnread};
+ghost use Rattle.auction_runs.specs.Faults.{IsOfKeep};
+ghost use Rattle.auction_runs.specs.Printed.{not_covered_line, same_line};
+ghost use Rattle.auction_runs.specs.Raised.{HasLooked, HasShown, HasTried, IsShown, IsUnshown, IsUntried};
+ghost use Rattle.site.specs.Answers.{zone_of};
+ghost use Rattle.site_serve.specs.Serving.{keep_of};
+
+use crate::audit::{both_begun, messages, status};
+use crate::fault::{Fault, Side};
+use device::Source;
+use house_rows::Keep;
+use site::Site;
+use site_audit::{Surplus, surplus};
+use std::alloc::Global;
+use std::io::Write;
+
+/// Which bid is raised, and to whom that may not show.
+#[derive(Clone, Copy, Debug)]
+pub struct Raise {
+    /// The place of the bid among the messages, from 1 on.
+    pub place: u64,
+    /// Its new maximum.
+    pub maximum: u64,
+    /// Who looks.
+    pub other: u64,
+}
+
+/// Two new houses, and where the messages come from, or why they can't be read.
+#[derive(Drop)]
+pub struct Trial<K: Drop, S: Drop> {
+    /// The keep of the house over which the messages are answered.
+    pub left: K,
+    /// That over which they are answered with the bid raised.
+    pub right: K,
+    /// The source of the messages.
+    pub source: Result<S, Fault>,
+}
+
+// What is found of the messages of a source, over two sites.
+fn look_over<S: Source + Drop, K: Keep + Drop>(
+    alloc: Global,
+    left: &mut Site<K>,
+    right: &mut Site<K>,
+    source: Result<S, Fault>,
+    raise: Raise,
+) -> Result<Surplus, Fault>
+    ensures found { IfOk result (HasLooked K.content K.is_failed K.is_honest S.left raise
+        (zone_of left.old) source
+        (keep_of left.old) (keep_of right.old) (keep_of left.new) (keep_of right.new)) }
+    ensures fault { IfErr result (λ fault. IsOfKeep fault ⊎ IsUnread S.left Side.Only source fault) }
+{
+    let texts = messages(alloc, source, Side::Only)?;
+    let Raise {
+        place,
+        maximum,
+        other,
+    } = raise;
+    Ok(surplus(alloc, left, right, &texts, place, maximum, other)?)
+}
+
+// What is found over the houses of a trial.
+fn look<S: Source + Drop, K: Keep + Drop>(
+    alloc: Global,
+    trial: Trial<K, S>,
+    raise: Raise,
+) -> Result<Surplus, Fault>
+    ensures found { IfOk result
+        (HasTried K.content K.is_failed K.is_honest S.left raise trial) }
+    ensures fault { IfErr result (IsUntried S.left trial) }
+{
+    let (mut left, mut right) = both_begun(alloc, trial.left, trial.right)?;
+    look_over(alloc, &mut left, &mut right, trial.source, raise)
+}
+
+// Tells that a bid is covered, with so many replies to who looks.
+fn tell_same<W: Write>(output: &mut W, count: usize) -> Result<(), Fault>
+    ensures told { OnOk result
+        (Appends (W.contents output.old) (W.contents output.new) (same_line count)) }
+    ensures fault { IfErr result (λ fault. fault ≡ Fault.Write) }
+{
+    match writeln!(output, "same, {count} replies") {
+        Ok(()) => Ok(()),
+        Err(_) => Err(Fault::Write),
+    }
+}
+
+// Tells that no covered bid stands there.
+fn tell_not_covered<W: Write>(output: &mut W) -> Result<(), Fault>
+    ensures told { OnOk result
+        (Appends (W.contents output.old) (W.contents output.new) not_covered_line) }
+    ensures fault { IfErr result (λ fault. fault ≡ Fault.Write) }
+{
+    match writeln!(output, "not covered") {
+        Ok(()) => Ok(()),
+        Err(_) => Err(Fault::Write),
+    }
+}
+
+// Tells what was found, and whether the bid is covered.
+fn tell<W: Write>(output: &mut W, found: &Surplus) -> Result<bool, Fault>
+    ensures told { IfOk result (IsShown (W.contents output.old) (W.contents output.new) found.now) }
+    ensures fault { IfErr result (λ fault. fault ≡ Fault.Write) }
+{
+    match found {
+        Surplus::Same { replies } => {
+            tell_same(output, replies.len())?;
+            Ok(true)
+        }
+        Surplus::NotCovered => {
+            tell_not_covered(output)?;
+            Ok(false)
+        }
+    }
+}
+
+/// Answers messages over a new house, and over another with one bid raised, and tells whether the
+/// bid is covered, so that it shows to nobody else. Ok is whether it is.
+pub fn tell_surplus<S: Source + Drop, W: Write, K: Keep + Drop>(
+    alloc: Global,
+    trial: Trial<K, S>,
+    raise: Raise,
+    output: &mut W,
+) -> Result<bool, Fault>
+    ensures told { IfOk result (HasShown K.content K.is_failed K.is_honest S.left raise trial
+        (W.contents output.old) (W.contents output.new)) }
+    ensures fault { IfErr result (IsUnshown S.left trial) }
+{
+    let found = look(alloc, trial, raise)?;
+    tell(output, &found)
+}
+
+/// The same as an exit status: 0 where the bid is covered, and else 1. A fault is told in its line
+/// on `errors`.
+pub fn surplus_run<S: Source + Drop, W: Write, E: Write, K: Keep + Drop>(
+    alloc: Global,
+    trial: Trial<K, S>,
+    raise: Raise,
+    output: &mut W,
+    errors: &mut E,
+) -> u8
+    ensures covered { result ≡ 0 → HasShown K.content K.is_failed K.is_honest S.left raise trial
+        (W.contents output.old) (W.contents output.new) true }
+    ensures within { result ≤ 1 }
+{
+    status(errors, tell_surplus(alloc, trial, raise, output))
+}

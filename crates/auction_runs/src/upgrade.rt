@@ -1,0 +1,52 @@
+//! `upgrade`: a house of version 1 in a file is made one of version 2.
+ghost use Rattle.std.specs.Prelude.{◌≡◌, ◌≤◌, OnOk};
+ghost use Rattle.std.specs.Io.KnownBytes.{Appends};
+ghost use Rattle.auction_runs.specs.Printed.{upgraded_line, upgraded_word};
+
+use crate::fault::{Fault, ended};
+use house_rows::Ends;
+use std::io::Write;
+
+// What is told of a house that is upgraded, and of one that was of version 2 before.
+fn word(upgraded: bool) -> &'static str
+    ensures { result.now ≡ upgraded_word upgraded }
+{
+    if upgraded { "upgraded" } else { "is version 2" }
+}
+
+// Tells whether the house is upgraded.
+fn tell<W: Write>(output: &mut W, upgraded: bool) -> Result<(), Fault>
+    ensures { OnOk result
+        (Appends (W.contents output.old) (W.contents output.new) (upgraded_line upgraded)) }
+{
+    match writeln!(output, "{}", word(upgraded)) {
+        Ok(()) => Ok(()),
+        Err(_) => Err(Fault::Write),
+    }
+}
+
+// Ends the keep, and tells whether its house is upgraded.
+fn finish<W: Write, K: Ends>(output: &mut W, keep: K, upgraded: bool) -> Result<(), Fault>
+    ensures told { OnOk result
+        (Appends (W.contents output.old) (W.contents output.new) (upgraded_line upgraded)) }
+    ensures ended { OnOk result (K.is_ended keep) }
+{
+    keep.end()?;
+    tell(output, upgraded)
+}
+
+/// Ends the keep of a house that is upgraded, or was of version 2 before, tells which it is, and
+/// gives the exit status. A fault is told in its line on `errors`.
+pub fn upgrade_run<W: Write, E: Write, K: Ends>(
+    output: &mut W,
+    errors: &mut E,
+    keep: K,
+    upgraded: bool,
+) -> u8
+    ensures done { result ≡ 0
+        → Appends (W.contents output.old) (W.contents output.new) (upgraded_line upgraded) }
+    ensures ended { result ≡ 0 → K.is_ended keep }
+    ensures within { result ≤ 1 }
+{
+    ended(errors, finish(output, keep, upgraded))
+}
