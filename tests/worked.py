@@ -39,11 +39,15 @@ def broken(status, fault):
 
 @dataclasses.dataclass
 class Case:
-    """A list: pairs of a message and the body of its answer, of a text and its answer, or a message alone."""
+    """A list: pairs of a message and the body of its answer, of a text and its answer, or a message alone.
+
+    Where it has the words of a replay it is played as one stream.
+    """
     name: str
     steps: list
     preset: bool = True
     zone: str = "UTC0"
+    replay: str | None = None
 
 
 def bids():
@@ -176,8 +180,21 @@ def whole():
                 *(read(page, caller) for page in pages for caller in (3, 1))])
 
 
+def replays():
+    """Lists that are replayed."""
+    three = [(bid(1, 2, 1001, 500), placed(1, 550, 2, 500)), (bid(1, 3, 1003, 1000), placed(2, 600, 3, 550)),
+             (bid(1, 2, 1004, 1000), placed(3, 1050, 3, 1000))]
+    yield Case("A replay after the setup, and then the record", three, replay="preset record")
+    yield Case("A replay after the setup", three, replay="preset")
+    yield Case("A replay over a new house, and then the record", three, replay="record")
+    yield Case("A replay over a new house", three, replay="")
+    yield Case("A replay of a stream that ends within a message, and then the record", [(FIRST_BID[:-1], broken(400, "end"))],
+               replay="preset record")
+    yield Case("A replay of no message", [], preset=False, replay="")
+
+
 def cases():
-    yield from (*bids(), *sales(), *talk(), *frames(), *whole())
+    yield from (*bids(), *sales(), *talk(), *frames(), *whole(), *replays())
 
 
 def is_new(site):
@@ -231,8 +248,15 @@ def script_of(case):
     """The lines of a list in a script, each with what has to be told of it."""
     site, pairs = steps(case)
     yield f"house 1000 {case.zone}\n".encode(), b""
-    yield from ((line(given), b"") for given, _ in pairs)
-    yield b"all\n", told(site, [answer for _, answer in pairs])
+    if case.replay is None:
+        yield from ((line(given), b"") for given, _ in pairs)
+        yield b"all\n", told(site, [answer for _, answer in pairs])
+    else:
+        stream = pairs[len(setup()):] if "preset" in case.replay else pairs
+        yield from ((line(given), b"") for given, _ in stream)
+        record = site.record() + b"\n" if "record" in case.replay else b""
+        written = b"".join([*(answer.text() for _, answer in stream), record])
+        yield f"replay {case.replay}".strip().encode() + b"\n", b"done\n" + written + b"\nin a database: the same\n"
 
 
 def stored():

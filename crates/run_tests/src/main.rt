@@ -1,4 +1,5 @@
-//! Plays lists of messages over new houses in memory and in databases, one by one and as one list.
+//! Plays lists of messages over new houses in memory and in databases, one by one, as one list and as a
+//! replay.
 //!
 //! The stored run is a test of what no clause says: that calls succeed, over both keeps, and that a run
 //! answers as its messages one by one. `stdin` has the script, `stdout` its transcript, in which what has to
@@ -9,6 +10,7 @@
 mod houses;
 mod messages;
 mod playing;
+mod replaying;
 mod script;
 
 use script::{Fault, Script, Stage};

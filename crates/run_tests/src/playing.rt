@@ -26,8 +26,8 @@ pub(crate) enum Place {
     Database,
 }
 
-// Adds a text on lines of its own.
-fn tell(told: &mut Vec<u8>, text: &[u8]) -> Result<(), AllocError> {
+/// Adds a text on lines of its own.
+pub(crate) fn tell(told: &mut Vec<u8>, text: &[u8]) -> Result<(), AllocError> {
     told.extend_from_slice(text)?;
     told.push(b'\n')?;
     Ok(())
@@ -192,8 +192,8 @@ const OTHERS: [(&str, Place, Form); 3] = [
     ("run in a database", Place::Database, Form::Run),
 ];
 
-// Tells whether something else was told than at first, and what.
-fn tell_same(told: &mut Vec<u8>, first: &[u8], other: &[u8]) -> Result<(), AllocError> {
+/// Tells whether something else was told than at first, and what.
+pub(crate) fn tell_same(told: &mut Vec<u8>, first: &[u8], other: &[u8]) -> Result<(), AllocError> {
     if first == other {
         return tell(told, b": the same");
     }

@@ -9,8 +9,14 @@
 //! record. `answers lists` and `answers database` give each message by itself, `run lists` and `run database`
 //! the whole list; `all` does all of these, and tells which are the same. An empty line, and one that begins
 //! with `--`, tells nothing.
+//!
+//! `replay WORDS` gives the list as one stream to `replay_run`, over a house in lists and one in a database.
+//! It tells how that ended, what was written and a line end, the line of a fault, and whether both are the
+//! same. WORDS are `preset`, `record`, both in this order or none.
 use crate::messages::{command, read};
 use crate::playing::{Form, Place, play_all, play_list};
+use crate::replaying::play_replay;
+use auction_words::Replay;
 use house_rows::{KeepFault, Rate, Settings, Text};
 use site::RunFault;
 use std::alloc::{AllocError, Global};
@@ -184,6 +190,15 @@ impl Stage {
         Ok(self.add(alloc, text)?)
     }
 
+    /// The list as one stream.
+    pub(crate) fn stream(&self, alloc: Global) -> Result<Vec<u8>, AllocError> {
+        let mut stream = Vec::new(alloc);
+        for message in &self.messages {
+            stream.extend_from_slice(message)?;
+        }
+        Ok(stream)
+    }
+
     // The table of the houses.
     fn bands(&self, alloc: Global) -> Result<Bands, BandsFault> {
         if self.bands.is_empty() {
@@ -234,6 +249,7 @@ pub(crate) fn play(
         "all" => play_all(alloc, stage, told),
         "answers" => play_list(alloc, stage, place(rest)?, Form::Answers, told),
         "run" => play_list(alloc, stage, place(rest)?, Form::Run, told),
+        "replay" => play_replay(alloc, stage, replay(rest)?, told),
         _ => Err(Fault::Script),
     }
 }
@@ -245,4 +261,16 @@ fn place(word: &str) -> Result<Place, Fault> {
         "database" => Ok(Place::Database),
         _ => Err(Fault::Script),
     }
+}
+
+// What words ask of a replay.
+fn replay(words: &str) -> Result<Replay, Fault> {
+    let (preset, record) = match words {
+        "" => (false, false),
+        "preset" => (true, false),
+        "record" => (false, true),
+        "preset record" => (true, true),
+        _ => return Err(Fault::Script),
+    };
+    Ok(Replay { preset, record })
 }
