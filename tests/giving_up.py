@@ -23,7 +23,8 @@ from refusal import in_turn
 ROOT = pathlib.Path(__file__).resolve().parent.parent
 ENGINE, DECIDING, READING = "site/src/engine.rt", "house/src/decision.rt", "pages/src/reading.rt"
 KEEP, ACCOUNT, IMPORTS = "store/src/keep.rt", "office/src/account.rt", "office/src/imports.rt"
-MEMORY, STORE = "Err(KeepFault::Memory)", "Err(KeepFault::Store)"
+REPLAY, SETUP = "auction_runs/src/replay.rt", "auction_runs/src/setup.rt"
+MEMORY, STORE, REPLAYED = "Err(KeepFault::Memory)", "Err(KeepFault::Store)", "Err(Fault::Memory)"
 # What finds a body: the stored run of a crate's program, or a script that is given the house's program.
 STREAMS, SHOWN, RUNS, OFFICE = "serve_tests", "pages_tests", "run_tests", "office.py"
 
@@ -63,10 +64,13 @@ BODIES = [
     Body("everything-503", ENGINE, ACT, MEMORY, STREAMS),
     Body("everything-500", ENGINE, ACT, STORE, STREAMS),
     Body("record", ENGINE, RECORD, f"{RECORD}\n        if !text.is_empty() {{\n            return {MEMORY};\n        }}", STREAMS),
-    Body("look-up", KEEP, "told!(self, item_at(&mut self.conn, &self.settings.bands, item))", STORE, RUNS),
+    Body("look-up", KEEP, "told!(self, item_at(&mut self.conn, &self.editions, item))", STORE, RUNS),
     Body("statement", ACCOUNT, "Ok(statement) => Ok(statement),", "Ok(_) => Err(StatementFault::Memory),", OFFICE),
     Body("import", IMPORTS, "Ok(lot) => list(room, site, by, &lot, number, output),", "Ok(_) => Err(ImportFault::Memory),",
          OFFICE),
+    Body("replay", REPLAY, "answer_over(alloc, source, sink, &mut site, asked)", REPLAYED, RUNS),
+    Body("replay-record", REPLAY, "append_record(sink, site)\n", f"{REPLAYED}\n", RUNS),
+    Body("replay-setup", SETUP, "taken(&site.answer(message.as_bytes()))", REPLAYED, RUNS),
     *(Body(f"command-{name}", DECIDING, call, with_arrow(call, MEMORY), RUNS if name == "unwatch" else SHOWN)
       for name, call in CALLS.items()),
     *(Body(f"page-{name}", READING, call, with_arrow(call, MEMORY), SHOWN) for name, call in PAGES.items()),
