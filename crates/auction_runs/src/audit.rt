@@ -189,8 +189,9 @@ pub fn status<E: Write>(errors: &mut E, equal: Result<bool, Fault>) -> u8
     }
 }
 
-/// The same as an exit status: 0 where the runs are equal, and else 1. A fault is told in its line
-/// on `errors`.
+/// Compares two runs of messages over new houses as a member sees them, tells what was found, and
+/// gives the exit status: 0 where they are equal, and else 1. What is wrong on the left is told
+/// before what is wrong on the right. A fault is told in its line on `errors`.
 pub fn audit_run<L: Source + Drop, R: Source + Drop, W: Write, E: Write, K: Keep + Drop>(
     alloc: Global,
     left: Run<K, L>,

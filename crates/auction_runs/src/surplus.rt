@@ -132,8 +132,9 @@ pub fn tell_surplus<S: Source + Drop, W: Write, K: Keep + Drop>(
     tell(output, &found)
 }
 
-/// The same as an exit status: 0 where the bid is covered, and else 1. A fault is told in its line
-/// on `errors`.
+/// Answers messages over a new house, and over another with one bid raised, tells whether the bid is
+/// covered, so that it shows to nobody else, and gives the exit status: 0 where it is, and else 1. A
+/// fault is told in its line on `errors`.
 pub fn surplus_run<S: Source + Drop, W: Write, E: Write, K: Keep + Drop>(
     alloc: Global,
     trial: Trial<K, S>,
