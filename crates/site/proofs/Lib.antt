@@ -1,5 +1,6 @@
 mod Steps
 mod Turns
+pub mod Isolated
 pub mod Stops
 mod Bare
 pub mod Raised

@@ -12,7 +12,8 @@ use Rattle.site_asks.specs.declared.asked.Asked.{Asked}
 use Rattle.site_replies.specs.Texts.{IsServed}
 use Rattle.site.specs.Answers.{IsStep}
 use Rattle.site.specs.Runs.{IsCoveredRun, IsHidden, Raises, TwinRuns, answers_to, meant}
-use Rattle.site.proofs.Turns.{Turns, isolated, run_isolated}
+use Rattle.site.proofs.Isolated.{isolated, run_isolated}
+use Rattle.site.proofs.Turns.{Turns}
 
 zip_take : {A B : Type 0} (R : A → B → Type 0) (n : ℕ) (xs : List A) (ys : List B) → AllZip R xs ys → AllZip R (take n xs) (take n ys)
 zip_take R zero xs ys h = tt

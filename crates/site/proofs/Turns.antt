@@ -1,15 +1,14 @@
 -- Messages answered in turn, each over what the one before left.
 use Rattle.std.proofs.Common.{◌≡◌, ◌⊎◌, ◌∙◌, ◌++◌, ◌∷◌, [], ℕ, List, Bool, false, refl, sym, ap, inl, inr, length, suc}
-use Rattle.std.specs.Prelude.{if◌then◌else◌, Option, Some, None, is_none}
+use Rattle.std.specs.Prelude.{Option, Some, None, is_none}
 use Rattle.std.specs.List.{AllByRecursion, AllZip}
-use Rattle.house_laws.proofs.Alike as laws
 use Rattle.house_rows.specs.declared.message.Message.{Message}
 use Rattle.house_rows.specs.declared.message.Message.TheVariants.{Order, Read, Broken}
 use Rattle.house_rows.specs.declared.command.Command.{Command}
 use Rattle.house_rows.specs.declared.refusal.Refusal.{Refusal}
 use Rattle.house_rows.specs.declared.settings.Settings.{Settings}
 use Rattle.house_rows.specs.History.{History}
-use Rattle.house_rows.specs.Runs.{next, rendered_from}
+use Rattle.house_rows.specs.Runs.{next}
 use Rattle.house_rows.specs.Tables.{Tables, tables_of}
 use Rattle.house_rows.specs.Verdict.{IsHistory, verdict}
 use Rattle.house_rows.proofs.Next.{next_broken, next_is_history, next_read, next_refused}
@@ -19,11 +18,10 @@ use Rattle.site_acts.specs.Acted.{is_entered}
 use Rattle.site_asks.specs.Asked.{IsAsked, asked_of}
 use Rattle.site_asks.specs.declared.asked.Asked.{Asked}
 use Rattle.site_asks.specs.declared.fault.Fault.{Fault}
-use Rattle.site_replies.specs.Texts.{IsServed}
-use Rattle.site_replies.proofs.StatusLemmas.{memory_told, store_told}
+use Rattle.site_replies.proofs.StatusLemmas.{store_told}
 use Rattle.wire.proofs.OneFrame.{one_frame}
-use Rattle.site.specs.Answers.{Answers, IsAnswered, IsStep, answer_of, next_of}
-use Rattle.site.specs.Runs.{InTurn, IsGoing, IsRun, Ran, TwinRuns, answers_from, answers_to, at_places, is_from, meant, rendered}
+use Rattle.site.specs.Answers.{Answers, IsAnswered, IsStep, next_of}
+use Rattle.site.specs.Runs.{InTurn, IsGoing, Ran}
 use Rattle.site.proofs.Steps.{not_both}
 
 pub turn_more : {K : Type 0} (Step : Asked → List ℕ → K → K → Type 0) (ms : List Asked)
@@ -168,39 +166,6 @@ ran_of content is_failed is_honest may_leave settings zone h (m ∷ ms) (r ∷ r
     (λ k also same. ran_of content is_failed is_honest may_leave settings zone k ms rs mid new turn
     honest also same going.1)
 
--- where every reply was served, the replies are the answers
-served_run : (settings : Settings) (zone : Zone) (h : History) (ms : List Asked)
-    (rs : List (List ℕ)) (after : History)
-    → IsRun settings zone h ms rs after → AllByRecursion IsServed rs
-    → rs ≡ answers_from settings zone h ms
-served_run settings zone h [] [] after run served = refl
-served_run settings zone h [] (r ∷ rs) after run served = absurd run
-served_run settings zone h (m ∷ ms) [] after run served = absurd run
-served_run settings zone h (m ∷ ms) (r ∷ rs) after (inl (e, run)) served =
-    rw (e, served_run settings zone (next_of settings h m) ms rs after run served.1) refl
-served_run settings zone h (m ∷ ms) (r ∷ rs) after (inr (e, run)) served =
-    absurd (not_both _ (memory_told m.closes) (rw e at served.0.not_wanting))
-
-served_going : (rs : List (List ℕ)) → AllByRecursion IsServed rs → AllByRecursion IsGoing rs
-served_going [] served = tt
-served_going (r ∷ rs) served = (served.0.not_failed, served_going rs served.1)
-
--- the answers at a member's places are those to it
-places_are : (settings : Settings) (zone : Zone) (c : ℕ) (h : History) (ms : List Asked)
-    → at_places c ms (answers_from settings zone h ms)
-    ≡ rendered_from meant (rendered settings zone) settings c h ms
-unfolding answer_of next_of
-places_are settings zone c h [] = refl
-places_are settings zone c h (m ∷ ms) =
-    ap (λ rest. (if is_from c m then answer_of settings zone h m ∷ [] else []) ++ rest)
-    (places_are settings zone c (next_of settings h m) ms)
-
-pub isolated : (settings : Settings) (zone : Zone) (c : ℕ) (left right : List Asked)
-    → TwinRuns settings c left right
-    → answers_to settings zone c left ≡ answers_to settings zone c right
-isolated settings zone c left right twin =
-    laws.isolation meant (rendered settings zone) settings c left right twin
-
 -- a text asks for one thing
 pub one_meaning : (text : List ℕ) (m n : Asked) → IsAsked text m → IsAsked text n → m ≡ n
 one_meaning text m n (f, is, e) (g, also, d) = e ∙ ap asked_of (one_frame text f g is also) ∙ sym d
@@ -266,20 +231,3 @@ ran_texts content is_failed is_honest may_leave settings zone h texts rs old new
     honest is e asked also going =
     ran_of content is_failed is_honest may_leave settings zone h asked rs old new
     (rw (one_asked texts ms asked are also) at turn) honest is e going
-
--- the replies of a run at a member's places are those of any twin run
-pub run_isolated : {K : Type 0} (content : K → Tables) (is_failed : K → Bool)
-    (is_honest : K → Type 0) (may_leave : K → Tables → Type 0)
-    (settings : Settings) (zone : Zone) (texts rs : List (List ℕ)) (old new : K)
-    → Turns (IsStep content is_failed is_honest may_leave zone) texts rs old new → is_honest new
-    → content old ≡ tables_of settings [] → AllByRecursion IsServed rs
-    → (c : ℕ) (firsts seconds : List Asked) → AllZip IsAsked texts firsts
-    → TwinRuns settings c firsts seconds
-    → at_places c firsts rs ≡ answers_to settings zone c seconds
-run_isolated content is_failed is_honest may_leave settings zone texts rs old new turns honest e
-    served c firsts seconds are twin =
-    let ran = ran_texts content is_failed is_honest may_leave settings zone [] texts rs old new
-    turns honest tt e firsts are (served_going rs served) in
-    ap (at_places c firsts) (served_run settings zone [] firsts rs ran.after ran.run served)
-    ∙ places_are settings zone c [] firsts
-    ∙ isolated settings zone c firsts seconds twin

@@ -9,6 +9,7 @@ ghost use Rattle.house_rows.specs.History.{History};
 ghost use Rattle.house_rows.specs.Tables.{tables_of};
 ghost use Rattle.house_rows.specs.Verdict.{IsHistory};
 ghost use Rattle.site.specs.Answers.{IsStep, zone_of};
+ghost use Rattle.site.specs.Lives.{LivesOn};
 ghost use Rattle.site.specs.Runs.{AreDown, InTurn, IsCoveredRun, IsGoing, IsHidden, Raises, Ran, StaysDown, Stopped, TellsFault, TwinRuns, answers_to, at_places};
 ghost use Rattle.site_asks.specs.Asked.{IsAsked};
 ghost use Rattle.site_asks.specs.declared.asked.Asked.{Asked as TheAsked};
@@ -27,7 +28,8 @@ pub enum RunFault {
 impl<K: Keep + Drop> Site<K> {
     /// Answers each message in turn. Where a run of a new house met neither want of memory nor a
     /// failure, a member's replies are those of any run that is a twin of it for the member; and those
-    /// in which the last leader's covered bid is raised are such runs for everybody else.
+    /// in which the last leader's covered bid is raised are such runs for everybody else. So it is of a
+    /// house that lives on, with any run that is a twin of it from an alike history on.
     pub fn run(&mut self, messages: &[Vec<u8>]) -> Result<Vec<Reply>, RunFault>
         ensures steps { IfOk result (λ v. (asked : List TheAsked)
             × AllZip IsAsked (map (λ m. m.items) messages.now) asked
@@ -56,6 +58,15 @@ impl<K: Keep + Drop> Site<K> {
             → TwinRuns settings c firsts seconds
             → at_places c firsts (map cow_slice_items v.items)
             ≡ answers_to settings (zone_of self.old) c seconds) }
+        // The same of a house that lives on, over any history; and the next run goes on from what
+        // this one leaves.
+        ensures isolation_from { K.is_honest self.new.keep
+            → (settings : TheSettings) (h : History) → IsHistory settings h
+            → K.content self.old.keep ≡ tables_of settings h
+            → (asked : List TheAsked) → AllZip IsAsked (map (λ m. m.items) messages.now) asked
+            → IfOk result (λ v. AllByRecursion IsServed (map cow_slice_items v.items)
+            → LivesOn K.content settings (zone_of self.old) h
+            asked (map cow_slice_items v.items) self.new.keep) }
         // However far the last leader raises a bid that covers what leading takes.
         ensures surplus { K.is_honest self.new.keep
             → (settings : TheSettings) → IsBandTable settings.bands

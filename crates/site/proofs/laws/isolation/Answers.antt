@@ -1,4 +1,4 @@
-use Rattle.site.proofs.Turns.{isolated}
+use Rattle.site.proofs.Isolated.{isolated}
 use Rattle.site.proofs.laws.isolation.Goals as goal
 
 pub returns : goal.returns

@@ -1,9 +1,10 @@
 use Rattle.std.proofs.Common.{◌≡◌, ◌∙◌, ◌++◌, ◌∷◌, [], ◌+◌, ◌<◌, ◌≤◌, map, take, length, ap, refl, arith}
 use Rattle.std.proofs.lemmas.List.{map-append, take_all, take_more, get_or_read}
 use Rattle.std.specs.Cow.{cow_slice_items}
+use Rattle.site.proofs.Isolated.{run_isolated, run_lives_on}
 use Rattle.site.proofs.Raised.{run_hides}
 use Rattle.site.proofs.Stops.{down_texts, stays_texts, stopped_texts}
-use Rattle.site.proofs.Turns.{ran_texts, run_isolated, turns_more, zip_more}
+use Rattle.site.proofs.Turns.{ran_texts, turns_more, zip_more}
 use Rattle.site.specs.Runs.{TellsFault}
 use Rattle.site.proofs.engine.Site.run.Goals as goal
 
@@ -117,6 +118,18 @@ returns-clause-isolation g c = λ honest settings e served n second firsts secon
     (map (λ m. m.items) c.args.messages.now) (map cow_slice_items c.loop-message.replies.items)
     c.args.self.now.keep c.loop-message.self.keep turns honest e served n firsts seconds are
     twin
+
+pub returns-clause-isolation_from : goal.returns-clause-isolation_from
+returns-clause-isolation_from g c = λ honest settings h is e asked are served.
+    let k = g.K.Keep in
+    let done : length c.args.messages.now ≤ c.loop-message.message-index =
+    omega (arith, c.loop-message-test.false) in
+    let turns = rw (take_all c.loop-message.message-index c.args.messages.now
+    done) at c.loop-message.invariant.steps in
+    run_lives_on k.content k.is_failed k.is_honest k.may_leave settings
+    c.args.self.now.writer.zone h
+    (map (λ m. m.items) c.args.messages.now) (map cow_slice_items c.loop-message.replies.items)
+    c.args.self.now.keep c.loop-message.self.keep turns honest is e asked are served
 
 pub returns-clause-surplus : goal.returns-clause-surplus
 returns-clause-surplus g c =
