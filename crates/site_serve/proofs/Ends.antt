@@ -1,9 +1,9 @@
 -- What a crash leaves, message by message.
 use Rattle.std.proofs.Common.{◌≡◌, ◌≢◌, ◌⊎◌, ◌∙◌, ◌++◌, ◌∷◌, [], ℕ, ◌+◌, ◌<◌, ◌≤◌, zero, suc, List, Bool, true, false, Option, Some, None, Err, arith, append-nil, length, length-append, map, take, drop, refl, sym, ap, subst, inl, inr}
-use Rattle.std.specs.Prelude.{is_none}
+use Rattle.std.specs.Prelude.{IsOk, Result, is_none}
 use Rattle.std.specs.Io.KnownBytes.{Appends, Consumes, Keeps}
 use Rattle.std.specs.List.{concat}
-use Rattle.std.proofs.KnownBytes.{Appends-trans, Consumes-kept}
+use Rattle.std.proofs.KnownBytes.{Appends-kept, Appends-trans, Consumes-kept, Keeps-refl}
 use Rattle.std.proofs.lemmas.List.{take-append-le}
 use Rattle.std.proofs.Math.Seq.{take-append-add}
 use Rattle.device.specs.Given.{AppendsBeginning}
@@ -21,18 +21,23 @@ use Rattle.house_rows.proofs.Put.{by_test}
 use Rattle.settle.specs.declared.zone.Zone.{Zone}
 use Rattle.site.specs.Answers.{IsAnswered, IsFailed, IsStep, IsWanting, next_of}
 use Rattle.site.specs.Runs.{AreDown, InTurn}
+use Rattle.site.proofs.Isolated.{lives_on}
 use Rattle.site.proofs.Stops.{down_after, stays_down}
 use Rattle.site_acts.specs.Acted.{is_entered}
 use Rattle.site_asks.specs.declared.asked.Asked.{Asked}
 use Rattle.site_asks.specs.declared.fault.Fault.{Fault}
-use Rattle.wire.specs.Cut.{Cut, Stop, broken, limit}
+use Rattle.wire.specs.Cut.{Cut, Stop, broken, closed, limit}
 use Rattle.wire.specs.Frame.{IsFront, IsMessageAt}
 use Rattle.wire.specs.Look.{IsFaultOf}
 use Rattle.wire.specs.Message.{Message}
 use Rattle.wire.specs.declared.fault.WireFault.{WireFault}
 use Rattle.site_serve.specs.Ends.{HasEnded, HasFailed, IsKept}
+use Rattle.site_serve.specs.Lives.{HasLived}
 use Rattle.site_serve.specs.Serving.{fault_bytes, heard, rest_bytes}
-use Rattle.site_serve.proofs.Cuts.{concat_push, cut_last, cut_of, turn_push}
+use Rattle.site_serve.specs.declared.serving.ServeFault.{ServeFault}
+use Rattle.site_serve.specs.declared.serving.ServeFault.TheVariants.{Write}
+use Rattle.site_serve.specs.declared.serving.Served.{Served}
+use Rattle.site_serve.proofs.Cuts.{concat_push, cut_closed, cut_last, cut_of, ends, turn_push}
 use Rattle.site_serve.proofs.Runs.{Serving, whole_begins}
 
 -- messages answered in turn, parted in two
@@ -306,18 +311,19 @@ begins_more before last text more (n, within, part) = (
   rw (take-append-le n text more within) part,
 )
 
--- what was answered by the end
-ended : {K : Type 0} (content : K → Tables) (is_failed : K → Bool) (is_honest : K → Type 0)
+-- what was answered by the end, over whatever history there was
+lived : {K : Type 0} (content : K → Tables) (is_failed : K → Bool) (is_honest : K → Type 0)
     (may_leave : K → Tables → Type 0) (zone : Zone) (left now before after : Option (List ℕ))
-    (most count : ℕ) (old new : K) (read rest : List ℕ) (messages : List Message)
-    (replies : List (List ℕ)) (stop : Stop)
+    (most count : ℕ) (told : Result Served ServeFault) (old new : K) (read rest : List ℕ)
+    (messages : List Message) (replies : List (List ℕ)) (stop : Stop)
     → Consumes left now read → count ≤ most → Cut read count messages rest stop
     → InTurn (IsStep content is_failed is_honest may_leave zone) (map heard messages) replies
     old new
     → AppendsBeginning before after (concat replies ++ rest_bytes stop)
-    → HasEnded content is_failed is_honest may_leave zone left now most before after old new
-ended content is_failed is_honest may_leave zone left now before after most count old new read rest
-    messages replies stop took few cut answered written = record {
+    → (IsOk told → Appends before after (concat replies ++ rest_bytes stop))
+    → HasLived content is_failed is_honest may_leave zone left now most before after told old new
+lived content is_failed is_honest may_leave zone left now before after most count told old new read
+    rest messages replies stop took few cut answered written whole = record {
       read = read;
       took = took;
       count = count;
@@ -329,20 +335,46 @@ ended content is_failed is_honest may_leave zone left now before after most coun
       replies = replies;
       answered = answered;
       written = written;
-      down = λ failed. down_after content is_failed is_honest may_leave zone (map heard messages)
-          replies old new answered failed;
-      stays_down = stays_down content is_failed is_honest may_leave zone (map heard messages)
-          replies old new answered;
+      whole = whole;
+      lives_on = λ honest settings h is e served. lives_on content is_failed is_honest may_leave
+          settings zone h (map heard messages) replies old new answered honest is e served;
+    }
+
+-- what a crash leaves as it ended
+pub has_ended : {K : Type 0} (content : K → Tables) (is_failed : K → Bool)
+    (is_honest : K → Type 0) (may_leave : K → Tables → Type 0) (zone : Zone)
+    (left now : Option (List ℕ)) (most : ℕ) (before after : Option (List ℕ))
+    (told : Result Served ServeFault) (old new : K)
+    → HasLived content is_failed is_honest may_leave zone left now most before after told old new
+    → HasEnded content is_failed is_honest may_leave zone left now most before after old new
+has_ended content is_failed is_honest may_leave zone left now most before after told old new life =
+    record {
+      read = life.read;
+      took = life.took;
+      count = life.count;
+      few = life.few;
+      messages = life.messages;
+      rest = life.rest;
+      stop = life.stop;
+      cut = life.cut;
+      replies = life.replies;
+      answered = life.answered;
+      written = life.written;
+      down = λ failed. down_after content is_failed is_honest may_leave zone
+          (map heard life.messages) life.replies old new life.answered failed;
+      stays_down = stays_down content is_failed is_honest may_leave zone (map heard life.messages)
+          life.replies old new life.answered;
       at_end = λ honest settings h is e. left_of content is_failed is_honest may_leave settings zone
-          h (map heard messages) replies old new answered honest is e;
+          h (map heard life.messages) life.replies old new life.answered honest is e;
       at_each = λ honest n.
           let (between, first, later) = parted (IsStep content is_failed is_honest may_leave zone) n
-          (map heard messages) replies old new answered in (
+          (map heard life.messages) life.replies old new life.answered in (
             between,
             (λ settings h is e. left_of content is_failed is_honest may_leave settings zone h
-                (take n (map heard messages)) (take n replies) old between first
-                (honest_before content is_failed is_honest may_leave zone (drop n (map heard messages))
-                (drop n replies) between new later honest) is e),
+                (take n (map heard life.messages)) (take n life.replies) old between first
+                (honest_before content is_failed is_honest may_leave zone
+                (drop n (map heard life.messages)) (drop n life.replies) between new later honest)
+                is e),
             first,
             later,
           );
@@ -351,22 +383,24 @@ ended content is_failed is_honest may_leave zone left now before after most coun
 -- it ended after the messages so far
 pub ended_so_far : {K : Type 0} (content : K → Tables) (is_failed : K → Bool)
     (is_honest : K → Type 0) (may_leave : K → Tables → Type 0) (zone : Zone)
-    (left now later before after last : Option (List ℕ)) (old new : K) (held : List ℕ)
-    (count most : ℕ)
+    (left now later before after last : Option (List ℕ)) (told : Result Served ServeFault)
+    (old new : K) (held : List ℕ) (count most : ℕ)
     → Serving (IsStep content is_failed is_honest may_leave zone) left now before after old new held
     count → count ≤ most → Keeps now later → Keeps after last
-    → HasEnded content is_failed is_honest may_leave zone left later most before last old new
-ended_so_far content is_failed is_honest may_leave zone left now later before after last old new
-    held count most run few kept flushed =
-    ended content is_failed is_honest may_leave zone left later before last most
-    (length run.messages) old new run.read held run.messages run.replies limit
+    → HasLived content is_failed is_honest may_leave zone left later most before last told old new
+ended_so_far content is_failed is_honest may_leave zone left now later before after last told old
+    new held count most run few kept flushed =
+    lived content is_failed is_honest may_leave zone left later before last most
+    (length run.messages) told old new run.read held run.messages run.replies limit
     (Consumes-kept left now later run.read run.took kept) (omega (arith, few, run.counted))
     (cut_of run.messages run.read held (length run.messages) limit run.off (omega arith)
     (omega arith)) run.answered
     (begins_more before last (concat run.replies) []
     (whole_begins before after last (concat run.replies) run.written flushed))
+    (λ well. rw (append-nil (concat run.replies)) (Appends-kept before after last
+    (concat run.replies) run.written flushed))
 
--- it ended in the answer to one more message, or after it
+-- the writer failed in the answer to one more message
 pub ended_in_answer : {K : Type 0} (content : K → Tables) (is_failed : K → Bool)
     (is_honest : K → Type 0) (may_leave : K → Tables → Type 0) (zone : Zone)
     (left now before after last : Option (List ℕ)) (old new next : K) (held rest r : List ℕ)
@@ -375,18 +409,46 @@ pub ended_in_answer : {K : Type 0} (content : K → Tables) (is_failed : K → B
     count → count < most → IsMessageAt held m rest
     → IsStep content is_failed is_honest may_leave zone (heard m) r new next
     → AppendsBeginning after last r
-    → HasEnded content is_failed is_honest may_leave zone left now most before last old next
+    → HasLived content is_failed is_honest may_leave zone left now most before last (Err Write)
+    old next
 ended_in_answer content is_failed is_honest may_leave zone left now before after last old new next
     held rest r m count most run fewer here step part =
     let (stop, cut) = cut_last run.messages run.read held rest m run.off here in
-    ended content is_failed is_honest may_leave zone left now before last most
-    (length run.messages + 1) old next run.read rest (run.messages ++ m ∷ [])
+    lived content is_failed is_honest may_leave zone left now before last most
+    (length run.messages + 1) (Err Write) old next run.read rest (run.messages ++ m ∷ [])
     (run.replies ++ r ∷ []) stop run.took (omega (arith, fewer, run.counted)) cut
     (turn_push (IsStep content is_failed is_honest may_leave zone) run.messages run.replies m r old
     new next run.answered step)
     (begins_more before last (concat (run.replies ++ r ∷ [])) (rest_bytes stop)
     (rw (concat_push run.replies r) (begins_behind before after last (concat run.replies) r
     run.written part)))
+    (λ well. absurd cc)
+
+-- it ended after the answer to a message that ends the connection
+pub ended_closed : {K : Type 0} (content : K → Tables) (is_failed : K → Bool)
+    (is_honest : K → Type 0) (may_leave : K → Tables → Type 0) (zone : Zone)
+    (left now before after given last : Option (List ℕ)) (told : Result Served ServeFault)
+    (old new next : K) (held rest r : List ℕ) (m : Message) (count most : ℕ)
+    → Serving (IsStep content is_failed is_honest may_leave zone) left now before after old new held
+    count → count < most → IsMessageAt held m rest → ends m ≡ true
+    → IsStep content is_failed is_honest may_leave zone (heard m) r new next
+    → Appends after given r → Keeps given last
+    → HasLived content is_failed is_honest may_leave zone left now most before last told old next
+ended_closed content is_failed is_honest may_leave zone left now before after given last told old
+    new next held rest r m count most run fewer here out step wrote kept =
+    let whole : Appends before last (concat (run.replies ++ r ∷ [])) =
+    rw (concat_push run.replies r) (Appends-kept before given last _
+    (Appends-trans before after given (concat run.replies) r run.written wrote) kept) in
+    lived content is_failed is_honest may_leave zone left now before last most
+    (length run.messages + 1) told old next run.read rest (run.messages ++ m ∷ [])
+    (run.replies ++ r ∷ []) closed run.took (omega (arith, fewer, run.counted))
+    (cut_closed run.messages run.read held rest (length run.messages + 1) m run.off here out
+    (omega arith))
+    (turn_push (IsStep content is_failed is_honest may_leave zone) run.messages run.replies m r old
+    new next run.answered step)
+    (begins_more before last (concat (run.replies ++ r ∷ [])) []
+    (whole_begins before last last (concat (run.replies ++ r ∷ [])) whole (Keeps-refl last)))
+    (λ well. rw (append-nil (concat (run.replies ++ r ∷ []))) whole)
 
 -- a fault of what is held is one of what was read
 fault_held : (held : List ℕ) (has_ended : Bool) (f : WireFault) → IsFaultOf held has_ended f
@@ -397,16 +459,19 @@ fault_held held false f here = subst (λ l. IsFront l (Err f)) (append-nil held)
 -- it ended in the answer to a broken rest, or after it
 pub ended_in_fault : {K : Type 0} (content : K → Tables) (is_failed : K → Bool)
     (is_honest : K → Type 0) (may_leave : K → Tables → Type 0) (zone : Zone)
-    (left now before after last : Option (List ℕ)) (old new : K) (held : List ℕ)
-    (count most : ℕ) (has_ended : Bool) (f : WireFault)
+    (left now before after last : Option (List ℕ)) (told : Result Served ServeFault)
+    (old new : K) (held : List ℕ) (count most : ℕ) (has_ended : Bool) (f : WireFault)
     → Serving (IsStep content is_failed is_honest may_leave zone) left now before after old new held
     count → count < most → held ≢ [] → IsFaultOf held has_ended f
     → AppendsBeginning after last (fault_bytes f)
-    → HasEnded content is_failed is_honest may_leave zone left now most before last old new
-ended_in_fault content is_failed is_honest may_leave zone left now before after last old new held
-    count most has_ended f run fewer some here part =
-    ended content is_failed is_honest may_leave zone left now before last most most old new run.read
-    held run.messages run.replies (broken f) run.took (omega arith)
+    → (IsOk told → Appends after last (fault_bytes f))
+    → HasLived content is_failed is_honest may_leave zone left now most before last told old new
+ended_in_fault content is_failed is_honest may_leave zone left now before after last told old new
+    held count most has_ended f run fewer some here part whole =
+    lived content is_failed is_honest may_leave zone left now before last most most told old new
+    run.read held run.messages run.replies (broken f) run.took (omega arith)
     (cut_of run.messages run.read held most (broken f) run.off (omega (arith, fewer, run.counted))
     (omega (arith, fewer, run.counted), some, fault_held held has_ended f here)) run.answered
     (begins_behind before after last (concat run.replies) (fault_bytes f) run.written part)
+    (λ well. Appends-trans before after last (concat run.replies) (fault_bytes f) run.written
+    (whole well))

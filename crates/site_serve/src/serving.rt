@@ -5,6 +5,7 @@ ghost use Rattle.device.specs.Given.{AppendsBeginning};
 ghost use Rattle.site.specs.Answers.{IsStep, zone_of};
 ghost use Rattle.site_asks.specs.Asked.{asked_of};
 ghost use Rattle.site_serve.specs.Ends.{HasEnded};
+ghost use Rattle.site_serve.specs.Lives.{HasLived};
 ghost use Rattle.site_serve.specs.Serving.{HasRead, HasServed, HasWritten, IsFlushed, keep_of};
 
 use device::{Failure, Sink, Source, give_all};
@@ -147,6 +148,12 @@ pub fn serve<R: Source, W: Sink, K: Keep + Drop>(
     ensures crash { HasEnded K.content K.is_failed K.is_honest K.may_leave (zone_of site.old)
         (R.left source.old) (R.left source.new) most (W.taken sink.old) (W.taken sink.new)
         (keep_of site.old) (keep_of site.new) }
+
+    // However it ends, over whatever history the house has: what others sealed changes nothing that a
+    // member is told, and the next life goes on from what this one leaves.
+    ensures isolation_from { HasLived K.content K.is_failed K.is_honest K.may_leave
+        (zone_of site.old) (R.left source.old) (R.left source.new) most
+        (W.taken sink.old) (W.taken sink.new) result (keep_of site.old) (keep_of site.new) }
 
     // All that the sink took is handed on at the end, and before each wait: any of them may fail, and
     // is told as Read then, so that a sink which fails after it could not be told.

@@ -1,8 +1,8 @@
 -- Each exit ends the run so far.
 use Rattle.std.proofs.Common.{◌≡◌, ◌∙◌, [], ap, sym, refl, arith, drop, inl, inr}
-use Rattle.std.proofs.KnownBytes.{Keeps-refl}
+use Rattle.std.proofs.KnownBytes.{Appends-kept, Keeps-refl}
 use Rattle.site_serve.specs.Serving.{fault_bytes}
-use Rattle.site_serve.proofs.Ends.{ended_in_answer, ended_in_fault, ended_so_far}
+use Rattle.site_serve.proofs.Ends.{ended_closed, ended_in_answer, ended_in_fault, ended_so_far, has_ended}
 use Rattle.site_serve.proofs.Runs.{all_ok, at_err, failed_behind, failed_in_answer, failed_in_fault, flushed_on, if_ok, in_zone, is_zero, on_ok, read_failed, served_broken, served_clean, served_closed, served_limit, serving_more, serving_none, serving_read, whole_begins}
 use Rattle.site_serve.proofs.serving.serve.Goals as goal
 
@@ -176,69 +176,109 @@ pub returns-in-Fault-clause-handed_on : goal.returns-in-Fault-clause-handed_on
 returns-in-Fault-clause-handed_on g c = all_ok c.finish-in-Fault.result c.finish-in-Fault.ensures.flushed
     (flushed_on g.W.Sink.handed_on g.W.Sink.taken _ _ _ _ (λ e. absurd cc))
 
--- what a crash leaves, at each exit
-pub returns-in_default-clause-crash : goal.returns-in_default-clause-crash
-returns-in_default-clause-crash g c =
-    ended_so_far _ _ _ _ _ _ _ _ _ _ _ _ _ _ 0 c.args.most
+-- what was answered by each exit, over whatever history there was
+pub returns-in_default-clause-isolation_from : goal.returns-in_default-clause-isolation_from
+returns-in_default-clause-isolation_from g c =
+    ended_so_far _ _ _ _ _ _ _ _ _ _ _ _ _ _ _ 0 c.args.most
     (serving_none _ (g.R.Source.left c.args.source.now) (g.W.Sink.taken c.args.sink.now) _ [] refl)
     (omega arith) (Keeps-refl _) (Keeps-refl _)
 
-pub returns-then-is_err-clause-crash : goal.returns-then-is_err-clause-crash
-returns-then-is_err-clause-crash g c =
+pub returns-then-is_err-clause-isolation_from : goal.returns-then-is_err-clause-isolation_from
+returns-then-is_err-clause-isolation_from g c =
     let (r, step, wrote, part) = c.answer.ensures.step in
     ended_in_answer _ _ _ _ _ _ _ _ _ _ _ _ _ _ _ r c.in-Whole.request c.loop-messages.messages
     c.args.most c.loop-messages.invariant.run c.loop-messages-test.true c.in-Whole.ensures.0
     (in_zone _ _ _ _ _ _ _ _ _ _ c.loop-messages.invariant.zone step) part
 
-pub returns-then-closes-clause-crash : goal.returns-then-closes-clause-crash
-returns-then-closes-clause-crash g c =
+pub returns-then-closes-clause-isolation_from : goal.returns-then-closes-clause-isolation_from
+returns-then-closes-clause-isolation_from g c =
     let (r, step, wrote, part) = c.answer.ensures.step in
     let whole = on_ok c.answer.result (sym c.is_err.ensures.value ∙ c.if-is_err.false) wrote in
-    ended_in_answer _ _ _ _ _ _ _ _ _ _ _ _ _ _ _ r c.in-Whole.request c.loop-messages.messages
+    ended_closed _ _ _ _ _ _ _ _ _ _ _ _ _ _ _ _ _ r c.in-Whole.request c.loop-messages.messages
     c.args.most c.loop-messages.invariant.run c.loop-messages-test.true c.in-Whole.ensures.0
-    (in_zone _ _ _ _ _ _ _ _ _ _ c.loop-messages.invariant.zone step)
-    (whole_begins _ _ _ r whole c.finish.ensures.bytes)
+    (sym c.closes-closes.ensures ∙ c.if-closes.true)
+    (in_zone _ _ _ _ _ _ _ _ _ _ c.loop-messages.invariant.zone step) whole
+    c.finish.ensures.bytes
 
-pub returns-then-is_err-2-clause-crash : goal.returns-then-is_err-2-clause-crash
-returns-then-is_err-2-clause-crash g c =
-    ended_so_far _ _ _ _ _ _ _ _ _ _ _ _ _ _ c.loop-messages.messages c.args.most
+pub returns-then-is_err-2-clause-isolation_from : goal.returns-then-is_err-2-clause-isolation_from
+returns-then-is_err-2-clause-isolation_from g c =
+    ended_so_far _ _ _ _ _ _ _ _ _ _ _ _ _ _ _ c.loop-messages.messages c.args.most
     c.loop-messages.invariant.run c.loop-messages.invariant.few (Keeps-refl _)
     c.hand_on.ensures.bytes
 
-pub returns-in-Err-clause-crash : goal.returns-in-Err-clause-crash
-returns-in-Err-clause-crash g c =
-    ended_so_far _ _ _ _ _ _ _ _ _ _ _ _ _ _ c.loop-messages.messages c.args.most
+pub returns-in-Err-clause-isolation_from : goal.returns-in-Err-clause-isolation_from
+returns-in-Err-clause-isolation_from g c =
+    ended_so_far _ _ _ _ _ _ _ _ _ _ _ _ _ _ _ c.loop-messages.messages c.args.most
     c.loop-messages.invariant.run c.loop-messages.invariant.few c.in-Err.ensures.err
     c.hand_on.ensures.bytes
 
-pub returns-in-Clean-clause-crash : goal.returns-in-Clean-clause-crash
-returns-in-Clean-clause-crash g c =
-    ended_so_far _ _ _ _ _ _ _ _ _ _ _ _ _ _ c.loop-messages.messages c.args.most
+pub returns-in-Clean-clause-isolation_from : goal.returns-in-Clean-clause-isolation_from
+returns-in-Clean-clause-isolation_from g c =
+    ended_so_far _ _ _ _ _ _ _ _ _ _ _ _ _ _ _ c.loop-messages.messages c.args.most
     c.loop-messages.invariant.run c.loop-messages.invariant.few (Keeps-refl _)
     c.finish-in-Clean.ensures.bytes
 
-pub returns-then-is_err-3-clause-crash : goal.returns-then-is_err-3-clause-crash
-returns-then-is_err-3-clause-crash g c =
-    ended_in_fault _ _ _ _ _ _ _ _ _ _ _ _ _ c.loop-messages.messages c.args.most
+pub returns-then-is_err-3-clause-isolation_from : goal.returns-then-is_err-3-clause-isolation_from
+returns-then-is_err-3-clause-isolation_from g c =
+    ended_in_fault _ _ _ _ _ _ _ _ _ _ _ _ _ _ c.loop-messages.messages c.args.most
     c.loop-messages.ended c.in-Fault.fault c.loop-messages.invariant.run
     c.loop-messages-test.true c.in-Fault.ensures.0 c.in-Fault.ensures.1
-    (rw c.broken_frame.ensures at c.give_all.ensures.part)
+    (rw c.broken_frame.ensures at c.give_all.ensures.part) (λ well. absurd cc)
+
+pub returns-in-Fault-clause-isolation_from : goal.returns-in-Fault-clause-isolation_from
+returns-in-Fault-clause-isolation_from g c =
+    let whole = on_ok c.give_all.result (sym c.is_err-in-Fault.ensures.value ∙ c.if-is_err-3.false)
+    c.give_all.ensures.whole in
+    let wrote = rw c.broken_frame.ensures at whole in
+    ended_in_fault _ _ _ _ _ _ _ _ _ _ _ _ _ _ c.loop-messages.messages c.args.most
+    c.loop-messages.ended c.in-Fault.fault c.loop-messages.invariant.run
+    c.loop-messages-test.true c.in-Fault.ensures.0 c.in-Fault.ensures.1
+    (whole_begins _ _ _ (fault_bytes c.in-Fault.fault) wrote c.finish-in-Fault.ensures.bytes)
+    (λ well. Appends-kept _ _ _ (fault_bytes c.in-Fault.fault) wrote
+    c.finish-in-Fault.ensures.bytes)
+
+pub returns-clause-isolation_from : goal.returns-clause-isolation_from
+returns-clause-isolation_from g c =
+    ended_so_far _ _ _ _ _ _ _ _ _ _ _ _ _ _ _ c.loop-messages.messages c.args.most
+    c.loop-messages.invariant.run c.loop-messages.invariant.few (Keeps-refl _)
+    c.finish-2.ensures.bytes
+
+-- and what a crash leaves there
+pub returns-in_default-clause-crash : goal.returns-in_default-clause-crash
+returns-in_default-clause-crash g c =
+    has_ended _ _ _ _ _ _ _ _ _ _ _ _ _ (returns-in_default-clause-isolation_from g c)
+
+pub returns-then-is_err-clause-crash : goal.returns-then-is_err-clause-crash
+returns-then-is_err-clause-crash g c =
+    has_ended _ _ _ _ _ _ _ _ _ _ _ _ _ (returns-then-is_err-clause-isolation_from g c)
+
+pub returns-then-closes-clause-crash : goal.returns-then-closes-clause-crash
+returns-then-closes-clause-crash g c =
+    has_ended _ _ _ _ _ _ _ _ _ _ _ _ _ (returns-then-closes-clause-isolation_from g c)
+
+pub returns-then-is_err-2-clause-crash : goal.returns-then-is_err-2-clause-crash
+returns-then-is_err-2-clause-crash g c =
+    has_ended _ _ _ _ _ _ _ _ _ _ _ _ _ (returns-then-is_err-2-clause-isolation_from g c)
+
+pub returns-in-Err-clause-crash : goal.returns-in-Err-clause-crash
+returns-in-Err-clause-crash g c =
+    has_ended _ _ _ _ _ _ _ _ _ _ _ _ _ (returns-in-Err-clause-isolation_from g c)
+
+pub returns-in-Clean-clause-crash : goal.returns-in-Clean-clause-crash
+returns-in-Clean-clause-crash g c =
+    has_ended _ _ _ _ _ _ _ _ _ _ _ _ _ (returns-in-Clean-clause-isolation_from g c)
+
+pub returns-then-is_err-3-clause-crash : goal.returns-then-is_err-3-clause-crash
+returns-then-is_err-3-clause-crash g c =
+    has_ended _ _ _ _ _ _ _ _ _ _ _ _ _ (returns-then-is_err-3-clause-isolation_from g c)
 
 pub returns-in-Fault-clause-crash : goal.returns-in-Fault-clause-crash
 returns-in-Fault-clause-crash g c =
-    let whole = on_ok c.give_all.result (sym c.is_err-in-Fault.ensures.value ∙ c.if-is_err-3.false)
-    c.give_all.ensures.whole in
-    ended_in_fault _ _ _ _ _ _ _ _ _ _ _ _ _ c.loop-messages.messages c.args.most
-    c.loop-messages.ended c.in-Fault.fault c.loop-messages.invariant.run
-    c.loop-messages-test.true c.in-Fault.ensures.0 c.in-Fault.ensures.1
-    (whole_begins _ _ _ (fault_bytes c.in-Fault.fault) (rw c.broken_frame.ensures at whole)
-    c.finish-in-Fault.ensures.bytes)
+    has_ended _ _ _ _ _ _ _ _ _ _ _ _ _ (returns-in-Fault-clause-isolation_from g c)
 
 pub returns-clause-crash : goal.returns-clause-crash
 returns-clause-crash g c =
-    ended_so_far _ _ _ _ _ _ _ _ _ _ _ _ _ _ c.loop-messages.messages c.args.most
-    c.loop-messages.invariant.run c.loop-messages.invariant.few (Keeps-refl _)
-    c.finish-2.ensures.bytes
+    has_ended _ _ _ _ _ _ _ _ _ _ _ _ _ (returns-clause-isolation_from g c)
 
 -- a source that failed is told as such
 pub returns-in_default-clause-source : goal.returns-in_default-clause-source

@@ -1,0 +1,44 @@
+-- A stream over whatever history a house has: what it tells a member, and what it leaves to the next.
+use Rattle.std.specs.Prelude.{◌≡◌, ℕ, ◌≤◌, List, ◌++◌, map, Bool, Option, Result, IsOk}
+use Rattle.std.specs.Io.KnownBytes.{Appends, Consumes}
+use Rattle.std.specs.List.{AllByRecursion, concat}
+use Rattle.device.specs.Given.{AppendsBeginning}
+use Rattle.house_rows.specs.declared.settings.Settings.{Settings}
+use Rattle.house_rows.specs.History.{History}
+use Rattle.house_rows.specs.Tables.{Tables, tables_of}
+use Rattle.house_rows.specs.Verdict.{IsHistory}
+use Rattle.settle.specs.declared.zone.Zone.{Zone}
+use Rattle.site.specs.Answers.{IsStep}
+use Rattle.site.specs.Lives.{LivesOn}
+use Rattle.site.specs.Runs.{InTurn}
+use Rattle.site_replies.specs.Texts.{IsServed}
+use Rattle.wire.specs.Cut.{Cut, Stop}
+use Rattle.wire.specs.Message.{Message}
+use Rattle.site_serve.specs.Serving.{heard, rest_bytes}
+use Rattle.site_serve.specs.declared.serving.ServeFault.{ServeFault}
+use Rattle.site_serve.specs.declared.serving.Served.{Served}
+
+-- however serving ended: these messages of what was read were answered in turn. What was written is
+-- their answers and that to a broken rest, or a beginning of it; all of it where serving ended well.
+-- Over every history whose tables the keep had: where all of them were served, they are isolated,
+-- and leave the tables of the history after them
+pub record HasLived {K : Type 0} (content : K → Tables) (is_failed : K → Bool)
+    (is_honest : K → Type 0) (may_leave : K → Tables → Type 0) (zone : Zone)
+    (left now : Option (List ℕ)) (most : ℕ) (before after : Option (List ℕ))
+    (told : Result Served ServeFault) (old new : K) : Type 0 where
+  pub read : List ℕ
+  pub took : Consumes left now read
+  pub count : ℕ
+  pub few : count ≤ most
+  pub messages : List Message
+  pub rest : List ℕ
+  pub stop : Stop
+  pub cut : Cut read count messages rest stop
+  pub replies : List (List ℕ)
+  pub answered : InTurn (IsStep content is_failed is_honest may_leave zone) (map heard messages)
+      replies old new
+  pub written : AppendsBeginning before after (concat replies ++ rest_bytes stop)
+  pub whole : IsOk told → Appends before after (concat replies ++ rest_bytes stop)
+  pub lives_on : is_honest new → (settings : Settings) (h : History) → IsHistory settings h
+      → content old ≡ tables_of settings h → AllByRecursion IsServed replies
+      → LivesOn content settings zone h (map heard messages) replies new
