@@ -1,4 +1,4 @@
--- A run over whatever history a house has: what it tells a member, and what it leaves to the next.
+-- A run over whatever history a house has: what it tells a member, and what it leaves.
 use Rattle.std.specs.Prelude.{◌≡◌, ℕ, List, map}
 use Rattle.std.specs.List.{AllZip}
 use Rattle.house_laws.specs.Alike.{AreAlike}
@@ -37,7 +37,8 @@ pub record IsToldTheSame (settings : Settings) (zone : Zone) (c : ℕ) (h k : Hi
 -- that is a twin for it from there on
 abbrev pub IsIsolated : Settings → Zone → History → List Asked → List (List ℕ) → Type 0
 IsIsolated settings zone h asked replies =
-    (c : ℕ) (k : History) (texts : List (List ℕ)) (second : List Asked) → AllZip IsAsked texts second
+    (c : ℕ) (k : History) (texts : List (List ℕ)) (second : List Asked)
+    → AllZip IsAsked texts second
     → AreAlike settings c h k → TwinRunsFrom settings c h k asked second
     → IsToldTheSame settings zone c h k asked second replies
 

@@ -27,9 +27,9 @@ pub enum RunFault {
 
 impl<K: Keep + Drop> Site<K> {
     /// Answers each message in turn. Where a run of a new house met neither want of memory nor a
-    /// failure, a member's replies are those of any run that is a twin of it for the member; and those
-    /// in which the last leader's covered bid is raised are such runs for everybody else. So it is of a
-    /// house that lives on, with any run that is a twin of it from an alike history on.
+    /// failure, a member's replies are those of any run that is a twin of it for the member; and
+    /// those in which the last leader's covered bid is raised are such runs for everybody else. Of
+    /// a house that lives on they are those of any run that is a twin of it from alike histories on.
     pub fn run(&mut self, messages: &[Vec<u8>]) -> Result<Vec<Reply>, RunFault>
         ensures steps { IfOk result (λ v. (asked : List TheAsked)
             × AllZip IsAsked (map (λ m. m.items) messages.now) asked

@@ -1,4 +1,4 @@
--- A stream over whatever history a house has: what it tells a member, and what it leaves to the next.
+-- A stream over whatever history a house has: what it tells a member, and what it leaves.
 use Rattle.std.specs.Prelude.{◌≡◌, ℕ, ◌≤◌, List, ◌++◌, map, Bool, Option, Result, IsOk}
 use Rattle.std.specs.Io.KnownBytes.{Appends, Consumes}
 use Rattle.std.specs.List.{AllByRecursion, concat}
@@ -19,9 +19,9 @@ use Rattle.site_serve.specs.declared.serving.ServeFault.{ServeFault}
 use Rattle.site_serve.specs.declared.serving.Served.{Served}
 
 -- however serving ended: these messages of what was read were answered in turn. What was written is
--- their answers and that to a broken rest, or a beginning of it; all of it where serving ended well.
--- Over every history whose tables the keep had: where all of them were served, they are isolated,
--- and leave the tables of the history after them
+-- a beginning of their answers and that to a broken rest, and all of it where serving ended well.
+-- Over every history whose tables the keep had: where all were served, the answers are isolated,
+-- and the keep has the tables of the history after them
 pub record HasLived {K : Type 0} (content : K → Tables) (is_failed : K → Bool)
     (is_honest : K → Type 0) (may_leave : K → Tables → Type 0) (zone : Zone)
     (left now : Option (List ℕ)) (most : ℕ) (before after : Option (List ℕ))

@@ -149,8 +149,8 @@ pub fn serve<R: Source, W: Sink, K: Keep + Drop>(
         (R.left source.old) (R.left source.new) most (W.taken sink.old) (W.taken sink.new)
         (keep_of site.old) (keep_of site.new) }
 
-    // However it ends, over whatever history the house has: what others sealed changes nothing that a
-    // member is told, and the next life goes on from what this one leaves.
+    // However it ends, over whatever history the house has: a member is told what any twin run
+    // tells it, and the next life goes on from what is left.
     ensures isolation_from { HasLived K.content K.is_failed K.is_honest K.may_leave
         (zone_of site.old) (R.left source.old) (R.left source.new) most
         (W.taken sink.old) (W.taken sink.new) result (keep_of site.old) (keep_of site.new) }
