@@ -1,4 +1,5 @@
 """A browser without a window, driven by the WebDriver protocol: Chromium, by chromedriver."""
+import base64
 import contextlib
 import json
 import os
@@ -34,11 +35,12 @@ def call(method, url, value=None):
 
 
 class Browser:
-    """A session of its own, with its own sign-ins."""
+    """A session of its own, with its own sign-ins, and the logs that are asked for."""
 
-    def __init__(self, driver):
+    def __init__(self, driver, logs=()):
         words = WORDS + (["--no-sandbox"] if os.geteuid() == 0 else [])
-        options = {"browserName": "chrome", "acceptInsecureCerts": True, "goog:chromeOptions": {"args": words}}
+        options = {"browserName": "chrome", "acceptInsecureCerts": True, "goog:chromeOptions": {"args": words},
+                   "goog:loggingPrefs": {name: "ALL" for name in logs}}
         session = call("POST", f"{driver}/session", {"capabilities": {"alwaysMatch": options}})
         self.url = f"{driver}/session/{session['sessionId']}"
 
@@ -48,6 +50,26 @@ class Browser:
     def run(self, script, *words):
         """What a script in the page returns."""
         return call("POST", f"{self.url}/execute/sync", {"script": script, "args": list(words)})
+
+    def run_until_done(self, script, *words):
+        """What a script in the page hands to its last word, a function."""
+        return call("POST", f"{self.url}/execute/async", {"script": script, "args": list(words)})
+
+    def tool(self, command, **words):
+        """What the browser's own tools answer to a command of theirs."""
+        return call("POST", f"{self.url}/goog/cdp/execute", {"cmd": command, "params": words})
+
+    def log(self, name):
+        """What a log has that was not read before."""
+        return call("POST", f"{self.url}/se/log", {"type": name})
+
+    def keys(self, keys):
+        """Presses and releases keys, one after the other."""
+        steps = [{"type": kind, "value": key} for key in keys for kind in ("keyDown", "keyUp")]
+        call("POST", f"{self.url}/actions", {"actions": [{"type": "key", "id": "keys", "actions": steps}]})
+
+    def picture(self):
+        return base64.b64decode(call("GET", f"{self.url}/screenshot"))
 
     def text(self):
         return self.run("return document.body.innerText")

@@ -1,0 +1,90 @@
+// Reads and commands of the interface that docs/HTTP.md describes.
+import { heard } from "./clock.js";
+
+// The address of the page may have a name and a password in it, and fetch takes no such address.
+const BASE = `${location.origin}/api`;
+
+// A list has so many entries, or it is the last.
+const FULL = 50;
+
+// Why something was not done: the body of the answer, or a word of ours where none came.
+export class Refusal extends Error {
+  constructor(told) {
+    super(told.error);
+    this.told = told;
+  }
+}
+
+async function exchange(path, options) {
+  const sent = performance.now();
+  let answer;
+  let told;
+  try {
+    answer = await fetch(BASE + path, options);
+    heard(answer.headers.get("date"), sent, performance.now());
+    told = await answer.text();
+  } catch {
+    throw new Refusal({ error: "silence" });
+  }
+  const value = parsed(told);
+  if (!answer.ok) {
+    throw new Refusal(value);
+  }
+  return value;
+}
+
+function parsed(text) {
+  try {
+    return JSON.parse(text);
+  } catch {
+    return { error: "gateway", why: "words" };
+  }
+}
+
+export const read = path => exchange(path, {});
+
+export const send = (path, body = {}) => exchange(path, { method: "POST", body: JSON.stringify(body) });
+
+// The lists that begin at a number: their key, and where the next one begins. One of questions begins at the last
+// number again, since further questions may have it.
+const NEXT = {
+  bids: bid => bid.item + 1,
+  items: item => item.item + 1,
+  feedback: given => given.item + 1,
+  asked: question => question.item,
+  published: question => question.asker,
+};
+
+// One list after the other, from a number on.
+export async function* lists(path, kind, from = 1) {
+  for (;;) {
+    const list = Object.values(await read(`${path}/${from}`))[0];
+    yield list;
+    if (list.length < FULL) {
+      return;
+    }
+    from = NEXT[kind](list.at(-1));
+  }
+}
+
+// All entries of such lists. What stands in two of them is there once.
+export async function whole(path, kind) {
+  const found = new Map();
+  for await (const list of lists(path, kind)) {
+    list.forEach(entry => found.set(JSON.stringify(entry), entry));
+  }
+  return [...found.values()];
+}
+
+// What comes of each of a list, at most so many asked at once: the house answers one at a time.
+export async function each(list, work, most = 4) {
+  const results = [];
+  const rest = list.entries();
+  const worker = async () => {
+    for (const [place, entry] of rest) {
+      results[place] = await work(entry);
+    }
+  };
+  await Promise.all(Array.from({ length: most }, worker));
+  return results;
+}

@@ -1,0 +1,28 @@
+// Who is signed in. The interface has no read for that alone: an own page tells a member's number, and refuses the house.
+import { read } from "./api.js";
+import { nameOf } from "./known.js";
+
+const OWN = "/me/statement/1970-01-01/1970-01-01";
+
+// The number is 0 for the house, and null for a sign-in that is neither.
+export const caller = { number: null, name: "", isMember: false, isHouse: false };
+
+export async function findOut() {
+  caller.number = await number();
+  caller.isMember = caller.number > 0;
+  caller.isHouse = caller.number === 0;
+  caller.name = caller.isMember ? await nameOf(caller.number) : "the house";
+}
+
+async function number() {
+  try {
+    return (await read(OWN)).member;
+  } catch (refusal) {
+    if (refusal.told?.error !== "NoCaller") {
+      throw refusal;
+    }
+  }
+  // Whom the house knows for no member, it may still know for itself: to any other number it tells nothing.
+  await read("/house");
+  return 0;
+}

@@ -1,0 +1,48 @@
+// Elements, made by calls alone. What members wrote goes in as text: nothing here reads HTML.
+
+const SVG = "http://www.w3.org/2000/svg";
+
+function fill(element, attributes, children) {
+  for (const [name, value] of Object.entries(attributes)) {
+    if (typeof value === "function") {
+      element.addEventListener(name, value);
+    } else if (value !== null && value !== false) {
+      element.setAttribute(name, value === true ? "" : value);
+    }
+  }
+  element.append(...present(children));
+  return element;
+}
+
+// Children that are there: a condition that didn't hold leaves null or false in the place of one.
+const present = children => children.flat(Infinity).filter(child => child !== null && child !== false && child !== undefined);
+
+// An element with attributes and children. An attribute that is a function listens to the event of its name.
+export const make = (tag, attributes = {}, ...children) =>
+  fill(document.createElement(tag), attributes, children);
+
+export const draw = (tag, attributes = {}, ...children) =>
+  fill(document.createElementNS(SVG, tag), attributes, children);
+
+export const replace = (element, ...children) => element.replaceChildren(...present(children));
+
+// Puts a text where another stands. An equal one stays, so that no screen reader tells it again.
+export function put(element, text) {
+  if (element.textContent !== text) {
+    element.textContent = text;
+  }
+}
+
+// What a member wrote, within a sentence of ours: marks of right-to-left in it turn nothing around it.
+export const written = text => make("bdi", {}, text);
+
+// Letters that are written from the right, and marks that turn what stands around them.
+const TURNING = /[\u0590-\u08ff\u200e\u200f\u202a-\u202e\u2066-\u2069\ufb1d-\ufdff\ufe70-\ufefc]/;
+
+// The same in a place for plain text alone, such as a window's title.
+export const isolated = text => TURNING.test(text) ? `\u2068${text}\u2069` : text;
+
+// A long text of a member, a paragraph for each of its lines.
+export const paragraphs = text => text.split(/[\u2028\u2029]/).map(line => make("p", { dir: "auto" }, line));
+
+export const link = (path, ...children) => make("a", { href: `#/${path}` }, ...children);

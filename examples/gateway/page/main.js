@@ -1,0 +1,120 @@
+// The page: who is signed in, which part of it is shown, and the clock that goes on.
+import { Refusal, read } from "./api.js";
+import { bids } from "./bids.js";
+import { category, front } from "./browse.js";
+import { caller, findOut } from "./caller.js";
+import { ahead, isKnown } from "./clock.js";
+import { link, make, put, replace, written, isolated } from "./dom.js";
+import { house } from "./house.js";
+import { item } from "./item.js";
+import { member, members } from "./members.js";
+import { duration, setZone, tick, zoneInWords } from "./moments.js";
+import { tell } from "./news.js";
+import { questions } from "./questions.js";
+import { sell } from "./sell.js";
+import { settling } from "./settling.js";
+import { statement } from "./statement.js";
+import { Visit } from "./visit.js";
+import { watches } from "./watches.js";
+import { sentence } from "./words.js";
+
+// Each part of the page by the first word after #/. It makes a heading and what stands below it.
+const PARTS = { "": front, category, item, member, bids, watches, questions, sell, statement, house, members, settling };
+
+const OF_ALL = [["", "Items"]];
+const OF_MEMBERS = [["bids", "My bids"], ["watches", "Watching"], ["questions", "Questions"], ["sell", "Sell"],
+  ["statement", "Statement"]];
+const OF_HOUSE = [["members", "Members"], ["settling", "Close and settle"]];
+const LAST = [["house", "The house"]];
+// The entry below which a part lies that has none.
+const ABOVE = { category: "", item: "" };
+
+const content = document.getElementById("content");
+let visit = new Visit();
+
+function navigation(current) {
+  const own = caller.isHouse ? OF_HOUSE : caller.isMember ? OF_MEMBERS : [];
+  const entries = [...OF_ALL, ...own, ...LAST].map(([path, text]) => {
+    const entry = link(path, text);
+    if (path === current) {
+      entry.setAttribute("aria-current", "page");
+    } else if (path === ABOVE[current]) {
+      entry.setAttribute("aria-current", "true");
+    }
+    return make("li", {}, entry);
+  });
+  replace(document.getElementById("pages"), make("ul", {}, ...entries));
+}
+
+function foot() {
+  const seconds = ahead();
+  const apart = seconds === 0 ? "" : ` Your clock is ${duration(Math.abs(seconds))} ${seconds > 0 ? "ahead of" : "behind"}`
+    + " the house's. What is left goes by the house's.";
+  put(document.getElementById("foot"), isKnown() ? zoneInWords() + apart : "The house's clock is not known yet.");
+}
+
+const again = () => make("button", { type: "button", click: show }, "Try again");
+
+// Why nothing is shown: a refusal has its sentence, and what is a fault of the page goes to the console too.
+function failure(error) {
+  if (!(error instanceof Refusal)) {
+    console.error(error);
+  }
+  const why = error instanceof Refusal ? sentence(error.told, { isRead: true }) : "This page has a fault.";
+  return { title: "This can't be shown", nodes: [make("p", {}, why), again()] };
+}
+
+async function made(name, words) {
+  try {
+    return await (PARTS[name] ?? front)(visit, ...words);
+  } catch (error) {
+    return failure(error);
+  }
+}
+
+// Shows the part that the address names, unless another was asked for meanwhile.
+async function show() {
+  const [name = "", ...words] = location.hash.replace(/^#\/?/, "").split("/");
+  visit.end();
+  const own = visit = new Visit();
+  content.setAttribute("aria-busy", "true");
+  const { title, of = "", nodes } = await made(name, words);
+  if (own.isOver) {
+    return;
+  }
+  content.removeAttribute("aria-busy");
+  navigation(name);
+  const heading = make("h1", { tabindex: "-1" }, written(title));
+  replace(content, of, heading, ...nodes);
+  document.title = `${isolated(title)} | The auction house`;
+  tick();
+  foot();
+  scrollTo(0, 0);
+  heading.focus({ preventScroll: true });
+}
+
+async function begin() {
+  try {
+    await findOut();
+    setZone((await read("/house")).zone);
+  } catch (error) {
+    const { title, nodes } = failure(error);
+    replace(content, make("h1", {}, title), ...nodes.slice(0, 1));
+    return;
+  }
+  put(document.getElementById("who"), `Signed in as ${isolated(caller.name)}`);
+  addEventListener("hashchange", () => {
+    tell("");
+    show();
+  });
+  setInterval(tick, 1000);
+  setInterval(foot, 10_000);
+  await show();
+}
+
+// The address after # is that of a part, so the link to the content moves the keyboard alone.
+document.getElementById("skip").addEventListener("click", event => {
+  event.preventDefault();
+  content.focus();
+});
+begin();

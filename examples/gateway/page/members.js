@@ -1,0 +1,74 @@
+// Members: what each was rated, and for the house the list of all.
+import { each, read, send, whole } from "./api.js";
+import { link, make, replace, written } from "./dom.js";
+import { textField } from "./fields.js";
+import { action, form } from "./form.js";
+import { titlesOf } from "./known.js";
+import { ratingInWords } from "./rating.js";
+
+const AT_ONCE = 50;
+
+const counts = one => `${one.plus} good, ${one.zero} neither, ${one.minus} bad`;
+
+function feedbackList(list, titles) {
+  const entries = list.map(one => make("li", {},
+    make("p", {}, make("strong", {}, ratingInWords(one.rating)), one.text ? ": " : "", written(one.text)),
+    make("p", { class: "soft" }, "for ", link(`item/${one.item}`, written(titles.get(one.item))))));
+  return entries.length ? make("ul", { class: "talk" }, ...entries) : make("p", { class: "soft" }, "Nobody has rated this member yet.");
+}
+
+export async function member(visit, number) {
+  const [one, list] = await Promise.all([read(`/members/${number}`), whole(`/members/${number}/feedback`, "feedback")]);
+  const titles = await titlesOf(list.map(feedback => feedback.item));
+  return { title: one.name, nodes: [
+    make("p", {}, `Member ${one.member}. Rated: ${counts(one)}.`),
+    make("section", { class: "box" }, make("h2", {}, "Ratings"), feedbackList(list, titles))] };
+}
+
+// The list of all members, fifty more at each call. The house tells none, so each is read by its number.
+function listing() {
+  const place = make("ul", { class: "people" });
+  let known = 0;
+  const more = async () => {
+    const { members: count } = await read("/house");
+    const numbers = Array.from({ length: Math.min(AT_ONCE, count - known) }, (_, place) => known + 1 + place);
+    const found = await each(numbers, number => read(`/members/${number}`));
+    known += found.length;
+    place.append(...found.map(one => make("li", {}, link(`member/${one.member}`, written(one.name)),
+      make("span", { class: "soft" }, ` member ${one.member}; ${counts(one)}`))));
+    return known < count;
+  };
+  return { place, more };
+}
+
+function registering(more) {
+  const field = textField("Name", { most: 40, hint: "As everybody will see it." });
+  return form({
+    fields: [field], button: "Register", waits: "Registering..", context: () => ({ tried: "register" }),
+    act: async name => {
+      const { member: number } = await send("/members", { name });
+      field.clear();
+      await more();
+      return `Registered as member ${number}.`;
+    },
+  }).node;
+}
+
+const SIGN_IN = "A member that is registered here can't sign in yet: the gateway needs a line for it. "
+  + "add_member.sh on the server does both at once, and the page of the gateway says how.";
+
+export async function members() {
+  const { place, more } = listing();
+  const isMore = await more();
+  const parts = action({
+    button: "Read more members", waits: "Reading..", kind: "plain",
+    act: async () => {
+      parts.button.hidden = !await more();
+    },
+  });
+  parts.button.hidden = !isMore;
+  const about = make("p", { class: "soft" }, SIGN_IN);
+  return { title: "Members", nodes: [
+    make("section", { class: "box" }, make("h2", {}, "All members"), place, parts.node),
+    make("section", { class: "box narrow" }, make("h2", {}, "Register a member"), about, registering(more))] };
+}

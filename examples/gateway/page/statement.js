@@ -1,0 +1,76 @@
+// What the caller sold and bought in a period: a chart, a table, and a file for a spreadsheet.
+import { read } from "./api.js";
+import { caller } from "./caller.js";
+import { now } from "./clock.js";
+import { chart } from "./days.js";
+import { link, make, written } from "./dom.js";
+import { dayField } from "./fields.js";
+import { save } from "./files.js";
+import { form } from "./form.js";
+import { namesOf, titlesOf } from "./known.js";
+import { dayAt, dayInWords } from "./moments.js";
+import { plain, shown } from "./money.js";
+import { AMOUNT, SUBJECT, TEXT, table } from "./table.js";
+
+const COLUMNS = [["Day", TEXT], ["Item", SUBJECT], ["Sold or bought", TEXT], ["With", TEXT], ["Price", AMOUNT], ["Fee", AMOUNT],
+  ["Net", AMOUNT]];
+
+// The form of `auction statement --csv`.
+const HEAD = "day,item,role,other,price,fee,net";
+
+export function csv(lines) {
+  const rows = lines.map(({ day, item, role, other, price, fee, net }) =>
+    [day, item, role, other, plain(price), plain(fee), plain(net)].join(","));
+  return [HEAD, ...rows, ""].join("\n");
+}
+
+function period() {
+  const year = dayAt(now()).slice(0, 4);
+  return [`${year}-01-01`, `${year}-12-31`];
+}
+
+function choosing(from, to) {
+  const fields = [dayField("First day", from), dayField("Last day", to)];
+  const parts = form({
+    fields, button: "Show", waits: "Reading..",
+    act: (first, last) => {
+      if (last < first) {
+        return "The last day lies before the first. Change one of them.";
+      }
+      location.hash = `#/statement/${first}/${last}`;
+      return "";
+    },
+  });
+  parts.node.classList.add("row");
+  return parts.node;
+}
+
+async function lines(statement) {
+  const [titles, names] = await Promise.all([titlesOf(statement.lines.map(line => line.item)),
+    namesOf(statement.lines.map(line => line.other))]);
+  const rows = statement.lines.map(line => [dayInWords(line.day), link(`item/${line.item}`, written(titles.get(line.item))),
+    line.role === "sell" ? "Sold" : "Bought", link(`member/${line.other}`, written(names.get(line.other))),
+    shown(line.price), line.role === "sell" ? shown(line.fee) : "", line.role === "sell" ? shown(line.net) : ""]);
+  const totals = [["", "All that was sold", "", "", shown(statement.sold), shown(statement.fees), shown(statement.net)],
+    ["", "All that was bought", "", "", shown(statement.bought), "", ""]];
+  return table("Sales and purchases", COLUMNS, rows, totals);
+}
+
+const sums = statement => make("dl", { class: "sums" }, ...[["Sold", statement.sold], ["Fees", statement.fees],
+  ["You get", statement.net], ["Bought", statement.bought]].map(([name, amount]) =>
+  make("div", {}, make("dt", {}, name), make("dd", {}, shown(amount)))));
+
+function download(statement, from, to) {
+  const click = () => save(`statement-${from}-${to}.csv`, "text/csv", csv(statement.lines));
+  return make("button", { type: "button", class: "plain", click }, "Save as CSV");
+}
+
+export async function statement(visit, first, last) {
+  const [from, to] = first && last ? [first, last] : period();
+  const told = await read(`/me/statement/${from}/${to}`);
+  const days = `, ${dayInWords(from)} to ${dayInWords(to)}. Both days belong to it.`;
+  const heading = make("p", { class: "soft" }, "For ", written(caller.name), days);
+  const nodes = told.lines.length ? [sums(told), chart(told.lines), await lines(told), download(told, from, to)]
+    : [make("p", { class: "empty" }, "Nothing was sold or bought in this period. Choose other days.")];
+  return { title: "Statement", nodes: [heading, choosing(from, to), ...nodes] };
+}

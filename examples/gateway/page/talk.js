@@ -1,0 +1,95 @@
+// Questions to the seller and their answers, on the page of an item.
+import { lists, read, send, whole } from "./api.js";
+import { caller } from "./caller.js";
+import { isolated, link, make, paragraphs, replace, written } from "./dom.js";
+import { textField } from "./fields.js";
+import { form } from "./form.js";
+import { namesOf } from "./known.js";
+import { tell } from "./news.js";
+import { stateOf } from "./standing.js";
+
+const MOST = 500;
+
+const exchange = (question, asker) => make("li", {},
+  make("p", { class: "soft" }, asker, " asked"),
+  make("div", { class: "asked" }, paragraphs(question.text)),
+  question.answer === null ? make("p", { class: "soft" }, "The seller has yet to answer.")
+    : make("div", { class: "answer" }, paragraphs(question.answer)));
+
+// A form that answers the question of somebody, for the seller. It goes once it is answered, so `after` has to show
+// what is left, and the news tell it.
+export function answering(question, asker, after) {
+  const field = textField(["Your answer to ", written(asker)], { most: MOST, rows: 2, hint: "Everybody can read it, and it stays." });
+  return form({
+    fields: [field], button: `Answer ${isolated(asker)}`, waits: "Sending..", context: () => ({ tried: "answer" }),
+    act: async text => {
+      await send(`/items/${question.item}/questions/${question.asker}/${question.number}/answer`, { text });
+      await after();
+      tell("Your answer is published.");
+    },
+  }).node;
+}
+
+// The caller's own questions on an item that wait: others don't see them. The list begins at the item.
+async function unanswered(item) {
+  const found = new Map();
+  for await (const list of lists("/me/questions", "asked", item.item)) {
+    const own = list.filter(question => question.item === item.item && question.answer === null);
+    own.forEach(question => found.set(question.number, question));
+    if (list.some(question => question.item > item.item)) {
+      break;
+    }
+  }
+  return [...found.values()];
+}
+
+// What waits for the seller's answer on this item, of the first fifty that wait at all.
+async function waiting(item) {
+  return (await read("/me/waiting")).questions.filter(question => question.item === item.item);
+}
+
+async function questionsOf(item) {
+  const published = await whole(`/items/${item.item}/questions`, "published");
+  const isSeller = caller.number === item.seller;
+  const own = caller.isMember && !isSeller ? await unanswered(item) : [];
+  return { published, own, waits: isSeller ? await waiting(item) : [] };
+}
+
+// What is listed under a heading. After an answer the keyboard goes to the heading, since its form is gone.
+async function listed(item, after) {
+  const { published, own, waits } = await questionsOf(item);
+  const names = await namesOf([...published, ...waits].map(question => question.asker));
+  const entries = [
+    ...waits.map(question => make("li", {}, make("p", { class: "soft" }, written(names.get(question.asker)), " asks"),
+      make("div", { class: "asked" }, paragraphs(question.text)), answering(question, names.get(question.asker), after))),
+    ...own.map(question => exchange(question, "You")),
+    ...published.map(question => exchange(question, link(`member/${question.asker}`, written(names.get(question.asker))))),
+  ];
+  return entries.length ? make("ul", { class: "talk" }, ...entries) : make("p", { class: "soft" }, "No question was answered yet.");
+}
+
+function asking(item, refill) {
+  const field = textField("Ask the seller", { most: MOST, rows: 2, hint: "Everybody can read it once it is answered." });
+  return form({
+    fields: [field], button: "Ask", waits: "Sending..", kind: "plain", context: () => ({ tried: "ask" }),
+    act: async text => {
+      await send(`/items/${item.item}/questions`, { text });
+      field.clear();
+      await refill();
+      return "Your question is with the seller.";
+    },
+  }).node;
+}
+
+export async function talk(item) {
+  const place = make("div");
+  const heading = make("h2", { tabindex: "-1" }, "Questions");
+  const after = async () => {
+    await refill();
+    heading.focus();
+  };
+  const refill = async () => replace(place, await listed(item, after));
+  await refill();
+  const mayAsk = caller.isMember && caller.number !== item.seller && stateOf(item) === "open";
+  return make("section", { class: "box" }, heading, place, mayAsk ? asking(item, refill) : null);
+}

@@ -1,0 +1,15 @@
+// What the caller watches.
+import { read } from "./api.js";
+import { cards } from "./browse.js";
+import { inOrder } from "./catalogue.js";
+import { link, make } from "./dom.js";
+import { bidsByItem } from "./known.js";
+
+export async function watches() {
+  const [{ items }, bids] = await Promise.all([read("/me/watches"), bidsByItem()]);
+  const { open, over } = inOrder(items);
+  const part = (title, list) => list.length ? make("section", {}, make("h2", {}, title), cards(list, bids)) : null;
+  const nodes = items.length ? [part("Open", open), part("Over", over)]
+    : [make("p", { class: "empty" }, "You watch nothing yet. An item's page has a button for it. ", link("", "Look at the items"))];
+  return { title: "Watching", nodes };
+}

@@ -1,0 +1,176 @@
+#!/usr/bin/env python3
+"""Drives the page of examples/gateway in Chromium: `page.py PROGRAM [PICTURES]`.
+
+The house, a seller and two who bid play an auction from its listing to its statement, each in a browser of its own, over
+a house with some history behind nginx and haproxy. They find all by roles and names of the accessibility tree alone.
+
+- a whole bid by the keyboard; a purchase after a second question; a button that waits while the house is still, and bids once
+- Ben, who loses, is told no digit of the maximum by which Cid leads: in no answer, and nowhere on the page
+- the countdown goes by the gateway's clock, also where the browser's is an hour wrong
+- names and texts that would do harm as HTML stay text, and turn nothing around them
+- all parts, light and dark, 360 and 1280 wide: names, roles, contrast, sizes, nothing wider than the window (page_looks.js)
+- the console has nothing of the page's own making
+- the file of a statement is the program's own, and the public record is what all reads tell
+- amounts, zones (beside the C library) and refusals (page_words.py)
+
+PICTURES is a folder for pictures of three parts. It needs what gateway.py needs, and chromedriver. The last line is
+'N checks, M wrong'.
+"""
+import contextlib
+import pathlib
+import sys
+import tempfile
+
+import browser
+import page_play as play
+import page_words as words
+from gateway_run import folder_of_nobody, missing_packages
+from page_house import EVIL, EVIL_CATEGORY, EVIL_NAME, EVIL_TEXTS, EVIL_TITLES, OPEN, PAST, furnished
+from screen_reader import USABLE, Reader
+from served import CHECKS, check
+
+LOOKS = (pathlib.Path(__file__).resolve().parent / "page_looks.js").read_text()
+WIDTHS, SCHEMES = (360, 1280), ("light", "dark")
+SEED = 2026
+EVIL_ITEM = len(PAST) + len(OPEN) + 1
+# The parts of the page, by who looks at them.
+PARTS = {
+    "ana": ["", "category/1", "category/4", "item/1", f"item/{EVIL_ITEM}", "questions", "sell", "statement", "house", "member/2", "nothing"],
+    "ben": ["bids", "watches", "questions", "statement", "item/14", "item/15", "item/13", f"item/{EVIL_ITEM + 1}", f"item/{EVIL_ITEM + 2}",
+            "member/1", "item/999", "statement/2020-01-01/2020-12-31"],
+    "house": ["", "members", "settling", "house", "item/12", "member/4"],
+}
+
+
+def size(reader, width, height=900, scheme="light"):
+    reader.page.tool("Emulation.setDeviceMetricsOverride", width=width, height=height, deviceScaleFactor=1, mobile=width < 500)
+    reader.page.tool("Emulation.setEmulatedMedia", features=[{"name": "prefers-color-scheme", "value": scheme}])
+
+
+def show(reader, part):
+    """Shows a part by its address, and waits until it is there."""
+    reader.page.run("document.querySelector('h1')?.remove(); location.hash = arguments[0]", f"#/{part}")
+    reader.wait(lambda: reader.page.run("return Boolean(document.querySelector('h1'))"), part)
+
+
+def looks(reader):
+    """What is wrong with each part that a member sees, in each width and scheme."""
+    for part in PARTS[reader.name]:
+        for width in WIDTHS:
+            for scheme in SCHEMES:
+                size(reader, width, scheme=scheme)
+                show(reader, part)
+                name = f"{reader.name}, {part or 'front'}, {width}, {scheme}"
+                check(f"{name}: looks", reader.page.run(LOOKS), [])
+                check(f"{name}: names", [node for node in reader.tree() if node.role in USABLE and not node.name.strip()], [])
+    size(reader, 1280)
+    show(reader, "")
+
+
+def stays_text(reader):
+    """What would do harm as HTML is read letter by letter, and made no element."""
+    for number, (title, text) in enumerate(zip(EVIL_TITLES, EVIL_TEXTS), EVIL_ITEM):
+        show(reader, f"item/{number}")
+        check(f"item {number}: its title", reader.find("heading", title) is not None, True)
+        check(f"item {number}: its text", all(line in reader.text() for line in text.split("\u2029")), True)
+    show(reader, f"item/{EVIL_ITEM}")
+    check("a question and its answer", reader.text().count(EVIL) >= 2, True)
+    show(reader, "member/2" if reader.name == "house" else "member/1")
+    show(reader, "member/4")
+    check("a name", reader.find("heading", EVIL_NAME) is not None, True)
+    show(reader, "")
+    check("a category", reader.find("link", EVIL_CATEGORY) is not None, True)
+    check("no element of theirs", reader.page.run("return document.querySelectorAll('img, main script, main svg, main i, main b').length"), 0)
+    check("no script of theirs", reader.page.run("return document.title"), "Items | The auction house")
+
+
+def picture(reader, folder, name, part=None, height=900):
+    if folder is not None:
+        size(reader, 1080, height)
+        if part is not None:
+            show(reader, part)
+        (folder / f"{name}.png").write_bytes(reader.page.picture())
+        size(reader, 1280)
+
+
+@contextlib.contextmanager
+def readers(gateway, *names):
+    """A browser for each, all of which end after this."""
+    with browser.driver() as address, contextlib.ExitStack() as ending:
+        found = []
+        for name in names:
+            found.append(Reader(address, gateway, name))
+            ending.callback(found[-1].end)
+            size(found[-1], 1280)
+        yield found
+
+
+def auction(gateway, house, ana, ben, cid, pictures):
+    """The auction up to what Cid seals and Ben is told."""
+    end = play.end_of_auction()
+    number = play.lists_an_item(ana, end)
+    play.bids_by_keys(ben)
+    play.seals(cid)
+    play.is_outbid(ben)
+    play.waits(gateway, ben, number)
+    play.talks(ana, ben)
+    picture(ben, pictures, "item", f"item/{number}")
+    play.never_told(ben)
+    play.countdown(cid, end)
+    return number
+
+
+def meanwhile(gateway, house, ana, ben):
+    """What is done and looked at until the end comes."""
+    play.buys(gateway, ben)
+    play.reads_bids(ben)
+    words.amounts(ana.page)
+    words.zones(ana.page, SEED)
+    words.refusals(ana.page)
+    stays_text(ana)
+    for reader in (ana, ben, house):
+        looks(reader)
+    stays_text(house)
+
+
+def after_the_end(gateway, house, ana, ben, cid, pictures, folder):
+    play.ends(cid)
+    play.closes(house)
+    play.wins(cid)
+    play.loses(ben)
+    play.statements(gateway, ana, ben, cid)
+    picture(ana, pictures, "statement", "statement", 1000)
+    picture(ben, pictures, "bids", "bids", 820)
+    play.registers(house)
+    play.allow_saving(house, folder)
+    play.record(gateway, house, folder)
+    play.allow_saving(ana, folder)
+    show(ana, "statement")
+    return play.saved(ana, "Save as CSV", folder, r"statement-.*\.csv")
+
+
+def main():
+    program, pictures = sys.argv[1], pathlib.Path(sys.argv[2]) if len(sys.argv) > 2 else None
+    missing = missing_packages() + ([] if browser.is_there() else ["chromium-driver"])
+    if missing:
+        print(f"Debian's packages that are missing: {' '.join(missing)}")
+        return 1
+    words.files()
+    with folder_of_nobody() as folder, tempfile.TemporaryDirectory() as saved, furnished(program, folder) as gateway:
+        with readers(gateway, "house", "ana", "ben", "cid") as all_of_them:
+            house, ana, ben, cid = all_of_them
+            cid.page.tool("Page.addScriptToEvaluateOnNewDocument", source=play.WRONG_CLOCK)
+            cid.page.go(cid.root)
+            auction(gateway, house, ana, ben, cid, pictures)
+            meanwhile(gateway, house, ana, ben)
+            spreadsheet = after_the_end(gateway, house, ana, ben, cid, pictures, pathlib.Path(saved))
+            play.never_told(ben)
+            play.no_faults(all_of_them)
+        gateway.stop()
+        play.same_as_the_program(gateway, spreadsheet)
+    print(f"{len(CHECKS)} checks, {CHECKS.count(False)} wrong")
+    return 1 if not all(CHECKS) else 0
+
+
+if __name__ == "__main__":
+    sys.exit(main())

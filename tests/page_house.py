@@ -1,0 +1,147 @@
+"""A house with some history, behind a gateway: what the page of examples/gateway is shown on.
+
+Its zone is not that of the browser, and its sales lie on several days. Ana sells old books and maps. Ben and Cid buy them.
+Three lots and one member have names and texts that would do harm if they were read as HTML.
+"""
+import contextlib
+import json
+import os
+import subprocess
+import time
+
+from bad_files import as_nobody
+from gateway_run import Gateway, running
+from served import Program, check, message
+
+ZONE = "CET-1CEST,M3.5.0,M10.5.0/3"
+NAMES = ["Ana", "Ben", "Cid"]
+ANA, BEN, CID, HOUSE = 1, 2, 3, 0
+DAY, HOUR = 86_400, 3_600
+MAPS, BOOKS, INSTRUMENTS, STRANGE = 1, 2, 3, 4
+TURN = "\u202e"
+EVIL_NAME = f"<i>{TURN}Eve</i>"
+EVIL_CATEGORY = "<svg onload=document.title=1>"
+EVIL_TITLES = ["<img src=x onerror=document.title=1>", f"</script><script>document.title=1</script>{TURN}abc", "W" * 80]
+EVIL_TEXTS = ["<img src=x onerror=document.title=1>" * 20, f"</script><script>document.title=1</script>{TURN}{TURN}\u2067abc\u2029<b>two</b>",
+              "W" * 1000]
+EVIL = f"</p><img src=x onerror=document.title=1>{TURN}turned"
+
+# Sold before: how many days ago, who sold it, the category, the title, the start, and the maxima of the two others.
+PAST = [
+    (38, ANA, MAPS, "Plan of the harbour, 1851", 4_000, 9_000, 7_500),
+    (36, BEN, BOOKS, "Almanac for the year 1790", 1_500, 2_400, 3_100),
+    (33, ANA, BOOKS, "Travels in the Levant, two volumes", 6_000, 14_000, 12_000),
+    (31, ANA, INSTRUMENTS, "Brass sextant in its case", 18_000, 26_000, 31_000),
+    (27, CID, MAPS, "Chart of the Baltic, coloured", 8_000, 11_500, 9_000),
+    (26, ANA, BOOKS, "Herbal with woodcuts, lacking a leaf", 9_000, 9_500, 0),
+    (19, ANA, MAPS, "Road book of the counties", 3_000, 6_200, 5_800),
+    (17, BEN, INSTRUMENTS, "Pocket compass", 1_900, 2_000, 4_200),
+    (12, ANA, BOOKS, "Sermons, in vellum", 1_000, 0, 1_800),
+    (6, ANA, MAPS, "Globe gores, unmounted", 22_000, 30_000, 28_500),
+    (3, CID, BOOKS, "Cookery book of a great house", 2_500, 5_200, 3_900),
+]
+# Open: in how many hours it ends, the category, the title, the text, the start, the buy-now price, and what Cid and Ben bid.
+OPEN = [
+    (30, MAPS, "View of the city from the river, engraved", "A panorama in two sheets, joined. Some spots at the margin.", 9_000, None, [(BEN, 14_000)]),
+    (52, INSTRUMENTS, "Telescope of three draws, signed", "Brass and mahogany. The lens cap is lost.", 26_000, 60_000, []),
+    (75, BOOKS, "Fables, with wood engravings", "Half calf, a little worn, and clean within.", 3_500, None, [(CID, 4_000), (BEN, 9_000)]),
+    (98, MAPS, "Celestial chart of the northern sky", "Linen backed, folding into its slipcase.", 12_000, None, [(BEN, 12_500), (CID, 18_000)]),
+    (140, INSTRUMENTS, "Globe of twelve inches, about 1890", "On a turned stand. The horizon ring has a crack.", 20_000, 45_000, []),
+]
+GLOBE = "Globe of twelve inches, about 1890"
+
+
+def command(member, path, moment, **words):
+    return message("POST", path, member, moment, json.dumps(words))
+
+
+def others(seller):
+    return [member for member in (ANA, BEN, CID) if member != seller]
+
+
+def offered(number, seller, moment, end, category, title, text, start, buy_now=None):
+    return command(seller, "/items", moment, category=category, end=end, lot=f"L{number}", title=title, text=text,
+                   start=start, buy_now=buy_now)
+
+
+def begun(now):
+    """The members and categories, before all sales."""
+    moment = now - 60 * DAY
+    for name in NAMES:
+        yield command(HOUSE, "/members", moment, name=name)
+    for name in ("Maps", "Books", "Instruments", EVIL_CATEGORY):
+        yield command(HOUSE, "/categories", moment, name=name)
+    yield command(HOUSE, "/members", moment, name=EVIL_NAME)
+
+
+def sold_before(now):
+    """Sales on several days, each settled."""
+    for number, (days, seller, category, title, start, first, second) in enumerate(PAST, 1):
+        end = now - days * DAY
+        yield offered(number, seller, end - HOUR, end, category, title, "", start)
+        for member, maximum in zip(others(seller), (first, second)):
+            if maximum:
+                yield command(member, f"/items/{number}/bids", end - HOUR, maximum=maximum)
+        yield command(HOUSE, "/close", end)
+        yield command(HOUSE, f"/items/{number}/settle", end)
+
+
+def open_now(now):
+    """Items that are open, and what was bid for them; then those that would do harm."""
+    moment = now - HOUR
+    for number, (hours, category, title, text, start, buy_now, bids) in enumerate(OPEN, len(PAST) + 1):
+        yield offered(number, ANA, moment, now + hours * HOUR, category, title, text, start, buy_now)
+        for member, maximum in bids:
+            yield command(member, f"/items/{number}/bids", moment, maximum=maximum)
+    first = len(PAST) + len(OPEN) + 1
+    for number, (title, text) in enumerate(zip(EVIL_TITLES, EVIL_TEXTS), first):
+        yield offered(number, ANA, moment, now + 200 * HOUR, STRANGE, title, text, 100)
+    yield command(BEN, f"/items/{first}/questions", moment, text=EVIL)
+    yield command(ANA, f"/items/{first}/questions/{BEN}/1/answer", moment, text=EVIL)
+    yield command(CID, f"/items/{first}/questions", moment, text=EVIL)
+    yield command(BEN, "/items/1/feedback", moment, rating=1, text=EVIL)
+
+
+def write_passwords(house):
+    """Lets the members sign in whom the house knows, as add_member.sh does."""
+    users, numbers, passwords = [], [], []
+    for number, name in enumerate(["house", *map(str.lower, NAMES)]):
+        password = os.urandom(12).hex()
+        digest = subprocess.run(["openssl", "passwd", "-6", "-stdin", "-salt", "rounds=1000$" + os.urandom(6).hex()],
+                                input=password, capture_output=True, text=True, check=True).stdout.strip()
+        users.append(f"{name}:{digest}\n")
+        numbers.append(f'"localhost {name}" {number};\n')
+        passwords.append(f"{name} {number} {password}\n")
+    for file, lines in (("users", users), ("members.map", numbers), ("passwords", passwords)):
+        (house / file).write_text("".join(lines))
+
+
+def make_house(program, folder):
+    """Makes the house in the place where start.sh looks for it."""
+    gateway = Gateway(program, folder, 0, 0)
+    house = gateway.house()
+    subprocess.run(["mkdir", "-p", house], check=True, preexec_fn=as_nobody)
+    tool = Program(gateway.program, house, before=as_nobody)
+    words = ["--bands", str(gateway.examples / "bands.csv"), "--rate", "1000", "--zone", ZONE]
+    check("a house is made", tool.ended("init", "house", *words)[0], 0)
+    now = int(time.time())
+    stream = b"".join([*begun(now), *sold_before(now), *open_now(now)])
+    [told], _ = tool.answers("house", [stream])
+    check("its history is taken", told.count(b"HTTP/1.1 20"), told.count(b"HTTP/1.1 "))
+    write_passwords(house)
+    for file in house.iterdir():
+        if os.geteuid() == 0:
+            os.chown(file, *as_owner(house))
+    return house
+
+
+def as_owner(folder):
+    return folder.stat().st_uid, folder.stat().st_gid
+
+
+@contextlib.contextmanager
+def furnished(program, folder):
+    """A gateway of such a house, which is stopped after this."""
+    make_house(program, folder)
+    with running(program, folder) as gateway:
+        yield gateway

@@ -1,0 +1,116 @@
+"""What the modules of the page make of amounts, zones and refusals, beside what the rules and the C library make of them."""
+import os
+import pathlib
+import random
+import re
+import time
+
+from plain_site import NUMBERS
+from served import check
+
+PAGE = pathlib.Path(__file__).resolve().parent.parent / "examples" / "gateway" / "page"
+RULES = ["UTC0", "CET-1CEST,M3.5.0,M10.5.0/3", "EST5EDT,M3.2.0,M11.1.0", "AEST-10AEDT,M10.1.0,M4.1.0/3", "<+0330>-3:30", "NST3:30NDT,M3.2.0,M11.1.0",
+         "<-03>3<-02>,M3.5.0/-2,M10.5.0/-1", "IST-1GMT0,M10.5.0,M3.5.0/1", "XXX-2YYY,J60/0,J300/25", "XXX5:15:30YYY,59/3,299"]
+NO_RULES = ["", "UTC", "Europe/Berlin", "CET-1CEST,M3.5.0", "A0"]
+LAST = 4_102_444_799
+AMOUNTS = {"5": 500, "5.5": 550, "5.50": 550, "5,50": 550, " 1 234.50 ": 123450, "1,234.50": 123450, "1.234,5": 123450, "0.01": 1,
+           "10000000": 1_000_000_000, "0": 0}
+NO_AMOUNTS = ["", "five", "-5", "+5", "5.555", "1,234", "1.234", "1,23.45", "1e3", "5.", ".5", "0x10", "123456789", "٥", "5 €"]
+SHOWN = {0: "0.00", 5: "0.05", 99999: "999.99", 100000: "1,000.00", 1_000_000_000: "10,000,000.00"}
+# Every word that an answer may have for why, beside those of the house's rules.
+FAULTS = ["memory", "store", "damaged", "member", "path", "date", "order", "silence", "head", "json", "field"]
+GATEWAY = ["head", "sign-in", "foreign", "path", "method", "slow", "size", "host", "often", "house", "words"]
+TRIED = [None, "bid", "buy", "watch", "ask", "answer", "rate", "list", "settle", "register", "category"]
+# What a page must not do, in files that are its own.
+NEVER = ["innerHTML", "outerHTML", "insertAdjacentHTML", "document.write", "eval(", "Function(", "srcdoc", "window.confirm", "alert(",
+         "prompt(", "localStorage", "setAttribute(\"style\"", "http://", "https://", "createContextualFragment", "DOMParser"]
+
+
+def in_page(page, module, work, words):
+    """What a module's functions make of words: the body of a function with the module as `it`."""
+    script = f"""const done = arguments[arguments.length - 1], words = arguments[0];
+        import("/{module}").then(it => done({work})).catch(fault => done(String(fault)))"""
+    return page.run_until_done(script, words)
+
+
+def amounts(page):
+    texts = [*AMOUNTS, *NO_AMOUNTS]
+    told = in_page(page, "money.js", "words.map(it.cents)", texts)
+    check("amounts that are read", dict(zip(texts, told)), {**AMOUNTS, **dict.fromkeys(NO_AMOUNTS)})
+    check("amounts that are shown", in_page(page, "money.js", "words.map(it.shown)", list(SHOWN)), list(SHOWN.values()))
+
+
+def zones(page, seed):
+    """Each moment is shown as the C library shows it, and what is shown leads back to a moment that is shown so."""
+    chosen = random.Random(seed)
+    before = os.environ.get("TZ")
+    for rule in RULES:
+        moments = [chosen.randrange(LAST) for _ in range(2000)] + turns(rule, chosen)
+        os.environ["TZ"] = rule
+        time.tzset()
+        wanted = [time.localtime(moment).tm_gmtoff for moment in moments]
+        told = in_page(page, "zone.js", "words[1].map(moment => it.at(it.parse(words[0]), moment).offset)", [rule, moments])
+        wrong = [pair for pair in zip(moments, told, wanted) if pair[1] != pair[2]]
+        check(f"offsets of {rule}", wrong[:3], [])
+        backward(page, rule, moments)
+    os.environ["TZ"] = before or "UTC0"
+    time.tzset()
+    check("what is no rule", in_page(page, "zone.js", "words.map(it.parse)", NO_RULES), [None] * len(NO_RULES))
+
+
+def turns(rule, chosen):
+    """Moments at and about those at which a zone's clocks are set, which are found by halves."""
+    os.environ["TZ"] = rule
+    time.tzset()
+    offset = lambda moment: time.localtime(moment).tm_gmtoff
+    found = []
+    for _ in range(30):
+        low = chosen.randrange(LAST - 366 * 86_400)
+        high = low + 200 * 86_400
+        if offset(low) == offset(high):
+            continue
+        while high - low > 1:
+            middle = (low + high) // 2
+            low, high = (middle, high) if offset(middle) == offset(low) else (low, middle)
+        found += [low - 1, low, high, high + 1, high + 3599, high + 3600]
+    return found
+
+
+def backward(page, rule, moments):
+    """The moment of a day and a minute is shown as that day and minute, and no earlier one of the two candidates is."""
+    minutes = sorted({moment // 60 * 60 for moment in moments})
+    shown = [(time.strftime("%Y-%m-%d", time.localtime(moment)), time.strftime("%H:%M:%S", time.localtime(moment))) for moment in minutes]
+    told = in_page(page, "zone.js", "words[1].map(([day, time]) => it.momentOf(it.parse(words[0]), day, time))", [rule, shown])
+    wrong = [(moment, back) for moment, back, one in zip(minutes, told, shown) if back > moment or
+             (time.strftime("%Y-%m-%d", time.localtime(back)), time.strftime("%H:%M:%S", time.localtime(back))) != one]
+    check(f"moments of {rule}", wrong[:3], [])
+
+
+def refusals(page):
+    """Each refusal has a sentence of its own that ends, without the interface's word."""
+    words = [[{"error": error, "floor": 600, "field": "maximum"}, {"tried": tried, "isRead": is_read}]
+             for error in [*NUMBERS, *FAULTS] for tried in TRIED for is_read in (False, True)]
+    words += [[{"error": "gateway", "why": why}, {"isRead": is_read}] for why in GATEWAY for is_read in (False, True)]
+    told = in_page(page, "words.js", "words.map(pair => it.sentence(...pair))", words)
+    for (refusal, context), sentence in zip(words, told):
+        error = refusal["error"]
+        check(f"{error} {context}: {sentence}", bool(re.fullmatch(r"[A-Z][^{}]*[.]", sentence)) and sentence.count(".") >= 1
+              and (error not in NUMBERS or error in ("Unknown", "Low", "Ended", "Limit", "Range") or error not in sentence), True)
+    unlike = [sentence for (refusal, context), sentence in zip(words, told)
+              if refusal["error"] in NUMBERS and context == {"tried": None, "isRead": False}]
+    check("each has its own", len(set(unlike)), len(NUMBERS))
+    check("a faster bid", in_page(page, "words.js", "it.sentence(...words)", [{"error": "Low", "floor": 600}, {"floor": 550}]),
+          "Somebody bid more meanwhile. The next bid is 6.00 or more.")
+
+
+def files():
+    """The page's own files never read a text as HTML, and name no other site."""
+    names = {file.name for file in PAGE.iterdir()}
+    for file in PAGE.iterdir():
+        text = file.read_text()
+        for word in NEVER:
+            is_name = word == "http://" and text.count(word) == text.count("http://www.w3.org/2000/svg")
+            check(f"{file.name}: {word}", word in text and not is_name, False)
+        for module in re.findall(r'from "\./([^"]+)"', text):
+            check(f"{file.name} imports {module}", module in names, True)
+        check(f"{file.name}: lines", [line for line in text.splitlines() if len(line) > 140], [])

@@ -1,0 +1,178 @@
+"""A page as a screen reader is given it, and used by that alone: by roles and names of the accessibility tree.
+
+Nothing here looks into the page's elements: a part is found by its role and its name, and pressed where the browser
+draws it, or reached by the keyboard.
+"""
+import json
+import time
+
+from browser import Browser, Refused
+from sent import PATIENCE
+
+TAB, ENTER, ESCAPE, END, CONTROL, NULL = "\ue004", "\ue007", "\ue00c", "\ue010", "\ue009", "\ue000"
+# What a person may use. Each needs a name.
+USABLE = {"button", "link", "textbox", "searchbox", "combobox", "Date", "InputTime", "checkbox", "radio", "spinbutton"}
+
+
+class Node:
+    """A part of the tree: its role, its name, and the browser's number for it."""
+
+    def __init__(self, told):
+        self.role = told.get("role", {}).get("value")
+        self.name = str(told.get("name", {}).get("value", ""))
+        self.value = str(told.get("value", {}).get("value", ""))
+        self.number = told.get("backendDOMNodeId")
+        self.properties = {one["name"]: one["value"].get("value") for one in told.get("properties", [])}
+
+    def __repr__(self):
+        return f"{self.role} {self.name!r}"
+
+
+class Reader:
+    """A member's browser, and all that it was answered."""
+
+    def __init__(self, driver, gateway, name):
+        self.page, self.name = Browser(driver, logs=("performance", "browser")), name
+        self.answers, self.asked, self.faults = [], {}, []
+        self.root = f"https://{gateway.host}:{gateway.port}/"
+        # It signs in at a picture, so that the page's own address has no password in it.
+        self.page.go(f"{self.root}icon.svg".replace("://", f"://{name}:{gateway.passwords[name]}@"))
+        self.listen()
+        self.page.go(self.root)
+        self.wait_for("link", "The auction house")
+
+    # What is there.
+
+    def tree(self):
+        """The parts that are not passed over, in the order in which they are read."""
+        told = {one["nodeId"]: one for one in self.page.tool("Accessibility.getFullAXTree")["nodes"]}
+        found, todo = [], [one["nodeId"] for one in told.values() if "parentId" not in one]
+        while todo:
+            one = told.get(todo.pop())
+            if one:
+                found += [] if one.get("ignored") else [Node(one)]
+                todo += reversed(one.get("childIds", []))
+        return found
+
+    def all(self, role, tree=None):
+        return [node for node in tree or self.tree() if node.role == role]
+
+    def find(self, role, name, tree=None):
+        """The first part of a role and a name, or None; `*` at the end stands for any more letters."""
+        for node in self.all(role, tree):
+            if node.name == name or name.endswith("*") and node.name.startswith(name[:-1]):
+                return node
+        return None
+
+    def wait_for(self, role, name):
+        return self.wait(lambda: self.find(role, name), f"{role} {name}")
+
+    def wait(self, holds, what):
+        ends = time.monotonic() + PATIENCE
+        while time.monotonic() < ends:
+            found = holds()
+            if found:
+                return found
+            time.sleep(0.2)
+        raise TimeoutError(f"{self.name}: {what}: {self.text()}")
+
+    def wait_for_text(self, text):
+        """Waits until a text is read somewhere, and gives all that is read."""
+        return self.wait(lambda: text in self.text() and self.text(), text)
+
+    def text(self):
+        """All that is read, one part after the other."""
+        return " ".join(node.name for node in self.all("StaticText"))
+
+    def told(self):
+        """What the parts say that are told without being asked."""
+        tree = self.page.tool("Accessibility.getFullAXTree")["nodes"]
+        children = {one["nodeId"]: one.get("childIds", []) for one in tree}
+        texts = {one["nodeId"]: one["name"]["value"] for one in tree if one.get("role", {}).get("value") == "StaticText"}
+        todo = [one["nodeId"] for one in reversed(tree) if one.get("role", {}).get("value") == "status"]
+        found = []
+        while todo:
+            one = todo.pop()
+            found += [texts[one]] if one in texts else []
+            todo += reversed(children.get(one, []))
+        return " ".join(found)
+
+    # What is done.
+
+    def press(self, role, name):
+        """Presses a part where it is drawn."""
+        node = self.wait_for(role, name)
+        self.page.tool("DOM.scrollIntoViewIfNeeded", backendNodeId=node.number)
+        quad = self.page.tool("DOM.getContentQuads", backendNodeId=node.number)["quads"][0]
+        x, y = sum(quad[0::2]) / 4, sum(quad[1::2]) / 4
+        for kind in ("mousePressed", "mouseReleased"):
+            self.page.tool("Input.dispatchMouseEvent", type=kind, x=x, y=y, button="left", clickCount=1)
+
+    def go_to(self, link, heading=None):
+        """Follows a link, and waits for the heading of what it leads to."""
+        self.press("link", link)
+        return self.wait_for("heading", heading or link)
+
+    def write(self, role, name, text):
+        """Puts a text in the place of what a field has."""
+        node = self.wait_for(role, name)
+        self.page.tool("DOM.focus", backendNodeId=node.number)
+        self.page.keys([CONTROL])
+        self.select_all()
+        self.page.tool("Input.insertText", text=text)
+
+    def select_all(self):
+        for kind in ("rawKeyDown", "keyUp"):
+            self.page.tool("Input.dispatchKeyEvent", type=kind, key="a", code="KeyA", modifiers=2, windowsVirtualKeyCode=65,
+                           commands=["selectAll"] if kind == "rawKeyDown" else [])
+
+    def type(self, role, name, text):
+        """Types into a part by keys alone."""
+        node = self.wait_for(role, name)
+        self.page.tool("DOM.focus", backendNodeId=node.number)
+        self.page.keys(text)
+
+    # The keyboard.
+
+    def focused(self):
+        """The part that has the keyboard."""
+        found = [node for node in self.tree() if node.properties.get("focused") and node.role != "RootWebArea"]
+        return found[-1] if found else None
+
+    def tab_to(self, role, name, most=80):
+        """Presses Tab until a part has the keyboard, and gives the parts on the way."""
+        way = []
+        for _ in range(most):
+            self.page.keys([TAB])
+            node = self.focused()
+            way.append(node)
+            if node and node.role == role and (node.name == name or name.endswith("*") and node.name.startswith(name[:-1])):
+                return way
+        raise TimeoutError(f"{self.name}: no way to {role} {name}: {way}")
+
+    # What it was answered.
+
+    def listen(self):
+        """Notes the bodies of all answers that came, and what the console has of the page's own making."""
+        for line in self.page.log("performance"):
+            message = json.loads(line["message"])["message"]
+            self.heard(message["method"], message.get("params", {}))
+        self.faults += [line["message"] for line in self.page.log("browser") if line["source"] != "network"]
+
+    def heard(self, method, words):
+        if method == "Network.responseReceived":
+            answer = words["response"]
+            self.asked[words["requestId"]] = (answer["url"], answer["status"])
+        if method == "Network.loadingFinished" and words["requestId"] in self.asked:
+            url, status = self.asked.pop(words["requestId"])
+            body = None
+            try:
+                body = self.page.tool("Network.getResponseBody", requestId=words["requestId"])["body"]
+            except Refused:
+                # Of a file of the page that was kept there is none. What the interface answers is never kept.
+                if "/api/" in url:
+                    raise
+            self.answers.append((url, status, body or ""))
+
+    def end(self):
+        self.page.end()
