@@ -32,6 +32,9 @@ from served import CHECKS, check
 LOOKS = (pathlib.Path(__file__).resolve().parent / "page_looks.js").read_text()
 WIDTHS, SCHEMES = (360, 1280), ("light", "dark")
 SEED = 2026
+# An address that stays is read again only if it is told so.
+SHOW = """document.querySelector("h1")?.remove();
+if (location.hash === arguments[0]) { dispatchEvent(new HashChangeEvent("hashchange")); } else { location.hash = arguments[0]; }"""
 EVIL_ITEM = len(PAST) + len(OPEN) + 1
 # The parts of the page, by who looks at them.
 PARTS = {
@@ -49,7 +52,7 @@ def size(reader, width, height=900, scheme="light"):
 
 def show(reader, part):
     """Shows a part by its address, and waits until it is there."""
-    reader.page.run("document.querySelector('h1')?.remove(); location.hash = arguments[0]", f"#/{part}")
+    reader.page.run(SHOW, f"#/{part}")
     reader.wait(lambda: reader.page.run("return Boolean(document.querySelector('h1'))"), part)
 
 
@@ -94,12 +97,12 @@ def picture(reader, folder, name, part=None, height=900):
 
 
 @contextlib.contextmanager
-def readers(gateway, *names):
-    """A browser for each, all of which end after this."""
+def readers(gateway, *names, wrong):
+    """A browser for each, all of which end after this. The clock of one is wrong."""
     with browser.driver() as address, contextlib.ExitStack() as ending:
         found = []
         for name in names:
-            found.append(Reader(address, gateway, name))
+            found.append(Reader(address, gateway, name, play.WRONG_CLOCK if name == wrong else ""))
             ending.callback(found[-1].end)
             size(found[-1], 1280)
         yield found
@@ -157,10 +160,8 @@ def main():
         return 1
     words.files()
     with folder_of_nobody() as folder, tempfile.TemporaryDirectory() as saved, furnished(program, folder) as gateway:
-        with readers(gateway, "house", "ana", "ben", "cid") as all_of_them:
+        with readers(gateway, "house", "ana", "ben", "cid", wrong="cid") as all_of_them:
             house, ana, ben, cid = all_of_them
-            cid.page.tool("Page.addScriptToEvaluateOnNewDocument", source=play.WRONG_CLOCK)
-            cid.page.go(cid.root)
             auction(gateway, house, ana, ben, cid, pictures)
             meanwhile(gateway, house, ana, ben)
             spreadsheet = after_the_end(gateway, house, ana, ben, cid, pictures, pathlib.Path(saved))

@@ -21,7 +21,7 @@ TEXT = "Forty engraved maps, coloured by hand, in half leather.\nSpine rubbed. M
 SECRET = "7,391.57"
 WRITTEN = ["739157", "7391.57", "7391,57", SECRET, "7.391,57", "7 391.57"]
 # In so many minutes the auction ends: all that is done before has to fit.
-MINUTES = 4
+MINUTES = 3
 YEAR = time.strftime("%Y")
 
 
@@ -208,7 +208,7 @@ def wins(cid):
     cid.page.keys([*"Good", ENTER])
     cid.write("textbox", "In a few words", "Well packed")
     cid.press("button", "Rate this sale")
-    cid.wait_for_text("You rated Ana: Good. Well packed")
+    cid.wait_for_text("Good. Well packed")
 
 
 def loses(ben):

@@ -29,17 +29,19 @@ class Node:
 
 
 class Reader:
-    """A member's browser, and all that it was answered."""
+    """A member's browser, in which a script may run before the page's own, and all that it was answered."""
 
-    def __init__(self, driver, gateway, name):
+    def __init__(self, driver, gateway, name, script=""):
         self.page, self.name = Browser(driver, logs=("performance", "browser")), name
         self.answers, self.asked, self.faults = [], {}, []
         self.root = f"https://{gateway.host}:{gateway.port}/"
         # It signs in at a picture, so that the page's own address has no password in it.
         self.page.go(f"{self.root}icon.svg".replace("://", f"://{name}:{gateway.passwords[name]}@"))
+        # Bodies of what was answered before are gone on the next page, so they are noted first.
         self.listen()
+        self.page.tool("Page.addScriptToEvaluateOnNewDocument", source=script)
         self.page.go(self.root)
-        self.wait_for("link", "The auction house")
+        self.wait_for("navigation", "Pages")
 
     # What is there.
 
@@ -82,7 +84,7 @@ class Reader:
 
     def text(self):
         """All that is read, one part after the other."""
-        return " ".join(node.name for node in self.all("StaticText"))
+        return " ".join(" ".join(node.name for node in self.all("StaticText")).split())
 
     def told(self):
         """What the parts say that are told without being asked."""

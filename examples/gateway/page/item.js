@@ -75,7 +75,7 @@ function change(before, after) {
 }
 
 // The parts of the page that follow the item, and the call that reads it anew.
-function followed(first, wasWatched) {
+function followed(first, wasWatched, conversation) {
   const shownNow = { ...first };
   const about = facts();
   const place = make("div");
@@ -100,6 +100,7 @@ function followed(first, wasWatched) {
     if (hadKeyboard && !document.activeElement.checkVisibility?.()) {
       about.focus();
     }
+    conversation.update(shownNow.item);
     await updateSale(sale, shownNow.item, place, refresh);
     tick();
   }
@@ -133,7 +134,7 @@ export async function item(visit, number) {
   const first = await look(number);
   const own = first.item;
   const [of, watched, conversation] = await Promise.all([byline(own), isWatched(own.item), talk(own)]);
-  const { node, update, refresh, shownNow } = followed(first, watched);
+  const { node, update, refresh, shownNow } = followed(first, watched, conversation);
   await update();
   let couldEnd = hasEnded(own);
   visit.repeat(() => secondsLeft(shownNow.item.end) < NEAR ? OFTEN : SELDOM, async () => {
@@ -145,5 +146,5 @@ export async function item(visit, number) {
       tell("The end of this auction has come.");
     }
   });
-  return { title: own.title, of, nodes: [make("div", { class: "two" }, node, story(own), conversation)] };
+  return { title: own.title, of, nodes: [make("div", { class: "two" }, node, story(own), conversation.node)] };
 }

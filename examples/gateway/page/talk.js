@@ -81,6 +81,7 @@ function asking(item, refill) {
   }).node;
 }
 
+// The part of an item's page with its questions, and the call that takes the form away once nobody may ask any more.
 export async function talk(item) {
   const place = make("div");
   const heading = make("h2", { tabindex: "-1" }, "Questions");
@@ -90,6 +91,9 @@ export async function talk(item) {
   };
   const refill = async () => replace(place, await listed(item, after));
   await refill();
-  const mayAsk = caller.isMember && caller.number !== item.seller && stateOf(item) === "open";
-  return make("section", { class: "box" }, heading, place, mayAsk ? asking(item, refill) : null);
+  const ask = asking(item, refill);
+  const update = now => {
+    ask.hidden = !caller.isMember || caller.number === now.seller || stateOf(now) !== "open";
+  };
+  return { node: make("section", { class: "box" }, heading, place, ask), update };
 }
