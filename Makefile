@@ -19,19 +19,22 @@ CRATES ?=
 BODIES ?=
 
 # How many seconds fifty clients ask through the gateway, how often the house is started anew under them, and how many copies
-# are made of a house that is served; the Debian in which the package is tried.
+# are made of a house that is served; the Debian in which the package is tried; a folder for pictures of the page, or none.
 PERIOD ?= 60
 RESTARTS ?= 20
 COPIES ?= 60
 DEBIAN ?= out/debian
+PICTURES ?=
 
-# Debian's packages of these three: nginx to util-linux are needed, the others are left out where they aren't there.
+# Debian's packages of these four: nginx to util-linux are needed, the others are left out where they aren't there. The page
+# needs chromium-driver too.
 GATEWAY_PACKAGES = nginx-light haproxy openssl curl iproute2 procps util-linux chromium-driver
+PAGE_PACKAGES = $(GATEWAY_PACKAGES)
 BACKUP_PACKAGES = sqlite3 btrfs-progs
 DEB_PACKAGES = lintian debootstrap systemd-container
 
 .PHONY: help demo session test auction program cases rows fuzz mutated twins memory allocations statement random file \
-	office kills stops cuts stalls counts wrong giving documents openapi gateway backup deb packages
+	office kills stops cuts stalls counts wrong giving documents openapi gateway page backup deb packages
 
 help:
 	@echo "For a newcomer"
@@ -68,6 +71,7 @@ help:
 	@echo "What stands around the program, from examples/"
 	@echo "  make packages  installs Debian's packages that these need, as root"
 	@echo "  make gateway   has clients ask and bid through nginx and haproxy for PERIOD, and the house start anew RESTARTS times"
+	@echo "  make page      plays an auction on the page of the gateway in Chromium, by the house and three members, in three minutes"
 	@echo "  make backup    makes COPIES copies of a house that is served, and restores one"
 	@echo "  make deb       makes the package in out/, and tries it in a plain Debian in the folder DEBIAN"
 	@echo
@@ -105,7 +109,7 @@ has-tests:
 demo test auction wrong giving: has-kit
 session: has-bin has-curl
 program cases fuzz mutated twins memory allocations file office kills stops cuts stalls counts documents: has-program
-gateway backup deb: has-program
+gateway page backup deb: has-program
 rows random file statement memory allocations: has-tests
 cases openapi: has-cases
 memory allocations stops cuts: has-cc
@@ -232,6 +236,10 @@ giving:
 gateway:
 	@echo "Debian's packages: $(GATEWAY_PACKAGES)"
 	python3 tests/gateway.py crates/auction/out/auction $(PERIOD) $(RESTARTS)
+
+page:
+	@echo "Debian's packages: $(PAGE_PACKAGES)"
+	python3 tests/page.py crates/auction/out/auction $(PICTURES)
 
 backup:
 	@echo "Debian's packages: $(BACKUP_PACKAGES)"

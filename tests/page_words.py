@@ -113,4 +113,3 @@ def files():
             check(f"{file.name}: {word}", word in text and not is_name, False)
         for module in re.findall(r'from "\./([^"]+)"', text):
             check(f"{file.name} imports {module}", module in names, True)
-        check(f"{file.name}: lines", [line for line in text.splitlines() if len(line) > 140], [])

@@ -109,6 +109,7 @@ class Reader:
         x, y = sum(quad[0::2]) / 4, sum(quad[1::2]) / 4
         for kind in ("mousePressed", "mouseReleased"):
             self.page.tool("Input.dispatchMouseEvent", type=kind, x=x, y=y, button="left", clickCount=1)
+        self.page.tool("Input.dispatchMouseEvent", type="mouseMoved", x=0, y=0)
 
     def go_to(self, link, heading=None):
         """Follows a link, and waits for the heading of what it leads to."""

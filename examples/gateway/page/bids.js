@@ -8,7 +8,7 @@ import { inOrder } from "./catalogue.js";
 import { standingInShort, stateOf } from "./standing.js";
 import { AMOUNT, SUBJECT, TEXT, table } from "./table.js";
 
-const COLUMNS = [["Item", SUBJECT], ["Price", AMOUNT], ["My maximum", AMOUNT], ["How it stands", TEXT], ["Ends", TEXT]];
+const COLUMNS = [["Item", SUBJECT], ["Price", AMOUNT], ["My maximum", AMOUNT], ["How it stands", TEXT], ["End", TEXT]];
 
 const row = (item, bid) => [link(`item/${item.item}`, written(item.title)), shown(item.price), shown(bid.maximum),
   standingInShort(item, bid), stateOf(item) === "open" ? ["in ", countdown(item.end)] : inWords(item.closed ?? item.end)];

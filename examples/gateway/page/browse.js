@@ -73,7 +73,8 @@ function shelved(shelf, bids) {
       found.length ? null : make("p", { class: "empty" }, "No item is here. Try other words, or another category."));
   }
   fill();
-  return { fill, nodes: [make("div", { class: "field find" }, make("label", { for: "find" }, "Find in titles"), input), count, place] };
+  const find = make("div", { class: "field find" }, make("label", { for: "find" }, "Find in titles"), input);
+  return { fill, nodes: [find, count, place] };
 }
 
 function older(shelf, fill) {

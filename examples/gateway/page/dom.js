@@ -15,7 +15,7 @@ function fill(element, attributes, children) {
 }
 
 // Children that are there: a condition that didn't hold leaves null or false in the place of one.
-const present = children => children.flat(Infinity).filter(child => child !== null && child !== false && child !== undefined);
+const present = children => children.flat(Infinity).filter(child => ![null, false, undefined].includes(child));
 
 // An element with attributes and children. An attribute that is a function listens to the event of its name.
 export const make = (tag, attributes = {}, ...children) =>

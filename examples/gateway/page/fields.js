@@ -60,7 +60,7 @@ function judged(text, least, most) {
     throw new Mistake("Write something here.");
   }
   if (length > most) {
-    throw new Mistake(`This has ${length} bytes, and ${most} are possible. Letters with accents have two or more. Shorten it.`);
+    throw new Mistake(`This has ${length} bytes, and ${most} are possible. A letter with an accent has two. Shorten it.`);
   }
   return tidied;
 }

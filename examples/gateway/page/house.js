@@ -9,14 +9,16 @@ import { categories } from "./known.js";
 import { dayAt, time } from "./moments.js";
 import { shown } from "./money.js";
 import { publicRecord } from "./record.js";
-import { AMOUNT, table } from "./table.js";
+import { AMOUNT, sums, table } from "./table.js";
 
 const number = count => shown(count * 100).slice(0, -3);
 
 // The rate is in ten-thousandths: 1000 is 10 %.
-const facts = told => [["Members", number(told.members)], ["Items", number(told.items)], ["Categories", number(told.categories)],
+const facts = told => [
+  ["Members", number(told.members)], ["Items", number(told.items)], ["Categories", number(told.categories)],
   ["Fee of a sale", `${told.rate / 100} %`], ["Zone", told.zone],
-  ["Clock", told.clock ? time(told.clock) : "not set yet"]];
+  ["Clock", told.clock ? time(told.clock) : "not set yet"],
+];
 
 function steps(bands) {
   const rows = bands.map(({ at, step }) => [shown(at), shown(step)]);
@@ -51,7 +53,7 @@ function recording() {
 
 async function ofHouse(place, refill) {
   await refill();
-  const about = make("p", { class: "soft" }, "All that everybody may see, in one file of JSON. In a great house it takes a while.");
+  const about = make("p", { class: "soft" }, "All that everybody may see, as one file of JSON. In a great house it takes a while.");
   return [
     make("section", { class: "box" }, make("h2", {}, "Categories"), place, adding(refill)),
     make("section", { class: "box" }, make("h2", {}, "Public record"), about, recording())];
@@ -63,7 +65,7 @@ export async function house() {
   const refill = async () => replace(place, make("ul", { class: "people" },
     ...(await categories()).map(one => make("li", {}, link(`category/${one.category}`, written(one.name))))));
   return { title: "The house", nodes: [
-    make("dl", { class: "sums" }, ...facts(told).map(([name, value]) => make("div", {}, make("dt", {}, name), make("dd", {}, value)))),
+    sums(facts(told)),
     ...(caller.isHouse ? await ofHouse(place, refill) : []),
     steps(bands)] };
 }

@@ -44,8 +44,10 @@ async function leading(item) {
 
 // Price, state and end, with a call that puts them anew.
 function facts() {
-  const parts = { badge: make("p", { class: "badges" }), what: make("h2", { class: "what" }), price: make("p", { class: "amount-now" }),
-    bids: make("p"), leader: make("p"), end: make("p"), standing: make("p", { class: "standing", tabindex: "-1" }) };
+  const parts = {
+    badge: make("p", { class: "badges" }), what: make("h2", { class: "what" }), price: make("p", { class: "amount-now" }),
+    bids: make("p"), leader: make("p"), end: make("p"), standing: make("p", { class: "standing", tabindex: "-1" }),
+  };
   const node = make("div", { class: "facts" }, ...Object.values(parts));
   const update = async (item, bid) => {
     replace(parts.badge, badge(item), reserveBadge(item));
@@ -104,7 +106,7 @@ function followed(first, wasWatched, conversation) {
     await updateSale(sale, shownNow.item, place, refresh);
     tick();
   }
-  const node = make("aside", { class: "box offer", "aria-label": "Price and bids" }, about.node, offer.node, place);
+  const node = make("section", { class: "box offer", "aria-label": "Price and bids" }, about.node, offer.node, place);
   return { node, update, refresh, shownNow };
 }
 

@@ -14,7 +14,8 @@ function feedbackList(list, titles) {
   const entries = list.map(one => make("li", {},
     make("p", {}, make("strong", {}, ratingInWords(one.rating)), one.text ? ": " : "", written(one.text)),
     make("p", { class: "soft" }, "for ", link(`item/${one.item}`, written(titles.get(one.item))))));
-  return entries.length ? make("ul", { class: "talk" }, ...entries) : make("p", { class: "soft" }, "Nobody has rated this member yet.");
+  return entries.length ? make("ul", { class: "talk" }, ...entries)
+    : make("p", { class: "soft" }, "Nobody has rated this member yet.");
 }
 
 export async function member(visit, number) {

@@ -15,7 +15,7 @@ const SEALED = "The house bids for you, only as far as is needed to lead. Nobody
 
 const least = now => now.bid?.leading ? now.bid.maximum + 1 : now.item.floor;
 
-const tooLow = now => amount => now.bid?.leading
+const tooLow = (now, amount) => now.bid?.leading
   ? `You lead already. Write more than your own maximum, which is ${shown(now.bid.maximum)}.`
   : `The next bid is ${shown(amount)} or more.`;
 
@@ -49,7 +49,9 @@ function bidding(now, refresh) {
   // The floor that was seen when the button was pressed: after a refusal the item has another.
   const seen = {};
   const next = make("strong");
-  const field = moneyField("Your maximum", { hint: [next, " ", SEALED], least: () => least(now), tooLow: amount => tooLow(now)(amount) });
+  const field = moneyField("Your maximum", {
+    hint: [next, " ", SEALED], least: () => least(now), tooLow: amount => tooLow(now, amount),
+  });
   const parts = form({
     fields: [field], button: "Bid", waits: "Bidding..", context: () => seen,
     act: async maximum => {

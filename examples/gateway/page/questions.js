@@ -11,7 +11,8 @@ const on = (question, titles) => link(`item/${question.item}`, written(titles.ge
 
 async function waiting(after) {
   const { questions } = await read("/me/waiting");
-  const [titles, names] = await Promise.all([titlesOf(questions.map(one => one.item)), namesOf(questions.map(one => one.asker))]);
+  const [titles, names] = await Promise.all([titlesOf(questions.map(one => one.item)),
+    namesOf(questions.map(one => one.asker))]);
   const entries = questions.map(one => make("li", {},
     make("p", { class: "soft" }, written(names.get(one.asker)), " asks about ", on(one, titles)),
     make("div", { class: "asked" }, paragraphs(one.text)), answering(one, names.get(one.asker), after)));

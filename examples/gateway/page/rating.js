@@ -22,7 +22,8 @@ function thanks(feedback, name) {
 
 function rate(item, name, after) {
   const choice = choiceField("How was it?", { choices: RATINGS });
-  const text = textField("In a few words", { least: 0, most: 200, hint: "Everybody can read it, and it stays. It may be empty." });
+  const hint = "Everybody can read it, and it stays. It may be empty.";
+  const text = textField("In a few words", { least: 0, most: 200, hint });
   return form({
     fields: [choice, text], button: "Rate this sale", waits: "Sending..", context: () => ({ tried: "rate" }),
     act: async (rating, words) => {
@@ -34,8 +35,8 @@ function rate(item, name, after) {
 
 // The part of an item's page in which a party rates the other, or nothing for anybody else.
 export async function rating(item) {
-  const isParty = ["sold", "settled"].includes(item.state) && caller.isMember && [item.seller, item.leader].includes(caller.number);
-  if (!isParty) {
+  const isSold = ["sold", "settled"].includes(item.state);
+  if (!isSold || !caller.isMember || ![item.seller, item.leader].includes(caller.number)) {
     return null;
   }
   const other = caller.number === item.seller ? item.leader : item.seller;

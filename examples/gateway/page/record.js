@@ -33,6 +33,6 @@ export async function publicRecord() {
     members: people.map(({ member, name }) => ({ member, name })), questions: await questionsOn(items),
     rate: before.rate, zone: before.zone,
   };
-  const after = await read("/house");
-  return { text: JSON.stringify(record), clock: before.clock, isOfOneMoment: JSON.stringify(before) === JSON.stringify(after) };
+  const isOfOneMoment = JSON.stringify(before) === JSON.stringify(await read("/house"));
+  return { text: JSON.stringify(record), clock: before.clock, isOfOneMoment };
 }

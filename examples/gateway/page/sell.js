@@ -21,7 +21,9 @@ function code() {
 }
 
 function fieldsOf(list) {
-  const start = moneyField("Start price", { hint: "The first bid is this or more.", tooLow: least => `Write ${shown(least)} or more.` });
+  const start = moneyField("Start price", {
+    hint: "The first bid is this or more.", tooLow: least => `Write ${shown(least)} or more.`,
+  });
   const buyNow = moneyField("Buy-now price", {
     hint: "Who pays this gets it at once, as long as nobody has bid. Leave it empty to have none.", isOptional: true,
     least: () => start.value ?? 1, tooLow: least => `This can't be less than the start price, ${shown(least)}.`,
@@ -33,7 +35,9 @@ function fieldsOf(list) {
     start, buyNow,
     dayField("Ends on", dayAt(now() + WEEK)),
     timeField("Ends at", EVENING, zoneInWords()),
-    codeField("Your code for it", { value: code(), hint: "Letters, digits and hyphens, for your own books. You use each code once." }),
+    codeField("Your code for it", {
+      value: code(), hint: "Letters, digits and hyphens, for your own books. You use each code once.",
+    }),
   ];
 }
 

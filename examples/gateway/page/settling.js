@@ -38,13 +38,15 @@ async function sales() {
   return { sold: shelves.flatMap(shelf => shelf.items).filter(item => item.state === "sold"), isWhole };
 }
 
-const entry = item => make("li", {}, make("p", {}, link(`item/${item.item}`, written(item.title)), ` sold for ${shown(item.price)}`),
-  settle(item));
+const entry = item => make("li", {},
+  make("p", {}, link(`item/${item.item}`, written(item.title)), ` sold for ${shown(item.price)}`), settle(item));
 
 async function listed() {
   const { sold, isWhole } = await sales();
   const older = isWhole ? null : make("p", { class: "soft" }, `Of each category the last ${ENOUGH} items are looked through.`);
-  return [sold.length ? make("ul", { class: "talk" }, ...sold.map(entry)) : make("p", { class: "soft" }, "No sale waits."), older];
+  const list = sold.length ? make("ul", { class: "talk" }, ...sold.map(entry))
+    : make("p", { class: "soft" }, "No sale waits.");
+  return [list, older];
 }
 
 function closing(refill) {

@@ -10,7 +10,7 @@ import { form } from "./form.js";
 import { namesOf, titlesOf } from "./known.js";
 import { dayAt, dayInWords } from "./moments.js";
 import { plain, shown } from "./money.js";
-import { AMOUNT, SUBJECT, TEXT, table } from "./table.js";
+import { AMOUNT, SUBJECT, TEXT, sums, table } from "./table.js";
 
 const COLUMNS = [["Day", TEXT], ["Item", SUBJECT], ["Sold or bought", TEXT], ["With", TEXT], ["Price", AMOUNT], ["Fee", AMOUNT],
   ["Net", AMOUNT]];
@@ -51,14 +51,13 @@ async function lines(statement) {
   const rows = statement.lines.map(line => [dayInWords(line.day), link(`item/${line.item}`, written(titles.get(line.item))),
     line.role === "sell" ? "Sold" : "Bought", link(`member/${line.other}`, written(names.get(line.other))),
     shown(line.price), line.role === "sell" ? shown(line.fee) : "", line.role === "sell" ? shown(line.net) : ""]);
-  const totals = [["", "All that was sold", "", "", shown(statement.sold), shown(statement.fees), shown(statement.net)],
+  const both = [["", "All that was sold", "", "", shown(statement.sold), shown(statement.fees), shown(statement.net)],
     ["", "All that was bought", "", "", shown(statement.bought), "", ""]];
-  return table("Sales and purchases", COLUMNS, rows, totals);
+  return table("Sales and purchases", COLUMNS, rows, both);
 }
 
-const sums = statement => make("dl", { class: "sums" }, ...[["Sold", statement.sold], ["Fees", statement.fees],
-  ["You get", statement.net], ["Bought", statement.bought]].map(([name, amount]) =>
-  make("div", {}, make("dt", {}, name), make("dd", {}, shown(amount)))));
+const totals = ({ sold, fees, net, bought }) => sums([["Sold", shown(sold)], ["Fees", shown(fees)], ["You get", shown(net)],
+  ["Bought", shown(bought)]]);
 
 function download(statement, from, to) {
   const click = () => save(`statement-${from}-${to}.csv`, "text/csv", csv(statement.lines));
@@ -70,7 +69,7 @@ export async function statement(visit, first, last) {
   const told = await read(`/me/statement/${from}/${to}`);
   const days = `, ${dayInWords(from)} to ${dayInWords(to)}. Both days belong to it.`;
   const heading = make("p", { class: "soft" }, "For ", written(caller.name), days);
-  const nodes = told.lines.length ? [sums(told), chart(told.lines), await lines(told), download(told, from, to)]
+  const nodes = told.lines.length ? [totals(told), chart(told.lines), await lines(told), download(told, from, to)]
     : [make("p", { class: "empty" }, "Nothing was sold or bought in this period. Choose other days.")];
   return { title: "Statement", nodes: [heading, choosing(from, to), ...nodes] };
 }

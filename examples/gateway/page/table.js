@@ -7,6 +7,10 @@ export const TEXT = "text";
 export const AMOUNT = "number";
 export const SUBJECT = "subject";
 
+// Names with what stands for each, in large letters.
+export const sums = entries => make("dl", { class: "sums" }, ...entries.map(([name, value]) =>
+  make("div", {}, make("dt", {}, name), make("dd", {}, value))));
+
 // A row has a node or a text for each column.
 export function table(caption, columns, rows, totals = []) {
   const head = columns.map(([title, kind]) => make("th", { scope: "col", role: "columnheader", class: kind }, title));

@@ -19,7 +19,8 @@ const exchange = (question, asker) => make("li", {},
 // A form that answers the question of somebody, for the seller. It goes once it is answered, so `after` has to show
 // what is left, and the news tell it.
 export function answering(question, asker, after) {
-  const field = textField(["Your answer to ", written(asker)], { most: MOST, rows: 2, hint: "Everybody can read it, and it stays." });
+  const label = ["Your answer to ", written(asker)];
+  const field = textField(label, { most: MOST, rows: 2, hint: "Everybody can read it, and it stays." });
   return form({
     fields: [field], button: `Answer ${isolated(asker)}`, waits: "Sending..", context: () => ({ tried: "answer" }),
     act: async text => {
@@ -65,7 +66,8 @@ async function listed(item, after) {
     ...own.map(question => exchange(question, "You")),
     ...published.map(question => exchange(question, link(`member/${question.asker}`, written(names.get(question.asker))))),
   ];
-  return entries.length ? make("ul", { class: "talk" }, ...entries) : make("p", { class: "soft" }, "No question was answered yet.");
+  return entries.length ? make("ul", { class: "talk" }, ...entries)
+    : make("p", { class: "soft" }, "No question was answered yet.");
 }
 
 function asking(item, refill) {

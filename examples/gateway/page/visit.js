@@ -1,4 +1,10 @@
 // One visit to a page: what it repeats ends with it.
+import { tell } from "./news.js";
+
+// After so many reads that failed, what is shown may be old.
+const FAILED = 3;
+const OLD = "The house does not answer just now. What you see may be old.";
+
 export class Visit {
   constructor() {
     this.ending = new AbortController();
@@ -17,6 +23,13 @@ export class Visit {
   repeat(seconds, work) {
     let timer = 0;
     let isAtWork = false;
+    let failed = 0;
+    const fails = () => {
+      failed += 1;
+      if (failed === FAILED) {
+        tell(OLD);
+      }
+    };
     const go = async () => {
       clearTimeout(timer);
       if (this.isOver || isAtWork || document.hidden) {
@@ -24,7 +37,7 @@ export class Visit {
       }
       isAtWork = true;
       // A read that failed is made again in its turn.
-      await work().catch(() => {});
+      await work().then(() => failed = 0, fails);
       isAtWork = false;
       timer = setTimeout(go, 1000 * seconds());
     };

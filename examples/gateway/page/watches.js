@@ -10,6 +10,7 @@ export async function watches() {
   const { open, over } = inOrder(items);
   const part = (title, list) => list.length ? make("section", {}, make("h2", {}, title), cards(list, bids)) : null;
   const nodes = items.length ? [part("Open", open), part("Over", over)]
-    : [make("p", { class: "empty" }, "You watch nothing yet. An item's page has a button for it. ", link("", "Look at the items"))];
+    : [make("p", { class: "empty" }, "You watch nothing yet. An item's page has a button for it. ",
+      link("", "Look at the items"))];
   return { title: "Watching", nodes };
 }
