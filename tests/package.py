@@ -51,6 +51,13 @@ def built(program, folder):
     return package
 
 
+def has_page(package):
+    """All files of the page are in the package."""
+    told = subprocess.run(["dpkg-deb", "--contents", package], capture_output=True, text=True, check=True).stdout
+    packed = set(re.findall(r" \./usr/share/auction/page/(\S+)$", told, re.M))
+    check("the page", packed, {file.name for file in (ROOT / "examples" / "gateway" / "page").iterdir()})
+
+
 def lint(package):
     told = subprocess.run(["lintian", "--fail-on", "warning,error", package], capture_output=True, text=True)
     check("lintian", (told.returncode, told.stdout), (0, ""))
@@ -92,6 +99,7 @@ def judge(text):
 def main():
     package = built(*sys.argv[1:3])
     print(f"{package}: {package.stat().st_size} bytes")
+    has_page(package)
     if shutil.which("lintian"):
         lint(package)
     else:

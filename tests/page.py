@@ -4,11 +4,13 @@
 The house, a seller and two who bid play an auction from its listing to its statement, each in a browser of its own, over
 a house with some history behind nginx and haproxy. They find all by roles and names of the accessibility tree alone.
 
-- a whole bid by the keyboard; a purchase after a second question; a button that waits while the house is still, and bids once
+- a whole bid by the keyboard; a purchase after a second question; a button that waits while the house is still, and
+  bids once
 - Ben, who loses, is told no digit of the maximum by which Cid leads: in no answer, and nowhere on the page
 - the countdown goes by the gateway's clock, also where the browser's is an hour wrong
 - names and texts that would do harm as HTML stay text, and turn nothing around them
-- all parts, light and dark, 360 and 1280 wide: names, roles, contrast, sizes, nothing wider than the window (page_looks.js)
+- all parts, light and dark, 360 and 1280 wide: names, roles, contrast, sizes, nothing wider than the window
+  (page_looks.js)
 - the console has nothing of the page's own making
 - the file of a statement is the program's own, and the public record is what all reads tell
 - amounts, zones (beside the C library) and refusals (page_words.py)
@@ -26,22 +28,25 @@ import page_play as play
 import page_words as words
 from gateway_run import folder_of_nobody, missing_packages
 from page_house import EVIL, EVIL_CATEGORY, EVIL_NAME, EVIL_TEXTS, EVIL_TITLES, OPEN, PAST, furnished
-from screen_reader import USABLE, Reader
+from screen_reader import Reader
 from served import CHECKS, check
 
-LOOKS = (pathlib.Path(__file__).resolve().parent / "page_looks.js").read_text()
 WIDTHS, SCHEMES = (360, 1280), ("light", "dark")
+# Elements that would be there if what members wrote were read as HTML.
+THEIRS = "img, main script, main svg, main i, main b"
 SEED = 2026
 # An address that stays is read again only if it is told so.
 SHOW = """document.querySelector("h1")?.remove();
-if (location.hash === arguments[0]) { dispatchEvent(new HashChangeEvent("hashchange")); } else { location.hash = arguments[0]; }"""
+if (location.hash === arguments[0]) { dispatchEvent(new HashChangeEvent("hashchange")); }
+location.hash = arguments[0];"""
 EVIL_ITEM = len(PAST) + len(OPEN) + 1
 # The parts of the page, by who looks at them.
 PARTS = {
-    "ana": ["", "category/1", "category/4", "item/1", f"item/{EVIL_ITEM}", "questions", "sell", "statement", "house", "member/2", "nothing"],
-    "ben": ["bids", "watches", "questions", "statement", "item/14", "item/15", "item/13", f"item/{EVIL_ITEM + 1}", f"item/{EVIL_ITEM + 2}",
-            "member/1", "item/999", "statement/2020-01-01/2020-12-31"],
-    "house": ["", "members", "settling", "house", "item/12", "member/4"],
+    "ana": ["", "category/1", "category/4", "item/1", f"item/{EVIL_ITEM}", "questions", "sell", "statement", "house",
+            "member/2", "nothing"],
+    "ben": ["bids", "watches", "questions", "statement", "item/14", "item/15", "item/13", f"item/{EVIL_ITEM + 1}",
+            f"item/{EVIL_ITEM + 2}", "member/1", "item/999", "statement/2020-01-01/2020-12-31"],
+    "house": ["", "members", "settling", "house", "item/12", "member/4", "bids"],
 }
 
 
@@ -63,9 +68,7 @@ def looks(reader):
             for scheme in SCHEMES:
                 size(reader, width, scheme=scheme)
                 show(reader, part)
-                name = f"{reader.name}, {part or 'front'}, {width}, {scheme}"
-                check(f"{name}: looks", reader.page.run(LOOKS), [])
-                check(f"{name}: names", [node for node in reader.tree() if node.role in USABLE and not node.name.strip()], [])
+                check(f"{reader.name}, {part or 'front'}, {width}, {scheme}", reader.looks(), [])
     size(reader, 1280)
     show(reader, "")
 
@@ -83,13 +86,14 @@ def stays_text(reader):
     check("a name", reader.find("heading", EVIL_NAME) is not None, True)
     show(reader, "")
     check("a category", reader.find("link", EVIL_CATEGORY) is not None, True)
-    check("no element of theirs", reader.page.run("return document.querySelectorAll('img, main script, main svg, main i, main b').length"), 0)
+    check("no element of theirs", reader.page.run(f"return document.querySelectorAll('{THEIRS}').length"), 0)
     check("no script of theirs", reader.page.run("return document.title"), "Items | The auction house")
 
 
 def picture(reader, folder, name, part=None, height=900):
     if folder is not None:
         size(reader, 1080, height)
+        reader.page.tool("Emulation.setScrollbarsHidden", hidden=True)
         if part is not None:
             show(reader, part)
         (folder / f"{name}.png").write_bytes(reader.page.picture())
@@ -130,6 +134,7 @@ def meanwhile(gateway, house, ana, ben):
     words.amounts(ana.page)
     words.zones(ana.page, SEED)
     words.refusals(ana.page)
+    words.reserves(ana.page)
     stays_text(ana)
     for reader in (ana, ben, house):
         looks(reader)
@@ -166,6 +171,7 @@ def main():
             meanwhile(gateway, house, ana, ben)
             spreadsheet = after_the_end(gateway, house, ana, ben, cid, pictures, pathlib.Path(saved))
             play.never_told(ben)
+            play.is_told(cid)
             play.no_faults(all_of_them)
         gateway.stop()
         play.same_as_the_program(gateway, spreadsheet)

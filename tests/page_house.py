@@ -22,8 +22,8 @@ TURN = "\u202e"
 EVIL_NAME = f"<i>{TURN}Eve</i>"
 EVIL_CATEGORY = "<svg onload=document.title=1>"
 EVIL_TITLES = ["<img src=x onerror=document.title=1>", f"</script><script>document.title=1</script>{TURN}abc", "W" * 80]
-EVIL_TEXTS = ["<img src=x onerror=document.title=1>" * 20, f"</script><script>document.title=1</script>{TURN}{TURN}\u2067abc\u2029<b>two</b>",
-              "W" * 1000]
+EVIL_TEXTS = ["<img src=x onerror=document.title=1>" * 20,
+              f"</script><script>document.title=1</script>{TURN}{TURN}\u2067abc\u2029<b>two</b>", "W" * 1000]
 EVIL = f"</p><img src=x onerror=document.title=1>{TURN}turned"
 
 # Sold before: how many days ago, who sold it, the category, the title, the start, and the maxima of the two others.
@@ -42,11 +42,15 @@ PAST = [
 ]
 # Open: in how many hours it ends, the category, the title, the text, the start, the buy-now price, and what Cid and Ben bid.
 OPEN = [
-    (30, MAPS, "View of the city from the river, engraved", "A panorama in two sheets, joined. Some spots at the margin.", 9_000, None, [(BEN, 14_000)]),
+    (30, MAPS, "View of the city from the river, engraved", "A panorama in two sheets, joined. Some spots at the margin.",
+     9_000, None, [(BEN, 14_000)]),
     (52, INSTRUMENTS, "Telescope of three draws, signed", "Brass and mahogany. The lens cap is lost.", 26_000, 60_000, []),
-    (75, BOOKS, "Fables, with wood engravings", "Half calf, a little worn, and clean within.", 3_500, None, [(CID, 4_000), (BEN, 9_000)]),
-    (98, MAPS, "Celestial chart of the northern sky", "Linen backed, folding into its slipcase.", 12_000, None, [(BEN, 12_500), (CID, 18_000)]),
-    (140, INSTRUMENTS, "Globe of twelve inches, about 1890", "On a turned stand. The horizon ring has a crack.", 20_000, 45_000, []),
+    (75, BOOKS, "Fables, with wood engravings", "Half calf, a little worn, and clean within.", 3_500, None,
+     [(CID, 4_000), (BEN, 9_000)]),
+    (98, MAPS, "Celestial chart of the northern sky", "Linen backed, folding into its slipcase.", 12_000, None,
+     [(BEN, 12_500), (CID, 18_000)]),
+    (140, INSTRUMENTS, "Globe of twelve inches, about 1890", "On a turned stand. The horizon ring has a crack.", 20_000,
+     45_000, []),
 ]
 GLOBE = "Globe of twelve inches, about 1890"
 

@@ -3,15 +3,13 @@
 Each has a browser, and uses the page by roles and names alone. Cid seals a maximum whose digits stand nowhere else:
 Ben, who loses, must never be told them.
 """
-import json
-import pathlib
 import re
 import signal
 import time
 
 from bad_files import as_nobody
 from page_house import EVIL_NAME, GLOBE, OPEN, PAST
-from screen_reader import ENTER, TAB
+from screen_reader import ENTER, ESCAPE
 from sent import compact
 from served import Program, check
 
@@ -20,7 +18,7 @@ TEXT = "Forty engraved maps, coloured by hand, in half leather.\nSpine rubbed. M
 # What Cid seals, as it may be written anywhere.
 SECRET = "7,391.57"
 WRITTEN = ["739157", "7391.57", "7391,57", SECRET, "7.391,57", "7 391.57"]
-# In so many minutes the auction ends: all that is done before has to fit.
+# In so many minutes and part of one the auction ends: all that is done before has to fit.
 MINUTES = 3
 YEAR = time.strftime("%Y")
 
@@ -30,7 +28,7 @@ def has_secret(text):
 
 
 def end_of_auction():
-    return (int(time.time()) // 60 + MINUTES) * 60
+    return (int(time.time()) // 60 + 1 + MINUTES) * 60
 
 
 def clock_of_house(moment):
@@ -51,6 +49,7 @@ def lists_an_item(ana, end):
     ana.type("InputTime", "Ends at", time.strftime("%I%M%p", shown))
     ana.press("button", "List it")
     ana.wait_for_text("Write an amount, such as 12 or 12.50.")
+    check("a wrong field", ana.looks(), [])
     check("the field that is wrong has the keyboard", ana.focused().name, "Start price")
     ana.write("textbox", "Start price", "120")
     ana.press("button", "List it")
@@ -92,6 +91,7 @@ def seals(cid):
     cid.press("button", "Bid")
     dialog = cid.wait_for("dialog", f"Bid up to {SECRET}?")
     check("the question is before the page", dialog.properties.get("modal"), True)
+    check("a question", cid.looks(), [])
     cid.press("button", "Change it")
     cid.wait_for_text("Nothing was bid.")
     cid.press("button", "Bid")
@@ -116,6 +116,7 @@ def waits(gateway, ben, number):
         ben.press("button", "Bid")
         waiting = ben.wait_for("button", "Bidding..")
         check("the button can't be pressed", waiting.properties.get("disabled"), True)
+        check("a button that waits", ben.looks(), [])
         ben.press("button", "Bidding..")
         ben.page.keys([ENTER])
         ben.wait_for_text("The house has not answered yet.")
@@ -123,6 +124,8 @@ def waits(gateway, ben, number):
         gateway.kill_house(signal.SIGCONT)
     ben.wait_for_text("Your bid is taken, but another maximum is as high or higher. The next bid is 205.00 or more.")
     check("one bid", gateway.ask("ana", "GET", f"/api/items/{number}").value["count"], before + 1)
+    ben.listen()
+    check("bids that were sent", [status for url, status, _ in ben.answers if url.endswith("/bids")], [201, 201])
 
 
 def talks(ana, ben):
@@ -149,7 +152,7 @@ def buys(gateway, ben):
     ben.go_to(GLOBE)
     ben.press("button", "Buy now for 450.00")
     ben.wait_for("dialog", "Buy this for 450.00?")
-    ben.page.keys(["\ue00c"])
+    ben.page.keys([ESCAPE])
     ben.wait_for_text("Nothing was bought.")
     ben.press("button", "Buy now for 450.00")
     ben.press("button", "Buy for 450.00")
@@ -300,6 +303,14 @@ def never_told(ben):
     check("answers to the loser", found, [])
     check("the loser's page", has_secret(ben.page.run("return document.documentElement.outerHTML")), False)
     check("what the loser's reader reads", has_secret(" ".join(f"{node.name} {node.value}" for node in ben.tree())), False)
+
+
+def is_told(cid):
+    """The leader is told its own maximum, by the same look at answers and page."""
+    cid.listen()
+    check("answers to the leader", any(has_secret(body) for _, _, body in cid.answers), True)
+    cid.go_to("My bids")
+    check("the leader's page", has_secret(cid.text()), True)
 
 
 def no_faults(readers):

@@ -9,8 +9,9 @@ from plain_site import NUMBERS
 from served import check
 
 PAGE = pathlib.Path(__file__).resolve().parent.parent / "examples" / "gateway" / "page"
-RULES = ["UTC0", "CET-1CEST,M3.5.0,M10.5.0/3", "EST5EDT,M3.2.0,M11.1.0", "AEST-10AEDT,M10.1.0,M4.1.0/3", "<+0330>-3:30", "NST3:30NDT,M3.2.0,M11.1.0",
-         "<-03>3<-02>,M3.5.0/-2,M10.5.0/-1", "IST-1GMT0,M10.5.0,M3.5.0/1", "XXX-2YYY,J60/0,J300/25", "XXX5:15:30YYY,59/3,299"]
+RULES = ["UTC0", "CET-1CEST,M3.5.0,M10.5.0/3", "EST5EDT,M3.2.0,M11.1.0", "AEST-10AEDT,M10.1.0,M4.1.0/3", "<+0330>-3:30",
+         "NST3:30NDT,M3.2.0,M11.1.0", "<-03>3<-02>,M3.5.0/-2,M10.5.0/-1", "IST-1GMT0,M10.5.0,M3.5.0/1", "XXX-2YYY,J60/0,J300/25",
+         "XXX5:15:30YYY,59/3,299"]
 NO_RULES = ["", "UTC", "Europe/Berlin", "CET-1CEST,M3.5.0", "A0"]
 LAST = 4_102_444_799
 AMOUNTS = {"5": 500, "5.5": 550, "5.50": 550, "5,50": 550, " 1 234.50 ": 123450, "1,234.50": 123450, "1.234,5": 123450, "0.01": 1,
@@ -22,8 +23,9 @@ FAULTS = ["memory", "store", "damaged", "member", "path", "date", "order", "sile
 GATEWAY = ["head", "sign-in", "foreign", "path", "method", "slow", "size", "host", "often", "house", "words"]
 TRIED = [None, "bid", "buy", "watch", "ask", "answer", "rate", "list", "settle", "register", "category"]
 # What a page must not do, in files that are its own.
-NEVER = ["innerHTML", "outerHTML", "insertAdjacentHTML", "document.write", "eval(", "Function(", "srcdoc", "window.confirm", "alert(",
-         "prompt(", "localStorage", "setAttribute(\"style\"", "http://", "https://", "createContextualFragment", "DOMParser"]
+NEVER = ["innerHTML", "outerHTML", "insertAdjacentHTML", "document.write", "eval(", "Function(", "srcdoc", "window.confirm",
+         "alert(", "prompt(", "localStorage", "setAttribute(\"style\"", "http://", "https://", "createContextualFragment",
+         "DOMParser"]
 
 
 def in_page(page, module, work, words):
@@ -76,13 +78,19 @@ def turns(rule, chosen):
     return found
 
 
+def spelled(moment):
+    """Day and time that a clock shows in the zone that is set."""
+    local = time.localtime(moment)
+    return time.strftime("%Y-%m-%d", local), time.strftime("%H:%M:%S", local)
+
+
 def backward(page, rule, moments):
     """The moment of a day and a minute is shown as that day and minute, and no earlier one of the two candidates is."""
     minutes = sorted({moment // 60 * 60 for moment in moments})
-    shown = [(time.strftime("%Y-%m-%d", time.localtime(moment)), time.strftime("%H:%M:%S", time.localtime(moment))) for moment in minutes]
-    told = in_page(page, "zone.js", "words[1].map(([day, time]) => it.momentOf(it.parse(words[0]), day, time))", [rule, shown])
-    wrong = [(moment, back) for moment, back, one in zip(minutes, told, shown) if back > moment or
-             (time.strftime("%Y-%m-%d", time.localtime(back)), time.strftime("%H:%M:%S", time.localtime(back))) != one]
+    shown = [spelled(moment) for moment in minutes]
+    work = "words[1].map(([day, time]) => it.momentOf(it.parse(words[0]), day, time))"
+    told = in_page(page, "zone.js", work, [rule, shown])
+    wrong = [(moment, back) for moment, back, one in zip(minutes, told, shown) if back > moment or spelled(back) != one]
     check(f"moments of {rule}", wrong[:3], [])
 
 
@@ -93,14 +101,21 @@ def refusals(page):
     words += [[{"error": "gateway", "why": why}, {"isRead": is_read}] for why in GATEWAY for is_read in (False, True)]
     told = in_page(page, "words.js", "words.map(pair => it.sentence(...pair))", words)
     for (refusal, context), sentence in zip(words, told):
-        error = refusal["error"]
-        check(f"{error} {context}: {sentence}", bool(re.fullmatch(r"[A-Z][^{}]*[.]", sentence)) and sentence.count(".") >= 1
-              and (error not in NUMBERS or error in ("Unknown", "Low", "Ended", "Limit", "Range") or error not in sentence), True)
+        # No sentence shows a word that only programs read, such as NotHigher.
+        is_plain = re.fullmatch(r"[A-Z][^{}]*[.]", sentence) and not re.search(r"[a-z][A-Z]|undefined|null", sentence)
+        check(f"{refusal} {context}: {sentence}", bool(is_plain), True)
     unlike = [sentence for (refusal, context), sentence in zip(words, told)
               if refusal["error"] in NUMBERS and context == {"tried": None, "isRead": False}]
     check("each has its own", len(set(unlike)), len(NUMBERS))
     check("a faster bid", in_page(page, "words.js", "it.sentence(...words)", [{"error": "Low", "floor": 600}, {"floor": 550}]),
           "Somebody bid more meanwhile. The next bid is 6.00 or more.")
+
+
+def reserves(page):
+    """Whether a reserve is met is told where the interface tells it."""
+    items = [{}, {"met": None}, {"met": True}, {"met": False}]
+    told = in_page(page, "standing.js", "words.map(it.reserveInWords)", items)
+    check("reserves", told, ["", "", "Reserve met", "Reserve not met"])
 
 
 def files():

@@ -4,14 +4,18 @@ Nothing here looks into the page's elements: a part is found by its role and its
 draws it, or reached by the keyboard.
 """
 import json
+import pathlib
 import time
 
 from browser import Browser, Refused
 from sent import PATIENCE
 
-TAB, ENTER, ESCAPE, END, CONTROL, NULL = "\ue004", "\ue007", "\ue00c", "\ue010", "\ue009", "\ue000"
+TAB, ENTER, ESCAPE = "\ue004", "\ue007", "\ue00c"
 # What a person may use. Each needs a name.
 USABLE = {"button", "link", "textbox", "searchbox", "combobox", "Date", "InputTime", "checkbox", "radio", "spinbutton"}
+
+
+LOOKS = (pathlib.Path(__file__).resolve().parent / "page_looks.js").read_text()
 
 
 class Node:
@@ -99,6 +103,10 @@ class Reader:
             todo += reversed(children.get(one, []))
         return " ".join(found)
 
+    def looks(self):
+        """What is wrong with the page as it is drawn, and which parts have no name."""
+        return self.page.run(LOOKS) + [str(node) for node in self.tree() if node.role in USABLE and not node.name.strip()]
+
     # What is done.
 
     def press(self, role, name):
@@ -120,7 +128,6 @@ class Reader:
         """Puts a text in the place of what a field has."""
         node = self.wait_for(role, name)
         self.page.tool("DOM.focus", backendNodeId=node.number)
-        self.page.keys([CONTROL])
         self.select_all()
         self.page.tool("Input.insertText", text=text)
 

@@ -22,7 +22,7 @@ function when(item) {
   return item.state === "open" ? "to be closed" : inWords(item.closed ?? item.end);
 }
 
-export const card = (item, bid) => make("li", { class: "card" },
+const card = (item, bid) => make("li", { class: "card" },
   make("p", { class: "badges" }, badge(item), standingInShort(item, bid)),
   make("h3", {}, link(`item/${item.item}`, written(item.title))),
   make("p", { class: "price" }, make("span", { class: "what" }, priceInWords(item)), " ", shown(item.price)),

@@ -42,7 +42,7 @@ async function between(category, from, before) {
   return found;
 }
 
-export const isOpen = item => item.state === "open" && !hasEnded(item);
+const isOpen = item => item.state === "open" && !hasEnded(item);
 
 // Open ones first, and of them what ends first. Then the others, and of them what ended last.
 export function inOrder(items) {

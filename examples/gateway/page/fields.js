@@ -7,7 +7,7 @@ class Mistake extends Error {}
 
 let made = 0;
 
-export class Field {
+class Field {
   // `judge` makes the value of what was written, or throws a Mistake.
   constructor(label, control, hint, judge) {
     made += 1;

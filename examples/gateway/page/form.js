@@ -10,9 +10,6 @@ const STILL = "The house has not answered yet. Your turn comes, and nothing has 
 // Does some work once at a time. Meanwhile its button says that it waits, and pressing it again does nothing. It stays
 // where the keyboard is, which a disabled one would not.
 async function whileWaiting(button, waits, told, work) {
-  if (button.getAttribute("aria-disabled") === "true") {
-    return;
-  }
   const label = button.textContent;
   const slow = setTimeout(() => put(told, STILL), SLOW);
   button.setAttribute("aria-disabled", "true");
@@ -27,17 +24,17 @@ async function whileWaiting(button, waits, told, work) {
   }
 }
 
-// Says what came of some work: its sentence, or why it was refused.
+// Says what came of some work: its sentence, or why it was refused. A fault of the page goes to the console too.
 async function saying(told, context, work) {
-  told.classList.remove("refused");
   try {
     put(told, (await work()) ?? "");
-  } catch (refusal) {
-    if (!(refusal instanceof Refusal)) {
-      throw refusal;
-    }
+  } catch (error) {
+    const isRefusal = error instanceof Refusal;
     told.classList.add("refused");
-    put(told, sentence(refusal.told, context()));
+    put(told, isRefusal ? sentence(error.told, context()) : "This page has a fault. Load it again.");
+    if (!isRefusal) {
+      console.error(error);
+    }
   }
 }
 
@@ -51,8 +48,21 @@ export function label(button, text) {
   }
 }
 
+// What a button does: a second question where there is one, and then the work. `unless` is what is said after a no.
+async function pressed(button, told, { waits, context = () => ({}), isMeant = () => true, unless = "", act }, values) {
+  if (button.getAttribute("aria-disabled") === "true") {
+    return;
+  }
+  told.classList.remove("refused");
+  if (!await isMeant(...values)) {
+    put(told, unless);
+    return;
+  }
+  await whileWaiting(button, waits, told, () => saying(told, context, () => act(...values)));
+}
+
 // A form of fields. `act` is given their values, and answers a sentence on what was done.
-export function form({ fields, button: text, waits, context = () => ({}), act, kind = "" }) {
+export function form({ fields, button: text, kind = "", ...does }) {
   const told = toldPart();
   const button = make("button", { type: "submit", class: kind }, text);
   const submit = event => {
@@ -63,17 +73,16 @@ export function form({ fields, button: text, waits, context = () => ({}), act, k
       wrong[0].control.focus();
       return;
     }
-    const work = () => act(...fields.map(field => field.value));
-    return whileWaiting(button, waits, told, () => saying(told, context, work));
+    pressed(button, told, does, fields.map(field => field.value));
   };
   const node = make("form", { novalidate: true, submit }, ...fields.map(field => field.node), button, told);
-  return { node, button, told };
+  return { node, button };
 }
 
 // A button that acts by itself.
-export function action({ button: text, waits, context = () => ({}), act, kind = "" }) {
+export function action({ button: text, kind = "", ...does }) {
   const told = toldPart();
-  const click = () => whileWaiting(button, waits, told, () => saying(told, context, act));
+  const click = () => pressed(button, told, does, []);
   const button = make("button", { type: "button", class: kind, click }, text);
-  return { node: make("div", { class: "action" }, button, told), button, told };
+  return { node: make("div", { class: "action" }, button, told), button };
 }

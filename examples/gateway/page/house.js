@@ -53,7 +53,7 @@ function recording() {
 
 async function ofHouse(place, refill) {
   await refill();
-  const about = make("p", { class: "soft" }, "All that everybody may see, as one file of JSON. In a great house it takes a while.");
+  const about = make("p", { class: "soft" }, "All that everybody may see, as one file. In a great house it takes a while.");
   return [
     make("section", { class: "box" }, make("h2", {}, "Categories"), place, adding(refill)),
     make("section", { class: "box" }, make("h2", {}, "Public record"), about, recording())];

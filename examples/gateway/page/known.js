@@ -17,7 +17,7 @@ function once(known, number, ask) {
 export const nameOf = number => once(names, number, async () => (await read(`/members/${number}`)).name);
 
 // A title stays too. Prices don't, so only the title is to be taken from here.
-export const titleOf = number => once(items, number, async () => (await read(`/items/${number}`)).title);
+const titleOf = number => once(items, number, async () => (await read(`/items/${number}`)).title);
 
 export const titlesOf = numbers => found([...new Set(numbers)], titleOf);
 

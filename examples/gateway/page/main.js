@@ -64,7 +64,15 @@ function failure(error) {
   return { title: "This can't be shown", nodes: [make("p", {}, why), again()] };
 }
 
+// The house has no bids and no statement: the interface would refuse it as nobody.
+const isAnothers = name => !caller.isMember && OF_MEMBERS.some(([path]) => path === name);
+
+const membersOnly = () => ({ title: "For members", nodes: [make("p", {}, "Only members have this. Sign in as a member.")] });
+
 async function made(name, words) {
+  if (isAnothers(name)) {
+    return membersOnly();
+  }
   try {
     return await (PARTS[name] ?? front)(visit, ...words);
   } catch (error) {

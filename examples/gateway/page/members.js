@@ -1,6 +1,6 @@
 // Members: what each was rated, and for the house the list of all.
 import { each, read, send, whole } from "./api.js";
-import { link, make, replace, written } from "./dom.js";
+import { link, make, written } from "./dom.js";
 import { textField } from "./fields.js";
 import { action, form } from "./form.js";
 import { titlesOf } from "./known.js";

@@ -54,11 +54,9 @@ function bidding(now, refresh) {
   });
   const parts = form({
     fields: [field], button: "Bid", waits: "Bidding..", context: () => seen,
+    isMeant: maximum => isMeant(maximum, now.item.floor), unless: "Nothing was bid.",
     act: async maximum => {
       Object.assign(seen, { tried: "bid", floor: now.item.floor, maximum: now.bid?.maximum });
-      if (!await isMeant(maximum, now.item.floor)) {
-        return "Nothing was bid.";
-      }
       const told = await bid(now, maximum, refresh);
       field.clear();
       return told;
@@ -77,15 +75,13 @@ function buying(now, refresh) {
   const price = () => shown(now.item.buy_now ?? 0);
   const parts = action({
     button: `Buy now for ${price()}`, waits: "Buying..", kind: "plain", context: () => ({ tried: "buy" }),
+    isMeant: () => isSure({
+      title: `Buy this for ${price()}?`,
+      text: [written(now.item.title), " is yours then, and the auction is over. You can't give it back here."],
+      yes: `Buy for ${price()}`, no: "Don't buy",
+    }),
+    unless: "Nothing was bought.",
     act: async () => {
-      const sure = await isSure({
-        title: `Buy this for ${price()}?`,
-        text: make("span", {}, written(now.item.title), " is yours then, and the auction is over. You can't give it back here."),
-        yes: `Buy for ${price()}`, no: "Don't buy",
-      });
-      if (!sure) {
-        return "Nothing was bought.";
-      }
       try {
         await send(`/items/${now.item.item}/purchase`);
       } finally {

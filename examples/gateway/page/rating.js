@@ -6,7 +6,7 @@ import { choiceField, textField } from "./fields.js";
 import { form } from "./form.js";
 import { nameOf } from "./known.js";
 
-export const RATINGS = [[1, "Good"], [0, "Neither good nor bad"], [-1, "Bad"]];
+const RATINGS = [[1, "Good"], [0, "Neither good nor bad"], [-1, "Bad"]];
 
 export const ratingInWords = rating => RATINGS.find(([value]) => value === rating)[1];
 

@@ -17,7 +17,7 @@ const LAST = 4_102_444_800;
 // A code that this seller has not used: the second in which the form was opened.
 function code() {
   const second = String(Math.floor(now() % 60)).padStart(2, "0");
-  return `${dayAt(now())}-${timeAt(now())}-${second}`.replace(":", "-");
+  return `${dayAt(now()).slice(2)}-${timeAt(now())}${second}`.replace(":", "");
 }
 
 function fieldsOf(list) {

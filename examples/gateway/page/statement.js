@@ -18,7 +18,7 @@ const COLUMNS = [["Day", TEXT], ["Item", SUBJECT], ["Sold or bought", TEXT], ["W
 // The form of `auction statement --csv`.
 const HEAD = "day,item,role,other,price,fee,net";
 
-export function csv(lines) {
+function csv(lines) {
   const rows = lines.map(({ day, item, role, other, price, fee, net }) =>
     [day, item, role, other, plain(price), plain(fee), plain(net)].join(","));
   return [HEAD, ...rows, ""].join("\n");
