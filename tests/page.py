@@ -120,6 +120,7 @@ def auction(gateway, house, ana, ben, cid, pictures):
     play.seals(cid)
     play.is_outbid(ben)
     play.waits(gateway, ben, number)
+    play.is_unsure(ben)
     play.talks(ana, ben)
     picture(ben, pictures, "item", f"item/{number}")
     play.never_told(ben)

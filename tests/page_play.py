@@ -61,9 +61,11 @@ def lists_an_item(ana, end):
 
 
 def bids_by_keys(ben):
-    """A whole bid by the keyboard: from the list to the item, to the field, and Enter."""
-    ben.go_to("Items")
-    way = ben.tab_to("link", TITLE)
+    """A whole bid by the keyboard: to the list, to the item, to the field, and Enter."""
+    way = ben.tab_to("link", "Items")
+    ben.page.keys([ENTER])
+    ben.wait_for("link", TITLE)
+    way += ben.tab_to("link", TITLE)
     ben.page.keys([ENTER])
     ben.wait_for("heading", TITLE)
     check("the heading has the keyboard", ben.focused().name, TITLE)
@@ -126,6 +128,15 @@ def waits(gateway, ben, number):
     check("one bid", gateway.ask("ana", "GET", f"/api/items/{number}").value["count"], before + 1)
     ben.listen()
     check("bids that were sent", [status for url, status, _ in ben.answers if url.endswith("/bids")], [201, 201])
+
+
+def is_unsure(ben):
+    """Where no answer comes the page doesn't know whether something was done, and says so. Then it goes on."""
+    line = {"latency": 0, "downloadThroughput": -1, "uploadThroughput": -1}
+    ben.page.tool("Network.emulateNetworkConditions", offline=True, **line)
+    ben.press("button", "Watch")
+    ben.wait_for_text("No answer came, so the house has done it, or it has not.")
+    ben.page.tool("Network.emulateNetworkConditions", offline=False, **line)
 
 
 def talks(ana, ben):
