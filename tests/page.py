@@ -43,7 +43,7 @@ EVIL_ITEM = len(PAST) + len(OPEN) + 1
 # The parts of the page, by who looks at them.
 PARTS = {
     "ana": ["", "category/1", "category/4", "item/1", f"item/{EVIL_ITEM}", "questions", "sell", "statement", "house",
-            "member/2", "nothing"],
+            "member/2", "nothing", "constructor"],
     "ben": ["bids", "watches", "questions", "statement", "item/14", "item/15", "item/13", f"item/{EVIL_ITEM + 1}",
             f"item/{EVIL_ITEM + 2}", "member/1", "item/999", "statement/2020-01-01/2020-12-31"],
     "house": ["", "members", "settling", "house", "item/12", "member/4", "bids"],

@@ -27,17 +27,18 @@ async function exchange(path, options) {
     throw new Refusal({ error: "silence" });
   }
   const value = parsed(told);
-  if (!answer.ok) {
-    throw new Refusal(value);
+  if (!answer.ok || value === null) {
+    throw new Refusal(value ?? { error: "gateway", why: "words" });
   }
   return value;
 }
 
+// The value of a body, or null where it is no JSON: then something else than the house or the gateway has answered.
 function parsed(text) {
   try {
     return JSON.parse(text);
   } catch {
-    return { error: "gateway", why: "words" };
+    return null;
   }
 }
 

@@ -12,10 +12,19 @@ import { settle } from "./settling.js";
 import { badge, bidsInWords, priceInWords, reserveInWords, standing, stateInWords, stateOf } from "./standing.js";
 import { talk } from "./talk.js";
 
-// Every so many seconds the item is read again, and oftener near its end.
+// Every so many seconds the item is read again: oftener near its end, and seldom once it is over.
 const OFTEN = 1;
-const SELDOM = 4;
+const OPEN = 4;
+const OVER = 30;
 const NEAR = 60;
+
+function pace(item) {
+  if (item.state !== "open") {
+    return OVER;
+  }
+  const left = secondsLeft(item.end);
+  return left > 0 && left < NEAR ? OFTEN : OPEN;
+}
 
 // An item as it is, with the caller's own bid for it.
 async function look(number) {
@@ -45,8 +54,8 @@ async function leading(item) {
 // Price, state and end, with a call that puts them anew.
 function facts() {
   const parts = {
-    badge: make("p", { class: "badges" }), what: make("h2", { class: "what" }), price: make("p", { class: "amount-now" }),
-    bids: make("p"), leader: make("p"), end: make("p"), standing: make("p", { class: "standing", tabindex: "-1" }),
+    badge: make("p", { class: "badges" }), what: make("h2", { class: "what", tabindex: "-1" }),
+    price: make("p", { class: "amount-now" }), bids: make("p"), leader: make("p"), end: make("p"), standing: make("p"),
   };
   const node = make("div", { class: "facts" }, ...Object.values(parts));
   const update = async (item, bid) => {
@@ -60,7 +69,7 @@ function facts() {
     put(parts.standing, words);
     replace(parts.leader, ...await leading(item));
   };
-  return { node, update, focus: () => parts.standing.focus() };
+  return { node, update, focus: () => parts.what.focus() };
 }
 
 function reserveBadge(item) {
@@ -81,7 +90,7 @@ function followed(first, wasWatched, conversation) {
   const shownNow = { ...first };
   const about = facts();
   const place = make("div");
-  const refresh = async (isTold = true) => {
+  const lookAgain = async isTold => {
     const after = await look(shownNow.item.item);
     const before = { ...shownNow };
     Object.assign(shownNow, after);
@@ -93,8 +102,14 @@ function followed(first, wasWatched, conversation) {
       }
     }
   };
+  // One look after the other, so that no older one is shown after a newer.
+  let last = Promise.resolve();
+  const refresh = (isTold = true) => {
+    last = last.catch(() => {}).then(() => lookAgain(isTold));
+    return last;
+  };
   const offer = offers(shownNow, wasWatched, refresh);
-  const sale = { key: "", nodes: [] };
+  const sale = { state: "" };
   async function update() {
     await about.update(shownNow.item, shownNow.bid);
     const hadKeyboard = offer.node.contains(document.activeElement);
@@ -112,8 +127,8 @@ function followed(first, wasWatched, conversation) {
 
 // What the two parties and the house have to do once an item is sold.
 async function updateSale(sale, item, place, refresh) {
-  if (sale.key !== item.state) {
-    sale.key = item.state;
+  if (sale.state !== item.state) {
+    sale.state = item.state;
     replace(place, settle(item, refresh), await rating(item));
   }
 }
@@ -125,7 +140,7 @@ async function byline(item) {
     ` · Lot ${item.lot} · from `, link(`member/${item.seller}`, written(await nameOf(item.seller))));
 }
 
-const story = item => make("section", { class: "box" }, make("h2", {}, "About it"),
+const story = item => make("section", { class: "box story" }, make("h2", {}, "About it"),
   item.text ? paragraphs(item.text) : make("p", { class: "soft" }, "The seller wrote nothing about it."));
 
 async function isWatched(number) {
@@ -138,12 +153,12 @@ export async function item(visit, number) {
   const [of, watched, conversation] = await Promise.all([byline(own), isWatched(own.item), talk(own)]);
   const { node, update, refresh, shownNow } = followed(first, watched, conversation);
   await update();
-  let couldEnd = hasEnded(own);
-  visit.repeat(() => secondsLeft(shownNow.item.end) < NEAR ? OFTEN : SELDOM, async () => {
+  let wasOver = hasEnded(own);
+  visit.repeat(() => pace(shownNow.item), async () => {
     await refresh();
     // The end comes by the clock alone: the item is the same before and after it.
-    if (hasEnded(shownNow.item) !== couldEnd) {
-      couldEnd = !couldEnd;
+    if (hasEnded(shownNow.item) !== wasOver) {
+      wasOver = !wasOver;
       await update();
       tell("The end of this auction has come.");
     }

@@ -69,12 +69,13 @@ const isAnothers = name => !caller.isMember && OF_MEMBERS.some(([path]) => path 
 
 const membersOnly = () => ({ title: "For members", nodes: [make("p", {}, "Only members have this. Sign in as a member.")] });
 
-async function made(name, words) {
+async function made(own, name, words) {
   if (isAnothers(name)) {
     return membersOnly();
   }
   try {
-    return await (PARTS[name] ?? front)(visit, ...words);
+    // A name that is none of ours leads to the items, also one that every object has.
+    return await (Object.hasOwn(PARTS, name) ? PARTS[name] : front)(own, ...words);
   } catch (error) {
     return failure(error);
   }
@@ -86,7 +87,7 @@ async function show() {
   visit.end();
   const own = visit = new Visit();
   content.setAttribute("aria-busy", "true");
-  const { title, of = "", nodes } = await made(name, words);
+  const { title, of = null, nodes } = await made(own, name, words);
   if (own.isOver) {
     return;
   }
@@ -106,8 +107,9 @@ async function begin() {
     await findOut();
     setZone((await read("/house")).zone);
   } catch (error) {
-    const { title, nodes } = failure(error);
-    replace(content, make("h1", {}, title), ...nodes.slice(0, 1));
+    const { title, nodes: [why] } = failure(error);
+    const button = make("button", { type: "button", click: () => location.reload() }, "Load it again");
+    replace(content, make("h1", {}, title), why, button);
     return;
   }
   put(document.getElementById("who"), `Signed in as ${isolated(caller.name)}`);

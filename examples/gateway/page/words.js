@@ -27,7 +27,7 @@ const SPECIAL = {
   settle: { NotSold: "This sale is settled already, or there is none. Read the list again." },
   bid: { Limit: "This item has as many bids as the house keeps. Nobody can bid for it any more." },
   watch: { Limit: "You watch as many items as the house keeps. Stop watching another one first." },
-  ask: { Limit: "You have asked as many questions about this item as the house keeps. Wait for the answers." },
+  ask: { Limit: "You have asked as many questions about this item as the house keeps. Its page has the answers." },
   list: { Range: "A field is too long or too large, or the end has come already. Look at the fields again.",
     Unknown: "The house has no such category. Choose another." },
 };
