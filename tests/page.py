@@ -32,6 +32,10 @@ from screen_reader import Reader
 from served import CHECKS, check
 
 WIDTHS, SCHEMES = (360, 1280), ("light", "dark")
+POLICY = ("default-src 'none'; script-src 'self'; style-src 'self'; connect-src 'self'; img-src 'self'; form-action 'self'; "
+          "base-uri 'none'; frame-ancestors 'none'")
+TYPES = {"/": "text/html", "/main.js": "application/javascript", "/style.css": "text/css", "/icon.svg": "image/svg+xml",
+         "/api/house": "application/json"}
 # Elements that would be there if what members wrote were read as HTML.
 THEIRS = "img, main script, main svg, main i, main b"
 SEED = 2026
@@ -88,6 +92,14 @@ def stays_text(reader):
     check("a category", reader.find("link", EVIL_CATEGORY) is not None, True)
     check("no element of theirs", reader.page.run(f"return document.querySelectorAll('{THEIRS}').length"), 0)
     check("no script of theirs", reader.page.run("return document.title"), "Items | The auction house")
+
+
+def policy(gateway):
+    """Each file has its type, and lets no script but the page's own run."""
+    for path, kind in TYPES.items():
+        head = gateway.ask("ben", "GET", path).head + "\r\n"
+        check(f"{path}: policy", f"content-security-policy: {POLICY}\r\n" in head, True)
+        check(f"{path}: type", f"content-type: {kind}\r\n" in head and "x-content-type-options: nosniff\r\n" in head, True)
 
 
 def picture(reader, folder, name, part=None, height=900):
@@ -166,6 +178,7 @@ def main():
         return 1
     words.files()
     with folder_of_nobody() as folder, tempfile.TemporaryDirectory() as saved, furnished(program, folder) as gateway:
+        policy(gateway)
         with readers(gateway, "house", "ana", "ben", "cid", wrong="cid") as all_of_them:
             house, ana, ben, cid = all_of_them
             auction(gateway, house, ana, ben, cid, pictures)

@@ -46,6 +46,13 @@ function navigation(current) {
   replace(document.getElementById("pages"), make("ul", {}, ...entries));
 }
 
+// The entry of questions says how many wait for the caller's answer. Nothing waits for this read.
+async function countWaiting() {
+  const { questions: waiting } = await read("/me/waiting");
+  const entry = document.querySelector('#pages a[href="#/questions"]');
+  put(entry, waiting.length ? `Questions (${waiting.length})` : "Questions");
+}
+
 function foot() {
   const seconds = ahead();
   const apart = seconds === 0 ? "" : ` Your clock is ${duration(Math.abs(seconds))} ${seconds > 0 ? "ahead of" : "behind"}`
@@ -100,6 +107,9 @@ async function show() {
   foot();
   scrollTo(0, 0);
   heading.focus({ preventScroll: true });
+  if (caller.isMember) {
+    countWaiting().catch(() => {});
+  }
 }
 
 async function begin() {
