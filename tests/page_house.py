@@ -55,6 +55,20 @@ OPEN = [
 GLOBE = "Globe of twelve inches, about 1890"
 
 
+@contextlib.contextmanager
+def in_zone(rule):
+    """Has the C library go by a zone."""
+    before = os.environ.get("TZ")
+    os.environ["TZ"] = rule
+    time.tzset()
+    try:
+        yield
+    finally:
+        os.environ.pop("TZ")
+        os.environ.update({"TZ": before} if before is not None else {})
+        time.tzset()
+
+
 def command(member, path, moment, **words):
     return message("POST", path, member, moment, json.dumps(words))
 

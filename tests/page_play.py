@@ -8,7 +8,7 @@ import signal
 import time
 
 from bad_files import as_nobody
-from page_house import EVIL_NAME, GLOBE, OPEN, PAST
+from page_house import EVIL_NAME, GLOBE, OPEN, PAST, ZONE, in_zone
 from screen_reader import ENTER, ESCAPE
 from sent import compact
 from served import Program, check
@@ -31,20 +31,14 @@ def end_of_auction():
     return (int(time.time()) // 60 + 1 + MINUTES) * 60
 
 
-def clock_of_house(moment):
-    """Day and time as a clock in the zone of the house shows them, in winter or in summer."""
-    summer = time.strftime("%m-%d", time.gmtime(moment))
-    ahead = 7200 if "03-31" < summer < "10-25" else 3600
-    return time.gmtime(moment + ahead)
-
-
 def lists_an_item(ana, end):
     """The seller fills in the form, after a price that is none."""
     ana.go_to("Sell")
     ana.write("textbox", "Title", TITLE)
     ana.write("textbox", "About it", TEXT)
     ana.write("textbox", "Start price", "1,200")
-    shown = clock_of_house(end)
+    with in_zone(ZONE):
+        shown = time.localtime(end)
     ana.type("Date", "Ends on", time.strftime("%m%d%Y", shown))
     ana.type("InputTime", "Ends at", time.strftime("%I%M%p", shown))
     ana.press("button", "List it")

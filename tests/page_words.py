@@ -1,10 +1,10 @@
 """What the modules of the page make of amounts, zones and refusals, beside what the rules and the C library make of them."""
-import os
 import pathlib
 import random
 import re
 import time
 
+from page_house import in_zone
 from plain_site import NUMBERS
 from served import check
 
@@ -45,26 +45,26 @@ def amounts(page):
 def zones(page, seed):
     """Each moment is shown as the C library shows it, and what is shown leads back to a moment that is shown so."""
     chosen = random.Random(seed)
-    before = os.environ.get("TZ")
     for rule in RULES:
-        moments = [chosen.randrange(LAST) for _ in range(2000)] + turns(rule, chosen)
-        os.environ["TZ"] = rule
-        time.tzset()
-        wanted = [time.localtime(moment).tm_gmtoff for moment in moments]
-        told = in_page(page, "zone.js", "words[1].map(moment => it.at(it.parse(words[0]), moment).offset)", [rule, moments])
-        wrong = [pair for pair in zip(moments, told, wanted) if pair[1] != pair[2]]
-        check(f"offsets of {rule}", wrong[:3], [])
-        backward(page, rule, moments)
-    os.environ["TZ"] = before or "UTC0"
-    time.tzset()
+        with in_zone(rule):
+            offsets(page, rule, [chosen.randrange(LAST) for _ in range(2000)] + turns(chosen))
     check("what is no rule", in_page(page, "zone.js", "words.map(it.parse)", NO_RULES), [None] * len(NO_RULES))
 
 
-def turns(rule, chosen):
-    """Moments at and about those at which a zone's clocks are set, which are found by halves."""
-    os.environ["TZ"] = rule
-    time.tzset()
-    offset = lambda moment: time.localtime(moment).tm_gmtoff
+def offsets(page, rule, moments):
+    wanted = [offset(moment) for moment in moments]
+    told = in_page(page, "zone.js", "words[1].map(moment => it.at(it.parse(words[0]), moment).offset)", [rule, moments])
+    wrong = [pair for pair in zip(moments, told, wanted) if pair[1] != pair[2]]
+    check(f"offsets of {rule}", wrong[:3], [])
+    backward(page, rule, moments)
+
+
+def offset(moment):
+    return time.localtime(moment).tm_gmtoff
+
+
+def turns(chosen):
+    """Moments at and about those at which the zone's clocks are set, which are found by halves."""
     found = []
     for _ in range(30):
         low = chosen.randrange(LAST - 366 * 86_400)
