@@ -13,6 +13,7 @@ a house with some history behind nginx and haproxy. They find all by roles and n
   (page_looks.js)
 - the console has nothing of the page's own making
 - the file of a statement is the program's own, and the public record is what all reads tell
+- of many items and bids the youngest are shown, and the others when they are asked for
 - amounts, zones (beside the C library) and refusals (page_words.py)
 
 PICTURES is a folder for pictures of three parts. It needs what gateway.py needs, and chromedriver. The last line is
@@ -27,7 +28,8 @@ import browser
 import page_play as play
 import page_words as words
 from gateway_run import folder_of_nobody, missing_packages
-from page_house import EVIL, EVIL_CATEGORY, EVIL_NAME, EVIL_TEXTS, EVIL_TITLES, OPEN, PAST, furnished
+from page_house import (EVIL, EVIL_CATEGORY, EVIL_NAME, EVIL_TEXTS, EVIL_TITLES, MANY, MANY_BIDS, OPEN, PAST, furnished,
+                        with_many)
 from screen_reader import Reader
 from served import CHECKS, check
 
@@ -92,6 +94,24 @@ def stays_text(reader):
     check("a category", reader.find("link", EVIL_CATEGORY) is not None, True)
     check("no element of theirs", reader.page.run(f"return document.querySelectorAll('{THEIRS}').length"), 0)
     check("no script of theirs", reader.page.run("return document.title"), "Items | The auction house")
+
+
+def long_lists(program, folder):
+    """Of many items and bids the youngest are shown, and the others when they are asked for."""
+    with furnished(program, folder, with_many) as gateway, readers(gateway, "ben", wrong=None) as [ben]:
+        show(ben, "category/1")
+        ben.wait_for_text("200 of 200 items that were listed last")
+        ben.press("button", "Read older items")
+        ben.wait_for_text(f"{MANY} of {MANY} items")
+        check("what ends first comes first", ben.all("heading")[2].name, "Print 1")
+        ben.write("searchbox", "Find in titles", "Print 26")
+        ben.wait_for_text(f"2 of {MANY} items")
+        show(ben, "bids")
+        check("bids that are shown", len(ben.all("row")), 1 + 100)
+        ben.press("button", f"Read {MANY_BIDS - 100} older ones")
+        ben.wait_for_text("All your bids are here.")
+        check("all bids", len(ben.all("row")), 1 + MANY_BIDS)
+        play.no_faults([ben])
 
 
 def policy(gateway):
@@ -189,6 +209,8 @@ def main():
             play.no_faults(all_of_them)
         gateway.stop()
         play.same_as_the_program(gateway, spreadsheet)
+    with folder_of_nobody() as folder:
+        long_lists(program, folder)
     print(f"{len(CHECKS)} checks, {CHECKS.count(False)} wrong")
     return 1 if not all(CHECKS) else 0
 

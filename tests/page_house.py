@@ -53,6 +53,7 @@ OPEN = [
      45_000, []),
 ]
 GLOBE = "Globe of twelve inches, about 1890"
+MANY, MANY_BIDS = 260, 110
 
 
 @contextlib.contextmanager
@@ -120,6 +121,19 @@ def open_now(now):
     yield command(BEN, "/items/1/feedback", moment, rating=1, text=EVIL)
 
 
+def with_history(now):
+    """Sales of several days, and what is open."""
+    return [*begun(now), *sold_before(now), *open_now(now)]
+
+
+def with_many(now):
+    """More items than a list has, and than the page reads at first, and bids of Ben for more of them than it shows."""
+    moment = now - HOUR
+    items = [offered(number, ANA, moment, now + number * HOUR, MAPS, f"Print {number}", "", 100) for number in range(1, MANY + 1)]
+    bids = [command(BEN, f"/items/{number}/bids", moment, maximum=200) for number in range(1, MANY_BIDS + 1)]
+    return [*begun(now), *items, *bids]
+
+
 def write_passwords(house):
     """Lets the members sign in whom the house knows, as add_member.sh does."""
     users, numbers, passwords = [], [], []
@@ -134,17 +148,15 @@ def write_passwords(house):
         (house / file).write_text("".join(lines))
 
 
-def make_house(program, folder):
-    """Makes the house in the place where start.sh looks for it."""
+def make_house(program, folder, history):
+    """Makes a house of some messages in the place where start.sh looks for it."""
     gateway = Gateway(program, folder, 0, 0)
     house = gateway.house()
     subprocess.run(["mkdir", "-p", house], check=True, preexec_fn=as_nobody)
     tool = Program(gateway.program, house, before=as_nobody)
     words = ["--bands", str(gateway.examples / "bands.csv"), "--rate", "1000", "--zone", ZONE]
     check("a house is made", tool.ended("init", "house", *words)[0], 0)
-    now = int(time.time())
-    stream = b"".join([*begun(now), *sold_before(now), *open_now(now)])
-    [told], _ = tool.answers("house", [stream])
+    [told], _ = tool.answers("house", [b"".join(history(int(time.time())))])
     check("its history is taken", told.count(b"HTTP/1.1 20"), told.count(b"HTTP/1.1 "))
     write_passwords(house)
     for file in house.iterdir():
@@ -158,8 +170,8 @@ def as_owner(folder):
 
 
 @contextlib.contextmanager
-def furnished(program, folder):
-    """A gateway of such a house, which is stopped after this."""
-    make_house(program, folder)
+def furnished(program, folder, history=with_history):
+    """A gateway of a house with a history, which is stopped after this."""
+    make_house(program, folder, history)
     with running(program, folder) as gateway:
         yield gateway

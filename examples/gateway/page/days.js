@@ -48,7 +48,7 @@ export function chart(lines) {
   if (!days.length) {
     return null;
   }
-  const most = Math.max(...days.flatMap(([, { sell, buy }]) => [sell, buy]));
+  const most = days.reduce((greatest, [, { sell, buy }]) => Math.max(greatest, sell, buy), 0);
   const words = `Sold and bought by day, on ${days.length} ${days.length === 1 ? "day" : "days"}, at most ${shown(most)} on one.`;
   // As broad as the window, so that letters have their size on a phone too.
   const breadth = Math.min(BROADEST, Math.max(NARROWEST, innerWidth - 80));

@@ -19,17 +19,23 @@ export const nameOf = number => once(names, number, async () => (await read(`/me
 // A title stays too. Prices don't, so only the title is to be taken from here.
 const titleOf = number => once(items, number, async () => (await read(`/items/${number}`)).title);
 
-export const titlesOf = numbers => found([...new Set(numbers)], titleOf);
+// Each is a read of its own. So of a long list that many are read, the greatest numbers, and the others are told by
+// their numbers alone.
+const MOST = 200;
 
-export const namesOf = numbers => found([...new Set(numbers)], nameOf);
-
-// Items as they are now, by their numbers.
-export const itemsOf = numbers => found([...new Set(numbers)], number => read(`/items/${number}`));
-
-async function found(numbers, ask) {
-  const answers = await each(numbers, ask);
-  return new Map(numbers.map((number, place) => [number, answers[place]]));
+async function found(numbers, ask, otherwise) {
+  const chosen = [...new Set(numbers)].sort((one, two) => two - one).slice(0, MOST);
+  const answers = await each(chosen, ask);
+  const known = new Map(chosen.map((number, place) => [number, answers[place]]));
+  return { get: number => known.get(number) ?? `${otherwise} ${number}` };
 }
+
+export const titlesOf = numbers => found(numbers, titleOf, "item");
+
+export const namesOf = numbers => found(numbers, nameOf, "member");
+
+// Items as they are now.
+export const itemsOf = numbers => each(numbers, number => read(`/items/${number}`));
 
 export const categories = async () => (await read("/categories")).categories;
 

@@ -32,12 +32,15 @@ const SPECIAL = {
     Unknown: "The house has no such category. Choose another." },
 };
 
-// Of a gateway, by its word for why.
+const TURNED = "The gateway did not pass this on, so nothing was done. Load the page again, and try once more.";
+
+// Of a gateway, by its word for why. Where the house didn't answer it, or something else did, nobody knows.
 const GATEWAY = {
   "sign-in": "You are not signed in any more. Load the page again, and sign in.",
   foreign: "The gateway took this for another site's page. Open the page at the address that you were given.",
   often: "You ask more often than the gateway allows. Wait a few seconds, and try again.",
   size: "This is longer than the gateway takes. Shorten it.",
+  slow: TURNED, head: TURNED, path: TURNED, method: TURNED, host: TURNED,
 };
 
 const UNSURE = "No answer came, so the house has done it, or it has not. Look at the page again before you repeat it.";
