@@ -52,7 +52,7 @@ served_going [] served = tt
 served_going (r ∷ rs) served = (served.0.not_failed, served_going rs served.1)
 
 -- the answers at a member's places are those to it
-places_are : (settings : Settings) (zone : Zone) (c : ℕ) (h : History) (ms : List Asked)
+pub places_are : (settings : Settings) (zone : Zone) (c : ℕ) (h : History) (ms : List Asked)
     → at_places c ms (answers_from settings zone h ms)
     ≡ rendered_from meant (rendered settings zone) settings c h ms
 unfolding answer_of next_of

@@ -9,7 +9,7 @@ ghost use Rattle.house_rows.specs.History.{History};
 ghost use Rattle.house_rows.specs.Tables.{tables_of};
 ghost use Rattle.house_rows.specs.Verdict.{IsHistory};
 ghost use Rattle.site.specs.Answers.{IsStep, zone_of};
-ghost use Rattle.site.specs.Lives.{LivesOn};
+ghost use Rattle.site.specs.Lives.{LeavesALife, LivesOn};
 ghost use Rattle.site.specs.Runs.{AreDown, InTurn, IsCoveredRun, IsGoing, IsHidden, Raises, Ran, StaysDown, Stopped, TellsFault, TwinRuns, answers_to, at_places};
 ghost use Rattle.site_asks.specs.Asked.{IsAsked};
 ghost use Rattle.site_asks.specs.declared.asked.Asked.{Asked as TheAsked};
@@ -30,6 +30,8 @@ impl<K: Keep + Drop> Site<K> {
     /// failure, a member's replies are those of any run that is a twin of it for the member; and
     /// those in which the last leader's covered bid is raised are such runs for everybody else. Of
     /// a house that lives on they are those of any run that is a twin of it from alike histories on.
+    /// Clause `life` gives the life of it that a crash leaves, and that its replies are those which
+    /// `isolation_over_crashes` of `house_laws` speaks of.
     pub fn run(&mut self, messages: &[Vec<u8>]) -> Result<Vec<Reply>, RunFault>
         ensures steps { IfOk result (λ v. (asked : List TheAsked)
             × AllZip IsAsked (map (λ m. m.items) messages.now) asked
@@ -67,6 +69,14 @@ impl<K: Keep + Drop> Site<K> {
             → IfOk result (λ v. AllByRecursion IsServed (map cow_slice_items v.items)
             → LivesOn K.content settings (zone_of self.old) h
             asked (map cow_slice_items v.items) self.new.keep) }
+        // However it ends, a crash leaves the tables of a life: of what was served, and of what the
+        // store failed in, which is in or out.
+        ensures life { K.is_honest self.new.keep
+            → (settings : TheSettings) (h : History) → IsHistory settings h
+            → K.content self.old.keep ≡ tables_of settings h
+            → (asked : List TheAsked) → AllZip IsAsked (map (λ m. m.items) messages.now) asked
+            → IfOk result (λ v. LeavesALife K.content K.may_leave settings (zone_of self.old) h
+            asked (map cow_slice_items v.items) self.old.keep self.new.keep) }
         // However far the last leader raises a bid that covers what leading takes.
         ensures surplus { K.is_honest self.new.keep
             → (settings : TheSettings) → IsBandTable settings.bands

@@ -2,6 +2,7 @@ use Rattle.std.proofs.Common.{◌≡◌, ◌∙◌, ◌++◌, ◌∷◌, [], ◌
 use Rattle.std.proofs.lemmas.List.{map-append, take_all, take_more, get_or_read}
 use Rattle.std.specs.Cow.{cow_slice_items}
 use Rattle.site.proofs.Isolated.{run_isolated, run_lives_on}
+use Rattle.site.proofs.Left.{run_leaves}
 use Rattle.site.proofs.Raised.{run_hides}
 use Rattle.site.proofs.Stops.{down_texts, stays_texts, stopped_texts}
 use Rattle.site.proofs.Turns.{ran_texts, turns_more, zip_more}
@@ -130,6 +131,17 @@ returns-clause-isolation_from g c = λ honest settings h is e asked are served.
     c.args.self.now.writer.zone h
     (map (λ m. m.items) c.args.messages.now) (map cow_slice_items c.loop-message.replies.items)
     c.args.self.now.keep c.loop-message.self.keep turns honest is e asked are served
+
+pub returns-clause-life : goal.returns-clause-life
+returns-clause-life g c = λ honest settings h is e asked are.
+    let k = g.K.Keep in
+    let done : length c.args.messages.now ≤ c.loop-message.message-index =
+    omega (arith, c.loop-message-test.false) in
+    let turns = rw (take_all c.loop-message.message-index c.args.messages.now
+    done) at c.loop-message.invariant.steps in
+    run_leaves k.content k.is_failed k.is_honest k.may_leave settings c.args.self.now.writer.zone h
+    (map (λ m. m.items) c.args.messages.now) (map cow_slice_items c.loop-message.replies.items)
+    c.args.self.now.keep c.loop-message.self.keep turns honest is e asked are
 
 pub returns-clause-surplus : goal.returns-clause-surplus
 returns-clause-surplus g c =
