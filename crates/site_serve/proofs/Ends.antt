@@ -22,6 +22,7 @@ use Rattle.settle.specs.declared.zone.Zone.{Zone}
 use Rattle.site.specs.Answers.{IsAnswered, IsFailed, IsStep, IsWanting, next_of}
 use Rattle.site.specs.Runs.{AreDown, InTurn}
 use Rattle.site.proofs.Isolated.{lives_on}
+use Rattle.site.proofs.Left.{leaves_a_life}
 use Rattle.site.proofs.Stops.{down_after, stays_down}
 use Rattle.site_acts.specs.Acted.{is_entered}
 use Rattle.site_asks.specs.declared.asked.Asked.{Asked}
@@ -32,7 +33,7 @@ use Rattle.wire.specs.Look.{IsFaultOf}
 use Rattle.wire.specs.Message.{Message}
 use Rattle.wire.specs.declared.fault.WireFault.{WireFault}
 use Rattle.site_serve.specs.Ends.{HasEnded, HasFailed, IsKept}
-use Rattle.site_serve.specs.Lives.{HasLived}
+use Rattle.site_serve.specs.Lives.{HasLived, LeavesLives}
 use Rattle.site_serve.specs.Serving.{fault_bytes, heard, rest_bytes}
 use Rattle.site_serve.specs.declared.serving.ServeFault.{ServeFault}
 use Rattle.site_serve.specs.declared.serving.ServeFault.TheVariants.{Write}
@@ -377,6 +378,33 @@ has_ended content is_failed is_honest may_leave zone left now most before after 
                 is e),
             first,
             later,
+          );
+    }
+
+-- and of which life those tables are
+pub leaves_lives : {K : Type 0} (content : K → Tables) (is_failed : K → Bool)
+    (is_honest : K → Type 0) (may_leave : K → Tables → Type 0) (zone : Zone)
+    (left now : Option (List ℕ)) (most : ℕ) (before after : Option (List ℕ))
+    (told : Result Served ServeFault) (old new : K)
+    → HasLived content is_failed is_honest may_leave zone left now most before after told old new
+    → LeavesLives content is_failed is_honest may_leave zone left now most before after told old new
+leaves_lives content is_failed is_honest may_leave zone left now most before after told old new
+    life =
+    record {
+      lived = life;
+      at_end = λ honest settings h is e. leaves_a_life content is_failed is_honest may_leave
+          settings zone h (map heard life.messages) life.replies old new life.answered honest is e;
+      at_each = λ honest n.
+          let (between, first, later) = parted (IsStep content is_failed is_honest may_leave zone) n
+          (map heard life.messages) life.replies old new life.answered in (
+            between,
+            first,
+            later,
+            (λ settings h is e. leaves_a_life content is_failed is_honest may_leave settings zone h
+                (take n (map heard life.messages)) (take n life.replies) old between first
+                (honest_before content is_failed is_honest may_leave zone
+                (drop n (map heard life.messages)) (drop n life.replies) between new later honest)
+                is e),
           );
     }
 

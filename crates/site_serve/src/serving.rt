@@ -5,7 +5,7 @@ ghost use Rattle.device.specs.Given.{AppendsBeginning};
 ghost use Rattle.site.specs.Answers.{IsStep, zone_of};
 ghost use Rattle.site_asks.specs.Asked.{asked_of};
 ghost use Rattle.site_serve.specs.Ends.{HasEnded};
-ghost use Rattle.site_serve.specs.Lives.{HasLived};
+ghost use Rattle.site_serve.specs.Lives.{HasLived, LeavesLives};
 ghost use Rattle.site_serve.specs.Serving.{HasRead, HasServed, HasWritten, IsFlushed, keep_of};
 
 use device::{Failure, Sink, Source, give_all};
@@ -120,7 +120,8 @@ fn finish<W: Sink>(
 /// What is written is the answers to the messages of the stream's cut, in turn, and after them the
 /// answer to its fault where the rest is broken. The sink hands on all that it took before each wait
 /// for more bytes and at the end, unless nothing was given since it last did. A message takes no
-/// memory but what the site takes for its answer.
+/// memory but what the site takes for its answer. Clause `life` gives the life that a crash leaves,
+/// and that its replies are those which `isolation_over_crashes` of `house_laws` speaks of.
 pub fn serve<R: Source, W: Sink, K: Keep + Drop>(
     alloc: Global,
     source: &mut R,
@@ -152,6 +153,12 @@ pub fn serve<R: Source, W: Sink, K: Keep + Drop>(
     // However it ends, over whatever history the house has: a member is told what any twin run
     // tells it, and the next life goes on from what is left.
     ensures isolation_from { HasLived K.content K.is_failed K.is_honest K.may_leave
+        (zone_of site.old) (R.left source.old) (R.left source.new) most
+        (W.taken sink.old) (W.taken sink.new) result (keep_of site.old) (keep_of site.new) }
+
+    // However it ends, and after each message, a crash leaves the tables of a life: of what was
+    // served, and of what the store failed in, which is in or out.
+    ensures life { LeavesLives K.content K.is_failed K.is_honest K.may_leave
         (zone_of site.old) (R.left source.old) (R.left source.new) most
         (W.taken sink.old) (W.taken sink.new) result (keep_of site.old) (keep_of site.new) }
 

@@ -2,7 +2,7 @@
 use Rattle.std.proofs.Common.{◌≡◌, ◌∙◌, [], ap, sym, refl, arith, drop, inl, inr}
 use Rattle.std.proofs.KnownBytes.{Appends-kept, Keeps-refl}
 use Rattle.site_serve.specs.Serving.{fault_bytes}
-use Rattle.site_serve.proofs.Ends.{ended_closed, ended_in_answer, ended_in_fault, ended_so_far, has_ended}
+use Rattle.site_serve.proofs.Ends.{ended_closed, ended_in_answer, ended_in_fault, ended_so_far, has_ended, leaves_lives}
 use Rattle.site_serve.proofs.Runs.{all_ok, at_err, failed_behind, failed_in_answer, failed_in_fault, flushed_on, if_ok, in_zone, is_zero, on_ok, read_failed, served_broken, served_clean, served_closed, served_limit, serving_more, serving_none, serving_read, whole_begins}
 use Rattle.site_serve.proofs.serving.serve.Goals as goal
 
@@ -279,6 +279,43 @@ returns-in-Fault-clause-crash g c =
 pub returns-clause-crash : goal.returns-clause-crash
 returns-clause-crash g c =
     has_ended _ _ _ _ _ _ _ _ _ _ _ _ _ (returns-clause-isolation_from g c)
+
+-- and of which life that is
+pub returns-in_default-clause-life : goal.returns-in_default-clause-life
+returns-in_default-clause-life g c =
+    leaves_lives _ _ _ _ _ _ _ _ _ _ _ _ _ (returns-in_default-clause-isolation_from g c)
+
+pub returns-then-is_err-clause-life : goal.returns-then-is_err-clause-life
+returns-then-is_err-clause-life g c =
+    leaves_lives _ _ _ _ _ _ _ _ _ _ _ _ _ (returns-then-is_err-clause-isolation_from g c)
+
+pub returns-then-closes-clause-life : goal.returns-then-closes-clause-life
+returns-then-closes-clause-life g c =
+    leaves_lives _ _ _ _ _ _ _ _ _ _ _ _ _ (returns-then-closes-clause-isolation_from g c)
+
+pub returns-then-is_err-2-clause-life : goal.returns-then-is_err-2-clause-life
+returns-then-is_err-2-clause-life g c =
+    leaves_lives _ _ _ _ _ _ _ _ _ _ _ _ _ (returns-then-is_err-2-clause-isolation_from g c)
+
+pub returns-in-Err-clause-life : goal.returns-in-Err-clause-life
+returns-in-Err-clause-life g c =
+    leaves_lives _ _ _ _ _ _ _ _ _ _ _ _ _ (returns-in-Err-clause-isolation_from g c)
+
+pub returns-in-Clean-clause-life : goal.returns-in-Clean-clause-life
+returns-in-Clean-clause-life g c =
+    leaves_lives _ _ _ _ _ _ _ _ _ _ _ _ _ (returns-in-Clean-clause-isolation_from g c)
+
+pub returns-then-is_err-3-clause-life : goal.returns-then-is_err-3-clause-life
+returns-then-is_err-3-clause-life g c =
+    leaves_lives _ _ _ _ _ _ _ _ _ _ _ _ _ (returns-then-is_err-3-clause-isolation_from g c)
+
+pub returns-in-Fault-clause-life : goal.returns-in-Fault-clause-life
+returns-in-Fault-clause-life g c =
+    leaves_lives _ _ _ _ _ _ _ _ _ _ _ _ _ (returns-in-Fault-clause-isolation_from g c)
+
+pub returns-clause-life : goal.returns-clause-life
+returns-clause-life g c =
+    leaves_lives _ _ _ _ _ _ _ _ _ _ _ _ _ (returns-clause-isolation_from g c)
 
 -- a source that failed is told as such
 pub returns-in_default-clause-source : goal.returns-in_default-clause-source
