@@ -5,7 +5,7 @@ use Rattle.house_rows.specs.Tables.{Tables}
 use Rattle.settle.specs.declared.zone.Zone.{Zone}
 use Rattle.site.specs.Answers.{IsStep}
 use Rattle.site_serve.specs.Ends.{HasEnded}
-use Rattle.site_serve.specs.Lives.{HasLived}
+use Rattle.site_serve.specs.Lives.{HasLived, LeavesLives}
 use Rattle.site_serve.specs.Serving.{HasRead, HasServed, HasWritten, IsFlushed}
 use Rattle.site_serve.specs.declared.serving.ServeFault.{ServeFault}
 use Rattle.site_serve.specs.declared.serving.ServeFault.TheVariants.{Memory, Read, Write}
@@ -34,6 +34,8 @@ pub record ServesOne {K R W : Type 0} (content : K → Tables) (is_failed : K �
   pub crash : HasEnded content is_failed is_honest may_leave zone
       (left came.source) (left ended.source) most (taken came.sink) (taken ended.sink) old new
   pub isolation_from : HasLived content is_failed is_honest may_leave zone
+      (left came.source) (left ended.source) most (taken came.sink) (taken ended.sink) told old new
+  pub life : LeavesLives content is_failed is_honest may_leave zone
       (left came.source) (left ended.source) most (taken came.sink) (taken ended.sink) told old new
   pub flushed : OnOk told (IsFlushed handed_on taken came.sink ended.sink)
   pub waits : told ≡ Err Read → IsFlushed handed_on taken came.sink ended.sink
