@@ -56,8 +56,8 @@ help:
 	@echo "  make cases     on the conformance cases in CASES"
 	@echo "  make fuzz      on MESSAGES random messages, some over TCP, beside plain lists and in twin runs"
 	@echo "  make mutated   on streams of spoiled messages, until MUTATED are answered, and what was accepted plainly"
-	@echo "  make twins     audits PAIRS random pairs of lists that differ in what others sealed, and PAIRS that are apart, and"
-	@echo "                 raises a bid in PAIRS random lists"
+	@echo "  make twins     audits PAIRS random pairs of lists that differ in what others sealed, and PAIRS that are apart,"
+	@echo "                 raises a bid in PAIRS random lists, and plays PAIRS on houses that are killed and started again"
 	@echo "  make file      makes houses in files, opens, copies, damages and upgrades them, kills who serves, and reads them with"
 	@echo "                 sqlite3"
 	@echo "  make office    imports lot files, one of ROWS rows, and reads statements"
@@ -160,6 +160,7 @@ mutated:
 twins:
 	python3 tests/twins.py crates/auction/out/auction $(PAIRS) $(PAIRS) $(SEED)
 	python3 tests/raised.py crates/auction/out/auction $(PAIRS) $(SEED)
+	python3 tests/twin_lives.py crates/auction/out/auction $(PAIRS) $(SEED)
 
 memory:
 	python3 tests/refused_memory.py crates/auction/out/auction

@@ -26,7 +26,7 @@ import threading
 import time
 
 from first_version import IS_VERSION_2, UPGRADED, found, laid, upgraded
-from sent import PATIENCE, command, compact
+from sent import PATIENCE, command, compact, next_answer
 from served import CHECKS, SETTINGS, Program, check, served
 
 # The tables in which the commands make rows.
@@ -62,14 +62,12 @@ class Client:
         """Whether a command was answered, and accepted."""
         try:
             self.connection.sendall(text)
-            lines = list(itertools.takewhile(bool, iter(self.answers.readline, b"\r\n")))
-            size = next((int(line.split(b":")[1]) for line in lines if line.startswith(b"content-length")), None)
-            body = self.answers.read(size) if size is not None else b""
         except ConnectionError:
             return False
-        if size is None or len(body) < size:
+        told = next_answer(self.answers)
+        if told is None:
             return False
-        check("accepted", lines[0] in (b"HTTP/1.1 200 OK\r\n", b"HTTP/1.1 201 Created\r\n"), True)
+        check("accepted", told.startswith((b"HTTP/1.1 200 OK\r\n", b"HTTP/1.1 201 Created\r\n")), True)
         return True
 
 

@@ -3,6 +3,7 @@
 The texts are those of RFC 9112 and of the house's formats; nothing here is taken from the program.
 """
 import dataclasses
+import itertools
 import json
 import pathlib
 import re
@@ -127,6 +128,17 @@ def answers_in(text):
         found.append(text[:end])
         text = text[end:]
     return found, text
+
+
+def next_answer(answers):
+    """The text of the next answer that is read from a connection, or none where this ends before."""
+    try:
+        lines = list(itertools.takewhile(bool, iter(answers.readline, b"\r\n")))
+        size = next((int(line.split(b":")[1]) for line in lines if line.startswith(b"content-length")), None)
+        body = answers.read(size) if size is not None else b""
+    except ConnectionError:
+        return None
+    return None if size is None or len(body) < size else b"".join(lines) + b"\r\n" + body
 
 
 def replayed(program, stream, *words):

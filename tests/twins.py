@@ -38,14 +38,15 @@ def caller(request):
 class Run:
     """What the plain site makes of a list: its answers, and after each what is public and what waits for a member.
 
-    It ends where that is otherwise than in a run that it has to be like, which is told as `is_like`.
+    It ends where that is otherwise than in a run that it has to be like, which is told as `is_like`. None in the place
+    of a message is one that was lost.
     """
 
     def __init__(self, settings, requests, member, like=None):
         self.requests, self.site, self.answers, self.seen = requests, Site(**settings), [], []
         self.is_like, seen, accepted = True, None, None
         for at, request in enumerate(requests):
-            self.answers.append(self.site.answer(request))
+            self.answers.append(request and self.site.answer(request))
             # What was refused changed nothing.
             if accepted != sum(self.site.accepted.values()):
                 accepted = sum(self.site.accepted.values())
@@ -77,6 +78,9 @@ def are_lists(*runs):
 class Lists:
     """Random lists that a program is to play, and how many were wrong."""
 
+    # The least and the most messages that are chosen at random.
+    lengths = 1, LONGEST
+
     def __init__(self, program, folder, seed):
         self.program, self.folder = str(pathlib.Path(program).resolve()), pathlib.Path(folder)
         self.random, self.wrong = random.Random(seed), 0
@@ -93,11 +97,26 @@ class Lists:
         sender = Sender(site, self.random.random())
         requests = []
         begun = setup() if self.random.random() < 0.7 else []
-        for request in itertools.chain(begun, sender.messages(self.random.randint(1, LONGEST))):
+        for request in itertools.chain(begun, sender.messages(self.random.randint(*self.lengths))):
             site.answer(request)
             requests.append(request)
         senders = [number for number in map(caller, requests) if number and number <= len(site.house.names)]
         return settings, requests, self.random.choice([*senders, 1])
+
+    def twin(self, settings, left, member):
+        """A run that is a twin of another for a member, and what was changed in it: nothing where none is found."""
+        parts, requests = self.random.choice(SEALED), left.requests
+        changes = [(at, request) for at, request in sealed_changes(left, self.random)
+                   if requests[at].target.split("/")[-1] in parts and caller(request) != member]
+        right, kinds = left, []
+        for at, request in changes[:TRIED]:
+            tried = Run(settings, [*right.requests[:at], request, *right.requests[at + 1:]], member, left)
+            if tried.is_like and tried.answers[at].status in (200, 201):
+                right = tried
+                kinds.append(request.target.split("/")[-1])
+            if len(kinds) == KEPT:
+                break
+        return right, kinds
 
     def words(self, settings):
         """Settings as words of the program."""
@@ -137,17 +156,8 @@ class Pairs(Lists):
     def equal_pair(self):
         """Audits a list and a twin of it, where one is found."""
         settings, requests, member = self.first()
-        left, parts = Run(settings, requests, member), self.random.choice(SEALED)
-        changes = [(at, request) for at, request in sealed_changes(left, self.random)
-                   if requests[at].target.split("/")[-1] in parts and caller(request) != member]
-        right, kinds = left, []
-        for at, request in changes[:TRIED]:
-            tried = Run(settings, [*right.requests[:at], request, *right.requests[at + 1:]], member, left)
-            if tried.is_like and tried.answers[at].status in (200, 201):
-                right = tried
-                kinds.append(request.target.split("/")[-1])
-            if len(kinds) == KEPT:
-                break
+        left = Run(settings, requests, member)
+        right, kinds = self.twin(settings, left, member)
         if not kinds or not are_lists(left, right):
             return
         self.equal += 1
