@@ -13,6 +13,8 @@ byte for byte. Every answer of every list has to be the plain site's.
 As controls, lists in which a message of the member is another, and lists that lose a message of another that is public,
 are played beside the first: some of each have to show the member a difference. PAIRS pairs are played that count, 1,000
 without it; what a kill decides is not decided by SEED. The last line is 'N pairs of twins, M answers alike, K wrong'.
+
+A stand-in that lost the log of its file where it was started again, or the watches, was found wrong.
 """
 import collections
 import dataclasses
