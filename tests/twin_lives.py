@@ -52,7 +52,7 @@ class End:
 
 
 def plain(settings, requests):
-    """The plain site behind the messages that are there."""
+    """The plain site after the messages that are there."""
     site = Site(**settings)
     for request in filter(None, requests):
         site.answer(request)
