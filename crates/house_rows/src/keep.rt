@@ -1,14 +1,15 @@
 //! Whatever keeps the tables of the house.
-ghost use Rattle.std.specs.Prelude.{◌≡◌, ◌≢◌, ◌≤◌, ◌⊎◌, All, AllPairs, true, false, Bool, IfOk, IfSome, OnOk, OnErr, is_some, length};
+ghost use Rattle.std.specs.Prelude.{◌≡◌, ◌≢◌, ◌≤◌, ◌==◌, ◌&&◌, ◌⊎◌, All, AllPairs, true, false, Bool, IfOk, IfSome, IsErrOf, OnOk, OnErr, filter, is_some, length, nat_le, take};
 ghost use Rattle.settle.specs.Statement.{IsSale, is_party};
 ghost use Rattle.std.specs.List.{AllByRecursion, list_any};
 ghost use Rattle.house_rows.specs.Asks.{ChangeFits};
 ghost use Rattle.house_rows.specs.Changed.{changed};
-ghost use Rattle.house_rows.specs.Fits.{CategoryFits, FeedbackFits, IsItem, IsMember, IsMoment, IsWithin, ItemFits, MemberFits, OwnBidFits, QuestionFits, StandingFits, TermsFit};
-ghost use Rattle.house_rows.specs.Found.{all_items, all_published, ask_count, best_of, category_at, category_named, counts_of, due_at, feedback_to, first_waiting, is_given, is_watched, item_at, item_with_lot, items_in, items_watched, member_named, own_bids, published_on, question_at, questions_of, sales_to, standing_at, terms_at, waiting_for, watch_count};
+ghost use Rattle.house_rows.specs.declared.fault.KeepFault.TheVariants.{Damaged};
+ghost use Rattle.house_rows.specs.Fits.{BidRowFits, CategoryFits, FeedbackFits, IsItem, IsMember, IsMoment, IsWithin, ItemFits, MemberFits, OwnBidFits, QuestionFits, StandingFits, TermsFit, WatchRowFits};
+ghost use Rattle.house_rows.specs.Found.{all_items, all_published, ask_count, best_of, category_at, category_named, counts_of, due_at, feedback_to, first_waiting, is_given, is_watched, item_at, item_with_lot, items_in, items_watched, member_named, own_bids, published_on, question_at, questions_of, row_at, sales_to, standing_at, terms_at, waiting_for, watch_count};
 ghost use Rattle.house_rows.specs.Items.{is_due};
-ghost use Rattle.house_rows.specs.Keeping.{AllStand, AreSound, ChangeFaults, Faults, IsRead, StandsAt, StandsIn};
-ghost use Rattle.house_rows.specs.Limits.{most_categories, most_items};
+ghost use Rattle.house_rows.specs.Keeping.{AllStand, AreSound, ChangeFaults, Faults, IsRead, RowFits, StandsAt, StandsIn};
+ghost use Rattle.house_rows.specs.Limits.{most_categories, most_items, most_shown};
 ghost use Rattle.house_rows.specs.Pages.{member_at, ratings_of, sale_of};
 ghost use Rattle.house_rows.specs.Tables.{Tables, band_tables};
 
@@ -27,6 +28,9 @@ use settle::Sold;
 ///
 /// The number of a row that isn't there finds nothing. Lists of at most fifty are those that begin
 /// at a number.
+///
+/// A look-up or a list is `Damaged` only where a row that it takes doesn't fit, whatever else is
+/// wrong with the tables. `damaged` says of each which rows these are.
 pub trait Keep {
     /// The tables.
     ghost content: { Self → Tables };
@@ -43,24 +47,28 @@ pub trait Keep {
     /// What the house was set up with.
     fn settings(&self) -> Result<&Settings, KeepFault>
         ensures value { is_honest self.now → IfOk result (λ v. v.now ≡ (content self.now).settings) }
-        ensures faults { Faults result (is_honest self.now) (is_failed self.now) (content self.now) };
+        ensures faults { Faults result (is_honest self.now) (is_failed self.now) (content self.now) }
+        ensures damaged { is_honest self.now → ¬ (IsErrOf result Damaged) };
 
     /// The settings, and all band tables.
     fn editions(&self) -> Result<&Editions, KeepFault>
         ensures value { is_honest self.now → IfOk result (λ v. v.now ≡ band_tables (content self.now)) }
-        ensures faults { Faults result (is_honest self.now) (is_failed self.now) (content self.now) };
+        ensures faults { Faults result (is_honest self.now) (is_failed self.now) (content self.now) }
+        ensures damaged { is_honest self.now → ¬ (IsErrOf result Damaged) };
 
     /// The moment of the last command that moves the clock.
     fn clock(&mut self) -> Result<u64, KeepFault>
         ensures value { is_honest self.new → IfOk result (λ v. v ≡ (content self.old).clock) }
         ensures fits { IfOk result IsMoment }
         ensures faults { Faults result (is_honest self.new) (is_failed self.new) (content self.old) }
+        ensures damaged { is_honest self.new → ¬ (IsErrOf result Damaged) }
         ensures read { IsRead content is_failed is_honest may_leave self.old self.new };
 
     /// How many members, categories and items there are.
     fn counts(&mut self) -> Result<Counts, KeepFault>
         ensures value { is_honest self.new → IfOk result (λ v. v ≡ counts_of (content self.old)) }
         ensures faults { Faults result (is_honest self.new) (is_failed self.new) (content self.old) }
+        ensures damaged { is_honest self.new → ¬ (IsErrOf result Damaged) }
         ensures read { IsRead content is_failed is_honest may_leave self.old self.new };
 
     /// The member of a number.
@@ -68,6 +76,7 @@ pub trait Keep {
         ensures value { is_honest self.new → IfOk result (λ v. v ≡ member_at (content self.old).members member) }
         ensures fits { IfOk result (λ v. IfSome v MemberFits) }
         ensures faults { Faults result (is_honest self.new) (is_failed self.new) (content self.old) }
+        ensures damaged { is_honest self.new → IfSome (member_at (content self.old).members member) MemberFits → ¬ (IsErrOf result Damaged) }
         ensures read { IsRead content is_failed is_honest may_leave self.old self.new };
 
     /// Whether there is a member of a number.
@@ -75,6 +84,7 @@ pub trait Keep {
         ensures value { is_honest self.new → IfOk result (λ v. v ≡ is_some (member_at (content self.old).members member)) }
         ensures fits { IfOk result (λ v. v ≡ true → IsMember member) }
         ensures faults { Faults result (is_honest self.new) (is_failed self.new) (content self.old) }
+        ensures damaged { is_honest self.new → IfSome (member_at (content self.old).members member) MemberFits → ¬ (IsErrOf result Damaged) }
         ensures read { IsRead content is_failed is_honest may_leave self.old self.new };
 
     /// The member of a name.
@@ -82,6 +92,7 @@ pub trait Keep {
         ensures value { is_honest self.new → IfOk result (λ v. v ≡ member_named (content self.old) name.now) }
         ensures fits { IfOk result (λ v. IfSome v MemberFits) }
         ensures faults { Faults result (is_honest self.new) (is_failed self.new) (content self.old) }
+        ensures damaged { is_honest self.new → IfSome (member_named (content self.old) name.now) MemberFits → ¬ (IsErrOf result Damaged) }
         ensures read { IsRead content is_failed is_honest may_leave self.old self.new };
 
     /// The category of a number.
@@ -89,6 +100,7 @@ pub trait Keep {
         ensures value { is_honest self.new → IfOk result (λ v. v ≡ category_at (content self.old) category) }
         ensures fits { IfOk result (λ v. IfSome v CategoryFits) }
         ensures faults { Faults result (is_honest self.new) (is_failed self.new) (content self.old) }
+        ensures damaged { is_honest self.new → IfSome (category_at (content self.old) category) CategoryFits → ¬ (IsErrOf result Damaged) }
         ensures read { IsRead content is_failed is_honest may_leave self.old self.new };
 
     /// Whether there is a category of a number.
@@ -96,6 +108,7 @@ pub trait Keep {
         ensures value { is_honest self.new → IfOk result (λ v. v ≡ is_some (category_at (content self.old) category)) }
         ensures fits { IfOk result (λ v. v ≡ true → IsWithin 1 most_categories category) }
         ensures faults { Faults result (is_honest self.new) (is_failed self.new) (content self.old) }
+        ensures damaged { is_honest self.new → IfSome (category_at (content self.old) category) CategoryFits → ¬ (IsErrOf result Damaged) }
         ensures read { IsRead content is_failed is_honest may_leave self.old self.new };
 
     /// The category of a name.
@@ -103,6 +116,7 @@ pub trait Keep {
         ensures value { is_honest self.new → IfOk result (λ v. v ≡ category_named (content self.old) name.now) }
         ensures fits { IfOk result (λ v. IfSome v CategoryFits) }
         ensures faults { Faults result (is_honest self.new) (is_failed self.new) (content self.old) }
+        ensures damaged { is_honest self.new → IfSome (category_named (content self.old) name.now) CategoryFits → ¬ (IsErrOf result Damaged) }
         ensures read { IsRead content is_failed is_honest may_leave self.old self.new };
 
     /// An item.
@@ -111,6 +125,7 @@ pub trait Keep {
         ensures fits { IfOk result (λ v. IfSome v ItemFits) }
         ensures stands { is_honest self.new → IfOk result (λ v. IfSome v (λ it. StandsIn (content self.old) it.terms)) }
         ensures faults { Faults result (is_honest self.new) (is_failed self.new) (content self.old) }
+        ensures damaged { is_honest self.new → IfSome (row_at (content self.old) item) (RowFits (content self.old)) → ¬ (IsErrOf result Damaged) }
         ensures read { IsRead content is_failed is_honest may_leave self.old self.new };
 
     /// An item without its texts.
@@ -119,6 +134,7 @@ pub trait Keep {
         ensures fits { IfOk result (λ v. IfSome v TermsFit) }
         ensures stands { is_honest self.new → IfOk result (λ v. IfSome v (StandsIn (content self.old))) }
         ensures faults { Faults result (is_honest self.new) (is_failed self.new) (content self.old) }
+        ensures damaged { is_honest self.new → IfSome (row_at (content self.old) item) (RowFits (content self.old)) → ¬ (IsErrOf result Damaged) }
         ensures read { IsRead content is_failed is_honest may_leave self.old self.new };
 
     /// The number of a seller's item with a lot.
@@ -126,6 +142,7 @@ pub trait Keep {
         ensures value { is_honest self.new → IfOk result (λ v. v ≡ item_with_lot (content self.old) seller lot.now) }
         ensures fits { IfOk result (λ v. IfSome v IsItem) }
         ensures faults { Faults result (is_honest self.new) (is_failed self.new) (content self.old) }
+        ensures damaged { is_honest self.new → IfSome (item_with_lot (content self.old) seller lot.now) IsItem → ¬ (IsErrOf result Damaged) }
         ensures read { IsRead content is_failed is_honest may_leave self.old self.new };
 
     /// The standing of an item's bids; of a bought item that of none.
@@ -133,30 +150,35 @@ pub trait Keep {
         ensures value { is_honest self.new → IfOk result (λ v. v ≡ standing_at (content self.old) item) }
         ensures fits { IfOk result (λ v. IfSome v StandingFits) }
         ensures faults { Faults result (is_honest self.new) (is_failed self.new) (content self.old) }
+        ensures damaged { is_honest self.new → IfSome (row_at (content self.old) item) (RowFits (content self.old)) → ¬ (IsErrOf result Damaged) }
         ensures read { IsRead content is_failed is_honest may_leave self.old self.new };
 
     /// A member's greatest maximum on an item, or 0, and the number of its bids there.
     fn own_best(&mut self, item: u64, member: u64) -> Result<OwnBest, KeepFault>
         ensures value { is_honest self.new → IfOk result (λ v. v ≡ best_of (content self.old) member item) }
         ensures faults { Faults result (is_honest self.new) (is_failed self.new) (content self.old) }
+        ensures damaged { is_honest self.new → AllByRecursion BidRowFits (filter (λ b. (b.bid.member == member) && (b.item == item)) (content self.old).bids) → ¬ (IsErrOf result Damaged) }
         ensures read { IsRead content is_failed is_honest may_leave self.old self.new };
 
     /// Whether a member watches an item.
     fn watched(&mut self, member: u64, item: u64) -> Result<bool, KeepFault>
         ensures value { is_honest self.new → IfOk result (λ v. v ≡ is_watched (content self.old) member item) }
         ensures faults { Faults result (is_honest self.new) (is_failed self.new) (content self.old) }
+        ensures damaged { is_honest self.new → ¬ (IsErrOf result Damaged) }
         ensures read { IsRead content is_failed is_honest may_leave self.old self.new };
 
     /// How many items a member watches.
     fn watch_count(&mut self, member: u64) -> Result<u64, KeepFault>
         ensures value { is_honest self.new → IfOk result (λ v. v ≡ watch_count (content self.old) member) }
         ensures faults { Faults result (is_honest self.new) (is_failed self.new) (content self.old) }
+        ensures damaged { is_honest self.new → AllByRecursion WatchRowFits (filter (λ w. w.member == member) (content self.old).watches) → ¬ (IsErrOf result Damaged) }
         ensures read { IsRead content is_failed is_honest may_leave self.old self.new };
 
     /// How many questions a member has asked on an item.
     fn ask_count(&mut self, item: u64, asker: u64) -> Result<u64, KeepFault>
         ensures value { is_honest self.new → IfOk result (λ v. v ≡ ask_count (content self.old) asker item) }
         ensures faults { Faults result (is_honest self.new) (is_failed self.new) (content self.old) }
+        ensures damaged { is_honest self.new → ¬ (IsErrOf result Damaged) }
         ensures read { IsRead content is_failed is_honest may_leave self.old self.new };
 
     /// A question, by its item, asker and number.
@@ -169,18 +191,21 @@ pub trait Keep {
         ensures value { is_honest self.new → IfOk result (λ v. v ≡ question_at (content self.old) item asker number) }
         ensures fits { IfOk result (λ v. IfSome v QuestionFits) }
         ensures faults { Faults result (is_honest self.new) (is_failed self.new) (content self.old) }
+        ensures damaged { is_honest self.new → IfSome (question_at (content self.old) item asker number) QuestionFits → ¬ (IsErrOf result Damaged) }
         ensures read { IsRead content is_failed is_honest may_leave self.old self.new };
 
     /// Whether a member has given feedback on an item.
     fn given(&mut self, item: u64, giver: u64) -> Result<bool, KeepFault>
         ensures value { is_honest self.new → IfOk result (λ v. v ≡ is_given (content self.old) item giver) }
         ensures faults { Faults result (is_honest self.new) (is_failed self.new) (content self.old) }
+        ensures damaged { is_honest self.new → AllByRecursion FeedbackFits (filter (λ f. f.from == giver) (content self.old).feedback) → ¬ (IsErrOf result Damaged) }
         ensures read { IsRead content is_failed is_honest may_leave self.old self.new };
 
     /// How often a member was rated with each rating.
     fn ratings(&mut self, member: u64) -> Result<Ratings, KeepFault>
         ensures value { is_honest self.new → IfOk result (λ v. v ≡ ratings_of (content self.old).feedback member) }
         ensures faults { Faults result (is_honest self.new) (is_failed self.new) (content self.old) }
+        ensures damaged { is_honest self.new → AllByRecursion FeedbackFits (filter (λ f. f.to == member) (content self.old).feedback) → ¬ (IsErrOf result Damaged) }
         ensures read { IsRead content is_failed is_honest may_leave self.old self.new };
 
     /// How many items a close at the moment would leave sold, and how many unsold.
@@ -196,6 +221,7 @@ pub trait Keep {
         ensures fits { IfOk result (λ v. AllByRecursion ItemFits v.items) }
         ensures stands { is_honest self.new → IfOk result (λ v. AllByRecursion (λ it. StandsIn (content self.old) it.terms) v.items) }
         ensures faults { Faults result (is_honest self.new) (is_failed self.new) (content self.old) }
+        ensures damaged { is_honest self.new → AllByRecursion (RowFits (content self.old)) (take most_shown (filter (λ row. (row.item.terms.category == category) && nat_le from row.item.terms.item) (content self.old).items)) → ¬ (IsErrOf result Damaged) }
         ensures read { IsRead content is_failed is_honest may_leave self.old self.new };
 
     /// The items on which a member has bid, from a number on; at most fifty.
@@ -232,6 +258,7 @@ pub trait Keep {
         ensures value { is_honest self.new → IfOk result (λ v. v.items ≡ (content self.old).categories) }
         ensures fits { IfOk result (λ v. AllByRecursion CategoryFits v.items) }
         ensures faults { Faults result (is_honest self.new) (is_failed self.new) (content self.old) }
+        ensures damaged { is_honest self.new → AllByRecursion CategoryFits (content self.old).categories → ¬ (IsErrOf result Damaged) }
         ensures read { IsRead content is_failed is_honest may_leave self.old self.new };
 
     /// All members, by number.
@@ -239,6 +266,7 @@ pub trait Keep {
         ensures value { is_honest self.new → IfOk result (λ v. v.items ≡ (content self.old).members) }
         ensures fits { IfOk result (λ v. AllByRecursion MemberFits v.items) }
         ensures faults { Faults result (is_honest self.new) (is_failed self.new) (content self.old) }
+        ensures damaged { is_honest self.new → AllByRecursion MemberFits (content self.old).members → ¬ (IsErrOf result Damaged) }
         ensures read { IsRead content is_failed is_honest may_leave self.old self.new };
 
     /// All items, by number.
@@ -247,6 +275,7 @@ pub trait Keep {
         ensures fits { IfOk result (λ v. AllByRecursion ItemFits v.items) }
         ensures stands { is_honest self.new → IfOk result (λ v. AllByRecursion (λ it. StandsIn (content self.old) it.terms) v.items) }
         ensures faults { Faults result (is_honest self.new) (is_failed self.new) (content self.old) }
+        ensures damaged { is_honest self.new → AllByRecursion (RowFits (content self.old)) (content self.old).items → ¬ (IsErrOf result Damaged) }
         ensures read { IsRead content is_failed is_honest may_leave self.old self.new };
 
     /// All published questions, by item, asker and number.
@@ -254,6 +283,7 @@ pub trait Keep {
         ensures value { is_honest self.new → IfOk result (λ v. v.items ≡ all_published (content self.old)) }
         ensures fits { IfOk result (λ v. AllByRecursion QuestionFits v.items) }
         ensures faults { Faults result (is_honest self.new) (is_failed self.new) (content self.old) }
+        ensures damaged { is_honest self.new → AllByRecursion QuestionFits (all_published (content self.old)) → ¬ (IsErrOf result Damaged) }
         ensures read { IsRead content is_failed is_honest may_leave self.old self.new };
 
     /// All feedback, by item and giver.
@@ -261,6 +291,7 @@ pub trait Keep {
         ensures value { is_honest self.new → IfOk result (λ v. v.items ≡ (content self.old).feedback) }
         ensures fits { IfOk result (λ v. AllByRecursion FeedbackFits v.items) }
         ensures faults { Faults result (is_honest self.new) (is_failed self.new) (content self.old) }
+        ensures damaged { is_honest self.new → AllByRecursion FeedbackFits (content self.old).feedback → ¬ (IsErrOf result Damaged) }
         ensures read { IsRead content is_failed is_honest may_leave self.old self.new };
 
     /// The items that a member watches, by number.
