@@ -1,6 +1,6 @@
 -- What every call of a keep promises beside its answer. A keep that rests on a disk promises of its rows only while the disk
 -- has returned what was written: while it is honest.
-use Rattle.std.specs.Prelude.{◌≡◌, ◌≤◌, ◌+◌, ◌⊎◌, length, ◌↔◌, ℕ, List, [], ◌∷◌, Bool, true, false, Option, Some, None, IfSome, Result, OnOk, IsErrOf, ◌==◌, filter}
+use Rattle.std.specs.Prelude.{if◌then◌else◌, nat_lt, ◌≡◌, ◌≤◌, ◌+◌, ◌⊎◌, length, ◌↔◌, ℕ, List, [], ◌∷◌, Bool, true, false, Option, Some, None, IfSome, Result, OnOk, IsErrOf, ◌==◌, filter}
 use Rattle.std.specs.List.{AllByRecursion}
 use Rattle.proxy.specs.Accepted.{AreAccepted}
 use Rattle.proxy.specs.Bids.{standing_of}
@@ -83,6 +83,14 @@ FitsBy editions row = ItemRowFits (bands_in editions row.item.terms.item) row
 
 abbrev pub RowFits : Tables → ItemRow → Type 0
 RowFits t row = FitsBy (band_tables t) row
+
+-- every item's row that passes a test fits, each by its own band table
+abbrev pub AllFit : (ItemRow → Bool) → Tables → Type 0
+AllFit test t = AllByRecursion (RowFits t) (filter test t.items)
+
+-- where a list begins that is asked for from a number on: at the last number of 32 bits at most
+abbrev pub start_of : ℕ → ℕ
+start_of from = if nat_lt from 4294967295 then from else 4294967295
 
 -- each has the next number
 abbrev pub AreInTurn : {A : Type 0} → (A → ℕ) → ℕ → List A → Type 0

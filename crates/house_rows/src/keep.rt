@@ -1,14 +1,15 @@
 //! Whatever keeps the tables of the house.
-ghost use Rattle.std.specs.Prelude.{◌≡◌, ◌≢◌, ◌≤◌, ◌==◌, ◌&&◌, ◌⊎◌, All, AllPairs, true, false, Bool, IfOk, IfSome, IsErrOf, OnOk, OnErr, filter, is_some, length, nat_le, take};
+ghost use Rattle.std.specs.Prelude.{◌≡◌, ◌≢◌, ◌≤◌, ◌==◌, ◌&&◌, ◌||◌, ◌⊎◌, All, AllPairs, true, false, Bool, IfOk, IfSome, IsErrOf, OnOk, OnErr, filter, is_some, length, nat_le, take};
+ghost use Rattle.proxy.specs.Bids.{is_leader};
 ghost use Rattle.settle.specs.Statement.{IsSale, is_party};
 ghost use Rattle.std.specs.List.{AllByRecursion, list_any};
 ghost use Rattle.house_rows.specs.Asks.{ChangeFits};
-ghost use Rattle.house_rows.specs.Changed.{changed};
+ghost use Rattle.house_rows.specs.Changed.{changed, is_item};
 ghost use Rattle.house_rows.specs.declared.fault.KeepFault.TheVariants.{Damaged};
 ghost use Rattle.house_rows.specs.Fits.{BidRowFits, CategoryFits, FeedbackFits, IsItem, IsMember, IsMoment, IsWithin, ItemFits, MemberFits, OwnBidFits, QuestionFits, StandingFits, TermsFit, WatchRowFits};
-ghost use Rattle.house_rows.specs.Found.{all_items, all_published, ask_count, best_of, category_at, category_named, counts_of, due_at, feedback_to, first_waiting, is_given, is_watched, item_at, item_with_lot, items_in, items_watched, member_named, own_bids, published_on, question_at, questions_of, row_at, sales_to, standing_at, terms_at, waiting_for, watch_count};
+ghost use Rattle.house_rows.specs.Found.{all_items, all_published, ask_count, best_of, category_at, category_named, counts_of, due_at, feedback_to, first_waiting, is_given, is_watched, item_at, item_with_lot, items_in, items_watched, member_named, own_bids, published_on, question_at, questions_of, sales_to, standing_at, terms_at, waiting_for, watch_count};
 ghost use Rattle.house_rows.specs.Items.{is_due};
-ghost use Rattle.house_rows.specs.Keeping.{AllStand, AreSound, ChangeFaults, Faults, IsRead, RowFits, StandsAt, StandsIn};
+ghost use Rattle.house_rows.specs.Keeping.{AllFit, AllStand, AreSound, ChangeFaults, Faults, IsRead, RowFits, StandsAt, StandsIn, start_of};
 ghost use Rattle.house_rows.specs.Limits.{most_categories, most_items, most_shown};
 ghost use Rattle.house_rows.specs.Pages.{member_at, ratings_of, sale_of};
 ghost use Rattle.house_rows.specs.Tables.{Tables, band_tables};
@@ -125,7 +126,7 @@ pub trait Keep {
         ensures fits { IfOk result (λ v. IfSome v ItemFits) }
         ensures stands { is_honest self.new → IfOk result (λ v. IfSome v (λ it. StandsIn (content self.old) it.terms)) }
         ensures faults { Faults result (is_honest self.new) (is_failed self.new) (content self.old) }
-        ensures damaged { is_honest self.new → IfSome (row_at (content self.old) item) (RowFits (content self.old)) → ¬ (IsErrOf result Damaged) }
+        ensures damaged { is_honest self.new → AllFit (is_item item) (content self.old) → ¬ (IsErrOf result Damaged) }
         ensures read { IsRead content is_failed is_honest may_leave self.old self.new };
 
     /// An item without its texts.
@@ -134,7 +135,7 @@ pub trait Keep {
         ensures fits { IfOk result (λ v. IfSome v TermsFit) }
         ensures stands { is_honest self.new → IfOk result (λ v. IfSome v (StandsIn (content self.old))) }
         ensures faults { Faults result (is_honest self.new) (is_failed self.new) (content self.old) }
-        ensures damaged { is_honest self.new → IfSome (row_at (content self.old) item) (RowFits (content self.old)) → ¬ (IsErrOf result Damaged) }
+        ensures damaged { is_honest self.new → AllFit (is_item item) (content self.old) → ¬ (IsErrOf result Damaged) }
         ensures read { IsRead content is_failed is_honest may_leave self.old self.new };
 
     /// The number of a seller's item with a lot.
@@ -150,7 +151,7 @@ pub trait Keep {
         ensures value { is_honest self.new → IfOk result (λ v. v ≡ standing_at (content self.old) item) }
         ensures fits { IfOk result (λ v. IfSome v StandingFits) }
         ensures faults { Faults result (is_honest self.new) (is_failed self.new) (content self.old) }
-        ensures damaged { is_honest self.new → IfSome (row_at (content self.old) item) (RowFits (content self.old)) → ¬ (IsErrOf result Damaged) }
+        ensures damaged { is_honest self.new → AllFit (is_item item) (content self.old) → ¬ (IsErrOf result Damaged) }
         ensures read { IsRead content is_failed is_honest may_leave self.old self.new };
 
     /// A member's greatest maximum on an item, or 0, and the number of its bids there.
@@ -213,6 +214,7 @@ pub trait Keep {
         ensures value { is_honest self.new → IfOk result (λ v. v ≡ due_at (content self.old) moment) }
         ensures stands { is_honest self.new → OnOk result (AllStand (λ row. is_due moment row.item.terms) (content self.old)) }
         ensures faults { Faults result (is_honest self.new) (is_failed self.new) (content self.old) }
+        ensures damaged { is_honest self.new → AllFit (λ row. is_due moment row.item.terms) (content self.old) → ¬ (IsErrOf result Damaged) }
         ensures read { IsRead content is_failed is_honest may_leave self.old self.new };
 
     /// The items of a category, from a number on; at most fifty.
@@ -221,7 +223,7 @@ pub trait Keep {
         ensures fits { IfOk result (λ v. AllByRecursion ItemFits v.items) }
         ensures stands { is_honest self.new → IfOk result (λ v. AllByRecursion (λ it. StandsIn (content self.old) it.terms) v.items) }
         ensures faults { Faults result (is_honest self.new) (is_failed self.new) (content self.old) }
-        ensures damaged { is_honest self.new → AllByRecursion (RowFits (content self.old)) (take most_shown (filter (λ row. (row.item.terms.category == category) && nat_le from row.item.terms.item) (content self.old).items)) → ¬ (IsErrOf result Damaged) }
+        ensures damaged { is_honest self.new → AllByRecursion (RowFits (content self.old)) (take most_shown (filter (λ row. (row.item.terms.category == category) && nat_le (start_of from) row.item.terms.item) (content self.old).items)) → ¬ (IsErrOf result Damaged) }
         ensures read { IsRead content is_failed is_honest may_leave self.old self.new };
 
     /// The items on which a member has bid, from a number on; at most fifty.
@@ -300,6 +302,7 @@ pub trait Keep {
         ensures fits { IfOk result (λ v. AllByRecursion ItemFits v.items) }
         ensures stands { is_honest self.new → IfOk result (λ v. AllByRecursion (λ it. StandsIn (content self.old) it.terms) v.items) }
         ensures faults { Faults result (is_honest self.new) (is_failed self.new) (content self.old) }
+        ensures damaged { is_honest self.new → AllByRecursion WatchRowFits (filter (λ w. w.member == member) (content self.old).watches) → AllFit (λ row. is_watched (content self.old) member row.item.terms.item) (content self.old) → ¬ (IsErrOf result Damaged) }
         ensures read { IsRead content is_failed is_honest may_leave self.old self.new };
 
     /// The questions that wait for a member's answer, by item, asker and number.
@@ -308,6 +311,7 @@ pub trait Keep {
         ensures fits { IfOk result (λ v. AllByRecursion QuestionFits v.items) }
         ensures stands { is_honest self.new → IfOk result (λ v. AllByRecursion (λ q. StandsAt (content self.old) q.item) v.items) }
         ensures faults { Faults result (is_honest self.new) (is_failed self.new) (content self.old) }
+        ensures damaged { is_honest self.new → AllFit (λ row. row.item.terms.seller == member) (content self.old) → AllByRecursion QuestionFits (waiting_for (content self.old) member) → ¬ (IsErrOf result Damaged) }
         ensures read { IsRead content is_failed is_honest may_leave self.old self.new };
 
     /// The first of the questions that wait for a member's answer, by item, asker and number; at most
@@ -327,6 +331,7 @@ pub trait Keep {
         ensures apart { IfOk result (λ v. AllPairs (λ a b. a.item ≢ b.item) v.items) }
         ensures few { IfOk result (λ v. length v.items ≤ most_items) }
         ensures faults { Faults result (is_honest self.new) (is_failed self.new) (content self.old) }
+        ensures damaged { is_honest self.new → AllFit (λ row. (member == 0) || ((row.item.terms.seller == member) || is_leader row.item.terms.leader member)) (content self.old) → ¬ (IsErrOf result Damaged) }
         ensures read { IsRead content is_failed is_honest may_leave self.old self.new };
 
     /// Makes a change, whole or not at all.

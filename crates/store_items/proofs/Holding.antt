@@ -129,18 +129,36 @@ terms_here old new answer house editions n low h fit =
     let hold = all_map (TermsHold editions) (shown_by terms_shown params) kept (all_weaker (λ r. FitsBy editions (item_row_in r)) (λ r. TermsHold editions (shown_by terms_shown params r)) (terms_row editions params) kept fits) in
     first (TermsHold editions) answer (subst (AllByRecursion (TermsHold editions)) (sym order) hold)
 
+pub item_here : (old new : State) (answer : List Row) → IsHouse old.now → (editions : BandTables) (n : ℕ) → n < 2 ^ 32 → Shown item_at_text (Int (pos n) ∷ []) old new answer
+    → AllByRecursion (λ (row : ItemRow). row.item.terms.item ≡ n → FitsBy editions row) (items_in old.now.trees) → IfSome (slice_get answer 0) (ItemHolds editions)
+item_here old new answer house editions n low h fit =
+    let params = Int (pos n) ∷ [] in
+    let table = old.now.trees 6 in
+    let kept = filter (passes (equals 0 ∷ []) params) table in
+    let read = reads_as item_at_text params old new house_schema house.schema _ item_at_is.0 item_at_is.2 item_at_is.1 answer h in
+    let order = in_order (equals 0 ∷ []) item_shown params table answer house.shaped.1.1.1.1.0.0 (listed 6 (equals 0 ∷ []) item_shown by_rowid (overlay old.now.trees []) params answer (read.answer Null)) in
+    let fits = kept_fit (FitsBy editions) n low table (are_rows old.now house) (all_unmap (λ (row : ItemRow). row.item.terms.item ≡ n → FitsBy editions row) item_row_in table fit) in
+    let hold = all_map (ItemHolds editions) (shown_by item_shown params) kept (all_weaker (λ r. FitsBy editions (item_row_in r)) (λ r. ItemHolds editions (shown_by item_shown params r)) (item_row editions params) kept fits) in
+    first (ItemHolds editions) answer (subst (AllByRecursion (ItemHolds editions)) (sym order) hold)
+
 -- the standing of an item, by the band table of its number
-pub standing_holds : (old new : State) (answer : List Row) → IsHouse old.now → (editions : BandTables) (n : ℕ) → n < 2 ^ 32 → Shown standing_at_text (Int (pos n) ∷ []) old new answer
-    → AllByRecursion (FitsBy editions) (items_in old.now.trees) → IfSome (slice_get answer 0) (AreStanding (bands_in editions n))
-standing_holds old new answer house editions n low h fit =
+pub standing_here : (old new : State) (answer : List Row) → IsHouse old.now → (editions : BandTables) (n : ℕ) → n < 2 ^ 32 → Shown standing_at_text (Int (pos n) ∷ []) old new answer
+    → AllByRecursion (λ (row : ItemRow). row.item.terms.item ≡ n → FitsBy editions row) (items_in old.now.trees) → IfSome (slice_get answer 0) (AreStanding (bands_in editions n))
+standing_here old new answer house editions n low h fit =
     let bands : List (ℕ × ℕ) = bands_in editions n in
     let params = Int (pos n) ∷ [] in
     let table = old.now.trees 6 in
     let kept = filter (passes (equals 0 ∷ []) params) table in
     let read = reads_as standing_at_text params old new house_schema house.schema _ standing_at_is.0 standing_at_is.2 standing_at_is.1 answer h in
     let order = in_order (equals 0 ∷ []) standing_shown params table answer house.shaped.1.1.1.1.0.0 (listed 6 (equals 0 ∷ []) standing_shown by_rowid (overlay old.now.trees []) params answer (read.answer Null)) in
-    let here = all_weaker (λ r. FitsBy editions (item_row_in r)) (λ r. (item_row_in r).item.terms.item ≡ n → ItemRowFits bands (item_row_in r)) (λ r fits is. subst (λ (m : ℕ). ItemRowFits (bands_in editions m) (item_row_in r)) is fits) table
-    (all_unmap (FitsBy editions) item_row_in table fit) in
+    let here = all_weaker (λ r. (item_row_in r).item.terms.item ≡ n → FitsBy editions (item_row_in r)) (λ r. (item_row_in r).item.terms.item ≡ n → ItemRowFits bands (item_row_in r)) (λ r fits is. subst (λ (m : ℕ). ItemRowFits (bands_in editions m) (item_row_in r)) is (fits is)) table
+    (all_unmap (λ (row : ItemRow). row.item.terms.item ≡ n → FitsBy editions row) item_row_in table fit) in
     let fits = kept_fit (ItemRowFits bands) n low table (are_rows old.now house) here in
     let stand = all_map (AreStanding bands) (shown_by standing_shown params) kept (all_weaker (λ r. ItemRowFits bands (item_row_in r)) (λ r. AreStanding bands (kept_columns r)) (are_standing bands) kept fits) in
     first (AreStanding bands) answer (subst (AllByRecursion (AreStanding bands)) (sym order) stand)
+
+pub standing_holds : (old new : State) (answer : List Row) → IsHouse old.now → (editions : BandTables) (n : ℕ) → n < 2 ^ 32 → Shown standing_at_text (Int (pos n) ∷ []) old new answer
+    → AllByRecursion (FitsBy editions) (items_in old.now.trees) → IfSome (slice_get answer 0) (AreStanding (bands_in editions n))
+standing_holds old new answer house editions n low h fit =
+    standing_here old new answer house editions n low h
+    (all_weaker (FitsBy editions) (λ (row : ItemRow). row.item.terms.item ≡ n → FitsBy editions row) (λ row fits is. fits) (items_in old.now.trees) fit)

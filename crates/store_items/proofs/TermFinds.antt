@@ -1,5 +1,5 @@
 -- What the lists of items without their texts find.
-use Rattle.std.proofs.Common.{◌≡◌, ◌==◌, ◌<◌, ◌^◌, ◌&&◌, ℕ, pos, Bool, true, List, [], ◌∷◌, map, filter, drop, Some, eqb, refl, ap, subst, ◌∙◌, inl, inr, arith, nat_le}
+use Rattle.std.proofs.Common.{◌≡◌, ◌==◌, ◌<◌, ◌^◌, ◌&&◌, ℕ, pos, Bool, true, List, [], ◌∷◌, map, filter, drop, Some, eqb, refl, ap, sym, subst, ◌∙◌, inl, inr, arith, nat_le}
 use Rattle.std.specs.List.{AllByRecursion}
 use Rattle.sqlite_value.specs.declared.value.Value.{Value}
 use Rattle.sqlite_value.specs.declared.value.Value.TheVariants.{Null, Int}
@@ -15,7 +15,7 @@ use Rattle.sqlite_sql.specs.Ops.{binary, is_true}
 use Rattle.sqlite_sql.specs.Program.{overlay}
 use Rattle.sqlite_sql.specs.Term.{Term}
 use Rattle.sqlite_trees.specs.View.{is_int}
-use Rattle.sqlite_keyed.proofs.ListLemmas.{all_both}
+use Rattle.sqlite_keyed.proofs.ListLemmas.{all_both, all_map, all_unmap, all_weaker, filter-map}
 use Rattle.sqlite_keyed.proofs.RuleLemmas.{first_of_both}
 use Rattle.sqlite.specs.Effect.{Database}
 use Rattle.sqlite.specs.State.{State, Shown}
@@ -29,10 +29,10 @@ use Rattle.house_rows.proofs.Put.{by_test}
 use Rattle.store_rows.specs.Schema.{house_schema, item_table}
 use Rattle.store_rows.specs.House.{IsHouse}
 use Rattle.store_rows.specs.ItemRows.{item_row_in, items_in, state_in, terms_of}
-use Rattle.store_rows.specs.Plain.{passes}
+use Rattle.store_rows.specs.Plain.{passes, shown_by}
 use Rattle.store_rows.specs.Rows.{number_in}
 use Rattle.store_rows.proofs.ColumnLemmas.{holds_all}
-use Rattle.store_rows.proofs.RowLemmas.{int_if, equals_number, alone}
+use Rattle.store_rows.proofs.RowLemmas.{int_if, equals_number, alone, filter_same_on}
 use Rattle.store_rows.proofs.Select.{by_rowid, equals, in_order, listed, typed_part}
 use Rattle.store_rows.proofs.Update.{IsStrict}
 use Rattle.store_items.specs.Standing.{TermsHold}
@@ -88,6 +88,20 @@ module _ (sql : List ℕ) (test : List Term) (is : AsksTerms sql test) (params :
       let read = reads_as sql params old new house_schema house.schema _ is.0 is.2 is.1 answer h in
       let order = in_order test terms_shown params (old.now.trees 6) answer house.shaped.1.1.1.1.0.0 (listed 6 test terms_shown by_rowid (overlay old.now.trees []) params answer (read.answer Null)) in
       rows_hold editions (TermsHold editions) terms_shown test params (old.now.trees 6) answer (terms_row editions params) order fit
+
+  -- where the items that the query keeps fit
+  pub terms_kept : (keep : ItemRow → Bool) → ((r : Row) → IsRow r → passes test params r ≡ keep (item_row_in r)) → (editions : BandTables) → AllByRecursion (FitsBy editions) (filter keep (items_in old.now.trees))
+      → AllByRecursion (TermsHold editions) answer
+  terms_kept keep tests editions fit =
+      let rows = old.now.trees 6 in
+      let kept = filter (passes test params) rows in
+      let show = shown_by terms_shown params in
+      let read = reads_as sql params old new house_schema house.schema _ is.0 is.2 is.1 answer h in
+      let order = in_order test terms_shown params rows answer house.shaped.1.1.1.1.0.0 (listed 6 test terms_shown by_rowid (overlay old.now.trees []) params answer (read.answer Null)) in
+      let typed : filter keep (map item_row_in rows) ≡ map item_row_in kept =
+      filter-map keep item_row_in rows ∙ ap (map item_row_in) (sym (filter_same_on IsRow (passes test params) (λ r. keep (item_row_in r)) tests rows (are_rows old.now house))) in
+      let each = all_unmap (FitsBy editions) item_row_in kept (subst (AllByRecursion (FitsBy editions)) typed fit) in
+      subst (AllByRecursion (TermsHold editions)) (sym order) (all_map (TermsHold editions) show kept (all_weaker (λ r. FitsBy editions (item_row_in r)) (λ r. TermsHold editions (show r)) (terms_row editions params) kept each))
 
 -- ---- the tests
 

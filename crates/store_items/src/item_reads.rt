@@ -1,5 +1,5 @@
 //! Look-ups in the table of items.
-ghost use Rattle.std.specs.Prelude.{◌≡◌, ◌==◌, ◌&&◌, true, find, map, option_map, IfOk, IfSome, IsErrOf};
+ghost use Rattle.std.specs.Prelude.{◌≡◌, ◌<◌, ◌^◌, ◌==◌, ◌&&◌, true, find, map, option_map, IfOk, IfSome, IsErrOf};
 ghost use Rattle.sqlite.specs.State.{HasCleanDisk};
 ghost use Rattle.sqlite.specs.Held.{state};
 ghost use Rattle.proxy.specs.Rows.{is_standing};
@@ -37,6 +37,10 @@ pub fn item_at<S: Alter>(
     ensures stands { IfOk result (λ found. IfSome found (λ it. StandsBy editions.now it.terms)) }
     ensures damaged { HasCleanDisk (state S.Store conn.new)
         → AllByRecursion (FitsBy editions.now) (items_in (state S.Store conn.old).now.trees)
+        → ¬ (IsErrOf result Damaged) }
+    ensures here { HasCleanDisk (state S.Store conn.new)
+        → AllByRecursion (λ row. row.item.terms.item ≡ number → FitsBy editions.now row)
+        (items_in (state S.Store conn.old).now.trees)
         → ¬ (IsErrOf result Damaged) }
     ensures read { OnlyReads (state S.Store conn.old) (state S.Store conn.new) result }
 {
@@ -95,6 +99,10 @@ pub fn standing_at<S: Alter>(
     ensures damaged { HasCleanDisk (state S.Store conn.new)
         → AllByRecursion (FitsBy editions.now) (items_in (state S.Store conn.old).now.trees)
         → ¬ (IsErrOf result Damaged) }
+    ensures here { HasCleanDisk (state S.Store conn.new)
+        → AllByRecursion (λ row. row.item.terms.item ≡ number → FitsBy editions.now row)
+        (items_in (state S.Store conn.old).now.trees)
+        → ¬ (IsErrOf result Damaged) }
     ensures read { OnlyReads (state S.Store conn.old) (state S.Store conn.new) result }
 {
     let rows = rows_shown(
@@ -119,6 +127,11 @@ pub fn item_with_lot<S: Alter>(
     ensures damaged { HasCleanDisk (state S.Store conn.new)
         → AllByRecursion (λ (row : ItemRow). ItemFits row.item)
         (items_in (state S.Store conn.old).now.trees)
+        → ¬ (IsErrOf result Damaged) }
+    ensures here { HasCleanDisk (state S.Store conn.new)
+        → IfSome (option_map (λ (row : ItemRow). row.item.terms.item)
+        (find (λ row. (row.item.terms.seller == seller) && same_text row.item.lot lot.now)
+        (items_in (state S.Store conn.old).now.trees))) (λ n. n < 2 ^ 32)
         → ¬ (IsErrOf result Damaged) }
     ensures read { OnlyReads (state S.Store conn.old) (state S.Store conn.new) result }
 {

@@ -3,7 +3,7 @@ ghost use Rattle.std.specs.Prelude.{◌≡◌, ◌==◌, ◌&&◌, filter, map, 
 ghost use Rattle.std.specs.List.{AllByRecursion};
 ghost use Rattle.house_rows.specs.Fits.{ItemFits};
 ghost use Rattle.house_rows.specs.Found.{items_in};
-ghost use Rattle.house_rows.specs.Keeping.{FitsBy, StandsBy};
+ghost use Rattle.house_rows.specs.Keeping.{FitsBy, StandsBy, start_of};
 ghost use Rattle.house_rows.specs.Limits.{most_shown};
 ghost use Rattle.house_rows.specs.Tables.{ItemRow};
 ghost use Rattle.house_rows.specs.declared.fault.KeepFault.TheVariants.{Damaged};
@@ -78,6 +78,12 @@ pub fn items_in<S: Alter>(
     ensures damaged { HasCleanDisk (state S.Store conn.new)
         → AllByRecursion (FitsBy editions.now)
         (stored.items_in (state S.Store conn.old).now.trees)
+        → ¬ (IsErrOf result Damaged) }
+    ensures reached { HasCleanDisk (state S.Store conn.new)
+        → AllByRecursion (FitsBy editions.now) (take most_shown
+        (filter (λ row. (row.item.terms.category == category)
+        && nat_le (start_of from) row.item.terms.item)
+        (stored.items_in (state S.Store conn.old).now.trees)))
         → ¬ (IsErrOf result Damaged) }
     ensures read { OnlyReads (state S.Store conn.old) (state S.Store conn.new) result }
 {

@@ -36,6 +36,10 @@ pub fn terms_of_seller<S: Alter>(
     ensures damaged { HasCleanDisk (state S.Store conn.new)
         → AllByRecursion (FitsBy editions.now) (items_in (state S.Store conn.old).now.trees)
         → ¬ (IsErrOf result Damaged) }
+    ensures here { HasCleanDisk (state S.Store conn.new)
+        → AllByRecursion (FitsBy editions.now) (filter (λ row. row.item.terms.seller == seller)
+        (items_in (state S.Store conn.old).now.trees))
+        → ¬ (IsErrOf result Damaged) }
     ensures read { OnlyReads (state S.Store conn.old) (state S.Store conn.new) result }
 {
     let rows = rows_shown(
@@ -62,6 +66,10 @@ pub(crate) fn terms_led_by<S: Alter>(
     ensures stands { IfOk result (λ terms. AllByRecursion (StandsBy editions.now) terms.items) }
     ensures damaged { HasCleanDisk (state S.Store conn.new)
         → AllByRecursion (FitsBy editions.now) (items_in (state S.Store conn.old).now.trees)
+        → ¬ (IsErrOf result Damaged) }
+    ensures here { HasCleanDisk (state S.Store conn.new)
+        → AllByRecursion (FitsBy editions.now) (filter (λ row. is_leader row.item.terms.leader member)
+        (items_in (state S.Store conn.old).now.trees))
         → ¬ (IsErrOf result Damaged) }
     ensures read { OnlyReads (state S.Store conn.old) (state S.Store conn.new) result }
 {
@@ -90,6 +98,10 @@ pub(crate) fn due_terms<S: Alter>(
     ensures stands { IfOk result (λ terms. AllByRecursion (StandsBy editions.now) terms.items) }
     ensures damaged { HasCleanDisk (state S.Store conn.new)
         → AllByRecursion (FitsBy editions.now) (items_in (state S.Store conn.old).now.trees)
+        → ¬ (IsErrOf result Damaged) }
+    ensures here { HasCleanDisk (state S.Store conn.new)
+        → AllByRecursion (FitsBy editions.now) (filter (λ row. is_due moment row.item.terms)
+        (items_in (state S.Store conn.old).now.trees))
         → ¬ (IsErrOf result Damaged) }
     ensures read { OnlyReads (state S.Store conn.old) (state S.Store conn.new) result }
 {

@@ -1,7 +1,8 @@
 -- What the look-ups of a member and of a category by their numbers find.
-use Rattle.std.proofs.Common.{◌≡◌, ◌==◌, ◌<◌, ◌^◌, ℕ, pos, not, List, [], ◌∷◌, find, length, map, refl, ap, ◌∙◌, IsTrue}
+use Rattle.std.proofs.Common.{◌≡◌, ◌==◌, ◌<◌, ◌^◌, ℕ, pos, true, false, not, List, [], ◌∷◌, find, length, map, refl, arith, ap, ◌∙◌, inl, inr, IsTrue, IfSome}
 use Rattle.std.specs.Prelude.{is_some}
 use Rattle.std.specs.List.{AllByRecursion}
+use Rattle.std.proofs.lemmas.Bool.Decides.{nat_tests}
 use Rattle.sqlite_value.specs.declared.value.Value.TheVariants.{Null, Int}
 use Rattle.sqlite_value.specs.Order.{Row, column}
 use Rattle.sqlite_sql.specs.Term.{col}
@@ -12,6 +13,7 @@ use Rattle.sqlite.specs.State.{State, Shown}
 use Rattle.sqlite.proofs.Callers.{reads_as}
 use Rattle.house_rows.specs.declared.people.Category.{Category}
 use Rattle.house_rows.specs.declared.people.Member.{Member}
+use Rattle.house_rows.proofs.Put.{by_test}
 use Rattle.store_rows.specs.Schema.{house_schema}
 use Rattle.store_rows.specs.House.{IsHouse}
 use Rattle.store_rows.specs.Rows.{categories_in, category_in, member_in, members_in, number_in}
@@ -39,3 +41,13 @@ module _ (n : ℕ) (low : n < 2 ^ 32) (old new : State) (answer : List Row) (hou
 
   pub category_found : Shown has_category_text (Int (pos n) ∷ []) old new answer → not (length answer == 0) ≡ is_some (find (λ k. k.category == n) (categories_in old.now.trees))
   category_found h = numbered_found has_category_text 4 has_category_is (λ db. refl) category_in (λ (k : Category). k.category) (λ r. refl) n low old new answer house house.shaped.1.1.1.0.1 h
+
+-- where the row of a number has a property, the number is one of those that it has
+pub here_number : {A : Type 0} (number : A → ℕ) (P : A → Type 0) (Is : ℕ → Type 0) (n : ℕ) (xs : List A) → ((x : A) → P x → Is (number x)) → IfSome (find (λ x. number x == n) xs) P
+    → is_some (find (λ x. number x == n) xs) ≡ true → Is n
+here_number number P Is n [] has fits found = absurd (let e : false ≡ true = found in cc)
+here_number number P Is n (x ∷ xs) has fits found =
+    elim (by_test (number x == n)) [
+      | inl is ↦ (let same : number x ≡ n = grind (arith, nat_tests, is) in rw (← same) (has x (rw is at fits)))
+      | inr not ↦ here_number number P Is n xs has (rw not at fits) (rw not at found)
+    ]

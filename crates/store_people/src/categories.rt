@@ -50,6 +50,10 @@ pub fn category_at<S: Alter>(
     ensures damaged { HasCleanDisk (state S.Store conn.new)
         → AllByRecursion CategoryFits (categories_in (state S.Store conn.old).now.trees)
         → ¬ (IsErrOf result Damaged) }
+    ensures here { HasCleanDisk (state S.Store conn.new)
+        → IfSome (find (λ m. m.category == number)
+        (categories_in (state S.Store conn.old).now.trees)) CategoryFits
+        → ¬ (IsErrOf result Damaged) }
     ensures read { OnlyReads (state S.Store conn.old) (state S.Store conn.new) result }
 {
     let rows = rows_shown(
@@ -72,6 +76,10 @@ pub fn category_named<S: Alter>(
     ensures fits { IfOk result (λ found. IfSome found CategoryFits) }
     ensures damaged { HasCleanDisk (state S.Store conn.new)
         → AllByRecursion CategoryFits (categories_in (state S.Store conn.old).now.trees)
+        → ¬ (IsErrOf result Damaged) }
+    ensures here { HasCleanDisk (state S.Store conn.new)
+        → IfSome (find (λ m. same_text m.name name.now)
+        (categories_in (state S.Store conn.old).now.trees)) CategoryFits
         → ¬ (IsErrOf result Damaged) }
     ensures read { OnlyReads (state S.Store conn.old) (state S.Store conn.new) result }
 {

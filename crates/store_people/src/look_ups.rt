@@ -1,5 +1,5 @@
 //! Whether members and categories are there, by number.
-ghost use Rattle.std.specs.Prelude.{◌≡◌, ◌==◌, true, false, find, is_some, IfOk, IsErrOf};
+ghost use Rattle.std.specs.Prelude.{◌≡◌, ◌==◌, true, false, find, is_some, IfOk, IfSome, IsErrOf};
 ghost use Rattle.std.specs.List.{AllByRecursion};
 ghost use Rattle.sqlite.specs.State.{HasCleanDisk};
 ghost use Rattle.sqlite.specs.Held.{state};
@@ -24,6 +24,10 @@ pub fn has_member<S: Alter>(conn: &mut Connection<S>, member: u32) -> Result<boo
     ensures damaged { HasCleanDisk (state S.Store conn.new)
         → AllByRecursion MemberFits (members_in (state S.Store conn.old).now.trees)
         → ¬ (IsErrOf result Damaged) }
+    ensures here { HasCleanDisk (state S.Store conn.new)
+        → IfSome (find (λ row. row.member == member)
+        (members_in (state S.Store conn.old).now.trees)) MemberFits
+        → ¬ (IsErrOf result Damaged) }
     ensures read { OnlyReads (state S.Store conn.old) (state S.Store conn.new) result }
 {
     let rows = rows_shown(conn, "SELECT id FROM member WHERE id = ?1", params![member])?;
@@ -45,6 +49,10 @@ pub fn has_category<S: Alter>(conn: &mut Connection<S>, category: u32) -> Result
     ensures fits { IfOk result (λ is. is ≡ true → IsWithin 1 most_categories category) }
     ensures damaged { HasCleanDisk (state S.Store conn.new)
         → AllByRecursion CategoryFits (categories_in (state S.Store conn.old).now.trees)
+        → ¬ (IsErrOf result Damaged) }
+    ensures here { HasCleanDisk (state S.Store conn.new)
+        → IfSome (find (λ row. row.category == category)
+        (categories_in (state S.Store conn.old).now.trees)) CategoryFits
         → ¬ (IsErrOf result Damaged) }
     ensures read { OnlyReads (state S.Store conn.old) (state S.Store conn.new) result }
 {

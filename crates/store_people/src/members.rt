@@ -50,6 +50,10 @@ pub fn member_at<S: Alter>(
     ensures damaged { HasCleanDisk (state S.Store conn.new)
         → AllByRecursion MemberFits (members_in (state S.Store conn.old).now.trees)
         → ¬ (IsErrOf result Damaged) }
+    ensures here { HasCleanDisk (state S.Store conn.new)
+        → IfSome (find (λ m. m.member == number)
+        (members_in (state S.Store conn.old).now.trees)) MemberFits
+        → ¬ (IsErrOf result Damaged) }
     ensures read { OnlyReads (state S.Store conn.old) (state S.Store conn.new) result }
 {
     let rows = rows_shown(
@@ -72,6 +76,10 @@ pub fn member_named<S: Alter>(
     ensures fits { IfOk result (λ found. IfSome found MemberFits) }
     ensures damaged { HasCleanDisk (state S.Store conn.new)
         → AllByRecursion MemberFits (members_in (state S.Store conn.old).now.trees)
+        → ¬ (IsErrOf result Damaged) }
+    ensures here { HasCleanDisk (state S.Store conn.new)
+        → IfSome (find (λ m. same_text m.name name.now)
+        (members_in (state S.Store conn.old).now.trees)) MemberFits
         → ¬ (IsErrOf result Damaged) }
     ensures read { OnlyReads (state S.Store conn.old) (state S.Store conn.new) result }
 {

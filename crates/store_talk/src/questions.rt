@@ -80,6 +80,10 @@ pub fn question_at<S: Alter>(
     ensures damaged { HasCleanDisk (state S.Store conn.new)
         → AllByRecursion QuestionFits (questions_in (state S.Store conn.old).now.trees)
         → ¬ (IsErrOf result Damaged) }
+    ensures here { HasCleanDisk (state S.Store conn.new)
+        → IfSome (find (is_question item asker number)
+        (questions_in (state S.Store conn.old).now.trees)) QuestionFits
+        → ¬ (IsErrOf result Damaged) }
     ensures read { OnlyReads (state S.Store conn.old) (state S.Store conn.new) result }
 {
     let rows = rows_shown(

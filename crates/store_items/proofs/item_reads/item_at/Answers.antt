@@ -5,7 +5,7 @@ use Rattle.store_rows.proofs.StateLemmas.{ok_then}
 use Rattle.store_items.proofs.ItemMeaning.{item_at_is}
 use Rattle.store_items.proofs.ItemLemmas.{first_item}
 use Rattle.store_items.specs.Standing.{ItemHolds}
-use Rattle.store_items.proofs.Holding.{item_holds}
+use Rattle.store_items.proofs.Holding.{item_here, item_holds}
 use Rattle.store_items.proofs.item_reads.item_at.Goals as goal
 
 pub rows_shown-requires-clause-plain : goal.rows_shown-requires-clause-plain
@@ -24,4 +24,12 @@ returns-clause-damaged g c clean fits =
     let shown = rw c.params-to_sql.ensures at (c.in_ok-rows.ensures.rows clean) in
     let same : c.deref.result.now ≡ c.in_ok-rows.rows.items = search rules in
     let holds = item_holds (state g.S.Store c.args.conn.now) (state g.S.Store c.rows_shown.new.conn) c.in_ok-rows.rows.items (c.rows_shown.ensures.house clean) c.args.editions.now fits c.args.number shown in
+    c.first_item.ensures.damaged (subst (λ l. IfSome (slice_get l 0) (ItemHolds c.args.editions.now)) (sym same) holds)
+
+pub returns-clause-here : goal.returns-clause-here
+returns-clause-here g c clean fits =
+    let low : c.args.number < 2 ^ 32 = omega (arith, c.ranges.number) in
+    let shown = rw c.params-to_sql.ensures at (c.in_ok-rows.ensures.rows clean) in
+    let same : c.deref.result.now ≡ c.in_ok-rows.rows.items = search rules in
+    let holds = item_here (state g.S.Store c.args.conn.now) (state g.S.Store c.rows_shown.new.conn) c.in_ok-rows.rows.items (c.rows_shown.ensures.house clean) c.args.editions.now c.args.number low shown fits in
     c.first_item.ensures.damaged (subst (λ l. IfSome (slice_get l 0) (ItemHolds c.args.editions.now)) (sym same) holds)

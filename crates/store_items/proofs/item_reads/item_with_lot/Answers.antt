@@ -31,3 +31,11 @@ returns-clause-damaged g c clean fits =
     let same : c.deref.result.now ≡ c.in_ok-rows.rows.items = search rules in
     let found = first_with_lot (state g.S.Store c.args.conn.now) (state g.S.Store c.rows_shown.new.conn) c.in_ok-rows.rows.items (c.rows_shown.ensures.house clean) c.args.seller c.args.lot.now c.utf8.lot low shown in
     c.first_of.ensures.damaged (subst (λ o. IfSome o (λ n. n < 2 ^ 32)) (sym (ap (λ l. option_map (λ r. number_in (column r 0)) (slice_get l 0)) same ∙ found)) (part_fits (λ (row : ItemRow). row.item.terms.item) (λ (row : ItemRow). ItemFits row.item) (λ n. n < 2 ^ 32) small _ _ fits))
+
+pub returns-clause-here : goal.returns-clause-here
+returns-clause-here g c clean fits =
+    let low : c.args.seller < 2 ^ 32 = omega (arith, c.ranges.seller) in
+    let shown = rw (c.params-to_sql.ensures, c.params-to_sql-2.ensures) at (c.in_ok-rows.ensures.rows clean) in
+    let same : c.deref.result.now ≡ c.in_ok-rows.rows.items = search rules in
+    let found = first_with_lot (state g.S.Store c.args.conn.now) (state g.S.Store c.rows_shown.new.conn) c.in_ok-rows.rows.items (c.rows_shown.ensures.house clean) c.args.seller c.args.lot.now c.utf8.lot low shown in
+    c.first_of.ensures.damaged (subst (λ o. IfSome o (λ n. n < 2 ^ 32)) (sym (ap (λ l. option_map (λ r. number_in (column r 0)) (slice_get l 0)) same ∙ found)) fits)

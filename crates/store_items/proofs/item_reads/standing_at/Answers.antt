@@ -6,7 +6,7 @@ use Rattle.store_rows.proofs.StateLemmas.{ok_then}
 use Rattle.store_items.proofs.ItemMeaning.{standing_at_is}
 use Rattle.store_items.specs.Columns.{AreStanding}
 use Rattle.store_items.proofs.ItemLemmas.{first_standing}
-use Rattle.store_items.proofs.Holding.{standing_holds}
+use Rattle.store_items.proofs.Holding.{standing_here, standing_holds}
 use Rattle.store_items.proofs.item_reads.standing_at.Goals as goal
 
 pub rows_shown-requires-clause-plain : goal.rows_shown-requires-clause-plain
@@ -26,5 +26,14 @@ returns-clause-damaged g c clean fits =
     let same : c.deref.result.now ≡ c.in_ok-rows.rows.items = search rules in
     let low : c.args.number < 2 ^ 32 = omega (arith, c.ranges.number) in
     let holds = standing_holds (state g.S.Store c.args.conn.now) (state g.S.Store c.rows_shown.new.conn) c.in_ok-rows.rows.items (c.rows_shown.ensures.house clean) c.args.editions.now c.args.number low shown fits in
+    let table = λ (bands : List (ℕ × ℕ)). IfSome (slice_get c.deref.result.now 0) (AreStanding bands) in
+    c.first_standing.ensures.damaged (subst table (sym (rw c.from.ensures at c.bands_for.ensures)) (subst (λ l. IfSome (slice_get l 0) (AreStanding (bands_in c.args.editions.now c.args.number))) (sym same) holds))
+
+pub returns-clause-here : goal.returns-clause-here
+returns-clause-here g c clean fits =
+    let shown = rw c.params-to_sql.ensures at (c.in_ok-rows.ensures.rows clean) in
+    let same : c.deref.result.now ≡ c.in_ok-rows.rows.items = search rules in
+    let low : c.args.number < 2 ^ 32 = omega (arith, c.ranges.number) in
+    let holds = standing_here (state g.S.Store c.args.conn.now) (state g.S.Store c.rows_shown.new.conn) c.in_ok-rows.rows.items (c.rows_shown.ensures.house clean) c.args.editions.now c.args.number low shown fits in
     let table = λ (bands : List (ℕ × ℕ)). IfSome (slice_get c.deref.result.now 0) (AreStanding bands) in
     c.first_standing.ensures.damaged (subst table (sym (rw c.from.ensures at c.bands_for.ensures)) (subst (λ l. IfSome (slice_get l 0) (AreStanding (bands_in c.args.editions.now c.args.number))) (sym same) holds))

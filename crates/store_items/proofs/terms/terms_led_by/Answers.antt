@@ -8,7 +8,7 @@ use Rattle.store_rows.specs.ItemRows.{terms_of}
 use Rattle.store_rows.proofs.StateLemmas.{ok_then}
 use Rattle.store_items.specs.Standing.{TermsHold}
 use Rattle.store_items.proofs.TermMeaning.{terms_led_by_is, terms_led_by_text}
-use Rattle.store_items.proofs.TermFinds.{leader_test, terms_found, terms_held}
+use Rattle.store_items.proofs.TermFinds.{leader_test, terms_found, terms_held, terms_kept}
 use Rattle.store_items.proofs.terms.terms_led_by.Goals as goal
 
 pub rows_shown-requires-clause-plain : goal.rows_shown-requires-clause-plain
@@ -31,3 +31,12 @@ returns-clause-damaged g c clean fits =
     let shown = rw c.params-to_sql.ensures at (c.in_ok-rows.ensures.rows clean) in
     c.terms_list.ensures.damaged (subst (AllByRecursion (TermsHold c.args.editions.now)) (sym same)
     (terms_held terms_led_by_text (equals 13 ∷ []) terms_led_by_is (Int (pos c.args.member) ∷ []) (state g.S.Store c.args.conn.now) (state g.S.Store c.rows_shown.new.conn) items (c.rows_shown.ensures.house clean) shown c.args.editions.now fits))
+
+pub returns-clause-here : goal.returns-clause-here
+returns-clause-here g c clean fits =
+    let low : c.args.member < 2 ^ 32 = omega (arith, c.ranges.member) in
+    let items = c.in_ok-rows.rows.items in
+    let same : c.deref.result.now ≡ items = search rules in
+    let shown = rw c.params-to_sql.ensures at (c.in_ok-rows.ensures.rows clean) in
+    c.terms_list.ensures.damaged (subst (AllByRecursion (TermsHold c.args.editions.now)) (sym same)
+    (terms_kept terms_led_by_text (equals 13 ∷ []) terms_led_by_is (Int (pos c.args.member) ∷ []) (state g.S.Store c.args.conn.now) (state g.S.Store c.rows_shown.new.conn) items (c.rows_shown.ensures.house clean) shown (λ row. is_leader row.item.terms.leader c.args.member) (leader_test c.args.member low) c.args.editions.now fits))

@@ -1,4 +1,4 @@
-use Rattle.std.proofs.Common.{◌≡◌, ◌<◌, ◌^◌, ◌∙◌, ap, arith, rules, slice_get, option_map}
+use Rattle.std.proofs.Common.{◌≡◌, ◌<◌, ◌^◌, ◌∙◌, ap, arith, rules, slice_get, option_map, sym, subst, IfSome}
 use Rattle.sqlite.specs.Held.{state}
 use Rattle.store_rows.specs.Rows.{category_of}
 use Rattle.house_rows.specs.Fits.{CategoryFits}
@@ -26,3 +26,11 @@ returns-clause-damaged g c clean fits =
     let same : c.deref.result.now ≡ c.in_ok-rows.rows.items = search rules in
     let found = first_at (state g.S.Store c.args.conn.now) (state g.S.Store c.rows_shown.new.conn) c.in_ok-rows.rows.items (c.rows_shown.ensures.house clean) c.args.number low shown in
     c.first_of.ensures.damaged (first_fits category_of CategoryFits c.deref.result.now _ _ (ap (λ l. option_map category_of (slice_get l 0)) same ∙ found) fits)
+
+pub returns-clause-here : goal.returns-clause-here
+returns-clause-here g c clean fits =
+    let low : c.args.number < 2 ^ 32 = omega (arith, c.ranges.number) in
+    let shown = rw c.params-to_sql.ensures at (c.in_ok-rows.ensures.rows clean) in
+    let same : c.deref.result.now ≡ c.in_ok-rows.rows.items = search rules in
+    let found = first_at (state g.S.Store c.args.conn.now) (state g.S.Store c.rows_shown.new.conn) c.in_ok-rows.rows.items (c.rows_shown.ensures.house clean) c.args.number low shown in
+    c.first_of.ensures.damaged (subst (λ o. IfSome o CategoryFits) (sym (ap (λ l. option_map category_of (slice_get l 0)) same ∙ found)) fits)

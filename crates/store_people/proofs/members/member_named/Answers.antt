@@ -1,4 +1,4 @@
-use Rattle.std.proofs.Common.{◌≡◌, ◌∙◌, ap, rules, slice_get, option_map}
+use Rattle.std.proofs.Common.{◌≡◌, ◌∙◌, ap, rules, slice_get, option_map, sym, subst, IfSome}
 use Rattle.sqlite.specs.Held.{state}
 use Rattle.store_rows.specs.Rows.{member_of}
 use Rattle.house_rows.specs.Fits.{MemberFits}
@@ -24,3 +24,10 @@ returns-clause-damaged g c clean fits =
     let same : c.deref.result.now ≡ c.in_ok-rows.rows.items = search rules in
     let found = first_named (state g.S.Store c.args.conn.now) (state g.S.Store c.rows_shown.new.conn) c.in_ok-rows.rows.items (c.rows_shown.ensures.house clean) c.args.name.now c.utf8.name shown in
     c.first_of.ensures.damaged (first_fits member_of MemberFits c.deref.result.now _ _ (ap (λ l. option_map member_of (slice_get l 0)) same ∙ found) fits)
+
+pub returns-clause-here : goal.returns-clause-here
+returns-clause-here g c clean fits =
+    let shown = rw c.params-to_sql.ensures at (c.in_ok-rows.ensures.rows clean) in
+    let same : c.deref.result.now ≡ c.in_ok-rows.rows.items = search rules in
+    let found = first_named (state g.S.Store c.args.conn.now) (state g.S.Store c.rows_shown.new.conn) c.in_ok-rows.rows.items (c.rows_shown.ensures.house clean) c.args.name.now c.utf8.name shown in
+    c.first_of.ensures.damaged (subst (λ o. IfSome o MemberFits) (sym (ap (λ l. option_map member_of (slice_get l 0)) same ∙ found)) fits)

@@ -1,4 +1,4 @@
-use Rattle.std.proofs.Common.{◌≡◌, ◌<◌, ◌^◌, ◌∙◌, ap, arith, rules, slice_get, option_map}
+use Rattle.std.proofs.Common.{◌≡◌, ◌<◌, ◌^◌, ◌∙◌, ap, arith, rules, slice_get, option_map, sym, subst, IfSome}
 use Rattle.sqlite.specs.Held.{state}
 use Rattle.store_rows.specs.Rows.{question_of}
 use Rattle.house_rows.specs.Fits.{QuestionFits}
@@ -30,3 +30,13 @@ returns-clause-damaged g c clean fits =
     let same : c.deref.result.now ≡ c.in_ok-rows.rows.items = search rules in
     let found = first_question (state g.S.Store c.args.conn.now) (state g.S.Store c.rows_shown.new.conn) c.in_ok-rows.rows.items (c.rows_shown.ensures.house clean) c.args.item c.args.asker c.args.number low small less shown in
     c.first_of.ensures.damaged (first_fits question_of QuestionFits c.deref.result.now _ _ (ap (λ l. option_map question_of (slice_get l 0)) same ∙ found) fits)
+
+pub returns-clause-here : goal.returns-clause-here
+returns-clause-here g c clean fits =
+    let low : c.args.item < 2 ^ 32 = omega (arith, c.ranges.item) in
+    let small : c.args.asker < 2 ^ 32 = omega (arith, c.ranges.asker) in
+    let less : c.args.number < 2 ^ 32 = omega (arith, c.ranges.number) in
+    let shown = rw (c.params-to_sql.ensures, c.params-to_sql-2.ensures, c.params-to_sql-3.ensures) at (c.in_ok-rows.ensures.rows clean) in
+    let same : c.deref.result.now ≡ c.in_ok-rows.rows.items = search rules in
+    let found = first_question (state g.S.Store c.args.conn.now) (state g.S.Store c.rows_shown.new.conn) c.in_ok-rows.rows.items (c.rows_shown.ensures.house clean) c.args.item c.args.asker c.args.number low small less shown in
+    c.first_of.ensures.damaged (subst (λ o. IfSome o QuestionFits) (sym (ap (λ l. option_map question_of (slice_get l 0)) same ∙ found)) fits)
