@@ -84,9 +84,9 @@ FitsBy editions row = ItemRowFits (bands_in editions row.item.terms.item) row
 abbrev pub RowFits : Tables → ItemRow → Type 0
 RowFits t row = FitsBy (band_tables t) row
 
--- every item's row that passes a test fits, each by its own band table
-abbrev pub AllFit : (ItemRow → Bool) → Tables → Type 0
-AllFit test t = AllByRecursion (RowFits t) (filter test t.items)
+-- each row that passes a test fits
+abbrev pub FitWhere : {A : Type 0} → (A → Bool) → (A → Type 0) → List A → Type 0
+FitWhere test Fits rows = AllByRecursion (λ row. test row ≡ true → Fits row) rows
 
 -- where a list begins that is asked for from a number on: at the last number of 32 bits at most
 abbrev pub start_of : ℕ → ℕ

@@ -1,5 +1,5 @@
 //! Whatever keeps the tables of the house.
-ghost use Rattle.std.specs.Prelude.{◌≡◌, ◌≢◌, ◌≤◌, ◌==◌, ◌&&◌, ◌||◌, ◌⊎◌, All, AllPairs, true, false, Bool, IfOk, IfSome, IsErrOf, OnOk, OnErr, filter, is_some, length, nat_le, take};
+ghost use Rattle.std.specs.Prelude.{◌≡◌, ◌≢◌, ◌≤◌, ◌==◌, ◌&&◌, ◌||◌, ◌⊎◌, All, AllPairs, true, false, Bool, IfOk, IfSome, IsErrOf, OnOk, OnErr, filter, is_some, length, nat_le, not, take};
 ghost use Rattle.proxy.specs.Bids.{is_leader};
 ghost use Rattle.settle.specs.Statement.{IsSale, is_party};
 ghost use Rattle.std.specs.List.{AllByRecursion, list_any};
@@ -7,9 +7,9 @@ ghost use Rattle.house_rows.specs.Asks.{ChangeFits};
 ghost use Rattle.house_rows.specs.Changed.{changed, is_item};
 ghost use Rattle.house_rows.specs.declared.fault.KeepFault.TheVariants.{Damaged};
 ghost use Rattle.house_rows.specs.Fits.{BidRowFits, CategoryFits, FeedbackFits, IsItem, IsMember, IsMoment, IsWithin, ItemFits, MemberFits, OwnBidFits, QuestionFits, StandingFits, TermsFit, WatchRowFits};
-ghost use Rattle.house_rows.specs.Found.{all_items, all_published, ask_count, best_of, category_at, category_named, counts_of, due_at, feedback_to, first_waiting, is_given, is_watched, item_at, item_with_lot, items_in, items_watched, member_named, own_bids, published_on, question_at, questions_of, sales_to, standing_at, terms_at, waiting_for, watch_count};
+ghost use Rattle.house_rows.specs.Found.{all_items, all_published, ask_count, best_of, category_at, category_named, counts_of, due_at, feedback_to, first_waiting, is_given, is_watched, item_at, item_with_lot, items_in, items_watched, member_named, own_bids, published_on, question_at, questions_of, row_at, sales_to, sells, standing_at, terms_at, waiting_for, watch_count};
 ghost use Rattle.house_rows.specs.Items.{is_due};
-ghost use Rattle.house_rows.specs.Keeping.{AllFit, AllStand, AreSound, ChangeFaults, Faults, IsRead, RowFits, StandsAt, StandsIn, start_of};
+ghost use Rattle.house_rows.specs.Keeping.{AllStand, AreSound, ChangeFaults, Faults, FitWhere, IsRead, RowFits, StandsAt, StandsIn, start_of};
 ghost use Rattle.house_rows.specs.Limits.{most_categories, most_items, most_shown};
 ghost use Rattle.house_rows.specs.Pages.{member_at, ratings_of, sale_of};
 ghost use Rattle.house_rows.specs.Tables.{Tables, band_tables};
@@ -126,7 +126,7 @@ pub trait Keep {
         ensures fits { IfOk result (λ v. IfSome v ItemFits) }
         ensures stands { is_honest self.new → IfOk result (λ v. IfSome v (λ it. StandsIn (content self.old) it.terms)) }
         ensures faults { Faults result (is_honest self.new) (is_failed self.new) (content self.old) }
-        ensures damaged { is_honest self.new → AllFit (is_item item) (content self.old) → ¬ (IsErrOf result Damaged) }
+        ensures damaged { is_honest self.new → FitWhere (is_item item) (RowFits (content self.old)) (content self.old).items → ¬ (IsErrOf result Damaged) }
         ensures read { IsRead content is_failed is_honest may_leave self.old self.new };
 
     /// An item without its texts.
@@ -135,7 +135,7 @@ pub trait Keep {
         ensures fits { IfOk result (λ v. IfSome v TermsFit) }
         ensures stands { is_honest self.new → IfOk result (λ v. IfSome v (StandsIn (content self.old))) }
         ensures faults { Faults result (is_honest self.new) (is_failed self.new) (content self.old) }
-        ensures damaged { is_honest self.new → AllFit (is_item item) (content self.old) → ¬ (IsErrOf result Damaged) }
+        ensures damaged { is_honest self.new → FitWhere (is_item item) (RowFits (content self.old)) (content self.old).items → ¬ (IsErrOf result Damaged) }
         ensures read { IsRead content is_failed is_honest may_leave self.old self.new };
 
     /// The number of a seller's item with a lot.
@@ -151,14 +151,14 @@ pub trait Keep {
         ensures value { is_honest self.new → IfOk result (λ v. v ≡ standing_at (content self.old) item) }
         ensures fits { IfOk result (λ v. IfSome v StandingFits) }
         ensures faults { Faults result (is_honest self.new) (is_failed self.new) (content self.old) }
-        ensures damaged { is_honest self.new → AllFit (is_item item) (content self.old) → ¬ (IsErrOf result Damaged) }
+        ensures damaged { is_honest self.new → FitWhere (is_item item) (RowFits (content self.old)) (content self.old).items → ¬ (IsErrOf result Damaged) }
         ensures read { IsRead content is_failed is_honest may_leave self.old self.new };
 
     /// A member's greatest maximum on an item, or 0, and the number of its bids there.
     fn own_best(&mut self, item: u64, member: u64) -> Result<OwnBest, KeepFault>
         ensures value { is_honest self.new → IfOk result (λ v. v ≡ best_of (content self.old) member item) }
         ensures faults { Faults result (is_honest self.new) (is_failed self.new) (content self.old) }
-        ensures damaged { is_honest self.new → AllByRecursion BidRowFits (filter (λ b. (b.bid.member == member) && (b.item == item)) (content self.old).bids) → ¬ (IsErrOf result Damaged) }
+        ensures damaged { is_honest self.new → FitWhere (λ b. (b.bid.member == member) && (b.item == item)) BidRowFits (content self.old).bids → ¬ (IsErrOf result Damaged) }
         ensures read { IsRead content is_failed is_honest may_leave self.old self.new };
 
     /// Whether a member watches an item.
@@ -172,7 +172,7 @@ pub trait Keep {
     fn watch_count(&mut self, member: u64) -> Result<u64, KeepFault>
         ensures value { is_honest self.new → IfOk result (λ v. v ≡ watch_count (content self.old) member) }
         ensures faults { Faults result (is_honest self.new) (is_failed self.new) (content self.old) }
-        ensures damaged { is_honest self.new → AllByRecursion WatchRowFits (filter (λ w. w.member == member) (content self.old).watches) → ¬ (IsErrOf result Damaged) }
+        ensures damaged { is_honest self.new → FitWhere (λ w. w.member == member) WatchRowFits (content self.old).watches → ¬ (IsErrOf result Damaged) }
         ensures read { IsRead content is_failed is_honest may_leave self.old self.new };
 
     /// How many questions a member has asked on an item.
@@ -199,14 +199,14 @@ pub trait Keep {
     fn given(&mut self, item: u64, giver: u64) -> Result<bool, KeepFault>
         ensures value { is_honest self.new → IfOk result (λ v. v ≡ is_given (content self.old) item giver) }
         ensures faults { Faults result (is_honest self.new) (is_failed self.new) (content self.old) }
-        ensures damaged { is_honest self.new → AllByRecursion FeedbackFits (filter (λ f. f.from == giver) (content self.old).feedback) → ¬ (IsErrOf result Damaged) }
+        ensures damaged { is_honest self.new → FitWhere (λ f. f.from == giver) FeedbackFits (content self.old).feedback → ¬ (IsErrOf result Damaged) }
         ensures read { IsRead content is_failed is_honest may_leave self.old self.new };
 
     /// How often a member was rated with each rating.
     fn ratings(&mut self, member: u64) -> Result<Ratings, KeepFault>
         ensures value { is_honest self.new → IfOk result (λ v. v ≡ ratings_of (content self.old).feedback member) }
         ensures faults { Faults result (is_honest self.new) (is_failed self.new) (content self.old) }
-        ensures damaged { is_honest self.new → AllByRecursion FeedbackFits (filter (λ f. f.to == member) (content self.old).feedback) → ¬ (IsErrOf result Damaged) }
+        ensures damaged { is_honest self.new → FitWhere (λ f. f.to == member) FeedbackFits (content self.old).feedback → ¬ (IsErrOf result Damaged) }
         ensures read { IsRead content is_failed is_honest may_leave self.old self.new };
 
     /// How many items a close at the moment would leave sold, and how many unsold.
@@ -214,7 +214,7 @@ pub trait Keep {
         ensures value { is_honest self.new → IfOk result (λ v. v ≡ due_at (content self.old) moment) }
         ensures stands { is_honest self.new → OnOk result (AllStand (λ row. is_due moment row.item.terms) (content self.old)) }
         ensures faults { Faults result (is_honest self.new) (is_failed self.new) (content self.old) }
-        ensures damaged { is_honest self.new → AllFit (λ row. is_due moment row.item.terms) (content self.old) → ¬ (IsErrOf result Damaged) }
+        ensures damaged { is_honest self.new → FitWhere (λ row. is_due moment row.item.terms) (RowFits (content self.old)) (content self.old).items → ¬ (IsErrOf result Damaged) }
         ensures read { IsRead content is_failed is_honest may_leave self.old self.new };
 
     /// The items of a category, from a number on; at most fifty.
@@ -285,7 +285,7 @@ pub trait Keep {
         ensures value { is_honest self.new → IfOk result (λ v. v.items ≡ all_published (content self.old)) }
         ensures fits { IfOk result (λ v. AllByRecursion QuestionFits v.items) }
         ensures faults { Faults result (is_honest self.new) (is_failed self.new) (content self.old) }
-        ensures damaged { is_honest self.new → AllByRecursion QuestionFits (all_published (content self.old)) → ¬ (IsErrOf result Damaged) }
+        ensures damaged { is_honest self.new → FitWhere (λ q. is_some q.answer) QuestionFits (content self.old).questions → ¬ (IsErrOf result Damaged) }
         ensures read { IsRead content is_failed is_honest may_leave self.old self.new };
 
     /// All feedback, by item and giver.
@@ -302,7 +302,7 @@ pub trait Keep {
         ensures fits { IfOk result (λ v. AllByRecursion ItemFits v.items) }
         ensures stands { is_honest self.new → IfOk result (λ v. AllByRecursion (λ it. StandsIn (content self.old) it.terms) v.items) }
         ensures faults { Faults result (is_honest self.new) (is_failed self.new) (content self.old) }
-        ensures damaged { is_honest self.new → AllByRecursion WatchRowFits (filter (λ w. w.member == member) (content self.old).watches) → AllFit (λ row. is_watched (content self.old) member row.item.terms.item) (content self.old) → ¬ (IsErrOf result Damaged) }
+        ensures damaged { is_honest self.new → FitWhere (λ w. w.member == member) WatchRowFits (content self.old).watches → FitWhere (λ row. is_watched (content self.old) member row.item.terms.item) (RowFits (content self.old)) (content self.old).items → ¬ (IsErrOf result Damaged) }
         ensures read { IsRead content is_failed is_honest may_leave self.old self.new };
 
     /// The questions that wait for a member's answer, by item, asker and number.
@@ -311,7 +311,7 @@ pub trait Keep {
         ensures fits { IfOk result (λ v. AllByRecursion QuestionFits v.items) }
         ensures stands { is_honest self.new → IfOk result (λ v. AllByRecursion (λ q. StandsAt (content self.old) q.item) v.items) }
         ensures faults { Faults result (is_honest self.new) (is_failed self.new) (content self.old) }
-        ensures damaged { is_honest self.new → AllFit (λ row. row.item.terms.seller == member) (content self.old) → AllByRecursion QuestionFits (waiting_for (content self.old) member) → ¬ (IsErrOf result Damaged) }
+        ensures damaged { is_honest self.new → FitWhere (λ row. row.item.terms.seller == member) (RowFits (content self.old)) (content self.old).items → FitWhere (λ q. not (is_some q.answer) && sells (row_at (content self.old) q.item) member) QuestionFits (content self.old).questions → ¬ (IsErrOf result Damaged) }
         ensures read { IsRead content is_failed is_honest may_leave self.old self.new };
 
     /// The first of the questions that wait for a member's answer, by item, asker and number; at most
@@ -331,7 +331,7 @@ pub trait Keep {
         ensures apart { IfOk result (λ v. AllPairs (λ a b. a.item ≢ b.item) v.items) }
         ensures few { IfOk result (λ v. length v.items ≤ most_items) }
         ensures faults { Faults result (is_honest self.new) (is_failed self.new) (content self.old) }
-        ensures damaged { is_honest self.new → AllFit (λ row. (member == 0) || ((row.item.terms.seller == member) || is_leader row.item.terms.leader member)) (content self.old) → ¬ (IsErrOf result Damaged) }
+        ensures damaged { is_honest self.new → FitWhere (λ row. (member == 0) || ((row.item.terms.seller == member) || is_leader row.item.terms.leader member)) (RowFits (content self.old)) (content self.old).items → ¬ (IsErrOf result Damaged) }
         ensures read { IsRead content is_failed is_honest may_leave self.old self.new };
 
     /// Makes a change, whole or not at all.

@@ -15,13 +15,13 @@ use Rattle.sqlite_sql.specs.Ops.{binary, is_true}
 use Rattle.sqlite_sql.specs.Program.{overlay}
 use Rattle.sqlite_sql.specs.Term.{Term}
 use Rattle.sqlite_trees.specs.View.{is_int}
-use Rattle.sqlite_keyed.proofs.ListLemmas.{all_both, all_map, all_unmap, all_weaker, filter-map}
+use Rattle.sqlite_keyed.proofs.ListLemmas.{all_both, all_map, all_weaker}
 use Rattle.sqlite_keyed.proofs.RuleLemmas.{first_of_both}
 use Rattle.sqlite.specs.Effect.{Database}
 use Rattle.sqlite.specs.State.{State, Shown}
 use Rattle.sqlite.proofs.Callers.{reads_as}
 use Rattle.proxy.specs.Bids.{is_leader}
-use Rattle.house_rows.specs.Keeping.{FitsBy}
+use Rattle.house_rows.specs.Keeping.{FitWhere, FitsBy}
 use Rattle.house_rows.specs.Items.{is_due, is_open}
 use Rattle.house_rows.specs.Tables.{ItemRow}
 use Rattle.house_rows.specs.Editions.{BandTables}
@@ -32,7 +32,7 @@ use Rattle.store_rows.specs.ItemRows.{item_row_in, items_in, state_in, terms_of}
 use Rattle.store_rows.specs.Plain.{passes, shown_by}
 use Rattle.store_rows.specs.Rows.{number_in}
 use Rattle.store_rows.proofs.ColumnLemmas.{holds_all}
-use Rattle.store_rows.proofs.RowLemmas.{int_if, equals_number, alone, filter_same_on}
+use Rattle.store_rows.proofs.RowLemmas.{int_if, equals_number, alone, passing_fit}
 use Rattle.store_rows.proofs.Select.{by_rowid, equals, in_order, listed, typed_part}
 use Rattle.store_rows.proofs.Update.{IsStrict}
 use Rattle.store_items.specs.Standing.{TermsHold}
@@ -90,7 +90,7 @@ module _ (sql : List ℕ) (test : List Term) (is : AsksTerms sql test) (params :
       rows_hold editions (TermsHold editions) terms_shown test params (old.now.trees 6) answer (terms_row editions params) order fit
 
   -- where the items that the query keeps fit
-  pub terms_kept : (keep : ItemRow → Bool) → ((r : Row) → IsRow r → passes test params r ≡ keep (item_row_in r)) → (editions : BandTables) → AllByRecursion (FitsBy editions) (filter keep (items_in old.now.trees))
+  pub terms_kept : (keep : ItemRow → Bool) → ((r : Row) → IsRow r → passes test params r ≡ keep (item_row_in r)) → (editions : BandTables) → FitWhere keep (FitsBy editions) (items_in old.now.trees)
       → AllByRecursion (TermsHold editions) answer
   terms_kept keep tests editions fit =
       let rows = old.now.trees 6 in
@@ -98,9 +98,7 @@ module _ (sql : List ℕ) (test : List Term) (is : AsksTerms sql test) (params :
       let show = shown_by terms_shown params in
       let read = reads_as sql params old new house_schema house.schema _ is.0 is.2 is.1 answer h in
       let order = in_order test terms_shown params rows answer house.shaped.1.1.1.1.0.0 (listed 6 test terms_shown by_rowid (overlay old.now.trees []) params answer (read.answer Null)) in
-      let typed : filter keep (map item_row_in rows) ≡ map item_row_in kept =
-      filter-map keep item_row_in rows ∙ ap (map item_row_in) (sym (filter_same_on IsRow (passes test params) (λ r. keep (item_row_in r)) tests rows (are_rows old.now house))) in
-      let each = all_unmap (FitsBy editions) item_row_in kept (subst (AllByRecursion (FitsBy editions)) typed fit) in
+      let each = passing_fit item_row_in (FitsBy editions) keep IsRow (passes test params) tests rows (are_rows old.now house) fit in
       subst (AllByRecursion (TermsHold editions)) (sym order) (all_map (TermsHold editions) show kept (all_weaker (λ r. FitsBy editions (item_row_in r)) (λ r. TermsHold editions (show r)) (terms_row editions params) kept each))
 
 -- ---- the tests

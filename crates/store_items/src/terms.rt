@@ -6,7 +6,7 @@ ghost use Rattle.sqlite.specs.Held.{state};
 ghost use Rattle.proxy.specs.Bids.{is_leader};
 ghost use Rattle.house_rows.specs.Fits.{TermsFit};
 ghost use Rattle.house_rows.specs.Items.{is_due};
-ghost use Rattle.house_rows.specs.Keeping.{FitsBy, StandsBy};
+ghost use Rattle.house_rows.specs.Keeping.{FitWhere, FitsBy, StandsBy};
 ghost use Rattle.house_rows.specs.Tables.{ItemRow};
 ghost use Rattle.house_rows.specs.declared.fault.KeepFault.TheVariants.{Damaged};
 ghost use Rattle.store_rows.specs.House.{Serves};
@@ -37,8 +37,8 @@ pub fn terms_of_seller<S: Alter>(
         → AllByRecursion (FitsBy editions.now) (items_in (state S.Store conn.old).now.trees)
         → ¬ (IsErrOf result Damaged) }
     ensures here { HasCleanDisk (state S.Store conn.new)
-        → AllByRecursion (FitsBy editions.now) (filter (λ row. row.item.terms.seller == seller)
-        (items_in (state S.Store conn.old).now.trees))
+        → FitWhere (λ row. row.item.terms.seller == seller) (FitsBy editions.now)
+        (items_in (state S.Store conn.old).now.trees)
         → ¬ (IsErrOf result Damaged) }
     ensures read { OnlyReads (state S.Store conn.old) (state S.Store conn.new) result }
 {
@@ -68,8 +68,8 @@ pub(crate) fn terms_led_by<S: Alter>(
         → AllByRecursion (FitsBy editions.now) (items_in (state S.Store conn.old).now.trees)
         → ¬ (IsErrOf result Damaged) }
     ensures here { HasCleanDisk (state S.Store conn.new)
-        → AllByRecursion (FitsBy editions.now) (filter (λ row. is_leader row.item.terms.leader member)
-        (items_in (state S.Store conn.old).now.trees))
+        → FitWhere (λ row. is_leader row.item.terms.leader member) (FitsBy editions.now)
+        (items_in (state S.Store conn.old).now.trees)
         → ¬ (IsErrOf result Damaged) }
     ensures read { OnlyReads (state S.Store conn.old) (state S.Store conn.new) result }
 {
@@ -100,8 +100,8 @@ pub(crate) fn due_terms<S: Alter>(
         → AllByRecursion (FitsBy editions.now) (items_in (state S.Store conn.old).now.trees)
         → ¬ (IsErrOf result Damaged) }
     ensures here { HasCleanDisk (state S.Store conn.new)
-        → AllByRecursion (FitsBy editions.now) (filter (λ row. is_due moment row.item.terms)
-        (items_in (state S.Store conn.old).now.trees))
+        → FitWhere (λ row. is_due moment row.item.terms) (FitsBy editions.now)
+        (items_in (state S.Store conn.old).now.trees)
         → ¬ (IsErrOf result Damaged) }
     ensures read { OnlyReads (state S.Store conn.old) (state S.Store conn.new) result }
 {

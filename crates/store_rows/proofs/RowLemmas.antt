@@ -1,5 +1,5 @@
 -- From SQL's comparisons and keys to numbers.
-use Rattle.std.proofs.Common.{◌≡◌, ℕ, ◌^◌, ◌<◌, ◌≤◌, ℤ, pos, negsuc, Bool, true, false, not, ◌&&◌, cond, nat_lt, eqb, List, [], ◌∷◌, length, map, filter, refl, sym, ap, ◌∙◌, arith, Less, is_eq, int_cmp, IsTrue, true≢false, IsUtf8}
+use Rattle.std.proofs.Common.{◌≡◌, ℕ, ◌^◌, ◌<◌, ◌≤◌, ℤ, pos, negsuc, Bool, true, false, not, ◌&&◌, cond, nat_lt, eqb, List, [], ◌∷◌, length, map, filter, refl, sym, ap, ◌∙◌, inl, inr, arith, Less, is_eq, int_cmp, IsTrue, true≢false, IsUtf8}
 use Rattle.std.specs.List.{AllByRecursion}
 use Rattle.std.proofs.lemmas.Int.{ints}
 use Rattle.std.proofs.lemmas.Grind.{common_steps}
@@ -20,6 +20,7 @@ use Rattle.sqlite_keyed.proofs.KeyedLemmas.{lt_from_Less}
 use Rattle.sqlite_keyed.proofs.RuleLemmas.{at_most_one}
 use Rattle.store_rows.specs.Rows.{number_in, text_in}
 use Rattle.house_rows.specs.Text.{same_text}
+use Rattle.house_rows.proofs.Put.{by_test}
 use Rattle.store_rows.proofs.TextLemmas.{other_text}
 use Rattle.std.specs.Cmp.Lexicographic.{texts_ties}
 use Rattle.sqlite_schema.specs.Rules.{is_of}
@@ -72,6 +73,17 @@ equals_number (Blob b) n is low = absurd (true≢false (sym is))
 pub filter_same_on : {X : Type 0} (P : X → Type 0) (p q : X → Bool) → ((x : X) → P x → p x ≡ q x) → (xs : List X) → AllByRecursion P xs → filter p xs ≡ filter q xs
 filter_same_on P p q same [] all = refl
 filter_same_on P p q same (x ∷ xs) all = rw (same x all.0) (ap (λ l. cond (q x) (x ∷ l) l) (filter_same_on P p q same xs all.1))
+
+-- of rows that fit where they pass a test those fit that a query keeps by it
+pub passing_fit : {T : Type 0} (inside : Row → T) (Fits : T → Type 0) (keep : T → Bool) (P : Row → Type 0) (p : Row → Bool) → ((r : Row) → P r → p r ≡ keep (inside r)) → (rows : List Row)
+    → AllByRecursion P rows → AllByRecursion (λ x. keep x ≡ true → Fits x) (map inside rows) → AllByRecursion (λ r. Fits (inside r)) (filter p rows)
+passing_fit inside Fits keep P p tests [] are fit = tt
+passing_fit inside Fits keep P p tests (r ∷ rows) are fit =
+    let rest = passing_fit inside Fits keep P p tests rows are.1 fit.1 in
+    elim (by_test (p r)) [
+      | inl is ↦ rw is (fit.0 (sym (tests r are.0) ∙ is), rest)
+      | inr not ↦ rw not rest
+    ]
 
 abbrev pub row_key : Row → ℤ
 row_key r = id_in (rowid r)
