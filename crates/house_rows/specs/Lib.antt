@@ -21,3 +21,4 @@ pub mod Found
 pub mod Fits
 pub mod Asks
 pub mod Keeping
+pub mod Reached

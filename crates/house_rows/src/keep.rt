@@ -12,6 +12,7 @@ ghost use Rattle.house_rows.specs.Items.{is_due};
 ghost use Rattle.house_rows.specs.Keeping.{AllStand, AreSound, ChangeFaults, Faults, FitWhere, IsRead, RowFits, StandsAt, StandsIn, start_of};
 ghost use Rattle.house_rows.specs.Limits.{most_categories, most_items, most_shown};
 ghost use Rattle.house_rows.specs.Pages.{member_at, ratings_of, sale_of};
+ghost use Rattle.house_rows.specs.Reached.{FitsSoFar};
 ghost use Rattle.house_rows.specs.Tables.{Tables, band_tables};
 
 use crate::change::Change;
@@ -232,6 +233,7 @@ pub trait Keep {
         ensures fits { IfOk result (λ v. AllByRecursion OwnBidFits v.items) }
         ensures stands { is_honest self.new → IfOk result (λ v. AllByRecursion (λ b. StandsAt (content self.old) b.item) v.items) }
         ensures faults { Faults result (is_honest self.new) (is_failed self.new) (content self.old) }
+        ensures damaged { is_honest self.new → FitsSoFar (band_tables (content self.old)) (content self.old) member from → ¬ (IsErrOf result Damaged) }
         ensures read { IsRead content is_failed is_honest may_leave self.old self.new };
 
     /// The published questions on an item, from an asker on, by asker and number; at most fifty.

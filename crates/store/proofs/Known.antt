@@ -1,11 +1,17 @@
 -- What a keep knows of its house: its band tables are those of the tables. And what it tells of a call that failed.
-use Rattle.std.proofs.Common.{◌≡◌, ◌∙◌, ℕ, List, Bool, true, false, ap, refl, subst, sym, Option}
-use Rattle.std.specs.Prelude.{◌↔◌, Err, IfSome, IsErrOf}
+use Rattle.std.proofs.Common.{◌≡◌, ◌∙◌, ℕ, List, Bool, true, false, ap, refl, subst, sym, arith, Option}
+use Rattle.std.specs.Prelude.{◌==◌, ◌&&◌, ◌↔◌, Err, IfSome, IsErrOf}
+use Rattle.std.proofs.lemmas.Bool.Decides.{nat_tests}
 use Rattle.std.specs.List.{AllByRecursion}
 use Rattle.sqlite_trees.specs.Tree.{Trees}
-use Rattle.house_rows.specs.Keeping.{AllStand, AreSound, AreSoundBy, Faults, FitsBy, StandsAt, StandsBy, StandsIn}
+use Rattle.house_rows.specs.Keeping.{AllStand, AreSound, AreSoundBy, Faults, FitWhere, FitsBy, RowFits, StandsAt, StandsBy, StandsIn}
 use Rattle.house_rows.specs.Editions.{BandTables}
-use Rattle.house_rows.specs.Tables.{ItemRow, Tables}
+use Rattle.house_rows.specs.Bids.{BidRow}
+use Rattle.house_rows.specs.Changed.{is_item}
+use Rattle.house_rows.specs.Fits.{BidRowFits}
+use Rattle.house_rows.specs.Reached.{FitsSoFar}
+use Rattle.house_rows.specs.Tables.{ItemRow, Tables, band_tables}
+use Rattle.house_rows.proofs.Every.{every_as}
 use Rattle.house_rows.specs.declared.fault.KeepFault.{KeepFault}
 use Rattle.house_rows.specs.declared.fault.KeepFault.TheVariants.{Store, Damaged}
 use Rattle.house_rows.specs.declared.item.Item.{Item}
@@ -13,7 +19,7 @@ use Rattle.house_rows.specs.declared.item.Terms.{Terms}
 use Rattle.house_rows.specs.declared.people.Counts.{Counts}
 use Rattle.store_rows.specs.ItemRows.{items_in}
 use Rattle.store_rows.specs.Tables.{tables_in}
-use Rattle.store_items.specs.RowsStanding.{ItemStands, RowsStand}
+use Rattle.store_items.specs.RowsStanding.{ItemStands, RowFitsAt, RowsStand}
 use Rattle.store_rows.proofs.Sound.{rows_fit}
 use Rattle.store.specs.Kept.{House, IsKnown, is_failed}
 
@@ -23,6 +29,22 @@ module _ (db : Trees) (editions : BandTables) (counts : Counts) (clock : ℕ) (k
 
   pub known_rows : AreSound (tables_in db) → AllByRecursion (FitsBy editions) (items_in db)
   known_rows sound = rows_fit db editions (known_sound sound)
+
+  -- rows that fit in the tables fit by the band tables that are known
+  pub known_list : (rows : List ItemRow) → AllByRecursion (RowFits (tables_in db)) rows → AllByRecursion (FitsBy editions) rows
+  known_list rows = subst (λ (b : BandTables). AllByRecursion (FitsBy b) rows) known.editions_are
+
+  pub known_where : (test : ItemRow → Bool) → FitWhere test (RowFits (tables_in db)) (tables_in db).items → FitWhere test (FitsBy editions) (items_in db)
+  unfolding tables_in
+  known_where test = subst (λ (b : BandTables). FitWhere test (FitsBy b) (items_in db)) known.editions_are
+
+  pub known_row : (item : ℕ) → FitWhere (is_item item) (RowFits (tables_in db)) (tables_in db).items → RowFitsAt editions db item
+  known_row item fits =
+      every_as (λ (row : ItemRow). is_item item row ≡ true → FitsBy editions row) (λ (row : ItemRow). row.item.terms.item ≡ item → FitsBy editions row) (items_in db)
+      (λ row fit same. fit (grind (arith, nat_tests, same))) (known_where (is_item item) fits)
+
+  pub known_so_far : (member from : ℕ) → FitsSoFar (band_tables (tables_in db)) (tables_in db) member from → FitsSoFar editions (tables_in db) member from
+  known_so_far member from = subst (λ (b : BandTables). FitsSoFar b (tables_in db) member from) known.editions_are
 
   -- what stands by the band tables that are known stands in the tables
   pub one_stands : (item : Option Item) → IfSome item (λ it. StandsBy editions it.terms) → IfSome item (λ it. StandsIn (tables_in db) it.terms)
@@ -62,3 +84,13 @@ told_sound fault told failed honest t same store none = record {
 -- a keep that is seen not to have failed has not failed inside
 pub works : {S : Type 0} (inside seen : House S) → inside ≡ seen → is_failed seen ≡ false → inside.failed ≡ false
 works inside seen same going = ap is_failed same ∙ going
+
+-- a fault that is no damage is told as none, in a result
+pub not_told : {A : Type 0} (fault told : KeepFault) (failed : Bool) → (failed ≡ false → told ≡ fault) → ((told ≡ Store) ↔ (failed ≡ true)) → ¬ (fault ≡ Damaged) → ¬ (IsErrOf {T = A} {E = KeepFault} (Err told) Damaged)
+not_told fault told failed same store none is = no_damage fault told failed same store none (the_fault is)
+
+-- a member's bids on an item fit
+pub own_fit : (t : Tables) (member item : ℕ) → FitWhere (λ b. (b.bid.member == member) && (b.item == item)) BidRowFits t.bids → AllByRecursion (λ b. b.bid.member ≡ member → b.item ≡ item → BidRowFits b) t.bids
+own_fit t member item fits =
+    every_as (λ (b : BidRow). ((b.bid.member == member) && (b.item == item)) ≡ true → BidRowFits b) (λ (b : BidRow). b.bid.member ≡ member → b.item ≡ item → BidRowFits b) t.bids
+    (λ b fit mine on. fit (grind (arith, nat_tests, mine, on))) fits

@@ -20,7 +20,8 @@ use Rattle.store_rows.specs.ItemRows.{items_in}
 use Rattle.store_rows.specs.Sorted.{sorted_bids}
 use Rattle.store_rows.specs.Tables.{tables_in}
 use Rattle.store_bids.specs.OwnBids.{own_found}
-use Rattle.store_bids.specs.Reached.{FitInTurn, FitsSoFar}
+use Rattle.house_rows.specs.Reached.{FitsSoFar}
+use Rattle.store_bids.specs.Reached.{FitInTurn}
 
 -- ---- what was found so far, and what is to come
 

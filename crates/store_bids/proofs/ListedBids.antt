@@ -17,7 +17,8 @@ use Rattle.store_rows.proofs.Grouped.{firsts_rise}
 use Rattle.store_rows.proofs.Sorting.{sorted_in_order}
 use Rattle.store_items.proofs.ItemRising.{items_rise, number_of}
 use Rattle.store_bids.specs.OwnBids.{found_from}
-use Rattle.store_bids.specs.Reached.{FitFrom, FitsSoFar}
+use Rattle.house_rows.specs.Reached.{FitsSoFar}
+use Rattle.store_bids.specs.Reached.{FitFrom}
 use Rattle.store_bids.proofs.OwnBidItems.{all_in_turn, fewer, full}
 
 module _ (db : Database) (member from : ℕ) (house : IsHouse db) where

@@ -29,7 +29,8 @@ use Rattle.store_rows.proofs.Joined.{IsRisingBy, among, found_part, joined}
 use Rattle.store_items.proofs.Behind.{parts}
 use Rattle.store_items.proofs.ItemRising.{number_of}
 use Rattle.store_bids.specs.OwnBids.{bid_told, items_bid_on, numbers_from, own_found}
-use Rattle.store_bids.specs.Reached.{FitInTurn, FitsSoFar, IsReached}
+use Rattle.house_rows.specs.Reached.{FitsSoFar, IsReached}
+use Rattle.store_bids.specs.Reached.{FitInTurn}
 use Rattle.store_bids.proofs.ItemsBid.{low_items}
 use Rattle.store_bids.proofs.Numbers.{has, none_both, numbers_above, numbers_all, numbers_have, numbers_up}
 

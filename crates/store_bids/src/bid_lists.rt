@@ -10,7 +10,8 @@ ghost use Rattle.store_rows.specs.House.{Serves};
 ghost use Rattle.store_rows.specs.Tables.{tables_in};
 ghost use Rattle.store_rows.specs.Joined.{found_of};
 ghost use Rattle.store_bids.specs.OwnBids.{bid_told, own_found};
-ghost use Rattle.store_bids.specs.Reached.{FitsAt, FitInTurn};
+ghost use Rattle.house_rows.specs.Reached.{FitsAt};
+ghost use Rattle.store_bids.specs.Reached.{FitInTurn};
 ghost use Rattle.store_items.specs.RowsStanding.{ItemStands};
 ghost use Rattle.store_rows.specs.Frames.{OnlyReads};
 

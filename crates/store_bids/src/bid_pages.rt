@@ -12,7 +12,8 @@ ghost use Rattle.house_rows.specs.declared.fault.KeepFault.TheVariants.{Damaged}
 ghost use Rattle.store_rows.specs.House.{Serves};
 ghost use Rattle.store_rows.specs.Tables.{tables_in};
 ghost use Rattle.store_bids.specs.OwnBids.{behind, found_from, numbers_from};
-ghost use Rattle.store_bids.specs.Reached.{FitFrom, FitsSoFar};
+ghost use Rattle.house_rows.specs.Reached.{FitsSoFar};
+ghost use Rattle.store_bids.specs.Reached.{FitFrom};
 ghost use Rattle.store_items.specs.RowsStanding.{ItemStands};
 ghost use Rattle.store_rows.specs.Frames.{OnlyReads};
 

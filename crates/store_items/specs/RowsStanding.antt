@@ -5,7 +5,7 @@ use Rattle.sqlite_trees.specs.Tree.{Trees}
 use Rattle.house_rows.specs.Editions.{BandTables}
 use Rattle.house_rows.specs.Fits.{TermsFit}
 use Rattle.house_rows.specs.Found.{row_at, terms_at}
-use Rattle.house_rows.specs.Keeping.{StandsBy}
+use Rattle.house_rows.specs.Keeping.{FitsBy, StandsBy}
 use Rattle.house_rows.specs.Tables.{ItemRow}
 use Rattle.store_rows.specs.ItemRows.{items_in}
 use Rattle.store_rows.specs.Tables.{tables_in}
@@ -21,6 +21,10 @@ RowsStand editions test db = AllByRecursion (λ row. StandsBy editions row.item.
 -- the item of a number stands, if there is one
 abbrev pub ItemStands : BandTables → Trees → ℕ → Type 0
 ItemStands editions db item = IfSome (terms_at (tables_in db) item) (StandsBy editions)
+
+-- the row of an item fits, if there is one
+abbrev pub RowFitsAt : BandTables → Trees → ℕ → Type 0
+RowFitsAt editions db item = AllByRecursion (λ row. row.item.terms.item ≡ item → FitsBy editions row) (items_in db)
 
 -- there is an item of a number, whose row fits and stands
 pub record HasStandingItem (editions : BandTables) (db : Trees) (item : ℕ) : Type 0 where

@@ -13,6 +13,7 @@ ghost use Rattle.house_rows.specs.Keeping.{FitsBy, StandsBy};
 ghost use Rattle.house_rows.specs.declared.fault.KeepFault.TheVariants.{Damaged};
 ghost use Rattle.store_rows.specs.House.{Serves};
 ghost use Rattle.store_rows.specs.ItemRows.{items_in};
+ghost use Rattle.store_items.specs.RowsStanding.{RowFitsAt};
 ghost use Rattle.store_rows.specs.Frames.{OnlyReads};
 
 use crate::reads::{first_item, first_terms, item_list};
@@ -39,8 +40,7 @@ pub fn item_at<S: Alter>(
         → AllByRecursion (FitsBy editions.now) (items_in (state S.Store conn.old).now.trees)
         → ¬ (IsErrOf result Damaged) }
     ensures here { HasCleanDisk (state S.Store conn.new)
-        → AllByRecursion (λ row. row.item.terms.item ≡ number → FitsBy editions.now row)
-        (items_in (state S.Store conn.old).now.trees)
+        → RowFitsAt editions.now (state S.Store conn.old).now.trees number
         → ¬ (IsErrOf result Damaged) }
     ensures read { OnlyReads (state S.Store conn.old) (state S.Store conn.new) result }
 {
@@ -69,8 +69,7 @@ pub fn terms_at<S: Alter>(
         → AllByRecursion (FitsBy editions.now) (items_in (state S.Store conn.old).now.trees)
         → ¬ (IsErrOf result Damaged) }
     ensures here { HasCleanDisk (state S.Store conn.new)
-        → AllByRecursion (λ row. row.item.terms.item ≡ number → FitsBy editions.now row)
-        (items_in (state S.Store conn.old).now.trees)
+        → RowFitsAt editions.now (state S.Store conn.old).now.trees number
         → ¬ (IsErrOf result Damaged) }
     ensures read { OnlyReads (state S.Store conn.old) (state S.Store conn.new) result }
 {
@@ -100,8 +99,7 @@ pub fn standing_at<S: Alter>(
         → AllByRecursion (FitsBy editions.now) (items_in (state S.Store conn.old).now.trees)
         → ¬ (IsErrOf result Damaged) }
     ensures here { HasCleanDisk (state S.Store conn.new)
-        → AllByRecursion (λ row. row.item.terms.item ≡ number → FitsBy editions.now row)
-        (items_in (state S.Store conn.old).now.trees)
+        → RowFitsAt editions.now (state S.Store conn.old).now.trees number
         → ¬ (IsErrOf result Damaged) }
     ensures read { OnlyReads (state S.Store conn.old) (state S.Store conn.new) result }
 {

@@ -1,6 +1,7 @@
 -- What a table whose rows fit shows, fits.
-use Rattle.std.proofs.Common.{◌≡◌, Bool, true, false, cond, List, [], ◌∷◌, map, filter, find, option_map, slice_get, Some, IfSome, sym, subst, ℕ, suc, zero, ◌<◌, length, get_or, arith}
+use Rattle.std.proofs.Common.{◌≡◌, Bool, true, false, cond, List, [], ◌∷◌, map, filter, find, option_map, slice_get, Some, IfSome, sym, subst, inl, inr, ℕ, suc, zero, ◌<◌, length, get_or, arith}
 use Rattle.std.specs.List.{AllByRecursion}
+use Rattle.house_rows.proofs.Put.{by_test}
 use Rattle.sqlite_value.specs.Order.{Row}
 use Rattle.sqlite_keyed.proofs.ListLemmas.{all-filter}
 
@@ -35,3 +36,10 @@ part_fits part P Fits each p (x ∷ table) all = go (p x) (part_fits part P Fits
     go : (b : Bool) → IfSome (option_map part (find p table)) Fits → IfSome (option_map part (cond b (Some x) (find p table))) Fits
     go true later = each x all.0
     go false later = later
+
+-- of rows that fit where they pass a test those fit that pass it
+pub kept_where : {T : Type 0} (p : T → Bool) (Fits : T → Type 0) (table : List T) → AllByRecursion (λ x. p x ≡ true → Fits x) table → AllByRecursion Fits (filter p table)
+kept_where p Fits [] fits = tt
+kept_where p Fits (x ∷ table) fits =
+    let rest = kept_where p Fits table fits.1 in
+    elim (by_test (p x)) [ inl is ↦ rw is (fits.0 is, rest) | inr not ↦ rw not rest ]

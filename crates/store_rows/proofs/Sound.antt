@@ -1,15 +1,17 @@
 -- Of sound tables every stored row fits.
-use Rattle.std.proofs.Common.{◌≡◌}
+use Rattle.std.proofs.Common.{◌≡◌, Bool, true}
 use Rattle.std.specs.List.{AllByRecursion}
 use Rattle.sqlite_trees.specs.Tree.{Trees}
-use Rattle.house_rows.specs.Bids.{bid_key}
+use Rattle.house_rows.specs.Bids.{BidRow, bid_key}
 use Rattle.house_rows.specs.Changed.{question_key}
 use Rattle.house_rows.specs.Fits.{BidRowFits, FeedbackFits, ItemFits, QuestionFits, WatchRowFits}
-use Rattle.house_rows.specs.Keeping.{AreSound, AreSoundBy, FitsBy}
+use Rattle.house_rows.specs.Keeping.{AreSound, AreSoundBy, FitWhere, FitsBy}
 use Rattle.house_rows.specs.Editions.{BandTables}
 use Rattle.house_rows.specs.Ratings.{feedback_key}
 use Rattle.house_rows.specs.Tables.{ItemRow, band_tables}
-use Rattle.house_rows.specs.Watches.{watch_key}
+use Rattle.house_rows.specs.Watches.{WatchRow, watch_key}
+use Rattle.house_rows.specs.declared.talk.Feedback.{Feedback}
+use Rattle.house_rows.specs.declared.talk.Question.{Question}
 use Rattle.house_rows.proofs.Every.{every_as}
 use Rattle.store_rows.specs.ItemRows.{items_in}
 use Rattle.store_rows.specs.Rows.{bids_in, feedback_in, questions_in, watches_in}
@@ -40,3 +42,20 @@ items_fit db sound = every_as (FitsBy (band_tables (tables_in db))) (λ (row : I
 pub rows_fit : (db : Trees) (editions : BandTables) → AreSoundBy editions (tables_in db) → AllByRecursion (FitsBy editions) (items_in db)
 unfolding tables_in
 rows_fit db editions sound = rw sound.same sound.sound.items
+
+-- rows that fit where they pass a test, in the order of their keys, fit so as they are stored
+pub bids_where : (db : Trees) (p : BidRow → Bool) → FitWhere p BidRowFits (tables_in db).bids → FitWhere p BidRowFits (bids_in db)
+unfolding tables_in
+bids_where db p fits = every_stored bid_key (λ (b : BidRow). p b ≡ true → BidRowFits b) (bids_in db) fits
+
+pub watches_where : (db : Trees) (p : WatchRow → Bool) → FitWhere p WatchRowFits (tables_in db).watches → FitWhere p WatchRowFits (watches_in db)
+unfolding tables_in
+watches_where db p fits = every_stored watch_key (λ (w : WatchRow). p w ≡ true → WatchRowFits w) (watches_in db) fits
+
+pub questions_where : (db : Trees) (p : Question → Bool) → FitWhere p QuestionFits (tables_in db).questions → FitWhere p QuestionFits (questions_in db)
+unfolding tables_in
+questions_where db p fits = every_stored question_key (λ (q : Question). p q ≡ true → QuestionFits q) (questions_in db) fits
+
+pub feedback_where : (db : Trees) (p : Feedback → Bool) → FitWhere p FeedbackFits (tables_in db).feedback → FitWhere p FeedbackFits (feedback_in db)
+unfolding tables_in
+feedback_where db p fits = every_stored feedback_key (λ (f : Feedback). p f ≡ true → FeedbackFits f) (feedback_in db) fits

@@ -7,7 +7,9 @@ use Rattle.sqlite_value.specs.Order.{Row, column}
 use Rattle.sqlite_sql.specs.Program.{overlay}
 use Rattle.sqlite.specs.State.{State, Shown}
 use Rattle.sqlite.proofs.Callers.{reads_as}
+use Rattle.sqlite_keyed.proofs.RuleLemmas.{second_of_both}
 use Rattle.house_rows.specs.Fits.{FeedbackFits}
+use Rattle.house_rows.specs.Keeping.{FitWhere}
 use Rattle.house_rows.specs.Ratings.{feedback_key}
 use Rattle.house_rows.specs.declared.talk.Feedback.{Feedback}
 use Rattle.house_rows.proofs.Put.{by_test}
@@ -90,6 +92,18 @@ module _ (item giver : ℕ) (low : item < 2 ^ 32) (small : giver < 2 ^ 32) where
         | inr others ↦ rw others (first_fits table fits.1)
       ]
 
+  -- a row with the key is the giver's
+  by_giver : (r : Row) → has_key r ≡ true → ((one_feedback_in r).from == giver) ≡ true
+  by_giver r is = second_of_both (eqb (number_in (column r 1)) item) _ is
+
+  first_here : (table : List Row) → AllByRecursion (λ f. (f.from == giver) ≡ true → FeedbackFits f) (map one_feedback_in table) → FirstFits (kept table)
+  first_here [] fits = tt
+  first_here (r ∷ table) fits =
+      elim (by_test (has_key r)) [
+        | inl is ↦ rw is (fits.0 (by_giver r is))
+        | inr others ↦ rw others (first_here table fits.1)
+      ]
+
   module _ (old new : State) (answer : List Row) (house : IsHouse old.now) (h : Shown is_given_text params old new answer) where
     abbrev table : List Row
     table = old.now.trees 14
@@ -108,6 +122,10 @@ module _ (item giver : ℕ) (low : item < 2 ^ 32) (small : giver < 2 ^ 32) where
         let typed = as_typed table (rw answer_is at fits) in
         let counts = ap (λ n. not (n == 0)) (count-sorted feedback_key is_by (feedback_in old.now.trees)) in
         key_found ∙ typed ∙ sym (some_counted is_by (feedback_in old.now.trees)) ∙ sym counts ∙ some_counted is_by (sorted_feedback old.now.trees)
+
+    -- where all of the giver's fit
+    pub given_here : FitWhere (λ f. f.from == giver) FeedbackFits (feedback_in old.now.trees) → FirstFits answer
+    given_here fits = rw answer_is (first_here table fits)
 
     pub given_fits : AllByRecursion FeedbackFits (feedback_in old.now.trees) → FirstFits answer
     given_fits fits = rw answer_is (first_fits table fits)

@@ -15,6 +15,7 @@ use Rattle.sqlite_keyed.proofs.RuleLemmas.{first_of_both}
 use Rattle.sqlite.specs.Effect.{Database}
 use Rattle.sqlite.specs.State.{State, Shown}
 use Rattle.sqlite.proofs.Callers.{reads_as}
+use Rattle.house_rows.specs.Keeping.{FitWhere}
 use Rattle.house_rows.specs.Changed.{question_key}
 use Rattle.house_rows.specs.Fits.{QuestionFits}
 use Rattle.house_rows.specs.declared.talk.Question.{Question}
@@ -25,7 +26,7 @@ use Rattle.store_rows.specs.House.{IsHouse}
 use Rattle.store_rows.specs.Plain.{passes}
 use Rattle.store_rows.specs.Rows.{number_in, maybe_text_in, question_of, question_in, questions_in}
 use Rattle.store_talk.proofs.AnswerLemmas.{agree_at}
-use Rattle.store_rows.proofs.RowLemmas.{equals_number, alone}
+use Rattle.store_rows.proofs.RowLemmas.{equals_number, alone, passing_fit}
 use Rattle.store_rows.proofs.Select.{IsListOf, listed, equals}
 use Rattle.store_talk.proofs.TalkMeaning.{question_shown}
 use Rattle.store_talk.proofs.TalkReads.{IsTalk, are_questions}
@@ -85,6 +86,12 @@ module _ (test : List Term) (params : Row) where
     questions_fit fits =
         shown_fits test question_shown question_order params table answer listing question_of question_in (λ r. refl) QuestionFits
         (all-filter Fits (passes test params) table (all_unmap QuestionFits question_in table fits))
+
+    -- where those fit that the query keeps
+    pub questions_kept : (keep : Question → Bool) → ((r : Row) → IsTalk r → passes test params r ≡ keep (question_in r)) → FitWhere keep QuestionFits (questions_in old.now.trees) → AllByRecursion QuestionFits (map question_of answer)
+    questions_kept keep tests fits =
+        shown_fits test question_shown question_order params table answer listing question_of question_in (λ r. refl) QuestionFits
+        (passing_fit question_in QuestionFits keep IsTalk (passes test params) tests table (are_questions old.now house) fits)
 
     pub questions_shown : (keep : Question → Bool) → ((r : Row) → IsTalk r → passes test params r ≡ keep (question_in r)) → AllByRecursion QuestionFits (map question_of answer)
         → map question_of answer ≡ filter keep (sorted_questions old.now.trees)

@@ -3,6 +3,7 @@ ghost use Rattle.std.specs.Prelude.{◌≡◌, ◌==◌, filter, IfOk, OnOk, IsE
 ghost use Rattle.std.specs.List.{AllByRecursion};
 ghost use Rattle.sqlite.specs.State.{HasCleanDisk};
 ghost use Rattle.sqlite.specs.Held.{state};
+ghost use Rattle.house_rows.specs.Keeping.{FitWhere};
 ghost use Rattle.house_rows.specs.Fits.{FeedbackFits};
 ghost use Rattle.house_rows.specs.declared.fault.KeepFault.TheVariants.{Damaged};
 ghost use Rattle.store_rows.specs.House.{IsBegun, Serves, AddsFeedback};
@@ -66,6 +67,10 @@ pub(crate) fn feedback_rows<S: Alter>(
     ensures fits { IfOk result (λ given. AllByRecursion FeedbackFits given.items) }
     ensures damaged { HasCleanDisk (state S.Store conn.new)
         → AllByRecursion FeedbackFits (feedback_in (state S.Store conn.old).now.trees)
+        → ¬ (IsErrOf result Damaged) }
+    ensures here { HasCleanDisk (state S.Store conn.new)
+        → FitWhere (λ f. f.to == member) FeedbackFits
+        (feedback_in (state S.Store conn.old).now.trees)
         → ¬ (IsErrOf result Damaged) }
     ensures read { OnlyReads (state S.Store conn.old) (state S.Store conn.new) result }
 {

@@ -3,8 +3,10 @@ ghost use Rattle.std.specs.Prelude.{◌≡◌, ◌==◌, ◌&&◌, not, is_some,
 ghost use Rattle.std.specs.List.{AllByRecursion};
 ghost use Rattle.sqlite.specs.State.{HasCleanDisk};
 ghost use Rattle.sqlite.specs.Held.{state};
+ghost use Rattle.house_rows.specs.Keeping.{FitWhere};
 ghost use Rattle.house_rows.specs.Fits.{QuestionFits};
 ghost use Rattle.house_rows.specs.declared.fault.KeepFault.TheVariants.{Damaged};
+ghost use Rattle.store_talk.specs.Waiting.{WaitingFit};
 ghost use Rattle.store_rows.specs.House.{Serves};
 ghost use Rattle.store_rows.specs.Rows.{questions_in};
 ghost use Rattle.store_rows.specs.Sorted.{sorted_questions};
@@ -27,6 +29,10 @@ pub fn all_published<S: Alter>(
     ensures fits { IfOk result (λ asked. AllByRecursion QuestionFits asked.items) }
     ensures damaged { HasCleanDisk (state S.Store conn.new)
         → AllByRecursion QuestionFits (questions_in (state S.Store conn.old).now.trees)
+        → ¬ (IsErrOf result Damaged) }
+    ensures here { HasCleanDisk (state S.Store conn.new)
+        → FitWhere (λ q. is_some q.answer) QuestionFits
+        (questions_in (state S.Store conn.old).now.trees)
         → ¬ (IsErrOf result Damaged) }
     ensures read { OnlyReads (state S.Store conn.old) (state S.Store conn.new) result }
 {
@@ -52,6 +58,9 @@ pub(crate) fn waiting_on<S: Alter>(
     ensures fits { IfOk result (λ asked. AllByRecursion QuestionFits asked.items) }
     ensures damaged { HasCleanDisk (state S.Store conn.new)
         → AllByRecursion QuestionFits (questions_in (state S.Store conn.old).now.trees)
+        → ¬ (IsErrOf result Damaged) }
+    ensures here { HasCleanDisk (state S.Store conn.new)
+        → WaitingFit (state S.Store conn.old).now.trees item
         → ¬ (IsErrOf result Damaged) }
     ensures read { OnlyReads (state S.Store conn.old) (state S.Store conn.new) result }
 {

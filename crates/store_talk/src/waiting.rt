@@ -1,18 +1,19 @@
 //! The questions that wait for a member's answer.
-ghost use Rattle.std.specs.Prelude.{◌≡◌, ◌≤◌, ◌++◌, flat_map, length, take, IfOk, OnOk, IsErrOf};
+ghost use Rattle.std.specs.Prelude.{◌≡◌, ◌≤◌, ◌++◌, flat_map, length, take, IfOk, OnOk, IsErrOf, ◌==◌, ◌&&◌, is_some, not};
 ghost use Rattle.std.specs.List.{AllByRecursion};
 ghost use Rattle.sqlite.specs.State.{HasCleanDisk};
 ghost use Rattle.sqlite.specs.Held.{state};
 ghost use Rattle.house_rows.specs.Fits.{QuestionFits};
-ghost use Rattle.house_rows.specs.Found.{first_waiting, waiting_for};
-ghost use Rattle.house_rows.specs.Keeping.{AreSoundBy};
+ghost use Rattle.house_rows.specs.Found.{first_waiting, waiting_for, row_at, sells};
+ghost use Rattle.house_rows.specs.Keeping.{AreSoundBy, FitWhere, FitsBy};
 ghost use Rattle.house_rows.specs.Limits.{most_shown};
 ghost use Rattle.house_rows.specs.declared.item.Terms.{Terms as TermsRow};
 ghost use Rattle.house_rows.specs.declared.fault.KeepFault.TheVariants.{Damaged};
+ghost use Rattle.store_rows.specs.ItemRows.{items_in};
 ghost use Rattle.store_rows.specs.House.{Serves};
 ghost use Rattle.store_rows.specs.Rows.{questions_in};
 ghost use Rattle.store_rows.specs.Tables.{tables_in};
-ghost use Rattle.store_talk.specs.Waiting.{waiting_in};
+ghost use Rattle.store_talk.specs.Waiting.{waiting_in, WaitingFit};
 ghost use Rattle.store_items.specs.RowsStanding.{ItemStands};
 ghost use Rattle.store_rows.specs.Frames.{OnlyReads};
 
@@ -39,6 +40,9 @@ fn add_waiting<S: Alter>(
     ensures damaged { HasCleanDisk (state S.Store conn.new)
         → AllByRecursion QuestionFits (questions_in (state S.Store conn.old).now.trees)
         → ¬ (IsErrOf result Damaged) }
+    ensures here { HasCleanDisk (state S.Store conn.new)
+        → WaitingFit (state S.Store conn.old).now.trees item
+        → ¬ (IsErrOf result Damaged) }
     ensures read { OnlyReads (state S.Store conn.old) (state S.Store conn.new) result }
 {
     let mut more = waiting_on(alloc, conn, item)?;
@@ -61,6 +65,9 @@ fn waiting_on_each<S: Alter>(
     ensures fits { IfOk result (λ asked. AllByRecursion QuestionFits asked.items) }
     ensures damaged { HasCleanDisk (state S.Store conn.new)
         → AllByRecursion QuestionFits (questions_in (state S.Store conn.old).now.trees)
+        → ¬ (IsErrOf result Damaged) }
+    ensures here { HasCleanDisk (state S.Store conn.new)
+        → AllByRecursion (λ (t : TermsRow). WaitingFit (state S.Store conn.old).now.trees t.item) own.now
         → ¬ (IsErrOf result Damaged) }
     ensures read { OnlyReads (state S.Store conn.old) (state S.Store conn.new) result }
 {
@@ -88,6 +95,13 @@ pub fn waiting_for<S: Alter>(
     ensures fits { IfOk result (λ asked. AllByRecursion QuestionFits asked.items) }
     ensures damaged { HasCleanDisk (state S.Store conn.new)
         → AreSoundBy editions.now (tables_in (state S.Store conn.old).now.trees)
+        → ¬ (IsErrOf result Damaged) }
+    ensures here { HasCleanDisk (state S.Store conn.new)
+        → FitWhere (λ row. row.item.terms.seller == member) (FitsBy editions.now)
+        (items_in (state S.Store conn.old).now.trees)
+        → FitWhere (λ q. not (is_some q.answer)
+        && sells (row_at (tables_in (state S.Store conn.old).now.trees) q.item) member) QuestionFits
+        (questions_in (state S.Store conn.old).now.trees)
         → ¬ (IsErrOf result Damaged) }
     ensures read { OnlyReads (state S.Store conn.old) (state S.Store conn.new) result }
 {

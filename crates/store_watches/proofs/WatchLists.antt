@@ -20,6 +20,7 @@ use Rattle.sqlite.proofs.Callers.{IsPlain, command_of, reads_as}
 use Rattle.sqlite_tied.specs.Compute.{everything}
 use Rattle.house_rows.specs.Fits.{WatchRowFits}
 use Rattle.house_rows.specs.History.{is_less}
+use Rattle.house_rows.specs.Keeping.{FitWhere}
 use Rattle.house_rows.specs.Watches.{WatchRow, watch_key}
 use Rattle.store_rows.specs.Schema.{house_schema}
 use Rattle.store_rows.specs.House.{IsHouse}
@@ -27,7 +28,7 @@ use Rattle.store_rows.specs.Plain.{plain_query, passes}
 use Rattle.store_rows.specs.Rows.{number_in, watch_in, watches_in}
 use Rattle.store_watches.proofs.WatchLemmas.{IsWatch, are_watches}
 use Rattle.store_watches.proofs.WatchMeaning.{watch_shown}
-use Rattle.store_rows.proofs.RowLemmas.{equals_number, alone}
+use Rattle.store_rows.proofs.RowLemmas.{equals_number, alone, passing_fit}
 use Rattle.store_rows.proofs.Select.{IsListOf, listed, equals}
 use Rattle.store_rows.proofs.Update.{numbered_passes}
 use Rattle.store_rows.specs.Sorted.{sorted_watches}
@@ -84,6 +85,13 @@ module _ (member : ℕ) (low : member < 2 ^ 32) (old new : State) (answer : List
   watched_fit fits =
       shown_fits test watch_shown two_columns params table answer listing item_shown (λ r. (watch_in r).item) (λ r. refl) (λ n. n < 2 ^ 32)
       (all-filter (λ r. (watch_in r).item < 2 ^ 32) (passes test params) table (all_weaker (λ r. WatchRowFits (watch_in r)) (λ r. (watch_in r).item < 2 ^ 32) (λ r. small (watch_in r)) table (all_unmap WatchRowFits watch_in table fits)))
+
+  -- where this member's watches fit
+  pub watched_here : FitWhere (λ w. w.member == member) WatchRowFits (watches_in old.now.trees) → AllByRecursion (λ n. n < 2 ^ 32) (map item_shown answer)
+  watched_here fits =
+      shown_fits test watch_shown two_columns params table answer listing item_shown (λ r. (watch_in r).item) (λ r. refl) (λ n. n < 2 ^ 32)
+      (all_weaker (λ r. WatchRowFits (watch_in r)) (λ r. (watch_in r).item < 2 ^ 32) (λ r. small (watch_in r)) kept
+      (passing_fit watch_in WatchRowFits (λ (w : WatchRow). w.member == member) IsWatch (passes test params) tests table (are_watches old.now house) fits))
 
   -- the rows that are kept are this member's, and have keys
   kept_members : AllByRecursion (λ r. number_in (column r 1) ≡ member) kept

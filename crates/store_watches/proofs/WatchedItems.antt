@@ -1,24 +1,28 @@
 -- The items of a member's watches, found by their numbers.
-use Rattle.std.proofs.Common.{◌≡◌, ◌<◌, ◌^◌, ℕ, suc, true, false, List, [], ◌∷◌, get_or, map, filter, flat_map, refl, ap, sym, ◌∙◌, arith, inl, inr}
+use Rattle.std.proofs.Common.{◌≡◌, ◌<◌, ◌^◌, ℕ, suc, true, false, List, [], ◌∷◌, get_or, map, filter, flat_map, refl, ap, sym, subst, ◌∙◌, arith, inl, inr}
 use Rattle.std.specs.Prelude.{◌==◌, AllPairs}
 use Rattle.std.specs.List.{AllByRecursion, list_any}
 use Rattle.std.proofs.lemmas.Bool.Decides.{nat_tests}
 use Rattle.std.proofs.lemmas.List.Elements.{All-from_get_or, recursion_from_All}
-use Rattle.sqlite_trees.specs.Tree.{IsAscending}
+use Rattle.sqlite_trees.specs.Tree.{IsAscending, Trees}
 use Rattle.sqlite_keyed.proofs.ListLemmas.{filter-map, filter_same}
 use Rattle.sqlite.specs.Effect.{Database}
-use Rattle.house_rows.specs.Found.{items_watched}
+use Rattle.house_rows.specs.Editions.{BandTables}
+use Rattle.house_rows.specs.Found.{is_watched, items_watched}
+use Rattle.house_rows.specs.Keeping.{FitWhere, FitsBy}
 use Rattle.house_rows.specs.Tables.{ItemRow}
 use Rattle.house_rows.specs.Watches.{WatchRow, is_watch}
 use Rattle.house_rows.specs.declared.item.Item.{Item}
+use Rattle.house_rows.proofs.Every.{every_as}
 use Rattle.house_rows.proofs.Put.{by_test}
 use Rattle.store_rows.specs.House.{IsHouse}
 use Rattle.store_rows.specs.ItemRows.{items_in}
 use Rattle.store_rows.specs.Sorted.{sorted_watches}
 use Rattle.store_rows.specs.Tables.{tables_in}
+use Rattle.store_items.specs.RowsStanding.{RowFitsAt}
 use Rattle.store_watches.specs.Watched.{item_found}
 use Rattle.store_items.proofs.ItemRising.{items_rise, number_of}
-use Rattle.store_rows.proofs.Joined.{among, joined}
+use Rattle.store_rows.proofs.Joined.{among, each_among, joined}
 
 pub ascending_pairs : (xs : List ℕ) → AllPairs (λ m n. m < n) xs → IsAscending (λ m n. m < n) xs
 ascending_pairs [] pairs = tt
@@ -54,3 +58,14 @@ watched_found db member numbers house are rise low =
     joined number_of part numbers rows (ascending_pairs numbers rise) low (items_rise db house)
     ∙ ap (map part) (filter_same (among number_of numbers) (λ row. list_any (is_watch member (number_of row)) watches) same rows)
     ∙ sym (filter-map (λ (it : Item). list_any (is_watch member it.terms.item) watches) part rows)
+
+-- the rows of the items that a member watches fit
+pub watched_fit_at : (db : Trees) (editions : BandTables) (member : ℕ) (numbers : List ℕ) → numbers ≡ map (λ (w : WatchRow). w.item) (filter (λ w. w.member == member) (sorted_watches db))
+    → FitWhere (λ row. is_watched (tables_in db) member row.item.terms.item) (FitsBy editions) (items_in db) → AllByRecursion (RowFitsAt editions db) numbers
+unfolding tables_in
+watched_fit_at db editions member numbers are fits =
+    let watches = sorted_watches db in
+    let here = λ (n : ℕ) (is : list_any (is_watch member n) watches ≡ true).
+    every_as (λ (row : ItemRow). list_any (is_watch member (number_of row)) watches ≡ true → FitsBy editions row) (λ (row : ItemRow). number_of row ≡ n → FitsBy editions row) (items_in db)
+    (λ row fit same. fit (subst (λ (i : ℕ). list_any (is_watch member i) watches ≡ true) (sym same) is)) fits in
+    each_among (RowFitsAt editions db) numbers (λ n is. here n (sym (ap (list_any (λ m. n == m)) are ∙ watched_among member n watches) ∙ is))

@@ -4,6 +4,7 @@ ghost use Rattle.std.specs.List.{AllByRecursion};
 ghost use Rattle.sqlite.specs.State.{HasCleanDisk};
 ghost use Rattle.sqlite.specs.Held.{state};
 ghost use Rattle.house_rows.specs.Fits.{WatchRowFits};
+ghost use Rattle.house_rows.specs.Keeping.{FitWhere};
 ghost use Rattle.house_rows.specs.Watches.{WatchRow};
 ghost use Rattle.house_rows.specs.declared.fault.KeepFault.TheVariants.{Damaged};
 ghost use Rattle.store_rows.specs.House.{Serves};
@@ -31,6 +32,10 @@ pub(crate) fn watched_by<S: Alter>(
         → IfOk result (λ items. AllPairs (λ m n. m < n) items.items) }
     ensures damaged { HasCleanDisk (state S.Store conn.new)
         → AllByRecursion WatchRowFits (watches_in (state S.Store conn.old).now.trees)
+        → ¬ (IsErrOf result Damaged) }
+    ensures here { HasCleanDisk (state S.Store conn.new)
+        → FitWhere (λ w. w.member == member) WatchRowFits
+        (watches_in (state S.Store conn.old).now.trees)
         → ¬ (IsErrOf result Damaged) }
     ensures read { OnlyReads (state S.Store conn.old) (state S.Store conn.new) result }
 {

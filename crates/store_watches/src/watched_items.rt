@@ -1,16 +1,18 @@
 //! What a member watches.
-ghost use Rattle.std.specs.Prelude.{◌≡◌, ◌<◌, ◌^◌, ◌++◌, flat_map, IfOk, OnOk, IsErrOf};
+ghost use Rattle.std.specs.Prelude.{◌≡◌, ◌==◌, ◌<◌, ◌^◌, ◌++◌, flat_map, IfOk, OnOk, IsErrOf};
 ghost use Rattle.std.specs.List.{AllByRecursion};
 ghost use Rattle.sqlite.specs.State.{HasCleanDisk};
 ghost use Rattle.sqlite.specs.Held.{state};
-ghost use Rattle.house_rows.specs.Fits.{ItemFits};
-ghost use Rattle.house_rows.specs.Found.{items_watched, watch_count};
-ghost use Rattle.house_rows.specs.Keeping.{AreSound, AreSoundBy, FitsBy, StandsBy};
+ghost use Rattle.house_rows.specs.Fits.{ItemFits, WatchRowFits};
+ghost use Rattle.house_rows.specs.Found.{is_watched, items_watched, watch_count};
+ghost use Rattle.house_rows.specs.Keeping.{AreSound, AreSoundBy, FitWhere, FitsBy, StandsBy};
 ghost use Rattle.house_rows.specs.Tables.{ItemRow};
 ghost use Rattle.house_rows.specs.declared.fault.KeepFault.TheVariants.{Damaged};
 ghost use Rattle.store_rows.specs.House.{Serves};
 ghost use Rattle.store_rows.specs.ItemRows.{items_in};
+ghost use Rattle.store_rows.specs.Rows.{watches_in};
 ghost use Rattle.store_rows.specs.Tables.{tables_in};
+ghost use Rattle.store_items.specs.RowsStanding.{RowFitsAt};
 ghost use Rattle.store_watches.specs.Watched.{item_found};
 ghost use Rattle.store_rows.specs.Frames.{OnlyReads};
 
@@ -33,6 +35,10 @@ pub fn watch_count<S: Alter>(
         (tables_in (state S.Store conn.old).now.trees) member) }
     ensures damaged { HasCleanDisk (state S.Store conn.new)
         → AreSound (tables_in (state S.Store conn.old).now.trees)
+        → ¬ (IsErrOf result Damaged) }
+    ensures here { HasCleanDisk (state S.Store conn.new)
+        → FitWhere (λ w. w.member == member) WatchRowFits
+        (watches_in (state S.Store conn.old).now.trees)
         → ¬ (IsErrOf result Damaged) }
     ensures read { OnlyReads (state S.Store conn.old) (state S.Store conn.new) result }
 {
@@ -57,6 +63,9 @@ fn add_item<S: Alter>(
         → OnOk result (AllByRecursion (λ it. StandsBy editions.now it.terms) items.new.items) }
     ensures damaged { HasCleanDisk (state S.Store conn.new)
         → AllByRecursion (FitsBy editions.now) (items_in (state S.Store conn.old).now.trees)
+        → ¬ (IsErrOf result Damaged) }
+    ensures here { HasCleanDisk (state S.Store conn.new)
+        → RowFitsAt editions.now (state S.Store conn.old).now.trees number
         → ¬ (IsErrOf result Damaged) }
     ensures read { OnlyReads (state S.Store conn.old) (state S.Store conn.new) result }
 {
@@ -84,6 +93,9 @@ fn items_at<S: Alter>(
     ensures damaged { HasCleanDisk (state S.Store conn.new)
         → AllByRecursion (FitsBy editions.now) (items_in (state S.Store conn.old).now.trees)
         → ¬ (IsErrOf result Damaged) }
+    ensures here { HasCleanDisk (state S.Store conn.new)
+        → AllByRecursion (RowFitsAt editions.now (state S.Store conn.old).now.trees) numbers.now
+        → ¬ (IsErrOf result Damaged) }
     ensures read { OnlyReads (state S.Store conn.old) (state S.Store conn.new) result }
 {
     let mut items = Vec::new(alloc);
@@ -109,6 +121,12 @@ pub fn items_watched<S: Alter>(
         (λ it. StandsBy editions.now it.terms) items.items) }
     ensures damaged { HasCleanDisk (state S.Store conn.new)
         → AreSoundBy editions.now (tables_in (state S.Store conn.old).now.trees)
+        → ¬ (IsErrOf result Damaged) }
+    ensures here { HasCleanDisk (state S.Store conn.new)
+        → FitWhere (λ w. w.member == member) WatchRowFits
+        (watches_in (state S.Store conn.old).now.trees)
+        → FitWhere (λ row. is_watched (tables_in (state S.Store conn.old).now.trees) member
+        row.item.terms.item) (FitsBy editions.now) (items_in (state S.Store conn.old).now.trees)
         → ¬ (IsErrOf result Damaged) }
     ensures read { OnlyReads (state S.Store conn.old) (state S.Store conn.new) result }
 {

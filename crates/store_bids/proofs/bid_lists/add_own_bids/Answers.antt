@@ -8,7 +8,8 @@ use Rattle.house_rows.specs.Limits.{most_shown}
 use Rattle.house_rows.specs.declared.item.OwnBid.{OwnBid}
 use Rattle.store_rows.specs.Tables.{tables_in}
 use Rattle.store_bids.specs.OwnBids.{own_found}
-use Rattle.store_bids.specs.Reached.{FitInTurn, FitsAt}
+use Rattle.house_rows.specs.Reached.{FitsAt}
+use Rattle.store_bids.specs.Reached.{FitInTurn}
 use Rattle.store_items.specs.RowsStanding.{ItemStands}
 use Rattle.store_rows.proofs.Steps.{both_same, both_survive, clean_before, first_found_all, first_found_full, found_more}
 use Rattle.store_bids.proofs.bid_lists.add_own_bids.Goals as goal

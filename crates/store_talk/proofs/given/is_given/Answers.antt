@@ -5,7 +5,7 @@ use Rattle.house_rows.specs.declared.talk.Feedback.{Feedback}
 use Rattle.std.specs.Prelude.{Option}
 use Rattle.store_rows.specs.Rows.{feedback_of}
 use Rattle.store_talk.proofs.TalkMeaning.{is_given_is}
-use Rattle.store_talk.proofs.FeedbackFinds.{feedback_found, given_fits, key_found}
+use Rattle.store_talk.proofs.FeedbackFinds.{feedback_found, given_fits, given_here, key_found}
 use Rattle.store_talk.proofs.given.is_given.Goals as goal
 
 pub rows_shown-requires-clause-plain : goal.rows_shown-requires-clause-plain
@@ -44,4 +44,14 @@ returns-in_err-given-clause-damaged g c clean fits is =
     let items = c.in_ok-rows.rows.items in
     let same : c.deref.result.now ≡ items = search rules in
     let fit = given_fits c.args.item c.args.giver low small (state g.S.Store c.args.conn.now) (state g.S.Store c.rows_shown.new.conn) items (c.rows_shown.ensures.house clean) shown fits in
+    c.first_of.ensures.damaged (subst (λ l. IfSome (option_map feedback_of (slice_get l 0)) FeedbackFits) (sym same) fit) (search rules)
+
+pub returns-in_err-given-clause-here : goal.returns-in_err-given-clause-here
+returns-in_err-given-clause-here g c clean fits is =
+    let low : c.args.item < 2 ^ 32 = omega (arith, c.ranges.item) in
+    let small : c.args.giver < 2 ^ 32 = omega (arith, c.ranges.giver) in
+    let shown = rw (c.params-to_sql.ensures, c.params-to_sql-2.ensures) at (c.in_ok-rows.ensures.rows clean) in
+    let items = c.in_ok-rows.rows.items in
+    let same : c.deref.result.now ≡ items = search rules in
+    let fit = given_here c.args.item c.args.giver low small (state g.S.Store c.args.conn.now) (state g.S.Store c.rows_shown.new.conn) items (c.rows_shown.ensures.house clean) shown fits in
     c.first_of.ensures.damaged (subst (λ l. IfSome (option_map feedback_of (slice_get l 0)) FeedbackFits) (sym same) fit) (search rules)

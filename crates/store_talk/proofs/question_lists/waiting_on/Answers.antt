@@ -8,7 +8,7 @@ use Rattle.store_rows.specs.Rows.{question_of}
 use Rattle.store_rows.proofs.Select.{equals}
 use Rattle.store_rows.proofs.Both.{ok_both}
 use Rattle.store_talk.proofs.QuestionMeaning.{waiting_on_is, waiting_on_text, waits}
-use Rattle.store_talk.proofs.QuestionLists.{waiting_test, questions_fit, questions_shown}
+use Rattle.store_talk.proofs.QuestionLists.{waiting_test, questions_fit, questions_kept, questions_shown}
 use Rattle.store_talk.proofs.question_lists.waiting_on.Goals as goal
 
 pub rows_shown-requires-clause-plain : goal.rows_shown-requires-clause-plain
@@ -32,3 +32,12 @@ returns-clause-damaged g c clean fits =
     let shown = rw c.params-to_sql.ensures at (c.in_ok-rows.ensures.rows clean) in
     c.all_of.ensures.damaged (subst (AllByRecursion QuestionFits) (sym (ap (map question_of) same))
     (questions_fit (equals 1 ∷ waits ∷ []) (Int (pos c.args.item) ∷ []) waiting_on_text waiting_on_is (state g.S.Store c.args.conn.now) (state g.S.Store c.rows_shown.new.conn) items (c.rows_shown.ensures.house clean) shown fits))
+
+pub returns-clause-here : goal.returns-clause-here
+returns-clause-here g c clean fits =
+    let low : c.args.item < 2 ^ 32 = omega (arith, c.ranges.item) in
+    let items = c.in_ok-rows.rows.items in
+    let same : c.deref.result.now ≡ items = search rules in
+    let shown = rw c.params-to_sql.ensures at (c.in_ok-rows.ensures.rows clean) in
+    c.all_of.ensures.damaged (subst (AllByRecursion QuestionFits) (sym (ap (map question_of) same))
+    (questions_kept (equals 1 ∷ waits ∷ []) (Int (pos c.args.item) ∷ []) waiting_on_text waiting_on_is (state g.S.Store c.args.conn.now) (state g.S.Store c.rows_shown.new.conn) items (c.rows_shown.ensures.house clean) shown (λ q. (q.item == c.args.item) && not (is_some q.answer)) (waiting_test c.args.item low) fits))

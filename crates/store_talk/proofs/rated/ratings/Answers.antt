@@ -17,3 +17,6 @@ returns-clause-value g c clean =
     (c.counts_of.ensures.plus ∙ ap (counted (λ f. is_plus f.rating)) same)
     (c.counts_of.ensures.zero ∙ ap (counted (λ f. is_zero f.rating)) same)
     (c.counts_of.ensures.minus ∙ ap (counted (λ f. is_minus f.rating)) same)
+
+pub returns-in_err-given-clause-here : goal.returns-in_err-given-clause-here
+returns-in_err-given-clause-here g c clean fits is = c.in_err-given.ensures.here clean fits (search rules)

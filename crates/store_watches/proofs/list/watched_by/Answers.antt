@@ -2,7 +2,7 @@ use Rattle.std.proofs.Common.{◌≡◌, ◌<◌, ◌^◌, ◌∙◌, ap, sym, s
 use Rattle.std.specs.List.{AllByRecursion, AllPairs}
 use Rattle.sqlite.specs.Held.{state}
 use Rattle.store_rows.proofs.Both.{ok_both}
-use Rattle.store_watches.proofs.WatchLists.{item_shown, watched_fit, watched_is, watched_rise, watched_shown}
+use Rattle.store_watches.proofs.WatchLists.{item_shown, watched_fit, watched_here, watched_is, watched_rise, watched_shown}
 use Rattle.store_watches.proofs.list.watched_by.Goals as goal
 
 pub rows_shown-requires-clause-plain : goal.rows_shown-requires-clause-plain
@@ -36,3 +36,12 @@ returns-clause-damaged g c clean fits =
     let shown = rw c.params-to_sql.ensures at (c.in_ok-rows.ensures.rows clean) in
     c.all_of.ensures.damaged (subst (AllByRecursion (λ n. n < 2 ^ 32)) (sym (ap (map item_shown) same))
     (watched_fit c.args.member low (state g.S.Store c.args.conn.now) (state g.S.Store c.rows_shown.new.conn) items (c.rows_shown.ensures.house clean) shown fits))
+
+pub returns-clause-here : goal.returns-clause-here
+returns-clause-here g c clean fits =
+    let low : c.args.member < 2 ^ 32 = omega (arith, c.ranges.member) in
+    let items = c.in_ok-rows.rows.items in
+    let same : c.deref.result.now ≡ items = search rules in
+    let shown = rw c.params-to_sql.ensures at (c.in_ok-rows.ensures.rows clean) in
+    c.all_of.ensures.damaged (subst (AllByRecursion (λ n. n < 2 ^ 32)) (sym (ap (map item_shown) same))
+    (watched_here c.args.member low (state g.S.Store c.args.conn.now) (state g.S.Store c.rows_shown.new.conn) items (c.rows_shown.ensures.house clean) shown fits))

@@ -1,6 +1,8 @@
-use Rattle.std.proofs.Common.{◌≡◌, ◌++◌, arith, get_or, subst}
+use Rattle.std.proofs.Common.{◌≡◌, ◌++◌, arith, get_or, rules, subst, sym}
 use Rattle.sqlite.specs.Effect.{Database}
 use Rattle.sqlite.specs.Held.{state}
+use Rattle.store_items.specs.RowsStanding.{RowFitsAt}
+use Rattle.store_items.proofs.Stands.{row_has}
 use Rattle.store_watches.specs.Watched.{item_found}
 use Rattle.store_rows.proofs.Steps.{both_same, both_survive, clean_before, found_more}
 use Rattle.store_watches.proofs.WatchedItems.{all_small}
@@ -29,3 +31,12 @@ returns-clause-small g c = all_small c.args.numbers.now (λ i. omega (arith, c.t
 
 pub returns-in_err-add_item-clause-small : goal.returns-in_err-add_item-clause-small
 returns-in_err-add_item-clause-small g c = all_small c.args.numbers.now (λ i. omega (arith, c.type_inv.numbers i))
+
+pub returns-in_err-add_item-clause-here : goal.returns-in_err-add_item-clause-here
+returns-in_err-add_item-clause-here g c clean fits is =
+    let old = state g.S.Store c.args.conn.now in
+    let mid = state g.S.Store c.loop-number.conn in
+    let before = clean_before mid (state g.S.Store c.add_item.new.conn) c.add_item.ensures.read.crash clean in
+    let number = get_or c.args.numbers.now c.loop-number.number-index 0 in
+    let here = row_has (RowFitsAt c.args.editions.now old.now.trees) c.args.numbers.now c.loop-number.number-index 0 c.loop-number-test.true fits in
+    c.in_err-add_item.ensures.here clean (subst (λ (db : Database). RowFitsAt c.args.editions.now db.trees number) (sym (c.loop-number.invariant.same before).0.now_is) here) (search rules)

@@ -3,12 +3,13 @@ use Rattle.std.specs.List.{AllByRecursion}
 use Rattle.sqlite.specs.Effect.{Database}
 use Rattle.sqlite.specs.Held.{state}
 use Rattle.house_rows.specs.Keeping.{FitsBy}
+use Rattle.store_items.specs.RowsStanding.{RowFitsAt}
 use Rattle.store_rows.specs.ItemRows.{items_in}
 use Rattle.store_rows.proofs.StateLemmas.{ok_then}
 use Rattle.store_watches.specs.Watched.{item_found}
 use Rattle.store_rows.proofs.Sound.{rows_fit, watches_fit}
 use Rattle.store_rows.proofs.Steps.{clean_before}
-use Rattle.store_watches.proofs.WatchedItems.{watched_found}
+use Rattle.store_watches.proofs.WatchedItems.{watched_fit_at, watched_found}
 use Rattle.store_watches.proofs.watched_items.items_watched.Goals as goal
 
 pub returns-in_err-numbers-clause-damaged : goal.returns-in_err-numbers-clause-damaged
@@ -35,3 +36,18 @@ returns-clause-damaged g c clean sound =
     let mid = state g.S.Store c.watched_by.new.conn in
     let before = clean_before mid (state g.S.Store c.items_at.new.conn) c.items_at.ensures.read.crash clean in
     c.items_at.ensures.damaged clean (subst (λ (db : Database). AllByRecursion (FitsBy c.args.editions.now) (items_in db.trees)) (sym (c.in_ok-numbers.ensures.read.same before).0.now_is) (rows_fit old.now.trees c.args.editions.now sound))
+
+pub returns-in_err-numbers-clause-here : goal.returns-in_err-numbers-clause-here
+returns-in_err-numbers-clause-here g c clean watches items is = c.in_err-numbers.ensures.here clean watches (search rules)
+
+pub returns-clause-here : goal.returns-clause-here
+returns-clause-here g c clean watches items =
+    let old = state g.S.Store c.args.conn.now in
+    let mid = state g.S.Store c.watched_by.new.conn in
+    let before = clean_before mid (state g.S.Store c.items_at.new.conn) c.items_at.ensures.read.crash clean in
+    let numbers = c.in_ok-numbers.numbers.items in
+    let same : c.deref.result.now ≡ numbers = search rules in
+    let here = watched_fit_at old.now.trees c.args.editions.now c.args.member numbers (c.in_ok-numbers.ensures.items before) items in
+    c.items_at.ensures.here clean
+    (subst (λ (db : Database). AllByRecursion (RowFitsAt c.args.editions.now db.trees) c.deref.result.now) (sym (c.in_ok-numbers.ensures.read.same before).0.now_is)
+    (subst (AllByRecursion (RowFitsAt c.args.editions.now old.now.trees)) (sym same) here))

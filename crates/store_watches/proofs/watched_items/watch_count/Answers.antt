@@ -12,3 +12,6 @@ returns-clause-value g c clean =
     let items = c.in_ok-items.items.items in
     let many : c.len.result ≡ length items = search rules in
     many ∙ watches_are (state g.S.Store c.args.conn.now).now.trees c.args.member items (c.in_ok-items.ensures.items clean)
+
+pub returns-in_err-items-clause-here : goal.returns-in_err-items-clause-here
+returns-in_err-items-clause-here g c clean fits is = c.in_err-items.ensures.here clean fits (search rules)

@@ -1,9 +1,11 @@
-use Rattle.std.proofs.Common.{ap, arith}
+use Rattle.std.proofs.Common.{ap, arith, ◌≡◌, rules, subst, sym, ℕ}
 use Rattle.std.specs.Prelude.{Err}
 use Rattle.sqlite.specs.Held.{state}
 use Rattle.sqlite.specs.State.{HasCleanDisk}
 use Rattle.house_rows.specs.declared.item.OwnBid.{OwnBid}
-use Rattle.store.proofs.Known.{each_stands, known_sound, told_sound, works}
+use Rattle.house_rows.specs.Reached.{FitsSoFar}
+use Rattle.store_rows.specs.Tables.{tables_in}
+use Rattle.store.proofs.Known.{each_stands, known_so_far, known_sound, not_told, told_sound, works}
 use Rattle.store.proofs.keep.SqlKeepKeep.bids_of.Goals as goal
 
 pub returns-in-Err-clause-faults : goal.returns-in-Err-clause-faults
@@ -17,3 +19,11 @@ pub returns-in-Ok-own_bids-clause-stands : goal.returns-in-Ok-own_bids-clause-st
 returns-in-Ok-own_bids-clause-stands g c = λ honest.
     let before : HasCleanDisk (state g.S.Store c.self.inside.conn) = omega (arith, c.in-Ok-own_bids.ensures.read.crash.clean, honest) in
     rw (← c.self.view_is) (each_stands _ _ _ _ (c.self.invariant.known (works _ _ c.self.view_is c.in_ok-serves.ensures.ok) before) (λ (b : OwnBid). b.item) _ (c.in-Ok-own_bids.ensures.stands honest))
+
+pub returns-in-Err-clause-damaged : goal.returns-in-Err-clause-damaged
+returns-in-Err-clause-damaged g c = rw (← c.self.view_is)
+    (λ honest fits. not_told _ _ _ c.told_fault.ensures.fault c.told_fault.ensures.store (λ is.
+    let clean : HasCleanDisk (state g.S.Store c.own_bids.new.conn) = omega (arith, c.told_fault.ensures.crash.clean, honest) in
+    let before : HasCleanDisk (state g.S.Store c.self.inside.conn) = omega (arith, c.in-Err.ensures.read.crash.clean, clean) in
+    let same : c.in-Ok.member ≡ c.args.member = search rules in
+    c.in-Err.ensures.reached clean (subst (λ (member : ℕ). FitsSoFar c.self.inside.editions (tables_in (state g.S.Store c.self.inside.conn).now.trees) member c.args.from) (sym same) (known_so_far _ _ _ _ (c.self.invariant.known (works _ _ c.self.view_is c.in_ok-serves.ensures.ok) before) _ _ fits)) (ap Err is)))
