@@ -1,9 +1,9 @@
 -- What every call of a keep promises beside its answer. A keep that rests on a disk promises of its rows only while the disk
 -- has returned what was written: while it is honest.
-use Rattle.std.specs.Prelude.{if◌then◌else◌, nat_lt, ◌≡◌, ◌≤◌, ◌+◌, ◌⊎◌, length, ◌↔◌, ℕ, List, [], ◌∷◌, Bool, true, false, Option, Some, None, IfSome, Result, OnOk, IsErrOf, ◌==◌, filter}
+use Rattle.std.specs.Prelude.{◌||◌, if◌then◌else◌, nat_lt, ◌≡◌, ◌≤◌, ◌+◌, ◌⊎◌, length, ◌↔◌, ℕ, List, [], ◌∷◌, Bool, true, false, Option, Some, None, IfSome, Result, OnOk, IsErrOf, ◌==◌, filter}
 use Rattle.std.specs.List.{AllByRecursion}
 use Rattle.proxy.specs.Accepted.{AreAccepted}
-use Rattle.proxy.specs.Bids.{standing_of}
+use Rattle.proxy.specs.Bids.{is_leader, standing_of}
 use Rattle.proxy.specs.declared.bid.Bid.{Bid}
 use Rattle.proxy.specs.Rows.{is_shape}
 use Rattle.house_rows.specs.declared.change.Change.{Change}
@@ -87,6 +87,10 @@ RowFits t row = FitsBy (band_tables t) row
 -- each row that passes a test fits
 abbrev pub FitWhere : {A : Type 0} → (A → Bool) → (A → Type 0) → List A → Type 0
 FitWhere test Fits rows = AllByRecursion (λ row. test row ≡ true → Fits row) rows
+
+-- whether a member may be a party to the sale of an item; the number 0, which no member has, may be of any
+abbrev pub may_be_party : ℕ → ItemRow → Bool
+may_be_party member row = (member == 0) || ((row.item.terms.seller == member) || is_leader row.item.terms.leader member)
 
 -- where a list begins that is asked for from a number on: at the last number of 32 bits at most
 abbrev pub start_of : ℕ → ℕ

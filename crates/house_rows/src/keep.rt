@@ -1,6 +1,5 @@
 //! Whatever keeps the tables of the house.
-ghost use Rattle.std.specs.Prelude.{◌≡◌, ◌≢◌, ◌≤◌, ◌==◌, ◌&&◌, ◌||◌, ◌⊎◌, All, AllPairs, true, false, Bool, IfOk, IfSome, IsErrOf, OnOk, OnErr, filter, is_some, length, nat_le, not, take};
-ghost use Rattle.proxy.specs.Bids.{is_leader};
+ghost use Rattle.std.specs.Prelude.{◌≡◌, ◌≢◌, ◌≤◌, ◌==◌, ◌&&◌, ◌⊎◌, All, AllPairs, true, false, Bool, IfOk, IfSome, IsErrOf, OnOk, OnErr, filter, is_some, length, nat_le, not, take};
 ghost use Rattle.settle.specs.Statement.{IsSale, is_party};
 ghost use Rattle.std.specs.List.{AllByRecursion, list_any};
 ghost use Rattle.house_rows.specs.Asks.{ChangeFits};
@@ -9,7 +8,7 @@ ghost use Rattle.house_rows.specs.declared.fault.KeepFault.TheVariants.{Damaged}
 ghost use Rattle.house_rows.specs.Fits.{BidRowFits, CategoryFits, FeedbackFits, IsItem, IsMember, IsMoment, IsWithin, ItemFits, MemberFits, OwnBidFits, QuestionFits, StandingFits, TermsFit, WatchRowFits};
 ghost use Rattle.house_rows.specs.Found.{all_items, all_published, ask_count, best_of, category_at, category_named, counts_of, due_at, feedback_to, first_waiting, is_given, is_watched, item_at, item_with_lot, items_in, items_watched, member_named, own_bids, published_on, question_at, questions_of, row_at, sales_to, sells, standing_at, terms_at, waiting_for, watch_count};
 ghost use Rattle.house_rows.specs.Items.{is_due};
-ghost use Rattle.house_rows.specs.Keeping.{AllStand, AreSound, ChangeFaults, Faults, FitWhere, IsRead, RowFits, StandsAt, StandsIn, start_of};
+ghost use Rattle.house_rows.specs.Keeping.{AllStand, AreSound, ChangeFaults, Faults, FitWhere, IsRead, RowFits, StandsAt, StandsIn, may_be_party, start_of};
 ghost use Rattle.house_rows.specs.Limits.{most_categories, most_items, most_shown};
 ghost use Rattle.house_rows.specs.Pages.{member_at, ratings_of, sale_of};
 ghost use Rattle.house_rows.specs.Reached.{FitsSoFar};
@@ -333,7 +332,7 @@ pub trait Keep {
         ensures apart { IfOk result (λ v. AllPairs (λ a b. a.item ≢ b.item) v.items) }
         ensures few { IfOk result (λ v. length v.items ≤ most_items) }
         ensures faults { Faults result (is_honest self.new) (is_failed self.new) (content self.old) }
-        ensures damaged { is_honest self.new → FitWhere (λ row. (member == 0) || ((row.item.terms.seller == member) || is_leader row.item.terms.leader member)) (RowFits (content self.old)) (content self.old).items → ¬ (IsErrOf result Damaged) }
+        ensures damaged { is_honest self.new → FitWhere (may_be_party member) (RowFits (content self.old)) (content self.old).items → ¬ (IsErrOf result Damaged) }
         ensures read { IsRead content is_failed is_honest may_leave self.old self.new };
 
     /// Makes a change, whole or not at all.

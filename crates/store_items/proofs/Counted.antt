@@ -27,15 +27,3 @@ due_terms_are db moment due are counts sold unsold =
     let s = sold ∙ one (λ t. close_sells t.leader) in
     let u = unsold ∙ one (λ t. not (close_sells t.leader)) in
     λ i. record { sold = s i; unsold = u i }
-
-pub due_items_are : (db : Trees) (moment : ℕ) (items : List Item) → items ≡ map (λ (row : ItemRow). row.item) (items_in db)
-    → (counts : Due) → counts.sold ≡ counted (λ it. is_due moment it.terms && close_sells it.terms.leader) items → counts.unsold ≡ counted (λ it. is_due moment it.terms && not (close_sells it.terms.leader)) items
-    → counts ≡ due_at (tables_in db) moment
-unfolding tables_in
-due_items_are db moment items are counts sold unsold =
-    let part = λ (row : ItemRow). row.item in
-    let rows : List ItemRow = items_in db in
-    let one = λ (p : Item → Bool). ap (counted p) are ∙ ap length (filter-map p part rows) ∙ length-map (filter (λ row. p (part row)) rows) part in
-    let s = sold ∙ one (λ it. is_due moment it.terms && close_sells it.terms.leader) in
-    let u = unsold ∙ one (λ it. is_due moment it.terms && not (close_sells it.terms.leader)) in
-    λ i. record { sold = s i; unsold = u i }

@@ -19,3 +19,4 @@ pub mod Sold
 pub mod Stands
 pub mod TermMeaning
 pub mod TermFinds
+pub mod DueBound

@@ -1,5 +1,5 @@
 -- What is handed out is of items whose rows stand.
-use Rattle.std.proofs.Common.{◌≡◌, ◌≤◌, ◌⊎◌, ℕ, Bool, true, false, not, List, [], ◌∷◌, map, filter, find, option_map, Option, Some, Result, Ok, Err, inl, inr, sym, subst}
+use Rattle.std.proofs.Common.{◌≡◌, ◌≤◌, ◌⊎◌, ◌||◌, refl, ℕ, Bool, true, false, not, List, [], ◌∷◌, map, filter, find, option_map, Option, Some, Result, Ok, Err, inl, inr, sym, subst}
 use Rattle.std.specs.Prelude.{◌==◌, IfOk, IfSome, OnOk}
 use Rattle.std.specs.List.{AllByRecursion, list_any}
 use Rattle.sqlite_trees.specs.Tree.{Trees}
@@ -8,13 +8,14 @@ use Rattle.proxy.specs.Bids.{is_leader}
 use Rattle.settle.specs.Statement.{is_party}
 use Rattle.house_rows.specs.Changed.{is_item}
 use Rattle.house_rows.specs.Fits.{TermsFit}
-use Rattle.house_rows.specs.Keeping.{StandsBy}
+use Rattle.house_rows.specs.Keeping.{FitWhere, FitsBy, StandsBy, may_be_party}
 use Rattle.house_rows.specs.Pages.{sale_of}
 use Rattle.house_rows.specs.Tables.{ItemRow}
 use Rattle.house_rows.specs.Verdict.{was_sold}
 use Rattle.house_rows.specs.declared.item.Item.{Item}
 use Rattle.house_rows.specs.declared.item.Terms.{Terms}
 use Rattle.house_rows.specs.Editions.{BandTables}
+use Rattle.house_rows.proofs.Every.{every_as}
 use Rattle.house_rows.proofs.Put.{by_test}
 use Rattle.store_rows.specs.ItemRows.{items_in}
 use Rattle.store_rows.specs.Tables.{tables_in}
@@ -98,3 +99,32 @@ module _ (editions : BandTables) (db : Trees) where
   has_standing_item item t found fits stands =
       let row = whole (λ (row : ItemRow). row.item.terms) (find (is_item item) (items_in db)) t found in
       record { row = row.0; row_there = row.1; fits = subst TermsFit (sym row.2) fits; stands = subst (StandsBy editions) (sym row.2) stands }
+
+-- ---- rows that a member's sales take
+
+sells_passes : (zero mine leads : Bool) → mine ≡ true → (zero || (mine || leads)) ≡ true
+sells_passes true mine leads is = refl
+sells_passes false true leads is = refl
+sells_passes false false leads is = absurd (let e : false ≡ true = is in cc)
+
+leads_passes : (zero mine leads : Bool) → leads ≡ true → (zero || (mine || leads)) ≡ true
+leads_passes true mine leads is = refl
+leads_passes false true leads is = refl
+leads_passes false false leads is = is
+
+zero_passes : (zero other : Bool) → zero ≡ true → (zero || other) ≡ true
+zero_passes true other is = refl
+zero_passes false other is = absurd (let e : false ≡ true = is in cc)
+
+module _ (editions : BandTables) (db : Trees) (member : ℕ) (fits : FitWhere (may_be_party member) (FitsBy editions) (items_in db)) where
+  pub sold_fit : FitWhere (λ row. row.item.terms.seller == member) (FitsBy editions) (items_in db)
+  sold_fit = every_as (λ (row : ItemRow). may_be_party member row ≡ true → FitsBy editions row) (λ (row : ItemRow). (row.item.terms.seller == member) ≡ true → FitsBy editions row) (items_in db)
+      (λ row fit is. fit (sells_passes (member == 0) (row.item.terms.seller == member) (is_leader row.item.terms.leader member) is)) fits
+
+  pub led_fit : FitWhere (λ row. is_leader row.item.terms.leader member) (FitsBy editions) (items_in db)
+  led_fit = every_as (λ (row : ItemRow). may_be_party member row ≡ true → FitsBy editions row) (λ (row : ItemRow). is_leader row.item.terms.leader member ≡ true → FitsBy editions row) (items_in db)
+      (λ row fit is. fit (leads_passes (member == 0) (row.item.terms.seller == member) (is_leader row.item.terms.leader member) is)) fits
+
+  pub all_fit : (member == 0) ≡ true → AllByRecursion (FitsBy editions) (items_in db)
+  all_fit zero = every_as (λ (row : ItemRow). may_be_party member row ≡ true → FitsBy editions row) (FitsBy editions) (items_in db)
+      (λ row fit. fit (zero_passes (member == 0) _ zero)) fits

@@ -5,18 +5,19 @@ ghost use Rattle.sqlite.specs.Held.{state};
 ghost use Rattle.house_rows.specs.Found.{due_at};
 ghost use Rattle.house_rows.specs.History.{counted};
 ghost use Rattle.house_rows.specs.Items.{close_sells, is_due};
-ghost use Rattle.house_rows.specs.Keeping.{AreSoundBy};
+ghost use Rattle.house_rows.specs.Keeping.{AreSoundBy, FitWhere, FitsBy};
 ghost use Rattle.house_rows.specs.declared.fault.KeepFault.TheVariants.{Damaged};
 ghost use Rattle.store_rows.specs.House.{Serves};
+ghost use Rattle.store_rows.specs.ItemRows.{items_in};
 ghost use Rattle.store_rows.specs.Tables.{tables_in};
 ghost use Rattle.store_items.specs.RowsStanding.{RowsStand};
 ghost use Rattle.store_rows.specs.Frames.{OnlyReads};
 
-use crate::item_reads::all_items;
 use crate::terms::due_terms;
-use house_rows::{Due, Editions, Item, KeepFault, State, Terms};
+use house_rows::{Due, Editions, KeepFault, Terms};
 use sqlite::{Alter, Connection};
 use std::alloc::Global;
+use store_rows::bound_of;
 
 // How many of the items somebody leads, and how many nobody.
 fn counts_of(due: &[Terms]) -> Due
@@ -29,28 +30,6 @@ fn counts_of(due: &[Terms]) -> Due
         if terms.leader.is_some() {
             sold += 1;
         } else {
-            unsold += 1;
-        }
-    }
-    Due { sold, unsold }
-}
-
-// The same of those among all items that are due.
-fn due_counts_of(items: &[Item], moment: u64) -> Due
-    ensures sold { result.sold ≡ counted (λ it. is_due moment it.terms
-        && close_sells it.terms.leader) items.now }
-    ensures unsold { result.unsold ≡ counted (λ it. is_due moment it.terms
-        && not (close_sells it.terms.leader)) items.now }
-{
-    let mut sold = 0;
-    let mut unsold = 0;
-    for item in items {
-        let is_due = item.terms.state == State::Open && item.terms.end <= moment;
-        let is_led = item.terms.leader.is_some();
-        if is_due && is_led {
-            sold += 1;
-        }
-        if is_due && !is_led {
             unsold += 1;
         }
     }
@@ -73,36 +52,19 @@ fn due_by<S: Alter>(
     ensures damaged { HasCleanDisk (state S.Store conn.new)
         → AreSoundBy editions.now (tables_in (state S.Store conn.old).now.trees)
         → ¬ (IsErrOf result Damaged) }
+    ensures here { HasCleanDisk (state S.Store conn.new)
+        → FitWhere (λ row. is_due moment row.item.terms) (FitsBy editions.now)
+        (items_in (state S.Store conn.old).now.trees)
+        → ¬ (IsErrOf result Damaged) }
     ensures read { OnlyReads (state S.Store conn.old) (state S.Store conn.new) result }
 {
     let due = due_terms(alloc, conn, editions, moment)?;
     Ok(counts_of(&due))
 }
 
-// The same at any moment, over the whole table of items.
-fn due_among_all<S: Alter>(
-    alloc: Global,
-    conn: &mut Connection<S>,
-    editions: &Editions,
-    moment: u64,
-) -> Result<Due, KeepFault>
-    requires { Serves (state S.Store conn.old) }
-    ensures value { HasCleanDisk (state S.Store conn.new)
-        → IfOk result (λ due. due ≡ due_at (tables_in (state S.Store conn.old).now.trees) moment) }
-    ensures stands { HasCleanDisk (state S.Store conn.new)
-        → OnOk result (RowsStand editions.now (λ row. is_due moment row.item.terms)
-        (state S.Store conn.old).now.trees) }
-    ensures damaged { HasCleanDisk (state S.Store conn.new)
-        → AreSoundBy editions.now (tables_in (state S.Store conn.old).now.trees)
-        → ¬ (IsErrOf result Damaged) }
-    ensures read { OnlyReads (state S.Store conn.old) (state S.Store conn.new) result }
-{
-    let items = all_items(alloc, conn, editions)?;
-    Ok(due_counts_of(&items, moment))
-}
-
 /// How many items a close at a moment would leave sold, and how many unsold. The moment is in
-/// seconds since 1970-01-01T00:00:00Z. One from 2^32 on, which no house reaches, reads every item.
+/// seconds since 1970-01-01T00:00:00Z. One from 2^32 on, which no house reaches, is as the last
+/// before it: no stored end is as great.
 pub fn due<S: Alter>(
     alloc: Global,
     conn: &mut Connection<S>,
@@ -118,10 +80,11 @@ pub fn due<S: Alter>(
     ensures damaged { HasCleanDisk (state S.Store conn.new)
         → AreSoundBy editions.now (tables_in (state S.Store conn.old).now.trees)
         → ¬ (IsErrOf result Damaged) }
+    ensures here { HasCleanDisk (state S.Store conn.new)
+        → FitWhere (λ row. is_due moment row.item.terms) (FitsBy editions.now)
+        (items_in (state S.Store conn.old).now.trees)
+        → ¬ (IsErrOf result Damaged) }
     ensures read { OnlyReads (state S.Store conn.old) (state S.Store conn.new) result }
 {
-    match u32::try_from(moment) {
-        Ok(moment) => due_by(alloc, conn, editions, moment),
-        Err(_) => due_among_all(alloc, conn, editions, moment),
-    }
+    due_by(alloc, conn, editions, bound_of(moment))
 }

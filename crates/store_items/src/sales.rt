@@ -1,17 +1,19 @@
 //! The sales of a member.
-ghost use Rattle.std.specs.Prelude.{◌≡◌, ◌≢◌, ◌≤◌, ◌++◌, All, AllPairs, false, flat_map, length, IfOk, OnOk, IsErrOf};
-ghost use Rattle.std.specs.List.{list_any};
+ghost use Rattle.std.specs.Prelude.{◌≡◌, ◌≢◌, ◌==◌, ◌≤◌, ◌++◌, All, AllPairs, false, flat_map, length, IfOk, OnOk, IsErrOf};
+ghost use Rattle.std.specs.List.{AllByRecursion, list_any};
 ghost use Rattle.std.specs.List.Sorted.{IsNonDecreasingBy, IsPermutation};
 ghost use Rattle.sqlite.specs.State.{HasCleanDisk};
 ghost use Rattle.sqlite.specs.Held.{state};
 ghost use Rattle.settle.specs.Statement.{IsSale, is_party};
+ghost use Rattle.proxy.specs.Bids.{is_leader};
 ghost use Rattle.house_rows.specs.Found.{sales_to};
-ghost use Rattle.house_rows.specs.Keeping.{AreSoundBy};
+ghost use Rattle.house_rows.specs.Keeping.{AreSoundBy, FitWhere, FitsBy, may_be_party};
 ghost use Rattle.house_rows.specs.Limits.{most_items};
 ghost use Rattle.house_rows.specs.Pages.{sale_of};
 ghost use Rattle.house_rows.specs.declared.fault.KeepFault.TheVariants.{Damaged};
 ghost use Rattle.house_rows.specs.declared.item.Terms.{Terms as TermsRow};
 ghost use Rattle.store_rows.specs.House.{Serves};
+ghost use Rattle.store_rows.specs.ItemRows.{items_in};
 ghost use Rattle.store_rows.specs.Tables.{tables_in};
 ghost use Rattle.store_rows.specs.Joined.{found_of};
 ghost use Rattle.store_items.specs.Rising.{rise_from};
@@ -116,6 +118,12 @@ fn sales_of_member<S: Alter>(
     ensures damaged { HasCleanDisk (state S.Store conn.new)
         → AreSoundBy editions.now (tables_in (state S.Store conn.old).now.trees)
         → ¬ (IsErrOf result Damaged) }
+    ensures here { HasCleanDisk (state S.Store conn.new)
+        → FitWhere (λ row. row.item.terms.seller == member) (FitsBy editions.now)
+        (items_in (state S.Store conn.old).now.trees)
+        → FitWhere (λ row. is_leader row.item.terms.leader member) (FitsBy editions.now)
+        (items_in (state S.Store conn.old).now.trees)
+        → ¬ (IsErrOf result Damaged) }
     ensures read { OnlyReads (state S.Store conn.old) (state S.Store conn.new) result }
 {
     let sold = terms_of_seller(alloc, conn, editions, member)?;
@@ -148,6 +156,9 @@ fn sales_of_nobody<S: Alter>(
     ensures damaged { HasCleanDisk (state S.Store conn.new)
         → AreSoundBy editions.now (tables_in (state S.Store conn.old).now.trees)
         → ¬ (IsErrOf result Damaged) }
+    ensures here { HasCleanDisk (state S.Store conn.new)
+        → AllByRecursion (FitsBy editions.now) (items_in (state S.Store conn.old).now.trees)
+        → ¬ (IsErrOf result Damaged) }
     ensures read { OnlyReads (state S.Store conn.old) (state S.Store conn.new) result }
 {
     all_items(alloc, conn, editions)?;
@@ -175,6 +186,10 @@ pub fn sales_to<S: Alter>(
     ensures few { IfOk result (λ sales. length sales.items ≤ most_items) }
     ensures damaged { HasCleanDisk (state S.Store conn.new)
         → AreSoundBy editions.now (tables_in (state S.Store conn.old).now.trees)
+        → ¬ (IsErrOf result Damaged) }
+    ensures here { HasCleanDisk (state S.Store conn.new)
+        → FitWhere (may_be_party member) (FitsBy editions.now)
+        (items_in (state S.Store conn.old).now.trees)
         → ¬ (IsErrOf result Damaged) }
     ensures read { OnlyReads (state S.Store conn.old) (state S.Store conn.new) result }
 {

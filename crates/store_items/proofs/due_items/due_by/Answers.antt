@@ -21,3 +21,6 @@ returns-clause-value g c clean =
 pub returns-clause-stands : goal.returns-clause-stands
 returns-clause-stands g c clean =
     terms_stand c.args.editions.now (state g.S.Store c.args.conn.now).now.trees (λ row. is_due c.args.moment row.item.terms) c.in_ok-due.due.items (c.in_ok-due.ensures.terms clean) c.in_ok-due.ensures.stands
+
+pub returns-in_err-due-clause-here : goal.returns-in_err-due-clause-here
+returns-in_err-due-clause-here g c clean fits is = c.in_err-due.ensures.here clean fits (search rules)

@@ -3,7 +3,7 @@ use Rattle.std.specs.List.{AllByRecursion}
 use Rattle.sqlite.specs.Effect.{Database}
 use Rattle.sqlite.specs.Held.{state}
 use Rattle.proxy.specs.Bids.{is_leader}
-use Rattle.house_rows.specs.Keeping.{FitsBy}
+use Rattle.house_rows.specs.Keeping.{FitWhere, FitsBy}
 use Rattle.house_rows.specs.Pages.{sale_of}
 use Rattle.house_rows.specs.Tables.{ItemRow}
 use Rattle.store_rows.specs.ItemRows.{items_in}
@@ -90,3 +90,27 @@ returns-clause-stands g c clean =
     let led_is = c.in_ok-led.ensures.terms clean ∙ ap (λ (db : Database). map (λ (row : ItemRow). row.item.terms) (filter (λ row. is_leader row.item.terms.leader c.args.member) (items_in db.trees))) same in
     ok_so c.sales_of.result
     (sales_stand c.args.editions.now old.now.trees c.args.member c.in_ok-sold.sold.items c.in_ok-led.led.items c.requires.numbered (c.in_ok-sold.ensures.terms before) led_is c.in_ok-sold.ensures.stands c.in_ok-led.ensures.stands)
+
+pub returns-in_err-sold-clause-here : goal.returns-in_err-sold-clause-here
+returns-in_err-sold-clause-here g c clean sells leads is = c.in_err-sold.ensures.here clean sells (search rules)
+
+pub returns-in_err-led-clause-here : goal.returns-in_err-led-clause-here
+returns-in_err-led-clause-here g c clean sells leads is =
+    let before = clean_before (state g.S.Store c.terms_of_seller.new.conn) (state g.S.Store c.terms_led_by.new.conn) c.terms_led_by.ensures.read.crash clean in
+    c.in_err-led.ensures.here clean
+    (subst (λ (db : Database). FitWhere (λ (row : ItemRow). is_leader row.item.terms.leader c.args.member) (FitsBy c.args.editions.now) (items_in db.trees)) (sym (c.in_ok-sold.ensures.read.same before).0.now_is) leads) (search rules)
+
+pub returns-then-not-rise-clause-here : goal.returns-then-not-rise-clause-here
+returns-then-not-rise-clause-here g c clean sells leads is =
+    let old = state g.S.Store c.args.conn.now in
+    let mid = state g.S.Store c.terms_of_seller.new.conn in
+    let before = clean_before mid (state g.S.Store c.terms_led_by.new.conn) c.terms_led_by.ensures.read.crash clean in
+    let same = (c.in_ok-sold.ensures.read.same before).0.now_is in
+    let house = (c.requires.serves (clean_before old mid c.terms_of_seller.ensures.read.crash before)).1 in
+    let all = c.in_ok-items.items.items in
+    let led_is = c.in_ok-led.ensures.terms clean ∙ ap (λ (db : Database). map (λ (row : ItemRow). row.item.terms) (filter (λ row. is_leader row.item.terms.leader c.args.member) (items_in db.trees))) same in
+    let found = sales_found old.now c.args.member c.in_ok-sold.sold.items c.in_ok-led.led.items all house c.requires.numbered (c.in_ok-sold.ensures.terms before) led_is c.in_ok-sold.ensures.fits c.in_ok-led.ensures.fits c.in_ok-items.ensures.both c.in_ok-items.ensures.ordered in
+    let shown : c.deref.result.now ≡ all = search rules in
+    let yes : c.rise.result ≡ true = c.rise.ensures ∙ ap (rise_from 0) shown ∙ rising_from_0 all found.1 in
+    let no : c.rise.result ≡ false = search rules in
+    absurd (true≢false (sym yes ∙ no))

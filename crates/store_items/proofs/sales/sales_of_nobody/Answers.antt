@@ -19,3 +19,6 @@ pub returns-clause-stands : goal.returns-clause-stands
 returns-clause-stands g c clean =
     items_stand c.args.editions.now (state g.S.Store c.args.conn.now).now.trees (λ row. list_any (is_party 0) (sale_of row.item.terms)) c.in_ok-all_items.field-0.items
     (c.in_ok-all_items.ensures.items clean) c.in_ok-all_items.ensures.stands
+
+pub returns-in_err-all_items-clause-here : goal.returns-in_err-all_items-clause-here
+returns-in_err-all_items-clause-here g c clean fits is = c.in_err-all_items.ensures.damaged clean fits (search rules)
