@@ -1,9 +1,12 @@
 -- A question is found in the order of the keys as among the stored ones.
-use Rattle.std.proofs.Common.{◌≡◌, sym, ◌∙◌, arith, rules}
+use Rattle.std.proofs.Common.{◌≡◌, sym, ◌∙◌, arith, rules, ap, subst, ℕ}
 use Rattle.sqlite.specs.Held.{state}
 use Rattle.sqlite.specs.State.{HasCleanDisk}
 use Rattle.store_rows.specs.Tables.{tables_in}
-use Rattle.store.proofs.Known.{works}
+use Rattle.std.specs.Prelude.{Err, IfSome, Option}
+use Rattle.house_rows.specs.Fits.{QuestionFits}
+use Rattle.house_rows.specs.declared.talk.Question.{Question}
+use Rattle.store.proofs.Known.{not_told, works}
 use Rattle.store.proofs.Sound.{question_found}
 use Rattle.store.proofs.keep.SqlKeepKeep.question.Goals as goal
 
@@ -17,3 +20,17 @@ returns-in-Ok-question_at-clause-value g c = λ honest.
     let number : c.in-Ok-try_from-2.number ≡ c.args.number = search rules in
     rw (← c.self.view_is, ← item, ← asker, ← number)
     (c.in-Ok-question_at.ensures.found honest ∙ sym (question_found _ house c.in-Ok.item c.in-Ok-try_from.asker c.in-Ok-try_from-2.number (omega arith) (omega arith) (omega arith)))
+
+pub returns-in-Err-clause-damaged : goal.returns-in-Err-clause-damaged
+unfolding tables_in
+returns-in-Err-clause-damaged g c = rw (← c.self.view_is)
+    (λ honest fits. not_told _ _ _ c.told_fault.ensures.fault c.told_fault.ensures.store (λ is.
+    let clean : HasCleanDisk (state g.S.Store c.question_at.new.conn) = omega (arith, c.told_fault.ensures.crash.clean, honest) in
+    let before : HasCleanDisk (state g.S.Store c.self.inside.conn) = omega (arith, c.in-Err.ensures.read.crash.clean, clean) in
+    let db = (state g.S.Store c.self.inside.conn).now.trees in
+    let house = (c.self.invariant.rests (works _ _ c.self.view_is c.in_ok-serves.ensures.ok) before).house in
+    let item : c.in-Ok.item ≡ c.args.item = search rules in
+    let asker : c.in-Ok-try_from.asker ≡ c.args.asker = search rules in
+    let number : c.in-Ok-try_from-2.number ≡ c.args.number = search rules in
+    let stored = rw (← item, ← asker, ← number) at fits in
+    c.in-Err.ensures.here clean (subst (λ (o : Option Question). IfSome o QuestionFits) (question_found (state g.S.Store c.self.inside.conn).now house c.in-Ok.item c.in-Ok-try_from.asker c.in-Ok-try_from-2.number (omega arith) (omega arith) (omega arith)) stored) (ap Err is)))

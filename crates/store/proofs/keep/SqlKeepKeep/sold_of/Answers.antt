@@ -1,9 +1,11 @@
-use Rattle.std.proofs.Common.{◌≡◌, ap, arith, rules}
+use Rattle.std.proofs.Common.{◌≡◌, ap, arith, rules, subst, sym, ℕ}
 use Rattle.std.specs.Prelude.{Err}
 use Rattle.sqlite.specs.Held.{state}
 use Rattle.sqlite.specs.State.{HasCleanDisk}
 use Rattle.store_rows.specs.Tables.{tables_in}
-use Rattle.store.proofs.Known.{all_stand, known_sound, told_sound, works}
+use Rattle.house_rows.specs.Keeping.{FitWhere, FitsBy, may_be_party}
+use Rattle.store_rows.specs.ItemRows.{items_in}
+use Rattle.store.proofs.Known.{all_stand, known_sound, known_where, not_told, told_sound, works}
 use Rattle.store.proofs.keep.SqlKeepKeep.sold_of.Goals as goal
 
 pub returns-in-Err-clause-faults : goal.returns-in-Err-clause-faults
@@ -19,3 +21,13 @@ returns-in-Ok-sales_to-clause-stands g c = λ honest.
     let before : HasCleanDisk (state g.S.Store c.self.inside.conn) = omega (arith, c.in-Ok-sales_to.ensures.read.crash.clean, honest) in
     let same : c.in-Ok.member ≡ c.args.member = search rules in
     rw (← c.self.view_is, ← same) (all_stand _ _ _ _ (c.self.invariant.known (works _ _ c.self.view_is c.in_ok-serves.ensures.ok) before) _ (c.in-Ok-sales_to.ensures.stands honest))
+
+pub returns-in-Err-clause-damaged : goal.returns-in-Err-clause-damaged
+returns-in-Err-clause-damaged g c = rw (← c.self.view_is)
+    (λ honest fits. not_told _ _ _ c.told_fault.ensures.fault c.told_fault.ensures.store (λ is.
+    let clean : HasCleanDisk (state g.S.Store c.sales_to.new.conn) = omega (arith, c.told_fault.ensures.crash.clean, honest) in
+    let before : HasCleanDisk (state g.S.Store c.self.inside.conn) = omega (arith, c.in-Err.ensures.read.crash.clean, clean) in
+    let same : c.in-Ok.member ≡ c.args.member = search rules in
+    let db = (state g.S.Store c.self.inside.conn).now.trees in
+    let sold = λ (member : ℕ). FitWhere (may_be_party member) (FitsBy c.self.inside.editions) (items_in db) in
+    c.in-Err.ensures.here clean (subst sold (sym same) (known_where _ _ _ _ (c.self.invariant.known (works _ _ c.self.view_is c.in_ok-serves.ensures.ok) before) _ fits)) (ap Err is)))

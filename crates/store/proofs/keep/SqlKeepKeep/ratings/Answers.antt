@@ -1,0 +1,21 @@
+use Rattle.std.proofs.Common.{ap, arith, ◌≡◌, rules, subst, sym, ℕ}
+use Rattle.std.specs.Prelude.{Err, ◌==◌}
+use Rattle.sqlite.specs.Held.{state}
+use Rattle.sqlite.specs.State.{HasCleanDisk}
+use Rattle.house_rows.specs.Fits.{FeedbackFits}
+use Rattle.house_rows.specs.Keeping.{FitWhere}
+use Rattle.house_rows.specs.declared.talk.Feedback.{Feedback}
+use Rattle.store_rows.specs.Rows.{feedback_in}
+use Rattle.store_rows.proofs.Sound.{feedback_where}
+use Rattle.store.proofs.Known.{not_told, works}
+use Rattle.store.proofs.keep.SqlKeepKeep.ratings.Goals as goal
+
+pub returns-in-Err-clause-damaged : goal.returns-in-Err-clause-damaged
+returns-in-Err-clause-damaged g c = rw (← c.self.view_is)
+    (λ honest fits. not_told _ _ _ c.told_fault.ensures.fault c.told_fault.ensures.store (λ is.
+    let clean : HasCleanDisk (state g.S.Store c.ratings.new.conn) = omega (arith, c.told_fault.ensures.crash.clean, honest) in
+    let before : HasCleanDisk (state g.S.Store c.self.inside.conn) = omega (arith, c.in-Err.ensures.read.crash.clean, clean) in
+    let same : c.in-Ok.member ≡ c.args.member = search rules in
+    let db = (state g.S.Store c.self.inside.conn).now.trees in
+    let theirs = λ (member : ℕ). FitWhere (λ (f : Feedback). f.to == member) FeedbackFits (feedback_in db) in
+    c.in-Err.ensures.here clean (subst theirs (sym same) (feedback_where db _ fits)) (ap Err is)))
