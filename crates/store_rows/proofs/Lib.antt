@@ -48,3 +48,4 @@ pub mod BegunLemmas
 pub mod Steps
 pub mod Ties
 pub mod UpdateOne
+pub mod Near
