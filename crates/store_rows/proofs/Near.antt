@@ -3,7 +3,7 @@ use Rattle.std.proofs.Common.{◌≡◌, ◌≤◌, ◌<◌, ◌+◌, ◌^◌, �
 use Rattle.std.specs.List.{AllByRecursion}
 use Rattle.std.proofs.lemmas.Bool.Decides.{nat_tests}
 use Rattle.std.proofs.lemmas.List.{length-append, take-map}
-use Rattle.std.proofs.lemmas.List.Filters.{filter-append}
+use Rattle.std.proofs.lemmas.List.Elements.{filter-append}
 use Rattle.std.proofs.lemmas.List.Sorted.{length_permutation, IsPermutation-map, IsPermutation-sym}
 use Rattle.sqlite_value.specs.declared.keys.Key.{Key as Sorting}
 use Rattle.sqlite_value.specs.Order.{Row, value_cmp}
@@ -165,7 +165,7 @@ module _ {T : Type 0} (inside : Row → T) (number : T → ℕ) (Fits : T → Ty
         each (r ∷ rows) is fit =
             let rest = each rows is.1 fit.1 in
             elim (by_test (p r)) [
-              | inl yes ↦ rw yes ((λ near. fit.0 (passes_keep r is.0 yes) (near_in table are (inside r) near)), rest)
+              | inl stays ↦ rw stays ((λ near. fit.0 (passes_keep r is.0 stays) (near_in table are (inside r) near)), rest)
               | inr not ↦ rw not rest
             ]
 
