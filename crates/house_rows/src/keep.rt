@@ -8,7 +8,7 @@ ghost use Rattle.house_rows.specs.declared.fault.KeepFault.TheVariants.{Damaged}
 ghost use Rattle.house_rows.specs.Fits.{BidRowFits, CategoryFits, FeedbackFits, IsItem, IsMember, IsMoment, IsWithin, ItemFits, MemberFits, OwnBidFits, QuestionFits, StandingFits, TermsFit, WatchRowFits};
 ghost use Rattle.house_rows.specs.Found.{all_items, all_published, ask_count, best_of, category_at, category_named, counts_of, due_at, feedback_to, first_waiting, is_given, is_watched, item_at, item_with_lot, items_in, items_watched, member_named, own_bids, published_on, question_at, questions_of, row_at, sales_to, sells, standing_at, terms_at, waiting_for, watch_count};
 ghost use Rattle.house_rows.specs.Items.{is_due};
-ghost use Rattle.house_rows.specs.Keeping.{AllStand, AreSound, ChangeFaults, Faults, FitWhere, IsRead, RowFits, StandsAt, StandsIn, may_be_party, start_of};
+ghost use Rattle.house_rows.specs.Keeping.{AllStand, AreSound, ChangeFaults, Faults, FirstFit, FitWhere, IsRead, RowFits, StandsAt, StandsIn, may_be_party, start_of};
 ghost use Rattle.house_rows.specs.Limits.{most_categories, most_items, most_shown};
 ghost use Rattle.house_rows.specs.Pages.{member_at, ratings_of, sale_of};
 ghost use Rattle.house_rows.specs.Reached.{FitsSoFar};
@@ -240,6 +240,7 @@ pub trait Keep {
         ensures value { is_honest self.new → IfOk result (λ v. v.items ≡ published_on (content self.old) item from) }
         ensures fits { IfOk result (λ v. AllByRecursion QuestionFits v.items) }
         ensures faults { Faults result (is_honest self.new) (is_failed self.new) (content self.old) }
+        ensures damaged { is_honest self.new → FirstFit (λ q. ((q.item == item) && is_some q.answer) && nat_le (start_of from) q.asker) (λ q. q.asker) QuestionFits (content self.old).questions → ¬ (IsErrOf result Damaged) }
         ensures read { IsRead content is_failed is_honest may_leave self.old self.new };
 
     /// A member's own questions, from an item on, by item and number; at most fifty.
@@ -247,6 +248,7 @@ pub trait Keep {
         ensures value { is_honest self.new → IfOk result (λ v. v.items ≡ questions_of (content self.old) member from) }
         ensures fits { IfOk result (λ v. AllByRecursion QuestionFits v.items) }
         ensures faults { Faults result (is_honest self.new) (is_failed self.new) (content self.old) }
+        ensures damaged { is_honest self.new → FirstFit (λ q. (q.asker == member) && nat_le (start_of from) q.item) (λ q. q.item) QuestionFits (content self.old).questions → ¬ (IsErrOf result Damaged) }
         ensures read { IsRead content is_failed is_honest may_leave self.old self.new };
 
     /// The feedback to a member, from an item on; at most fifty.
@@ -254,6 +256,7 @@ pub trait Keep {
         ensures value { is_honest self.new → IfOk result (λ v. v.items ≡ feedback_to (content self.old) member from) }
         ensures fits { IfOk result (λ v. AllByRecursion FeedbackFits v.items) }
         ensures faults { Faults result (is_honest self.new) (is_failed self.new) (content self.old) }
+        ensures damaged { is_honest self.new → FirstFit (λ f. (f.to == member) && nat_le (start_of from) f.item) (λ f. f.item) FeedbackFits (content self.old).feedback → ¬ (IsErrOf result Damaged) }
         ensures read { IsRead content is_failed is_honest may_leave self.old self.new };
 
     /// All categories, by number.

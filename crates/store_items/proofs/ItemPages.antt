@@ -88,7 +88,7 @@ not_negative (Text x) w p q less none = absurd (true≢false (sym p))
 not_negative (Blob x) w p q less none = absurd (true≢false (sym p))
 
 -- and what is negative is over each number of ours
-negative_over : (v : Value) (n : ℕ) → n < 2 ^ 32 → is_negative v ≡ true → nat_le n (number_in v) ≡ true
+pub negative_over : (v : Value) (n : ℕ) → n < 2 ^ 32 → is_negative v ≡ true → nat_le n (number_in v) ≡ true
 negative_over (Int (negsuc a)) n low is = grind (arith, nat_tests)
 negative_over (Int (pos a)) n low is = absurd (true≢false (sym is))
 negative_over Null n low is = absurd (true≢false (sym is))

@@ -1,5 +1,5 @@
 -- Of a list that goes by a number the first rows fit, where those fit before which too few come.
-use Rattle.std.proofs.Common.{◌≡◌, ◌≤◌, ◌<◌, ◌+◌, ◌^◌, ◌⊎◌, ◌&&◌, ◌||◌, ℕ, zero, suc, Bool, true, false, List, [], ◌∷◌, ◌++◌, map, filter, take, length, nat_le, nat_lt, refl, sym, ap, subst, ◌∙◌, inl, inr, arith, append_assoc, IsPermutation, Less, is_eq}
+use Rattle.std.proofs.Common.{◌≡◌, ◌≤◌, ◌<◌, ◌+◌, ◌^◌, ◌⊎◌, ◌&&◌, ◌||◌, ℕ, zero, suc, Bool, true, false, List, [], ◌∷◌, ◌++◌, map, filter, take, length, nat_le, nat_lt, refl, sym, ap, subst, ◌∙◌, inl, inr, arith, append_assoc, IsPermutation, Ordering, Less, Equal, Greater, is_eq}
 use Rattle.std.specs.List.{AllByRecursion}
 use Rattle.std.proofs.lemmas.Bool.Decides.{nat_tests}
 use Rattle.std.proofs.lemmas.List.{length-append, take-map}
@@ -7,16 +7,19 @@ use Rattle.std.proofs.lemmas.List.Elements.{filter-append}
 use Rattle.std.proofs.lemmas.List.Sorted.{length_permutation, IsPermutation-map, IsPermutation-sym}
 use Rattle.sqlite_value.specs.declared.keys.Key.{Key as Sorting}
 use Rattle.sqlite_value.specs.Order.{Row, value_cmp}
+use Rattle.std.specs.Ordering.{ordering_then}
 use Rattle.sqlite_value.specs.declared.value.Value.{Value}
 use Rattle.sqlite_sql.specs.Term.{Term}
 use Rattle.sqlite_sql.specs.Query.{Output, output_cmp}
 use Rattle.sqlite_sql.proofs.QueryLemmas.{output_cmp_total}
 use Rattle.sqlite_trees.specs.Tree.{IsAscending}
+use Rattle.sqlite_trees.specs.View.{is_int}
 use Rattle.sqlite_keyed.proofs.ListLemmas.{IsPermutation-filter, all_both, all_map, all_unmap, all_weaker, ascending-map, map-map, map_same}
 use Rattle.house_rows.specs.History.{Key, counted}
 use Rattle.house_rows.specs.Keeping.{FirstFit, is_near}
 use Rattle.house_rows.proofs.Put.{by_test}
 use Rattle.store_rows.specs.Plain.{plain_query, passes, shown_by}
+use Rattle.store_rows.specs.Rows.{number_in}
 use Rattle.store_rows.specs.Sorted.{sorted_by}
 use Rattle.store_rows.proofs.Apart.{ascending_on}
 use Rattle.store_rows.proofs.Counted.{counted_few}
@@ -24,6 +27,7 @@ use Rattle.store_rows.proofs.NoTies.{rises_strictly}
 use Rattle.store_rows.proofs.Select.{IsListOf}
 use Rattle.store_rows.proofs.Shown.{every_stored, moved, output_row}
 use Rattle.store_rows.proofs.Sorting.{count-sorted}
+use Rattle.store_rows.proofs.Ties.{equal_number, less_number}
 
 -- ---- lists that go by a number
 
@@ -175,3 +179,25 @@ first_stored {T} key keep number Fits rows fits =
     all_weaker (λ (x : T). keep x ≡ true → is_near keep number (sorted_by key rows) x ≡ true → Fits x) (λ (x : T). keep x ≡ true → is_near keep number rows x ≡ true → Fits x)
     (λ x fit is near. fit is (rw (count-sorted key (λ y. keep y && nat_lt (number y) (number x)) rows) near)) rows
     (every_stored key (λ (x : T). keep x ≡ true → is_near keep number (sorted_by key rows) x ≡ true → Fits x) rows fits)
+
+-- ---- numbers rise in the order of SQL
+
+-- ORDER BY the number first
+module _ (v v' : Value) (rest : Ordering) (low : number_in v < 2 ^ 32) (is : is_int v' ≡ true) where
+  first_up : (x : Ordering) → value_cmp v v' ≡ x → ordering_then x rest ≡ Less → number_in v ≤ number_in v'
+  first_up Less e less = (let over = less_number v v' low is e in omega (arith, over))
+  first_up Equal e less = (let same = equal_number v v' low is e in omega (arith, same))
+  first_up Greater e less = absurd (let f = less in cc)
+
+  pub first_rises : ordering_then (value_cmp v v') rest ≡ Less → number_in v ≤ number_in v'
+  first_rises less = first_up (value_cmp v v') refl less
+
+-- ORDER BY another number first, which is one for all
+module _ (u v u' v' : Value) (rest : Ordering) (u_low : number_in u < 2 ^ 32) (v_low : number_in v < 2 ^ 32) (u_is : is_int u' ≡ true) (v_is : is_int v' ≡ true) (same : number_in u ≡ number_in u') where
+  second_up : (x : Ordering) → value_cmp u u' ≡ x → ordering_then x (ordering_then (value_cmp v v') rest) ≡ Less → number_in v ≤ number_in v'
+  second_up Less e less = absurd (let over = less_number u u' u_low u_is e in omega (arith, over, same))
+  second_up Equal e less = first_rises v v' rest v_low v_is less
+  second_up Greater e less = absurd (let f = less in cc)
+
+  pub second_rises : ordering_then (value_cmp u u') (ordering_then (value_cmp v v') rest) ≡ Less → number_in v ≤ number_in v'
+  second_rises less = second_up (value_cmp u u') refl less

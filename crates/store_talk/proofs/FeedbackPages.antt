@@ -33,6 +33,7 @@ use Rattle.sqlite.specs.Term.{Term, col, lit, op2}
 use Rattle.house_rows.specs.Fits.{FeedbackFits}
 use Rattle.house_rows.specs.Found as found
 use Rattle.house_rows.specs.History.{is_less}
+use Rattle.house_rows.specs.Keeping.{FirstFit, is_near}
 use Rattle.house_rows.specs.Ratings.{feedback_key}
 use Rattle.house_rows.specs.declared.talk.Feedback.{Feedback}
 use Rattle.house_rows.proofs.Put.{by_test}
@@ -53,11 +54,13 @@ use Rattle.store_rows.specs.First.{IsFinite, ShowsFirst, ShowsSome}
 use Rattle.store_rows.proofs.Asked.{Asks, from_second, lists, under_zero}
 use Rattle.store_rows.proofs.Bounds.{bound_of, from_bound}
 use Rattle.store_rows.proofs.Compared.{at_least, fits_not_negative, is_negative, told_at_least}
+use Rattle.store_rows.proofs.Near.{first_near, first_rises, first_stored, kept_near}
 use Rattle.store_rows.proofs.Firsts.{first_by_key, first_fit, first_kept, none_passes, some_passes}
 use Rattle.store_rows.proofs.Grouped.{firsts_rise}
 use Rattle.store_rows.proofs.Sorting.{filter-sorted, sorted_in_order}
 use Rattle.store_rows.proofs.Ties.{none_tie, three_rise, tied_equal}
 use Rattle.store_talk.proofs.FeedbackLists.{unique}
+use Rattle.store_talk.proofs.QuestionPages.{far_number, is_far}
 use Rattle.store_talk.proofs.Full.{Rises, fewer, is_low, negative_high, none_both, page_low, same_first, same_low, so_many_rows}
 
 -- ---- the queries
@@ -205,6 +208,36 @@ given_low : (a negative rated : Bool) (from n : ℕ) → (negative ≡ true → 
     → ((a && ((not negative && nat_le from n) && true)) && nat_lt (cond rated n (2 ^ 64)) (2 ^ 64)) ≡ ((a && nat_le from (cond rated n (2 ^ 64))) && nat_lt (cond rated n (2 ^ 64)) (2 ^ 64))
 given_low a negative true from n high = page_low a negative (nat_le from n) (nat_lt n (2 ^ 64)) high
 given_low a negative false from n high = none_both (a && ((not negative && nat_le from n) && true)) (a && nat_le from (2 ^ 64))
+
+given_kept : (a negative rated : Bool) (from n : ℕ) → from < 2 ^ 32 → (a && ((not negative && nat_le from n) && true)) ≡ true → (a && nat_le from (cond rated n (2 ^ 64))) ≡ true
+given_kept true false true from n low is = first_of_both (nat_le from n) true is
+given_kept true false false from n low is = far from low
+given_kept true true rated from n low is = absurd (true≢false (sym is))
+given_kept false negative rated from n low is = is
+
+over_far : (from n : ℕ) → from < 2 ^ 32 → nat_lt n (2 ^ 64) ≡ false → nat_le from n ≡ true
+over_far from n low high = grind (arith, nat_tests, high)
+
+-- a stray is kept as a typed row, and has no item of ours
+given_stray : (a negative rated : Bool) (from n : ℕ) → from < 2 ^ 32 → (negative ≡ true → nat_lt n (2 ^ 64) ≡ false) → (a && (not (not negative && nat_le from n) && ((negative || not rated) && true))) ≡ true
+    → ((a && nat_le from (cond rated n (2 ^ 64))) ≡ true) × (nat_lt (cond rated n (2 ^ 64)) (2 ^ 64) ≡ false)
+given_stray true true true from n low high is = (over_far from n low (high refl), high refl)
+given_stray true true false from n low high is = (far from low, refl)
+given_stray true false true from n low high is = absurd (go (not (nat_le from n)) is)
+  where
+    go : (b : Bool) → (b && false) ≡ true → ⊥
+    go true e = true≢false (sym e)
+    go false e = true≢false (sym e)
+given_stray true false false from n low high is = (far from low, refl)
+given_stray false negative rated from n low high is = absurd (true≢false (sym is))
+
+low_rated : (is : Bool) (n : ℕ) → cond is n (2 ^ 64) < 2 ^ 32 → cond is n (2 ^ 64) ≡ n
+low_rated true n low = refl
+low_rated false n low = absurd (omega (arith, low))
+
+later_item : (is : Bool) (m n : ℕ) → m < 2 ^ 32 → m ≤ n → m ≤ cond is n (2 ^ 64)
+later_item true m n low up = up
+later_item false m n low up = omega (arith, low)
 
 fitting_bits : (a under negative rated : Bool) → negative ≡ false → rated ≡ true → (a && (under && ((negative || not rated) && true))) ≡ false
 fitting_bits a under negative rated e f = rw (e, f) (go a under)
@@ -357,6 +390,48 @@ module _ (member from : ℕ) (low : member < 2 ^ 32) (small : from < 2 ^ 32) (ol
       (fits_not_negative (column r 1) (item_low r fit)) (rating_is r fit).1)
       table (are_given old.now house) (all_unmap FeedbackFits one_feedback_in table fits))
 
+  -- what the list takes fits
+  passes_is : (r : Row) → IsGiven r → passes given_test params r ≡ (eqb (number_in (column r 3)) member && ((not (is_negative (column r 1)) && nat_le from (number_in (column r 1))) && true))
+  passes_is r is = rw (equals_number (column r 3) member is.receiver low, at_least (column r 1) from is.item small) refl
+
+  kept_passing : (r : Row) → IsGiven r → passes given_test params r ≡ true → keeps member from (one_feedback_in r) ≡ true
+  kept_passing r is p = given_kept (eqb (number_in (column r 3)) member) (is_negative (column r 1)) (is_rating (column r 4)) from (number_in (column r 1)) small (sym (passes_is r is) ∙ p)
+
+  items_rise : (r s : Row) → IsGiven r → IsGiven s → item_of (one_feedback_in r) < 2 ^ 32
+      → output_cmp (plain_query 0 given_test talk_shown two_columns) (output_row talk_shown two_columns params r) (output_row talk_shown two_columns params s) ≡ Less → item_of (one_feedback_in r) ≤ item_of (one_feedback_in s)
+  items_rise r s r_is s_is near less =
+      let is = low_rated (is_rating (column r 4)) (number_in (column r 1)) near in
+      let first : number_in (column r 1) < 2 ^ 32 = subst (λ (n : ℕ). n < 2 ^ 32) is near in
+      let up = first_rises (column r 1) (column s 1) (ordering_then (value_cmp (column r 2) (column s 2)) Equal) first s_is.item less in
+      subst (λ (n : ℕ). n ≤ item_of (one_feedback_in s)) (sym is) (later_item (is_rating (column s 4)) (number_in (column r 1)) (number_in (column s 1)) first up)
+
+  pub given_near : (rows : List Row) → ShowsFirst 50 given_text params old new rows → FirstFit (keeps member from) item_of FeedbackFits (feedback_in old.now.trees) → AllByRecursion FeedbackFits (map feedback_of rows)
+  given_near rows first fits =
+      let given = are_given old.now house in
+      subst (λ l. AllByRecursion FeedbackFits (map feedback_of l)) (sym first.are)
+      (first_near given_test talk_shown two_columns params table first.all (listing rows first)
+      feedback_of one_feedback_in (λ r. refl) item_of FeedbackFits IsGiven apart (all-filter IsGiven (passes given_test params) table given) items_rise 50
+      (kept_near one_feedback_in item_of FeedbackFits (keeps member from) (passes given_test params) IsGiven low_passing kept_passing table given fits))
+
+  abbrev IsTaken : Feedback → Type 0
+  IsTaken f = keeps member from f ≡ true → is_near (keeps member from) item_of (feedback_in old.now.trees) f ≡ true → FeedbackFits f
+
+  taken_no_stray : (r : Row) → IsGiven r → IsTaken (one_feedback_in r) → passes stray_test params r ≡ false
+  taken_no_stray r is fit =
+      elim (by_test (passes stray_test params r)) [
+        | inr none ↦ none
+        | inl stray ↦ (let both = given_stray (eqb (number_in (column r 3)) member) (is_negative (column r 1)) (is_rating (column r 4)) from (number_in (column r 1)) small (negative_high (column r 1)) (sym (stray_is r is) ∙ stray) in
+            let far_off : nat_le 4294967296 (item_of (one_feedback_in r)) ≡ true = far_number (item_of (one_feedback_in r)) both.1 in
+            let near : is_near (keeps member from) item_of (feedback_in old.now.trees) (one_feedback_in r) ≡ true = is_far (nat_le 4294967296 (item_of (one_feedback_in r))) _ far_off in
+            absurd (true≢false (sym (item_is_low (one_feedback_in r) (fit both.0 near)) ∙ both.1)))
+      ]
+
+  pub no_stray_taken : (end : State) → ShowsSome stray_feedback_text params old end → FirstFit (keeps member from) item_of FeedbackFits (feedback_in old.now.trees) → ⊥
+  no_stray_taken end some fits =
+      some_passes stray_test (col 1 1 ∷ []) two_columns params table (some.first ∷ some.others)
+      (lists stray_feedback_text 14 stray_test (col 1 1 ∷ []) two_columns _ strays_is (λ db. refl) old end params _ house some.shown) some.first some.others refl
+      (all_both IsGiven (λ r. IsTaken (one_feedback_in r)) (λ r. passes stray_test params r ≡ false) taken_no_stray table (are_given old.now house) (all_unmap IsTaken one_feedback_in table fits))
+
 item_small : (f : Feedback) → FeedbackFits f → f.item < 4294967295
 item_small f fit = omega (arith, fit.item.1)
 
@@ -364,3 +439,7 @@ pub given_found : (member from : ℕ) (db : Trees) → AllByRecursion FeedbackFi
     → take 50 (filter (keeps member (bound_of from)) (sorted_feedback db)) ≡ found.feedback_to (tables_in db) member from
 unfolding tables_in
 given_found member from db fits = from_bound (λ (f : Feedback). f.to == member) (λ (f : Feedback). f.item) FeedbackFits item_small from (sorted_feedback db) fits
+
+pub given_stored : (member from : ℕ) (db : Trees) → FirstFit (keeps member from) item_of FeedbackFits (tables_in db).feedback → FirstFit (keeps member from) item_of FeedbackFits (feedback_in db)
+unfolding tables_in
+given_stored member from db fits = first_stored feedback_key (keeps member from) item_of FeedbackFits (feedback_in db) fits

@@ -3,6 +3,7 @@ ghost use Rattle.std.specs.Prelude.{◌≡◌, ◌==◌, ◌&&◌, pos, [], ◌�
 ghost use Rattle.std.specs.List.{AllByRecursion};
 ghost use Rattle.house_rows.specs.Fits.{FeedbackFits};
 ghost use Rattle.house_rows.specs.Found.{feedback_to};
+ghost use Rattle.house_rows.specs.Keeping.{FirstFit, start_of};
 ghost use Rattle.house_rows.specs.Limits.{most_shown};
 ghost use Rattle.house_rows.specs.declared.fault.KeepFault.TheVariants.{Damaged};
 ghost use Rattle.sqlite_value.specs.declared.value.Value.TheVariants.{Int};
@@ -40,6 +41,10 @@ fn given_from<S: Alter>(
     ensures damaged { HasCleanDisk (state S.Store conn.new)
         → AllByRecursion FeedbackFits (feedback_in (state S.Store conn.old).now.trees)
         → ¬ (IsErrOf result Damaged) }
+    ensures reached { HasCleanDisk (state S.Store conn.new)
+        → FirstFit (λ f. (f.to == member) && nat_le from f.item)
+        (λ f. f.item) FeedbackFits (feedback_in (state S.Store conn.old).now.trees)
+        → ¬ (IsErrOf result Damaged) }
     ensures spoiled { HasCleanDisk (state S.Store conn.new)
         → IsErrOf result Damaged
         → IsSpoiled feedback_of FeedbackFits given_text (Int (pos member) ∷ Int (pos from) ∷ [])
@@ -72,6 +77,10 @@ pub fn feedback_to<S: Alter>(
     ensures fits { IfOk result (λ given. AllByRecursion FeedbackFits given.items) }
     ensures damaged { HasCleanDisk (state S.Store conn.new)
         → AllByRecursion FeedbackFits (feedback_in (state S.Store conn.old).now.trees)
+        → ¬ (IsErrOf result Damaged) }
+    ensures reached { HasCleanDisk (state S.Store conn.new)
+        → FirstFit (λ f. (f.to == member) && nat_le (start_of from) f.item)
+        (λ f. f.item) FeedbackFits (tables_in (state S.Store conn.old).now.trees).feedback
         → ¬ (IsErrOf result Damaged) }
     ensures read { OnlyReads (state S.Store conn.old) (state S.Store conn.new) result }
 {

@@ -3,6 +3,7 @@ ghost use Rattle.std.specs.Prelude.{◌≡◌, ◌==◌, ◌&&◌, pos, [], ◌�
 ghost use Rattle.std.specs.List.{AllByRecursion};
 ghost use Rattle.house_rows.specs.Fits.{QuestionFits};
 ghost use Rattle.house_rows.specs.Found.{published_on, questions_of};
+ghost use Rattle.house_rows.specs.Keeping.{FirstFit, start_of};
 ghost use Rattle.house_rows.specs.Limits.{most_shown};
 ghost use Rattle.house_rows.specs.declared.fault.KeepFault.TheVariants.{Damaged};
 ghost use Rattle.sqlite_value.specs.declared.value.Value.TheVariants.{Int};
@@ -39,6 +40,10 @@ fn published_from<S: Alter>(
     ensures damaged { HasCleanDisk (state S.Store conn.new)
         → AllByRecursion QuestionFits (questions_in (state S.Store conn.old).now.trees)
         → ¬ (IsErrOf result Damaged) }
+    ensures reached { HasCleanDisk (state S.Store conn.new)
+        → FirstFit (λ q. ((q.item == item) && is_some q.answer) && nat_le from q.asker)
+        (λ q. q.asker) QuestionFits (questions_in (state S.Store conn.old).now.trees)
+        → ¬ (IsErrOf result Damaged) }
     ensures spoiled { HasCleanDisk (state S.Store conn.new)
         → IsErrOf result Damaged
         → IsSpoiled question_of QuestionFits published_text (Int (pos item) ∷ Int (pos from) ∷ [])
@@ -71,6 +76,10 @@ pub fn published_on<S: Alter>(
     ensures fits { IfOk result (λ asked. AllByRecursion QuestionFits asked.items) }
     ensures damaged { HasCleanDisk (state S.Store conn.new)
         → AllByRecursion QuestionFits (questions_in (state S.Store conn.old).now.trees)
+        → ¬ (IsErrOf result Damaged) }
+    ensures reached { HasCleanDisk (state S.Store conn.new)
+        → FirstFit (λ q. ((q.item == item) && is_some q.answer) && nat_le (start_of from) q.asker)
+        (λ q. q.asker) QuestionFits (tables_in (state S.Store conn.old).now.trees).questions
         → ¬ (IsErrOf result Damaged) }
     ensures read { OnlyReads (state S.Store conn.old) (state S.Store conn.new) result }
 {
@@ -121,6 +130,10 @@ fn questions_from<S: Alter>(
     ensures damaged { HasCleanDisk (state S.Store conn.new)
         → AllByRecursion QuestionFits (questions_in (state S.Store conn.old).now.trees)
         → ¬ (IsErrOf result Damaged) }
+    ensures reached { HasCleanDisk (state S.Store conn.new)
+        → FirstFit (λ q. (q.asker == asker) && nat_le from q.item)
+        (λ q. q.item) QuestionFits (questions_in (state S.Store conn.old).now.trees)
+        → ¬ (IsErrOf result Damaged) }
     ensures spoiled { HasCleanDisk (state S.Store conn.new)
         → IsErrOf result Damaged
         → IsSpoiled question_of QuestionFits questions_text (Int (pos asker) ∷ Int (pos from) ∷ [])
@@ -153,6 +166,10 @@ pub fn questions_of<S: Alter>(
     ensures fits { IfOk result (λ asked. AllByRecursion QuestionFits asked.items) }
     ensures damaged { HasCleanDisk (state S.Store conn.new)
         → AllByRecursion QuestionFits (questions_in (state S.Store conn.old).now.trees)
+        → ¬ (IsErrOf result Damaged) }
+    ensures reached { HasCleanDisk (state S.Store conn.new)
+        → FirstFit (λ q. (q.asker == member) && nat_le (start_of from) q.item)
+        (λ q. q.item) QuestionFits (tables_in (state S.Store conn.old).now.trees).questions
         → ¬ (IsErrOf result Damaged) }
     ensures read { OnlyReads (state S.Store conn.old) (state S.Store conn.new) result }
 {

@@ -4,7 +4,7 @@ use Rattle.sqlite.specs.Held.{state}
 use Rattle.house_rows.specs.Fits.{FeedbackFits}
 use Rattle.store_rows.specs.Rows.{feedback_of}
 use Rattle.store_rows.proofs.Both.{ok_both}
-use Rattle.store_talk.proofs.FeedbackPages.{given_is, given_finite, given_either, no_stray_given, given_fit, strays_is, strays_finite}
+use Rattle.store_talk.proofs.FeedbackPages.{given_is, given_finite, given_either, no_stray_given, no_stray_taken, given_near, given_fit, strays_is, strays_finite}
 use Rattle.store_talk.proofs.feedback_pages.given_from.Goals as goal
 
 pub listed_rows-requires-clause-plain : goal.listed_rows-requires-clause-plain
@@ -58,3 +58,19 @@ returns-in_err-rows-clause-damaged g c clean fits is =
     let small : c.args.from < 2 ^ 32 = omega (arith, c.ranges.from) in
     let stray = rw (c.params-to_sql.ensures, c.params-to_sql-2.ensures, c.params-to_sql-3.ensures, c.params-to_sql-4.ensures) at (c.listed_rows.ensures.damaged clean (search rules)) in
     no_stray_given c.args.member c.args.from low small (state g.S.Store c.args.conn.now) (state g.S.Store c.listed_rows.new.conn) (c.listed_rows.ensures.house clean) (state g.S.Store c.listed_rows.new.conn) stray.some fits
+
+pub returns-clause-reached : goal.returns-clause-reached
+returns-clause-reached g c clean fits =
+    let low : c.args.member < 2 ^ 32 = omega (arith, c.ranges.member) in
+    let small : c.args.from < 2 ^ 32 = omega (arith, c.ranges.from) in
+    let first = rw (c.params-to_sql.ensures, c.params-to_sql-2.ensures) at (c.in_ok-rows.ensures.rows clean) in
+    let same : c.deref.result.now ≡ c.in_ok-rows.rows.items = search rules in
+    let fit = given_near c.args.member c.args.from low small (state g.S.Store c.args.conn.now) (state g.S.Store c.listed_rows.new.conn) (c.listed_rows.ensures.house clean) c.in_ok-rows.rows.items first fits in
+    c.all_of.ensures.damaged (subst (AllByRecursion FeedbackFits) (sym (ap (map feedback_of) same)) fit)
+
+pub returns-in_err-rows-clause-reached : goal.returns-in_err-rows-clause-reached
+returns-in_err-rows-clause-reached g c clean fits is =
+    let low : c.args.member < 2 ^ 32 = omega (arith, c.ranges.member) in
+    let small : c.args.from < 2 ^ 32 = omega (arith, c.ranges.from) in
+    let stray = rw (c.params-to_sql.ensures, c.params-to_sql-2.ensures, c.params-to_sql-3.ensures, c.params-to_sql-4.ensures) at (c.listed_rows.ensures.damaged clean (search rules)) in
+    no_stray_taken c.args.member c.args.from low small (state g.S.Store c.args.conn.now) (state g.S.Store c.listed_rows.new.conn) (c.listed_rows.ensures.house clean) (state g.S.Store c.listed_rows.new.conn) stray.some fits

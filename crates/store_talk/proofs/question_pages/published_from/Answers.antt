@@ -4,7 +4,7 @@ use Rattle.sqlite.specs.Held.{state}
 use Rattle.house_rows.specs.Fits.{QuestionFits}
 use Rattle.store_rows.specs.Rows.{question_of}
 use Rattle.store_rows.proofs.Both.{ok_both}
-use Rattle.store_talk.proofs.QuestionPages.{published_is, published_finite, published_either, no_stray_asker, published_fit, stray_askers_is, stray_askers_finite}
+use Rattle.store_talk.proofs.QuestionPages.{published_is, published_finite, published_either, no_stray_asker, no_stray_taken, published_near, published_fit, stray_askers_is, stray_askers_finite}
 use Rattle.store_talk.proofs.question_pages.published_from.Goals as goal
 
 pub listed_rows-requires-clause-plain : goal.listed_rows-requires-clause-plain
@@ -56,3 +56,19 @@ returns-in_err-rows-clause-damaged g c clean fits is =
     let small : c.args.from < 2 ^ 32 = omega (arith, c.ranges.from) in
     let stray = rw (c.params-to_sql.ensures, c.params-to_sql-2.ensures, c.params-to_sql-3.ensures) at (c.listed_rows.ensures.damaged clean (search rules)) in
     no_stray_asker c.args.item c.args.from low small (state g.S.Store c.args.conn.now) (state g.S.Store c.listed_rows.new.conn) (c.listed_rows.ensures.house clean) (state g.S.Store c.listed_rows.new.conn) stray.some fits
+
+pub returns-clause-reached : goal.returns-clause-reached
+returns-clause-reached g c clean fits =
+    let low : c.args.item < 2 ^ 32 = omega (arith, c.ranges.item) in
+    let small : c.args.from < 2 ^ 32 = omega (arith, c.ranges.from) in
+    let first = rw (c.params-to_sql.ensures, c.params-to_sql-2.ensures) at (c.in_ok-rows.ensures.rows clean) in
+    let same : c.deref.result.now ≡ c.in_ok-rows.rows.items = search rules in
+    let fit = published_near c.args.item c.args.from low small (state g.S.Store c.args.conn.now) (state g.S.Store c.listed_rows.new.conn) (c.listed_rows.ensures.house clean) c.in_ok-rows.rows.items first fits in
+    c.all_of.ensures.damaged (subst (AllByRecursion QuestionFits) (sym (ap (map question_of) same)) fit)
+
+pub returns-in_err-rows-clause-reached : goal.returns-in_err-rows-clause-reached
+returns-in_err-rows-clause-reached g c clean fits is =
+    let low : c.args.item < 2 ^ 32 = omega (arith, c.ranges.item) in
+    let small : c.args.from < 2 ^ 32 = omega (arith, c.ranges.from) in
+    let stray = rw (c.params-to_sql.ensures, c.params-to_sql-2.ensures, c.params-to_sql-3.ensures) at (c.listed_rows.ensures.damaged clean (search rules)) in
+    no_stray_taken c.args.item c.args.from low small (state g.S.Store c.args.conn.now) (state g.S.Store c.listed_rows.new.conn) (c.listed_rows.ensures.house clean) (state g.S.Store c.listed_rows.new.conn) stray.some fits
