@@ -1,6 +1,5 @@
 -- What is due among the rows of the database is due in its tables.
 use Rattle.std.proofs.Common.{◌≡◌, ℕ, not, Bool, List, map, filter, length, ap, ◌∙◌}
-use Rattle.std.specs.Prelude.{◌&&◌}
 use Rattle.std.proofs.lemmas.List.{length-map}
 use Rattle.sqlite_trees.specs.Tree.{Trees}
 use Rattle.sqlite_keyed.proofs.ListLemmas.{filter-map}
@@ -9,7 +8,6 @@ use Rattle.house_rows.specs.History.{counted}
 use Rattle.house_rows.specs.Items.{close_sells, is_due}
 use Rattle.house_rows.specs.Tables.{ItemRow}
 use Rattle.house_rows.specs.declared.item.Due.{Due}
-use Rattle.house_rows.specs.declared.item.Item.{Item}
 use Rattle.house_rows.specs.declared.item.Terms.{Terms}
 use Rattle.store_rows.specs.ItemRows.{items_in}
 use Rattle.store_rows.specs.Tables.{tables_in}

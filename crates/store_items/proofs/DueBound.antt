@@ -1,6 +1,5 @@
 -- What is due at a moment from 2 ^ 32 on is due at the last moment before it: no stored end is as great.
-use Rattle.std.proofs.Common.{◌≡◌, ◌<◌, ◌^◌, ◌&&◌, ℕ, pos, negsuc, Bool, true, false, not, List, [], ◌∷◌, map, filter, cond, nat_le, nat_lt, refl, sym, ap, ap₂, ◌∙◌, inl, inr, arith}
-use Rattle.std.specs.List.{AllByRecursion}
+use Rattle.std.proofs.Common.{◌≡◌, ◌<◌, ◌^◌, ◌&&◌, ℕ, pos, negsuc, Bool, true, false, not, List, [], ◌∷◌, map, filter, nat_le, nat_lt, refl, sym, ap, ap₂, ◌∙◌, inl, inr, arith}
 use Rattle.std.proofs.lemmas.Bool.Decides.{nat_tests}
 use Rattle.sqlite_value.specs.declared.value.Value.{Value}
 use Rattle.sqlite_value.specs.declared.value.Value.TheVariants.{Null, Int, Real, Text, Blob}

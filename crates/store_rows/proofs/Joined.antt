@@ -117,7 +117,7 @@ module _ {A : Type 0} (number : A → ℕ) where
       nowhere is small = no_such (filter p xs) (all_both (IsBelow x) (λ y. number y < 2 ^ 64) (λ y. (i == number y) ≡ false) (λ y below low'. apart y below low' is) (filter p xs) (all-filter (IsBelow x) p xs up.0) small)
 
 -- where each number that is among some has a property, they all have it
-each_among : (P : ℕ → Type 0) (numbers : List ℕ) → ((n : ℕ) → list_any (λ m. n == m) numbers ≡ true → P n) → AllByRecursion P numbers
+pub each_among : (P : ℕ → Type 0) (numbers : List ℕ) → ((n : ℕ) → list_any (λ m. n == m) numbers ≡ true → P n) → AllByRecursion P numbers
 each_among P [] all = tt
 each_among P (x ∷ numbers) all =
     let same : (x == x) ≡ true = grind (arith, nat_tests) in

@@ -1,10 +1,10 @@
 -- Of a list that goes by a number the first rows fit, where those fit before which too few come.
-use Rattle.std.proofs.Common.{◌≡◌, ◌≤◌, ◌<◌, ◌+◌, ◌^◌, ◌⊎◌, ◌&&◌, ◌||◌, ℕ, zero, suc, Bool, true, false, List, [], ◌∷◌, ◌++◌, map, filter, take, length, nat_le, nat_lt, refl, sym, ap, subst, ◌∙◌, inl, inr, arith, append_assoc, IsPermutation, Ordering, Less, Equal, Greater, is_eq}
+use Rattle.std.proofs.Common.{◌≡◌, ◌≤◌, ◌<◌, ◌+◌, ◌^◌, ◌⊎◌, ◌&&◌, ℕ, zero, suc, Bool, true, false, List, [], ◌∷◌, ◌++◌, map, filter, take, length, nat_le, nat_lt, refl, sym, ap, subst, ◌∙◌, inl, inr, arith, append_assoc, IsPermutation, Ordering, Less, Equal, Greater, is_eq}
 use Rattle.std.specs.List.{AllByRecursion}
 use Rattle.std.proofs.lemmas.Bool.Decides.{nat_tests}
 use Rattle.std.proofs.lemmas.List.{length-append, take-map}
 use Rattle.std.proofs.lemmas.List.Elements.{filter-append}
-use Rattle.std.proofs.lemmas.List.Sorted.{length_permutation, IsPermutation-map, IsPermutation-sym}
+use Rattle.std.proofs.lemmas.List.Sorted.{length_permutation, IsPermutation-map}
 use Rattle.sqlite_value.specs.declared.keys.Key.{Key as Sorting}
 use Rattle.sqlite_value.specs.Order.{Row, value_cmp}
 use Rattle.std.specs.Ordering.{ordering_then}
@@ -14,7 +14,7 @@ use Rattle.sqlite_sql.specs.Query.{Output, output_cmp}
 use Rattle.sqlite_sql.proofs.QueryLemmas.{output_cmp_total}
 use Rattle.sqlite_trees.specs.Tree.{IsAscending}
 use Rattle.sqlite_trees.specs.View.{is_int}
-use Rattle.sqlite_keyed.proofs.ListLemmas.{IsPermutation-filter, all_both, all_map, all_unmap, all_weaker, ascending-map, map-map, map_same}
+use Rattle.sqlite_keyed.proofs.ListLemmas.{IsPermutation-filter, all_map, all_unmap, all_weaker, ascending-map, map-map, map_same}
 use Rattle.house_rows.specs.History.{Key, counted}
 use Rattle.house_rows.specs.Keeping.{FirstFit, is_near}
 use Rattle.house_rows.proofs.Put.{by_test}

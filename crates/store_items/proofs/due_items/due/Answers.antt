@@ -1,4 +1,4 @@
-use Rattle.std.proofs.Common.{◌≡◌, ◌<◌, ◌^◌, ◌∙◌, ap, arith, filter, List, sym, subst}
+use Rattle.std.proofs.Common.{◌<◌, ◌^◌, ◌∙◌, ap, arith, filter, List, sym, subst}
 use Rattle.std.specs.Prelude.{OnOk}
 use Rattle.std.specs.List.{AllByRecursion}
 use Rattle.sqlite.specs.Held.{state}

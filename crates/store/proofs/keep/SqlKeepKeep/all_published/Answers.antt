@@ -3,7 +3,7 @@ use Rattle.std.specs.Prelude.{Err}
 use Rattle.sqlite.specs.Held.{state}
 use Rattle.sqlite.specs.State.{HasCleanDisk}
 use Rattle.store_rows.proofs.Sound.{questions_where}
-use Rattle.store.proofs.Known.{not_told, works}
+use Rattle.store.proofs.Known.{not_told}
 use Rattle.store.proofs.keep.SqlKeepKeep.all_published.Goals as goal
 
 pub returns-in-Err-clause-damaged : goal.returns-in-Err-clause-damaged

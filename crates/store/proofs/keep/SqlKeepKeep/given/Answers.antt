@@ -7,7 +7,7 @@ use Rattle.house_rows.specs.Keeping.{FitWhere}
 use Rattle.house_rows.specs.declared.talk.Feedback.{Feedback}
 use Rattle.store_rows.specs.Rows.{feedback_in}
 use Rattle.store_rows.proofs.Sound.{feedback_where}
-use Rattle.store.proofs.Known.{not_told, works}
+use Rattle.store.proofs.Known.{not_told}
 use Rattle.store.proofs.keep.SqlKeepKeep.given.Goals as goal
 
 pub returns-in-Err-clause-damaged : goal.returns-in-Err-clause-damaged

@@ -1,5 +1,5 @@
 -- A question is found in the order of the keys as among the stored ones.
-use Rattle.std.proofs.Common.{◌≡◌, sym, ◌∙◌, arith, rules, ap, subst, ℕ}
+use Rattle.std.proofs.Common.{◌≡◌, sym, ◌∙◌, arith, rules, ap, subst}
 use Rattle.sqlite.specs.Held.{state}
 use Rattle.sqlite.specs.State.{HasCleanDisk}
 use Rattle.store_rows.specs.Tables.{tables_in}

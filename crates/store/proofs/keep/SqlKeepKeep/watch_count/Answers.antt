@@ -7,7 +7,7 @@ use Rattle.house_rows.specs.Keeping.{FitWhere}
 use Rattle.house_rows.specs.Watches.{WatchRow}
 use Rattle.store_rows.specs.Rows.{watches_in}
 use Rattle.store_rows.proofs.Sound.{watches_where}
-use Rattle.store.proofs.Known.{not_told, works}
+use Rattle.store.proofs.Known.{not_told}
 use Rattle.store.proofs.keep.SqlKeepKeep.watch_count.Goals as goal
 
 pub returns-in-Err-clause-damaged : goal.returns-in-Err-clause-damaged
