@@ -1,9 +1,9 @@
 -- What every call of a keep promises beside its answer. A keep that rests on a disk promises of its rows only while the disk
 -- has returned what was written: while it is honest.
-use Rattle.std.specs.Prelude.{◌||◌, ◌&&◌, if◌then◌else◌, nat_le, nat_lt, ◌≡◌, ◌≤◌, ◌+◌, ◌⊎◌, length, ◌↔◌, ℕ, List, [], ◌∷◌, Bool, true, false, Option, Some, None, IfSome, Result, OnOk, IsErrOf, ◌==◌, filter}
+use Rattle.std.specs.Prelude.{◌≡◌, ◌≤◌, ◌+◌, ◌⊎◌, length, ◌↔◌, ℕ, List, [], ◌∷◌, Bool, true, false, Option, Some, None, IfSome, Result, OnOk, IsErrOf, ◌==◌, filter}
 use Rattle.std.specs.List.{AllByRecursion}
 use Rattle.proxy.specs.Accepted.{AreAccepted}
-use Rattle.proxy.specs.Bids.{is_leader, standing_of}
+use Rattle.proxy.specs.Bids.{standing_of}
 use Rattle.proxy.specs.declared.bid.Bid.{Bid}
 use Rattle.proxy.specs.Rows.{is_shape}
 use Rattle.house_rows.specs.declared.change.Change.{Change}
@@ -15,7 +15,7 @@ use Rattle.house_rows.specs.Fits.{BidRowFits, CategoryFits, FeedbackFits, IsMome
 use Rattle.house_rows.specs.Editions.{BandTables, bands_in}
 use Rattle.house_rows.specs.Found.{terms_at}
 use Rattle.house_rows.specs.History.{counted}
-use Rattle.house_rows.specs.Limits.{most_bids, most_categories, most_cents, most_items, most_members, most_shown, most_watches}
+use Rattle.house_rows.specs.Limits.{most_bids, most_categories, most_cents, most_items, most_members, most_watches}
 use Rattle.house_rows.specs.Tables.{ItemRow, Tables, band_tables, row_opening}
 use Rattle.house_rows.specs.Verdict.{was_sold}
 
@@ -83,26 +83,6 @@ FitsBy editions row = ItemRowFits (bands_in editions row.item.terms.item) row
 
 abbrev pub RowFits : Tables → ItemRow → Type 0
 RowFits t row = FitsBy (band_tables t) row
-
--- each row that passes a test fits
-abbrev pub FitWhere : {A : Type 0} → (A → Bool) → (A → Type 0) → List A → Type 0
-FitWhere test Fits rows = AllByRecursion (λ row. test row ≡ true → Fits row) rows
-
--- whether a member may be a party to the sale of an item; the number 0, which no member has, may be of any
-abbrev pub may_be_party : ℕ → ItemRow → Bool
-may_be_party member row = (member == 0) || ((row.item.terms.seller == member) || is_leader row.item.terms.leader member)
-
--- where a list begins that is asked for from a number on: at the last number of 32 bits at most
-abbrev pub start_of : ℕ → ℕ
-start_of from = if nat_lt from 4294967295 then from else 4294967295
-
--- fewer than fifty of the rows that pass a test have a lesser number, or the number is none of 32 bits
-abbrev pub is_near : {A : Type 0} → (A → Bool) → (A → ℕ) → List A → A → Bool
-is_near test number rows x = nat_le 4294967296 (number x) || nat_lt (counted (λ y. test y && nat_lt (number y) (number x)) rows) most_shown
-
--- each row that passes a test fits, as far as a list of at most fifty takes them that goes by a number
-abbrev pub FirstFit : {A : Type 0} → (A → Bool) → (A → ℕ) → (A → Type 0) → List A → Type 0
-FirstFit test number Fits rows = AllByRecursion (λ x. test x ≡ true → is_near test number rows x ≡ true → Fits x) rows
 
 -- each has the next number
 abbrev pub AreInTurn : {A : Type 0} → (A → ℕ) → ℕ → List A → Type 0

@@ -22,3 +22,4 @@ pub mod Fits
 pub mod Asks
 pub mod Keeping
 pub mod Reached
+pub mod Taken

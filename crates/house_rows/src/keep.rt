@@ -1,14 +1,14 @@
 //! Whatever keeps the tables of the house.
-ghost use Rattle.std.specs.Prelude.{◌≡◌, ◌≢◌, ◌≤◌, ◌==◌, ◌&&◌, ◌⊎◌, All, AllPairs, true, false, Bool, IfOk, IfSome, IsErrOf, OnOk, OnErr, filter, is_some, length, nat_le, not, take};
+ghost use Rattle.std.specs.Prelude.{◌≡◌, ◌≢◌, ◌≤◌, ◌==◌, ◌&&◌, ◌⊎◌, All, AllPairs, true, false, Bool, IfOk, IfSome, OnOk, OnErr, filter, is_some, length, nat_le, not, take};
 ghost use Rattle.settle.specs.Statement.{IsSale, is_party};
 ghost use Rattle.std.specs.List.{AllByRecursion, list_any};
 ghost use Rattle.house_rows.specs.Asks.{ChangeFits};
 ghost use Rattle.house_rows.specs.Changed.{changed, is_item};
-ghost use Rattle.house_rows.specs.declared.fault.KeepFault.TheVariants.{Damaged};
 ghost use Rattle.house_rows.specs.Fits.{BidRowFits, CategoryFits, FeedbackFits, IsItem, IsMember, IsMoment, IsWithin, ItemFits, MemberFits, OwnBidFits, QuestionFits, StandingFits, TermsFit, WatchRowFits};
 ghost use Rattle.house_rows.specs.Found.{all_items, all_published, ask_count, best_of, category_at, category_named, counts_of, due_at, feedback_to, first_waiting, is_given, is_watched, item_at, item_with_lot, items_in, items_watched, member_named, own_bids, published_on, question_at, questions_of, row_at, sales_to, sells, standing_at, terms_at, waiting_for, watch_count};
 ghost use Rattle.house_rows.specs.Items.{is_due};
-ghost use Rattle.house_rows.specs.Keeping.{AllStand, AreSound, ChangeFaults, Faults, FirstFit, FitWhere, IsRead, RowFits, StandsAt, StandsIn, may_be_party, start_of};
+ghost use Rattle.house_rows.specs.Keeping.{AllStand, AreSound, ChangeFaults, Faults, IsRead, RowFits, StandsAt, StandsIn};
+ghost use Rattle.house_rows.specs.Taken.{FirstFit, FitWhere, IsUndamaged, ItemsFitWhere, may_be_party, start_of};
 ghost use Rattle.house_rows.specs.Limits.{most_categories, most_items, most_shown};
 ghost use Rattle.house_rows.specs.Pages.{member_at, ratings_of, sale_of};
 ghost use Rattle.house_rows.specs.Reached.{FitsSoFar};
@@ -49,27 +49,27 @@ pub trait Keep {
     fn settings(&self) -> Result<&Settings, KeepFault>
         ensures value { is_honest self.now → IfOk result (λ v. v.now ≡ (content self.now).settings) }
         ensures faults { Faults result (is_honest self.now) (is_failed self.now) (content self.now) }
-        ensures damaged { is_honest self.now → ¬ (IsErrOf result Damaged) };
+        ensures damaged { is_honest self.now → IsUndamaged result };
 
     /// The settings, and all band tables.
     fn editions(&self) -> Result<&Editions, KeepFault>
         ensures value { is_honest self.now → IfOk result (λ v. v.now ≡ band_tables (content self.now)) }
         ensures faults { Faults result (is_honest self.now) (is_failed self.now) (content self.now) }
-        ensures damaged { is_honest self.now → ¬ (IsErrOf result Damaged) };
+        ensures damaged { is_honest self.now → IsUndamaged result };
 
     /// The moment of the last command that moves the clock.
     fn clock(&mut self) -> Result<u64, KeepFault>
         ensures value { is_honest self.new → IfOk result (λ v. v ≡ (content self.old).clock) }
         ensures fits { IfOk result IsMoment }
         ensures faults { Faults result (is_honest self.new) (is_failed self.new) (content self.old) }
-        ensures damaged { is_honest self.new → ¬ (IsErrOf result Damaged) }
+        ensures damaged { is_honest self.new → IsUndamaged result }
         ensures read { IsRead content is_failed is_honest may_leave self.old self.new };
 
     /// How many members, categories and items there are.
     fn counts(&mut self) -> Result<Counts, KeepFault>
         ensures value { is_honest self.new → IfOk result (λ v. v ≡ counts_of (content self.old)) }
         ensures faults { Faults result (is_honest self.new) (is_failed self.new) (content self.old) }
-        ensures damaged { is_honest self.new → ¬ (IsErrOf result Damaged) }
+        ensures damaged { is_honest self.new → IsUndamaged result }
         ensures read { IsRead content is_failed is_honest may_leave self.old self.new };
 
     /// The member of a number.
@@ -77,7 +77,8 @@ pub trait Keep {
         ensures value { is_honest self.new → IfOk result (λ v. v ≡ member_at (content self.old).members member) }
         ensures fits { IfOk result (λ v. IfSome v MemberFits) }
         ensures faults { Faults result (is_honest self.new) (is_failed self.new) (content self.old) }
-        ensures damaged { is_honest self.new → IfSome (member_at (content self.old).members member) MemberFits → ¬ (IsErrOf result Damaged) }
+        ensures damaged { is_honest self.new
+            → IfSome (member_at (content self.old).members member) MemberFits → IsUndamaged result }
         ensures read { IsRead content is_failed is_honest may_leave self.old self.new };
 
     /// Whether there is a member of a number.
@@ -85,7 +86,8 @@ pub trait Keep {
         ensures value { is_honest self.new → IfOk result (λ v. v ≡ is_some (member_at (content self.old).members member)) }
         ensures fits { IfOk result (λ v. v ≡ true → IsMember member) }
         ensures faults { Faults result (is_honest self.new) (is_failed self.new) (content self.old) }
-        ensures damaged { is_honest self.new → IfSome (member_at (content self.old).members member) MemberFits → ¬ (IsErrOf result Damaged) }
+        ensures damaged { is_honest self.new
+            → IfSome (member_at (content self.old).members member) MemberFits → IsUndamaged result }
         ensures read { IsRead content is_failed is_honest may_leave self.old self.new };
 
     /// The member of a name.
@@ -93,7 +95,8 @@ pub trait Keep {
         ensures value { is_honest self.new → IfOk result (λ v. v ≡ member_named (content self.old) name.now) }
         ensures fits { IfOk result (λ v. IfSome v MemberFits) }
         ensures faults { Faults result (is_honest self.new) (is_failed self.new) (content self.old) }
-        ensures damaged { is_honest self.new → IfSome (member_named (content self.old) name.now) MemberFits → ¬ (IsErrOf result Damaged) }
+        ensures damaged { is_honest self.new
+            → IfSome (member_named (content self.old) name.now) MemberFits → IsUndamaged result }
         ensures read { IsRead content is_failed is_honest may_leave self.old self.new };
 
     /// The category of a number.
@@ -101,7 +104,8 @@ pub trait Keep {
         ensures value { is_honest self.new → IfOk result (λ v. v ≡ category_at (content self.old) category) }
         ensures fits { IfOk result (λ v. IfSome v CategoryFits) }
         ensures faults { Faults result (is_honest self.new) (is_failed self.new) (content self.old) }
-        ensures damaged { is_honest self.new → IfSome (category_at (content self.old) category) CategoryFits → ¬ (IsErrOf result Damaged) }
+        ensures damaged { is_honest self.new
+            → IfSome (category_at (content self.old) category) CategoryFits → IsUndamaged result }
         ensures read { IsRead content is_failed is_honest may_leave self.old self.new };
 
     /// Whether there is a category of a number.
@@ -109,7 +113,8 @@ pub trait Keep {
         ensures value { is_honest self.new → IfOk result (λ v. v ≡ is_some (category_at (content self.old) category)) }
         ensures fits { IfOk result (λ v. v ≡ true → IsWithin 1 most_categories category) }
         ensures faults { Faults result (is_honest self.new) (is_failed self.new) (content self.old) }
-        ensures damaged { is_honest self.new → IfSome (category_at (content self.old) category) CategoryFits → ¬ (IsErrOf result Damaged) }
+        ensures damaged { is_honest self.new
+            → IfSome (category_at (content self.old) category) CategoryFits → IsUndamaged result }
         ensures read { IsRead content is_failed is_honest may_leave self.old self.new };
 
     /// The category of a name.
@@ -117,7 +122,9 @@ pub trait Keep {
         ensures value { is_honest self.new → IfOk result (λ v. v ≡ category_named (content self.old) name.now) }
         ensures fits { IfOk result (λ v. IfSome v CategoryFits) }
         ensures faults { Faults result (is_honest self.new) (is_failed self.new) (content self.old) }
-        ensures damaged { is_honest self.new → IfSome (category_named (content self.old) name.now) CategoryFits → ¬ (IsErrOf result Damaged) }
+        ensures damaged { is_honest self.new
+            → IfSome (category_named (content self.old) name.now) CategoryFits
+            → IsUndamaged result }
         ensures read { IsRead content is_failed is_honest may_leave self.old self.new };
 
     /// An item.
@@ -126,7 +133,8 @@ pub trait Keep {
         ensures fits { IfOk result (λ v. IfSome v ItemFits) }
         ensures stands { is_honest self.new → IfOk result (λ v. IfSome v (λ it. StandsIn (content self.old) it.terms)) }
         ensures faults { Faults result (is_honest self.new) (is_failed self.new) (content self.old) }
-        ensures damaged { is_honest self.new → FitWhere (is_item item) (RowFits (content self.old)) (content self.old).items → ¬ (IsErrOf result Damaged) }
+        ensures damaged { is_honest self.new
+            → ItemsFitWhere (is_item item) (content self.old) → IsUndamaged result }
         ensures read { IsRead content is_failed is_honest may_leave self.old self.new };
 
     /// An item without its texts.
@@ -135,7 +143,8 @@ pub trait Keep {
         ensures fits { IfOk result (λ v. IfSome v TermsFit) }
         ensures stands { is_honest self.new → IfOk result (λ v. IfSome v (StandsIn (content self.old))) }
         ensures faults { Faults result (is_honest self.new) (is_failed self.new) (content self.old) }
-        ensures damaged { is_honest self.new → FitWhere (is_item item) (RowFits (content self.old)) (content self.old).items → ¬ (IsErrOf result Damaged) }
+        ensures damaged { is_honest self.new
+            → ItemsFitWhere (is_item item) (content self.old) → IsUndamaged result }
         ensures read { IsRead content is_failed is_honest may_leave self.old self.new };
 
     /// The number of a seller's item with a lot.
@@ -143,7 +152,8 @@ pub trait Keep {
         ensures value { is_honest self.new → IfOk result (λ v. v ≡ item_with_lot (content self.old) seller lot.now) }
         ensures fits { IfOk result (λ v. IfSome v IsItem) }
         ensures faults { Faults result (is_honest self.new) (is_failed self.new) (content self.old) }
-        ensures damaged { is_honest self.new → IfSome (item_with_lot (content self.old) seller lot.now) IsItem → ¬ (IsErrOf result Damaged) }
+        ensures damaged { is_honest self.new
+            → IfSome (item_with_lot (content self.old) seller lot.now) IsItem → IsUndamaged result }
         ensures read { IsRead content is_failed is_honest may_leave self.old self.new };
 
     /// The standing of an item's bids; of a bought item that of none.
@@ -151,35 +161,41 @@ pub trait Keep {
         ensures value { is_honest self.new → IfOk result (λ v. v ≡ standing_at (content self.old) item) }
         ensures fits { IfOk result (λ v. IfSome v StandingFits) }
         ensures faults { Faults result (is_honest self.new) (is_failed self.new) (content self.old) }
-        ensures damaged { is_honest self.new → FitWhere (is_item item) (RowFits (content self.old)) (content self.old).items → ¬ (IsErrOf result Damaged) }
+        ensures damaged { is_honest self.new
+            → ItemsFitWhere (is_item item) (content self.old) → IsUndamaged result }
         ensures read { IsRead content is_failed is_honest may_leave self.old self.new };
 
     /// A member's greatest maximum on an item, or 0, and the number of its bids there.
     fn own_best(&mut self, item: u64, member: u64) -> Result<OwnBest, KeepFault>
         ensures value { is_honest self.new → IfOk result (λ v. v ≡ best_of (content self.old) member item) }
         ensures faults { Faults result (is_honest self.new) (is_failed self.new) (content self.old) }
-        ensures damaged { is_honest self.new → FitWhere (λ b. (b.bid.member == member) && (b.item == item)) BidRowFits (content self.old).bids → ¬ (IsErrOf result Damaged) }
+        ensures damaged { is_honest self.new
+            → FitWhere (λ b. (b.bid.member == member) && (b.item == item)) BidRowFits
+            (content self.old).bids
+            → IsUndamaged result }
         ensures read { IsRead content is_failed is_honest may_leave self.old self.new };
 
     /// Whether a member watches an item.
     fn watched(&mut self, member: u64, item: u64) -> Result<bool, KeepFault>
         ensures value { is_honest self.new → IfOk result (λ v. v ≡ is_watched (content self.old) member item) }
         ensures faults { Faults result (is_honest self.new) (is_failed self.new) (content self.old) }
-        ensures damaged { is_honest self.new → ¬ (IsErrOf result Damaged) }
+        ensures damaged { is_honest self.new → IsUndamaged result }
         ensures read { IsRead content is_failed is_honest may_leave self.old self.new };
 
     /// How many items a member watches.
     fn watch_count(&mut self, member: u64) -> Result<u64, KeepFault>
         ensures value { is_honest self.new → IfOk result (λ v. v ≡ watch_count (content self.old) member) }
         ensures faults { Faults result (is_honest self.new) (is_failed self.new) (content self.old) }
-        ensures damaged { is_honest self.new → FitWhere (λ w. w.member == member) WatchRowFits (content self.old).watches → ¬ (IsErrOf result Damaged) }
+        ensures damaged { is_honest self.new
+            → FitWhere (λ w. w.member == member) WatchRowFits (content self.old).watches
+            → IsUndamaged result }
         ensures read { IsRead content is_failed is_honest may_leave self.old self.new };
 
     /// How many questions a member has asked on an item.
     fn ask_count(&mut self, item: u64, asker: u64) -> Result<u64, KeepFault>
         ensures value { is_honest self.new → IfOk result (λ v. v ≡ ask_count (content self.old) asker item) }
         ensures faults { Faults result (is_honest self.new) (is_failed self.new) (content self.old) }
-        ensures damaged { is_honest self.new → ¬ (IsErrOf result Damaged) }
+        ensures damaged { is_honest self.new → IsUndamaged result }
         ensures read { IsRead content is_failed is_honest may_leave self.old self.new };
 
     /// A question, by its item, asker and number.
@@ -192,21 +208,27 @@ pub trait Keep {
         ensures value { is_honest self.new → IfOk result (λ v. v ≡ question_at (content self.old) item asker number) }
         ensures fits { IfOk result (λ v. IfSome v QuestionFits) }
         ensures faults { Faults result (is_honest self.new) (is_failed self.new) (content self.old) }
-        ensures damaged { is_honest self.new → IfSome (question_at (content self.old) item asker number) QuestionFits → ¬ (IsErrOf result Damaged) }
+        ensures damaged { is_honest self.new
+            → IfSome (question_at (content self.old) item asker number) QuestionFits
+            → IsUndamaged result }
         ensures read { IsRead content is_failed is_honest may_leave self.old self.new };
 
     /// Whether a member has given feedback on an item.
     fn given(&mut self, item: u64, giver: u64) -> Result<bool, KeepFault>
         ensures value { is_honest self.new → IfOk result (λ v. v ≡ is_given (content self.old) item giver) }
         ensures faults { Faults result (is_honest self.new) (is_failed self.new) (content self.old) }
-        ensures damaged { is_honest self.new → FitWhere (λ f. f.from == giver) FeedbackFits (content self.old).feedback → ¬ (IsErrOf result Damaged) }
+        ensures damaged { is_honest self.new
+            → FitWhere (λ f. f.from == giver) FeedbackFits (content self.old).feedback
+            → IsUndamaged result }
         ensures read { IsRead content is_failed is_honest may_leave self.old self.new };
 
     /// How often a member was rated with each rating.
     fn ratings(&mut self, member: u64) -> Result<Ratings, KeepFault>
         ensures value { is_honest self.new → IfOk result (λ v. v ≡ ratings_of (content self.old).feedback member) }
         ensures faults { Faults result (is_honest self.new) (is_failed self.new) (content self.old) }
-        ensures damaged { is_honest self.new → FitWhere (λ f. f.to == member) FeedbackFits (content self.old).feedback → ¬ (IsErrOf result Damaged) }
+        ensures damaged { is_honest self.new
+            → FitWhere (λ f. f.to == member) FeedbackFits (content self.old).feedback
+            → IsUndamaged result }
         ensures read { IsRead content is_failed is_honest may_leave self.old self.new };
 
     /// How many items a close at the moment would leave sold, and how many unsold.
@@ -214,7 +236,9 @@ pub trait Keep {
         ensures value { is_honest self.new → IfOk result (λ v. v ≡ due_at (content self.old) moment) }
         ensures stands { is_honest self.new → OnOk result (AllStand (λ row. is_due moment row.item.terms) (content self.old)) }
         ensures faults { Faults result (is_honest self.new) (is_failed self.new) (content self.old) }
-        ensures damaged { is_honest self.new → FitWhere (λ row. is_due moment row.item.terms) (RowFits (content self.old)) (content self.old).items → ¬ (IsErrOf result Damaged) }
+        ensures damaged { is_honest self.new
+            → ItemsFitWhere (λ row. is_due moment row.item.terms) (content self.old)
+            → IsUndamaged result }
         ensures read { IsRead content is_failed is_honest may_leave self.old self.new };
 
     /// The items of a category, from a number on; at most fifty.
@@ -223,7 +247,11 @@ pub trait Keep {
         ensures fits { IfOk result (λ v. AllByRecursion ItemFits v.items) }
         ensures stands { is_honest self.new → IfOk result (λ v. AllByRecursion (λ it. StandsIn (content self.old) it.terms) v.items) }
         ensures faults { Faults result (is_honest self.new) (is_failed self.new) (content self.old) }
-        ensures damaged { is_honest self.new → AllByRecursion (RowFits (content self.old)) (take most_shown (filter (λ row. (row.item.terms.category == category) && nat_le (start_of from) row.item.terms.item) (content self.old).items)) → ¬ (IsErrOf result Damaged) }
+        ensures damaged { is_honest self.new
+            → AllByRecursion (RowFits (content self.old)) (take most_shown (filter
+            (λ row. (row.item.terms.category == category) && nat_le (start_of from) row.item.terms.item)
+            (content self.old).items))
+            → IsUndamaged result }
         ensures read { IsRead content is_failed is_honest may_leave self.old self.new };
 
     /// The items on which a member has bid, from a number on; at most fifty.
@@ -232,7 +260,9 @@ pub trait Keep {
         ensures fits { IfOk result (λ v. AllByRecursion OwnBidFits v.items) }
         ensures stands { is_honest self.new → IfOk result (λ v. AllByRecursion (λ b. StandsAt (content self.old) b.item) v.items) }
         ensures faults { Faults result (is_honest self.new) (is_failed self.new) (content self.old) }
-        ensures damaged { is_honest self.new → FitsSoFar (band_tables (content self.old)) (content self.old) member from → ¬ (IsErrOf result Damaged) }
+        ensures damaged { is_honest self.new
+            → FitsSoFar (band_tables (content self.old)) (content self.old) member from
+            → IsUndamaged result }
         ensures read { IsRead content is_failed is_honest may_leave self.old self.new };
 
     /// The published questions on an item, from an asker on, by asker and number; at most fifty.
@@ -240,7 +270,10 @@ pub trait Keep {
         ensures value { is_honest self.new → IfOk result (λ v. v.items ≡ published_on (content self.old) item from) }
         ensures fits { IfOk result (λ v. AllByRecursion QuestionFits v.items) }
         ensures faults { Faults result (is_honest self.new) (is_failed self.new) (content self.old) }
-        ensures damaged { is_honest self.new → FirstFit (λ q. ((q.item == item) && is_some q.answer) && nat_le (start_of from) q.asker) (λ q. q.asker) QuestionFits (content self.old).questions → ¬ (IsErrOf result Damaged) }
+        ensures damaged { is_honest self.new
+            → FirstFit (λ q. ((q.item == item) && is_some q.answer) && nat_le (start_of from) q.asker)
+            (λ q. q.asker) QuestionFits (content self.old).questions
+            → IsUndamaged result }
         ensures read { IsRead content is_failed is_honest may_leave self.old self.new };
 
     /// A member's own questions, from an item on, by item and number; at most fifty.
@@ -248,15 +281,26 @@ pub trait Keep {
         ensures value { is_honest self.new → IfOk result (λ v. v.items ≡ questions_of (content self.old) member from) }
         ensures fits { IfOk result (λ v. AllByRecursion QuestionFits v.items) }
         ensures faults { Faults result (is_honest self.new) (is_failed self.new) (content self.old) }
-        ensures damaged { is_honest self.new → FirstFit (λ q. (q.asker == member) && nat_le (start_of from) q.item) (λ q. q.item) QuestionFits (content self.old).questions → ¬ (IsErrOf result Damaged) }
+        ensures damaged { is_honest self.new
+            → FirstFit (λ q. (q.asker == member) && nat_le (start_of from) q.item)
+            (λ q. q.item) QuestionFits (content self.old).questions
+            → IsUndamaged result }
         ensures read { IsRead content is_failed is_honest may_leave self.old self.new };
 
     /// The feedback to a member, from an item on; at most fifty.
+    ///
+    /// Feedback whose rating is none of ours stands in the tables as if on no item: wherever it is
+    /// stored, the list may take it.
     fn feedback_for(&mut self, member: u64, from: u64) -> Result<Vec<Feedback>, KeepFault>
         ensures value { is_honest self.new → IfOk result (λ v. v.items ≡ feedback_to (content self.old) member from) }
         ensures fits { IfOk result (λ v. AllByRecursion FeedbackFits v.items) }
         ensures faults { Faults result (is_honest self.new) (is_failed self.new) (content self.old) }
-        ensures damaged { is_honest self.new → FirstFit (λ f. (f.to == member) && nat_le (start_of from) f.item) (λ f. f.item) FeedbackFits (content self.old).feedback → ¬ (IsErrOf result Damaged) }
+        ensures damaged { is_honest self.new
+            → FirstFit (λ f. (f.to == member) && nat_le (start_of from) f.item)
+            (λ f. f.item) FeedbackFits (content self.old).feedback
+            → FitWhere (λ f. (f.to == member) && nat_le 4294967296 f.item)
+            FeedbackFits (content self.old).feedback
+            → IsUndamaged result }
         ensures read { IsRead content is_failed is_honest may_leave self.old self.new };
 
     /// All categories, by number.
@@ -264,7 +308,8 @@ pub trait Keep {
         ensures value { is_honest self.new → IfOk result (λ v. v.items ≡ (content self.old).categories) }
         ensures fits { IfOk result (λ v. AllByRecursion CategoryFits v.items) }
         ensures faults { Faults result (is_honest self.new) (is_failed self.new) (content self.old) }
-        ensures damaged { is_honest self.new → AllByRecursion CategoryFits (content self.old).categories → ¬ (IsErrOf result Damaged) }
+        ensures damaged { is_honest self.new
+            → AllByRecursion CategoryFits (content self.old).categories → IsUndamaged result }
         ensures read { IsRead content is_failed is_honest may_leave self.old self.new };
 
     /// All members, by number.
@@ -272,7 +317,8 @@ pub trait Keep {
         ensures value { is_honest self.new → IfOk result (λ v. v.items ≡ (content self.old).members) }
         ensures fits { IfOk result (λ v. AllByRecursion MemberFits v.items) }
         ensures faults { Faults result (is_honest self.new) (is_failed self.new) (content self.old) }
-        ensures damaged { is_honest self.new → AllByRecursion MemberFits (content self.old).members → ¬ (IsErrOf result Damaged) }
+        ensures damaged { is_honest self.new
+            → AllByRecursion MemberFits (content self.old).members → IsUndamaged result }
         ensures read { IsRead content is_failed is_honest may_leave self.old self.new };
 
     /// All items, by number.
@@ -281,7 +327,9 @@ pub trait Keep {
         ensures fits { IfOk result (λ v. AllByRecursion ItemFits v.items) }
         ensures stands { is_honest self.new → IfOk result (λ v. AllByRecursion (λ it. StandsIn (content self.old) it.terms) v.items) }
         ensures faults { Faults result (is_honest self.new) (is_failed self.new) (content self.old) }
-        ensures damaged { is_honest self.new → AllByRecursion (RowFits (content self.old)) (content self.old).items → ¬ (IsErrOf result Damaged) }
+        ensures damaged { is_honest self.new
+            → AllByRecursion (RowFits (content self.old)) (content self.old).items
+            → IsUndamaged result }
         ensures read { IsRead content is_failed is_honest may_leave self.old self.new };
 
     /// All published questions, by item, asker and number.
@@ -289,7 +337,9 @@ pub trait Keep {
         ensures value { is_honest self.new → IfOk result (λ v. v.items ≡ all_published (content self.old)) }
         ensures fits { IfOk result (λ v. AllByRecursion QuestionFits v.items) }
         ensures faults { Faults result (is_honest self.new) (is_failed self.new) (content self.old) }
-        ensures damaged { is_honest self.new → FitWhere (λ q. is_some q.answer) QuestionFits (content self.old).questions → ¬ (IsErrOf result Damaged) }
+        ensures damaged { is_honest self.new
+            → FitWhere (λ q. is_some q.answer) QuestionFits (content self.old).questions
+            → IsUndamaged result }
         ensures read { IsRead content is_failed is_honest may_leave self.old self.new };
 
     /// All feedback, by item and giver.
@@ -297,7 +347,8 @@ pub trait Keep {
         ensures value { is_honest self.new → IfOk result (λ v. v.items ≡ (content self.old).feedback) }
         ensures fits { IfOk result (λ v. AllByRecursion FeedbackFits v.items) }
         ensures faults { Faults result (is_honest self.new) (is_failed self.new) (content self.old) }
-        ensures damaged { is_honest self.new → AllByRecursion FeedbackFits (content self.old).feedback → ¬ (IsErrOf result Damaged) }
+        ensures damaged { is_honest self.new
+            → AllByRecursion FeedbackFits (content self.old).feedback → IsUndamaged result }
         ensures read { IsRead content is_failed is_honest may_leave self.old self.new };
 
     /// The items that a member watches, by number.
@@ -306,7 +357,11 @@ pub trait Keep {
         ensures fits { IfOk result (λ v. AllByRecursion ItemFits v.items) }
         ensures stands { is_honest self.new → IfOk result (λ v. AllByRecursion (λ it. StandsIn (content self.old) it.terms) v.items) }
         ensures faults { Faults result (is_honest self.new) (is_failed self.new) (content self.old) }
-        ensures damaged { is_honest self.new → FitWhere (λ w. w.member == member) WatchRowFits (content self.old).watches → FitWhere (λ row. is_watched (content self.old) member row.item.terms.item) (RowFits (content self.old)) (content self.old).items → ¬ (IsErrOf result Damaged) }
+        ensures damaged { is_honest self.new
+            → FitWhere (λ w. w.member == member) WatchRowFits (content self.old).watches
+            → ItemsFitWhere (λ row. is_watched (content self.old) member row.item.terms.item)
+            (content self.old)
+            → IsUndamaged result }
         ensures read { IsRead content is_failed is_honest may_leave self.old self.new };
 
     /// The questions that wait for a member's answer, by item, asker and number.
@@ -315,7 +370,11 @@ pub trait Keep {
         ensures fits { IfOk result (λ v. AllByRecursion QuestionFits v.items) }
         ensures stands { is_honest self.new → IfOk result (λ v. AllByRecursion (λ q. StandsAt (content self.old) q.item) v.items) }
         ensures faults { Faults result (is_honest self.new) (is_failed self.new) (content self.old) }
-        ensures damaged { is_honest self.new → FitWhere (λ row. row.item.terms.seller == member) (RowFits (content self.old)) (content self.old).items → FitWhere (λ q. not (is_some q.answer) && sells (row_at (content self.old) q.item) member) QuestionFits (content self.old).questions → ¬ (IsErrOf result Damaged) }
+        ensures damaged { is_honest self.new
+            → ItemsFitWhere (λ row. row.item.terms.seller == member) (content self.old)
+            → FitWhere (λ q. not (is_some q.answer) && sells (row_at (content self.old) q.item) member)
+            QuestionFits (content self.old).questions
+            → IsUndamaged result }
         ensures read { IsRead content is_failed is_honest may_leave self.old self.new };
 
     /// The first of the questions that wait for a member's answer, by item, asker and number; at most
@@ -325,6 +384,11 @@ pub trait Keep {
         ensures fits { IfOk result (λ v. AllByRecursion QuestionFits v.items) }
         ensures stands { is_honest self.new → IfOk result (λ v. AllByRecursion (λ q. StandsAt (content self.old) q.item) v.items) }
         ensures faults { Faults result (is_honest self.new) (is_failed self.new) (content self.old) }
+        ensures damaged { is_honest self.new
+            → ItemsFitWhere (λ row. row.item.terms.seller == member) (content self.old)
+            → FirstFit (λ q. not (is_some q.answer) && sells (row_at (content self.old) q.item) member)
+            (λ q. q.item) QuestionFits (content self.old).questions
+            → IsUndamaged result }
         ensures read { IsRead content is_failed is_honest may_leave self.old self.new };
 
     /// The sales to which a member is a party, by item.
@@ -335,7 +399,8 @@ pub trait Keep {
         ensures apart { IfOk result (λ v. AllPairs (λ a b. a.item ≢ b.item) v.items) }
         ensures few { IfOk result (λ v. length v.items ≤ most_items) }
         ensures faults { Faults result (is_honest self.new) (is_failed self.new) (content self.old) }
-        ensures damaged { is_honest self.new → FitWhere (may_be_party member) (RowFits (content self.old)) (content self.old).items → ¬ (IsErrOf result Damaged) }
+        ensures damaged { is_honest self.new
+            → ItemsFitWhere (may_be_party member) (content self.old) → IsUndamaged result }
         ensures read { IsRead content is_failed is_honest may_leave self.old self.new };
 
     /// Makes a change, whole or not at all.

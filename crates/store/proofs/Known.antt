@@ -4,7 +4,8 @@ use Rattle.std.specs.Prelude.{◌==◌, ◌&&◌, ◌↔◌, Err, IfSome, IsErrO
 use Rattle.std.proofs.lemmas.Bool.Decides.{nat_tests}
 use Rattle.std.specs.List.{AllByRecursion}
 use Rattle.sqlite_trees.specs.Tree.{Trees}
-use Rattle.house_rows.specs.Keeping.{AllStand, AreSound, AreSoundBy, Faults, FitWhere, FitsBy, RowFits, StandsAt, StandsBy, StandsIn}
+use Rattle.house_rows.specs.Keeping.{AllStand, AreSound, AreSoundBy, Faults, FitsBy, RowFits, StandsAt, StandsBy, StandsIn}
+use Rattle.house_rows.specs.Taken.{FitWhere}
 use Rattle.house_rows.specs.Editions.{BandTables}
 use Rattle.house_rows.specs.Bids.{BidRow}
 use Rattle.house_rows.specs.Changed.{is_item}

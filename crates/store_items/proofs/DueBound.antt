@@ -9,7 +9,7 @@ use Rattle.sqlite_trees.specs.Tree.{Trees}
 use Rattle.house_rows.specs.Found.{due_at}
 use Rattle.house_rows.specs.History.{counted}
 use Rattle.house_rows.specs.Items.{close_sells, is_due, is_open}
-use Rattle.house_rows.specs.Keeping.{FitWhere}
+use Rattle.house_rows.specs.Taken.{FitWhere}
 use Rattle.house_rows.specs.Tables.{ItemRow}
 use Rattle.house_rows.proofs.Put.{by_test}
 use Rattle.store_rows.specs.ItemRows.{item_row_in, items_in}

@@ -8,7 +8,8 @@ use Rattle.proxy.specs.Bids.{is_leader}
 use Rattle.settle.specs.Statement.{is_party}
 use Rattle.house_rows.specs.Changed.{is_item}
 use Rattle.house_rows.specs.Fits.{TermsFit}
-use Rattle.house_rows.specs.Keeping.{FitWhere, FitsBy, StandsBy, may_be_party}
+use Rattle.house_rows.specs.Keeping.{FitsBy, StandsBy}
+use Rattle.house_rows.specs.Taken.{FitWhere, may_be_party}
 use Rattle.house_rows.specs.Pages.{sale_of}
 use Rattle.house_rows.specs.Tables.{ItemRow}
 use Rattle.house_rows.specs.Verdict.{was_sold}

@@ -21,7 +21,8 @@ use Rattle.sqlite.specs.Effect.{Database}
 use Rattle.sqlite.specs.State.{State, Shown}
 use Rattle.sqlite.proofs.Callers.{reads_as}
 use Rattle.proxy.specs.Bids.{is_leader}
-use Rattle.house_rows.specs.Keeping.{FitWhere, FitsBy}
+use Rattle.house_rows.specs.Keeping.{FitsBy}
+use Rattle.house_rows.specs.Taken.{FitWhere}
 use Rattle.house_rows.specs.Items.{is_due, is_open}
 use Rattle.house_rows.specs.Tables.{ItemRow}
 use Rattle.house_rows.specs.Editions.{BandTables}

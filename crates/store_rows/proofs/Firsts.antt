@@ -37,7 +37,8 @@ module _ (test project : List Term) (order : List (Term × Sorting)) (params : R
   abbrev show : Row → Output
   show = output_row project order params
 
-  as_many : length all ≡ length kept
+  -- an answer has a row for each that WHERE keeps
+  pub as_many : length all ≡ length kept
   as_many = ap length a.shown ∙ length-map a.ordered (λ (o : Output). o.1) ∙ length_permutation (map show kept) a.ordered a.same ∙ length-map kept show
 
   -- where nothing is shown, no row passes WHERE

@@ -5,7 +5,8 @@ use Rattle.sqlite_trees.specs.Tree.{Trees}
 use Rattle.house_rows.specs.Bids.{BidRow, bid_key}
 use Rattle.house_rows.specs.Changed.{question_key}
 use Rattle.house_rows.specs.Fits.{BidRowFits, FeedbackFits, ItemFits, QuestionFits, WatchRowFits}
-use Rattle.house_rows.specs.Keeping.{AreSound, AreSoundBy, FitWhere, FitsBy}
+use Rattle.house_rows.specs.Keeping.{AreSound, AreSoundBy, FitsBy}
+use Rattle.house_rows.specs.Taken.{FitWhere}
 use Rattle.house_rows.specs.Editions.{BandTables}
 use Rattle.house_rows.specs.Ratings.{feedback_key}
 use Rattle.house_rows.specs.Tables.{ItemRow, band_tables}

@@ -1,5 +1,5 @@
 -- Columns of a key, in the order of SQL: rows do not tie, and they rise with their keys.
-use Rattle.std.proofs.Common.{◌≡◌, ◌<◌, ◌<ℤ◌, ◌^◌, ℕ, pos, negsuc, Bool, true, false, not, cond, nat_lt, ◌&&◌, List, filter, refl, sym, ap, ◌∙◌, arith, inl, inr, IsTrue, true≢false, Ordering, Less, Equal, Greater, is_eq}
+use Rattle.std.proofs.Common.{◌≡◌, ◌≤◌, ◌<◌, ◌<ℤ◌, ◌^◌, ◌⊎◌, ℕ, pos, negsuc, Bool, true, false, not, cond, nat_lt, ◌&&◌, List, filter, refl, sym, ap, ◌∙◌, arith, inl, inr, IsTrue, true≢false, Ordering, Less, Equal, Greater, is_eq}
 use Rattle.std.specs.List.{AllByRecursion}
 use Rattle.std.specs.Ordering.{ordering_then}
 use Rattle.std.proofs.lemmas.Bool.Decides.{nat_tests}
@@ -24,6 +24,7 @@ use Rattle.house_rows.specs.History.{Key, is_less}
 use Rattle.house_rows.proofs.Put.{by_test}
 use Rattle.store_rows.specs.Rows.{number_in}
 use Rattle.store_rows.proofs.RowLemmas.{row_key, keyed, truth_back}
+use Rattle.store_rows.proofs.Compared.{is_negative}
 use Rattle.store_rows.proofs.Comparing.{both_true, differs}
 use Rattle.store_rows.proofs.Apart.{ascending_on}
 use Rattle.store_rows.proofs.ByKey.{number_is}
@@ -107,6 +108,29 @@ less_number v w low is less = over_number (number_in v) w low is (sym (ap (λ x.
 
 pub equal_number : (v w : Value) → number_in v < 2 ^ 32 → is_int w ≡ true → value_cmp v w ≡ Equal → number_in v ≡ number_in w
 equal_number v w low is tie = ap number_in (number_is v low ∙ tied_number (number_in v) w is (sym (ap (λ x. value_cmp x w) (number_is v low)) ∙ tie))
+
+-- what isn't negative rises as a number too
+told_rises : (m n : ℕ) → m ≤ n → number_in (Int (pos m)) ≤ number_in (Int (pos n))
+told_rises m n less =
+    elim (by_test (nat_lt n (2 ^ 32))) [
+      | inl is ↦ (let small : nat_lt m (2 ^ 32) ≡ true = grind (arith, nat_tests, is, less) in rw (small, is) less)
+      | inr not ↦ rw not (elim (by_test (nat_lt m (2 ^ 32))) [ inl is ↦ rw is (let low : m < 2 ^ 32 = grind (arith, nat_tests, is) in omega (arith, low)) | inr high ↦ rw high (omega arith) ])
+    ]
+
+pub number_rises : (v w : Value) → is_int v ≡ true → is_int w ≡ true → is_negative v ≡ false → (value_cmp v w ≡ Less) ⊎ (value_cmp v w ≡ Equal) → number_in v ≤ number_in w
+number_rises (Int (pos m)) (Int (pos n)) from to up (inl less) = told_rises m n (omega (arith, ints, lt_from_Less (pos m) (pos n) (sym (value_cmp-Int (pos m) (pos n)) ∙ less)))
+number_rises (Int (pos m)) (Int (negsuc n)) from to up (inl less) = absurd (omega (arith, ints, lt_from_Less (pos m) (negsuc n) (sym (value_cmp-Int (pos m) (negsuc n)) ∙ less)))
+number_rises (Int (pos m)) (Int (pos n)) from to up (inr tie) = (let same = ap number_in (tied_number m (Int (pos n)) to tie) in omega (arith, same))
+number_rises (Int (pos m)) (Int (negsuc n)) from to up (inr tie) = (let same = ap number_in (tied_number m (Int (negsuc n)) to tie) in omega (arith, same))
+number_rises (Int (pos m)) Null from to up less = absurd (true≢false (sym to))
+number_rises (Int (pos m)) (Real x) from to up less = absurd (true≢false (sym to))
+number_rises (Int (pos m)) (Text x) from to up less = absurd (true≢false (sym to))
+number_rises (Int (pos m)) (Blob x) from to up less = absurd (true≢false (sym to))
+number_rises (Int (negsuc m)) w from to up less = absurd (true≢false up)
+number_rises Null w from to up less = absurd (true≢false (sym from))
+number_rises (Real x) w from to up less = absurd (true≢false (sym from))
+number_rises (Text x) w from to up less = absurd (true≢false (sym from))
+number_rises (Blob x) w from to up less = absurd (true≢false (sym from))
 
 by_first : (a b c a' b' c' : ℕ) → a < a' → is_less (record { first = a; second = b; third = c }) (record { first = a'; second = b'; third = c' }) ≡ true
 by_first a b c a' b' c' less = grind (arith, nat_tests)

@@ -9,7 +9,7 @@ use Rattle.sqlite.specs.State.{State, Shown}
 use Rattle.sqlite.proofs.Callers.{reads_as}
 use Rattle.sqlite_keyed.proofs.RuleLemmas.{second_of_both}
 use Rattle.house_rows.specs.Fits.{FeedbackFits}
-use Rattle.house_rows.specs.Keeping.{FitWhere}
+use Rattle.house_rows.specs.Taken.{FitWhere}
 use Rattle.house_rows.specs.Ratings.{feedback_key}
 use Rattle.house_rows.specs.declared.talk.Feedback.{Feedback}
 use Rattle.house_rows.proofs.Put.{by_test}

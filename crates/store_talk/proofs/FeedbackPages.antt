@@ -33,7 +33,7 @@ use Rattle.sqlite.specs.Term.{Term, col, lit, op2}
 use Rattle.house_rows.specs.Fits.{FeedbackFits}
 use Rattle.house_rows.specs.Found as found
 use Rattle.house_rows.specs.History.{is_less}
-use Rattle.house_rows.specs.Keeping.{FirstFit, is_near}
+use Rattle.house_rows.specs.Taken.{FirstFit, FitWhere}
 use Rattle.house_rows.specs.Ratings.{feedback_key}
 use Rattle.house_rows.specs.declared.talk.Feedback.{Feedback}
 use Rattle.house_rows.proofs.Put.{by_test}
@@ -50,17 +50,17 @@ use Rattle.store_rows.specs.Sorted.{sorted_by, sorted_feedback}
 use Rattle.store_rows.specs.Tables.{tables_in}
 use Rattle.store_rows.proofs.PairKeys.{two_columns}
 use Rattle.store_rows.proofs.Shown.{output_row}
+use Rattle.store_rows.proofs.Update.{numbered_passes}
 use Rattle.store_rows.specs.First.{IsFinite, ShowsFirst, ShowsSome}
 use Rattle.store_rows.proofs.Asked.{Asks, from_second, lists, under_zero}
 use Rattle.store_rows.proofs.Bounds.{bound_of, from_bound}
 use Rattle.store_rows.proofs.Compared.{at_least, fits_not_negative, is_negative, told_at_least}
-use Rattle.store_rows.proofs.Near.{first_near, first_rises, first_stored, kept_near}
+use Rattle.store_rows.proofs.Near.{IsUp, first_near, first_rises, first_stored, kept_near, number_most}
 use Rattle.store_rows.proofs.Firsts.{first_by_key, first_fit, first_kept, none_passes, some_passes}
 use Rattle.store_rows.proofs.Grouped.{firsts_rise}
 use Rattle.store_rows.proofs.Sorting.{filter-sorted, sorted_in_order}
 use Rattle.store_rows.proofs.Ties.{none_tie, three_rise, tied_equal}
 use Rattle.store_talk.proofs.FeedbackLists.{unique}
-use Rattle.store_talk.proofs.QuestionPages.{far_number, is_far}
 use Rattle.store_talk.proofs.Full.{Rises, fewer, is_low, negative_high, none_both, page_low, same_first, same_low, so_many_rows}
 
 -- ---- the queries
@@ -231,6 +231,11 @@ given_stray true false true from n low high is = absurd (go (not (nat_le from n)
 given_stray true false false from n low high is = (far from low, refl)
 given_stray false negative rated from n low high is = absurd (true≢false (sym is))
 
+given_up : (a negative over : Bool) → (a && ((not negative && over) && true)) ≡ true → negative ≡ false
+given_up a false over is = refl
+given_up true true over is = absurd (true≢false (sym is))
+given_up false true over is = absurd (true≢false (sym is))
+
 low_rated : (is : Bool) (n : ℕ) → cond is n (2 ^ 64) < 2 ^ 32 → cond is n (2 ^ 64) ≡ n
 low_rated true n low = refl
 low_rated false n low = absurd (omega (arith, low))
@@ -280,6 +285,17 @@ stays_less false a c a' c' low less = grind (arith, nat_tests)
 
 abbrev item_of : Feedback → ℕ
 item_of f = f.item
+
+-- no number of ours
+abbrev IsFar : Feedback → Type 0
+IsFar f = 2 ^ 32 ≤ f.item
+
+rated_most : (is : Bool) (n : ℕ) → n ≤ 2 ^ 64 → cond is n (2 ^ 64) ≤ 2 ^ 64
+rated_most true n most = most
+rated_most false n most = omega arith
+
+given_most : (r : Row) → item_of (one_feedback_in r) ≤ 2 ^ 64
+given_most r = rated_most (is_rating (column r 4)) (number_in (column r 1)) (number_most (column r 1))
 
 item_is_low : (f : Feedback) → FeedbackFits f → is_low item_of f ≡ true
 item_is_low f fit = let low = fit.item.1 in grind (arith, nat_tests, low)
@@ -397,40 +413,62 @@ module _ (member from : ℕ) (low : member < 2 ^ 32) (small : from < 2 ^ 32) (ol
   kept_passing : (r : Row) → IsGiven r → passes given_test params r ≡ true → keeps member from (one_feedback_in r) ≡ true
   kept_passing r is p = given_kept (eqb (number_in (column r 3)) member) (is_negative (column r 1)) (is_rating (column r 4)) from (number_in (column r 1)) small (sym (passes_is r is) ∙ p)
 
-  items_rise : (r s : Row) → IsGiven r → IsGiven s → item_of (one_feedback_in r) < 2 ^ 32
-      → output_cmp (plain_query 0 given_test talk_shown two_columns) (output_row talk_shown two_columns params r) (output_row talk_shown two_columns params s) ≡ Less → item_of (one_feedback_in r) ≤ item_of (one_feedback_in s)
-  items_rise r s r_is s_is near less =
-      let is = low_rated (is_rating (column r 4)) (number_in (column r 1)) near in
-      let first : number_in (column r 1) < 2 ^ 32 = subst (λ (n : ℕ). n < 2 ^ 32) is near in
-      let up = first_rises (column r 1) (column s 1) (ordering_then (value_cmp (column r 2) (column s 2)) Equal) first s_is.item less in
-      subst (λ (n : ℕ). n ≤ item_of (one_feedback_in s)) (sym is) (later_item (is_rating (column s 4)) (number_in (column r 1)) (number_in (column s 1)) first up)
+  -- a row that WHERE keeps has no negative item
+  abbrev IsUpward : Row → Type 0
+  IsUpward r = IsGiven r × (is_negative (column r 1) ≡ false)
 
-  pub given_near : (rows : List Row) → ShowsFirst 50 given_text params old new rows → FirstFit (keeps member from) item_of FeedbackFits (feedback_in old.now.trees) → AllByRecursion FeedbackFits (map feedback_of rows)
-  given_near rows first fits =
+  are_upward : AllByRecursion IsUpward (filter (passes given_test params) table)
+  are_upward =
+      all_both IsGiven (λ r. passes given_test params r ≡ true) IsUpward
+      (λ r is p. (is, given_up (eqb (number_in (column r 3)) member) (is_negative (column r 1)) (nat_le from (number_in (column r 1))) (sym (passes_is r is) ∙ p))) (filter (passes given_test params) table)
+      (all-filter IsGiven (passes given_test params) table (are_given old.now house)) (numbered_passes (passes given_test params) table)
+
+  items_rise : (r s : Row) → IsUpward r → IsUpward s → output_cmp (plain_query 0 given_test talk_shown two_columns) (output_row talk_shown two_columns params r) (output_row talk_shown two_columns params s) ≡ Less
+      → IsUp item_of IsFar (one_feedback_in r) (one_feedback_in s)
+  items_rise r s r_is s_is less =
+      elim (by_test (nat_lt (item_of (one_feedback_in r)) (2 ^ 32))) [
+        | inl is ↦ (let near : item_of (one_feedback_in r) < 2 ^ 32 = grind (arith, nat_tests, is) in
+            let same = low_rated (is_rating (column r 4)) (number_in (column r 1)) near in
+            let first : number_in (column r 1) < 2 ^ 32 = subst (λ (n : ℕ). n < 2 ^ 32) same near in
+            let up = first_rises (column r 1) (column s 1) (ordering_then (value_cmp (column r 2) (column s 2)) Equal) r_is.0.item s_is.0.item r_is.1 less in
+            inr (subst (λ (n : ℕ). n ≤ item_of (one_feedback_in s)) (sym same) (later_item (is_rating (column s 4)) (number_in (column r 1)) (number_in (column s 1)) first up)))
+        | inr high ↦ inl (grind (arith, nat_tests, high))
+      ]
+
+  -- what has no item of ours, from any on, fits
+  far_fit : (f : Feedback) → (((f.to == member) && nat_le 4294967296 f.item) ≡ true → FeedbackFits f) → keeps member from f ≡ true → IsFar f → FeedbackFits f
+  far_fit f fit kept far =
+      let to : (f.to == member) ≡ true = first_of_both (f.to == member) (nat_le from f.item) kept in
+      let high : nat_le 4294967296 f.item ≡ true = grind (arith, nat_tests, far) in
+      fit (rw (to, high) refl)
+
+  all_far : FitWhere (λ f. (f.to == member) && nat_le 4294967296 f.item) FeedbackFits (feedback_in old.now.trees) → AllByRecursion (λ f. keeps member from f ≡ true → IsFar f → FeedbackFits f) (feedback_in old.now.trees)
+  all_far = all_weaker (λ (f : Feedback). ((f.to == member) && nat_le 4294967296 f.item) ≡ true → FeedbackFits f) (λ (f : Feedback). keeps member from f ≡ true → IsFar f → FeedbackFits f) far_fit (feedback_in old.now.trees)
+
+  pub given_near : (rows : List Row) → ShowsFirst 50 given_text params old new rows → FirstFit (keeps member from) item_of FeedbackFits (feedback_in old.now.trees)
+      → FitWhere (λ f. (f.to == member) && nat_le 4294967296 f.item) FeedbackFits (feedback_in old.now.trees) → AllByRecursion FeedbackFits (map feedback_of rows)
+  given_near rows first fits far =
       let given = are_given old.now house in
       subst (λ l. AllByRecursion FeedbackFits (map feedback_of l)) (sym first.are)
       (first_near given_test talk_shown two_columns params table first.all (listing rows first)
-      feedback_of one_feedback_in (λ r. refl) item_of FeedbackFits IsGiven apart (all-filter IsGiven (passes given_test params) table given) items_rise 50
-      (kept_near one_feedback_in item_of FeedbackFits (keeps member from) (passes given_test params) IsGiven low_passing kept_passing table given fits))
+      feedback_of one_feedback_in (λ r. refl) item_of IsFar FeedbackFits IsUpward apart are_upward items_rise 50
+      (kept_near one_feedback_in item_of (keeps member from) (passes given_test params) IsGiven low_passing IsFar FeedbackFits given_most kept_passing table given fits (all_far far)))
 
-  abbrev IsTaken : Feedback → Type 0
-  IsTaken f = keeps member from f ≡ true → is_near (keeps member from) item_of (feedback_in old.now.trees) f ≡ true → FeedbackFits f
-
-  taken_no_stray : (r : Row) → IsGiven r → IsTaken (one_feedback_in r) → passes stray_test params r ≡ false
+  taken_no_stray : (r : Row) → IsGiven r → ((((one_feedback_in r).to == member) && nat_le 4294967296 (item_of (one_feedback_in r))) ≡ true → FeedbackFits (one_feedback_in r)) → passes stray_test params r ≡ false
   taken_no_stray r is fit =
       elim (by_test (passes stray_test params r)) [
         | inr none ↦ none
         | inl stray ↦ (let both = given_stray (eqb (number_in (column r 3)) member) (is_negative (column r 1)) (is_rating (column r 4)) from (number_in (column r 1)) small (negative_high (column r 1)) (sym (stray_is r is) ∙ stray) in
-            let far_off : nat_le 4294967296 (item_of (one_feedback_in r)) ≡ true = far_number (item_of (one_feedback_in r)) both.1 in
-            let near : is_near (keeps member from) item_of (feedback_in old.now.trees) (one_feedback_in r) ≡ true = is_far (nat_le 4294967296 (item_of (one_feedback_in r))) _ far_off in
-            absurd (true≢false (sym (item_is_low (one_feedback_in r) (fit both.0 near)) ∙ both.1)))
+            let far : IsFar (one_feedback_in r) = (let high = both.1 in grind (arith, nat_tests)) in
+            absurd (true≢false (sym (item_is_low (one_feedback_in r) (far_fit (one_feedback_in r) fit both.0 far)) ∙ both.1)))
       ]
 
-  pub no_stray_taken : (end : State) → ShowsSome stray_feedback_text params old end → FirstFit (keeps member from) item_of FeedbackFits (feedback_in old.now.trees) → ⊥
+  pub no_stray_taken : (end : State) → ShowsSome stray_feedback_text params old end → FitWhere (λ f. (f.to == member) && nat_le 4294967296 f.item) FeedbackFits (feedback_in old.now.trees) → ⊥
   no_stray_taken end some fits =
+      let P = λ (f : Feedback). ((f.to == member) && nat_le 4294967296 f.item) ≡ true → FeedbackFits f in
       some_passes stray_test (col 1 1 ∷ []) two_columns params table (some.first ∷ some.others)
       (lists stray_feedback_text 14 stray_test (col 1 1 ∷ []) two_columns _ strays_is (λ db. refl) old end params _ house some.shown) some.first some.others refl
-      (all_both IsGiven (λ r. IsTaken (one_feedback_in r)) (λ r. passes stray_test params r ≡ false) taken_no_stray table (are_given old.now house) (all_unmap IsTaken one_feedback_in table fits))
+      (all_both IsGiven (λ r. P (one_feedback_in r)) (λ r. passes stray_test params r ≡ false) taken_no_stray table (are_given old.now house) (all_unmap P one_feedback_in table fits))
 
 item_small : (f : Feedback) → FeedbackFits f → f.item < 4294967295
 item_small f fit = omega (arith, fit.item.1)

@@ -15,4 +15,5 @@ pub mod SortedTalk
 pub mod TalkLemmas
 pub mod WaitingItems
 pub mod WaitingStanding
+pub mod WaitingTurn
 pub mod Written

@@ -1,10 +1,10 @@
 -- What the pages of questions mean and find.
-use Rattle.std.proofs.Common.{◌≡◌, ◌==◌, ◌≤◌, ◌<◌, ◌^◌, ◌&&◌, ◌||◌, ℕ, pos, Bool, true, false, not, List, [], ◌∷◌, length, map, filter, take, codes, eqb, refl, sym, ap, subst, ◌∙◌, arith, inl, inr, is_eq, Less, Equal, true≢false}
+use Rattle.std.proofs.Common.{◌≡◌, ◌==◌, ◌≤◌, ◌<◌, ◌^◌, ◌&&◌, ℕ, pos, Bool, true, false, not, List, [], ◌∷◌, length, map, filter, take, codes, eqb, refl, sym, ap, subst, ◌∙◌, arith, inl, inr, is_eq, Less, Equal, true≢false}
 use Rattle.std.specs.Prelude.{is_some, nat_le, nat_lt}
 use Rattle.std.specs.List.{AllByRecursion}
 use Rattle.std.specs.Ordering.{ordering_then}
 use Rattle.std.proofs.lemmas.Bool.Decides.{nat_tests}
-use Rattle.std.proofs.lemmas.List.{length-map}
+use Rattle.std.proofs.lemmas.List.{length-map, take-map}
 use Rattle.std.proofs.lemmas.List.Sorted.{IsPermutation-sym}
 use Rattle.sqlite_value.specs.declared.value.Value.TheVariants.{Int}
 use Rattle.sqlite_value.specs.declared.keys.Key.{Key as Sorting}
@@ -24,14 +24,14 @@ use Rattle.house_rows.specs.Changed.{question_key}
 use Rattle.house_rows.specs.Fits.{QuestionFits}
 use Rattle.house_rows.specs.Found as found
 use Rattle.house_rows.specs.History.{is_less}
-use Rattle.house_rows.specs.Keeping.{FirstFit, is_near}
+use Rattle.house_rows.specs.Taken.{FirstFit, is_near}
 use Rattle.house_rows.specs.declared.talk.Question.{Question}
 use Rattle.house_rows.proofs.Put.{by_test}
 use Rattle.store_rows.specs.House.{IsHouse}
 use Rattle.store_rows.specs.Plain.{plain_query, passes}
 use Rattle.store_rows.specs.Rows.{maybe_text_in, number_in, question_in, question_of, questions_in}
 use Rattle.store_rows.specs.Schema.{house_schema}
-use Rattle.store_rows.proofs.RowLemmas.{equals_number}
+use Rattle.store_rows.proofs.RowLemmas.{equals_number, passing_fit}
 use Rattle.store_rows.proofs.Select.{equals}
 use Rattle.store_talk.specs.Texts.{published_text, stray_askers_text, questions_text, stray_asked_text}
 use Rattle.store_talk.proofs.TalkMeaning.{question_shown}
@@ -43,18 +43,20 @@ use Rattle.store_rows.proofs.ByKey.{by_columns}
 use Rattle.store_talk.proofs.QuestionLists.{waiting_test, asker_low, item_low, place_low, unique}
 use Rattle.store_talk.proofs.QuestionMeaning.{question_order, waiting_on_is, waiting_on_text, waits, was_answered}
 use Rattle.store_rows.proofs.Grouped.{firsts_rise}
-use Rattle.store_rows.proofs.Shown.{moved, output_row}
+use Rattle.store_rows.proofs.Shown.{moved, output_row, shown_fits}
 use Rattle.store_rows.proofs.Sorting.{filter-sorted, sorted_in_order, sorted_moves}
 use Rattle.store_rows.proofs.TextLemmas.{same_number}
-use Rattle.store_rows.proofs.Tested.{filter_both, filter_regrouped, is_there}
+use Rattle.store_rows.proofs.Tested.{all-take, filter_both, filter_regrouped, is_there}
 use Rattle.store_rows.specs.First.{IsFinite, ShowsFirst, ShowsSome}
 use Rattle.store_rows.proofs.Asked.{Asks, first_passes, from_second, lists, never, page_passes, stray_passes, under_zero}
 use Rattle.store_rows.proofs.Bounds.{bound_of, from_bound}
 use Rattle.store_rows.proofs.Compared.{at_least, below_zero, fits_not_negative, is_negative}
-use Rattle.store_rows.proofs.Near.{first_near, first_stored, kept_near, second_rises}
+use Rattle.store_rows.proofs.Near.{all_near, few_kept, first_near, first_stored, kept_near, none_far, number_most, second_rises}
 use Rattle.store_rows.proofs.Firsts.{first_by_key, first_fit, first_kept, none_passes, some_passes}
 use Rattle.store_items.proofs.Behind.{kept_number}
 use Rattle.store_items.proofs.ItemPages.{negative_over}
+use Rattle.store_talk.specs.Spoiled.{HasStray}
+use Rattle.store_talk.specs.Waiting.{WaitingFit}
 use Rattle.store_talk.proofs.Full.{Rises, fewer, is_low, kept_all, negative_high, none_both, page_low, same_first, same_low, seconds_rise, so_many_rows}
 use Rattle.store_rows.proofs.Ties.{none_tie, second_fixed_rise, three_rise, tied_equal, ties_of_three}
 
@@ -171,23 +173,31 @@ module _ (test : List Term) (order : List (Term × Sorting)) (params : Row) (sql
   -- the rows that are shown fit, where those do that the list takes by a number
   questions_near : (agrees : (r s : Row) → IsTalk r → IsTalk s → tied test order params r s ≡ true → agree keys.plain (1 ∷ 2 ∷ 3 ∷ []) r (1 ∷ 2 ∷ 3 ∷ []) s ≡ true)
       → (Is : Row → Type 0) → AllByRecursion Is (filter (passes test params) table)
-      → (number : Question → ℕ) → ((r s : Row) → Is r → Is s → number (question_in r) < 2 ^ 32 → rise test order params r s → number (question_in r) ≤ number (question_in s))
+      → (number : Question → ℕ) → ((r : Row) → number (question_in r) ≤ 2 ^ 64) → ((r s : Row) → Is r → Is s → rise test order params r s → number (question_in r) ≤ number (question_in s))
       → (keep : Question → Bool) → ((r : Row) → IsTalk r → (passes test params r && is_low number (question_in r)) ≡ (keep (question_in r) && is_low number (question_in r)))
       → ((r : Row) → IsTalk r → passes test params r ≡ true → keep (question_in r) ≡ true)
       → FirstFit keep number QuestionFits (questions_in old.now.trees) → AllByRecursion QuestionFits (map question_of rows)
-  questions_near agrees Is are number rises keep tests passing fits =
+  questions_near agrees Is are number most rises keep tests passing fits =
       let talk = are_questions old.now house in
       let apart = none_tie (tied test order params) (1 ∷ 2 ∷ 3 ∷ []) IsTalk agrees table house.shaped.1.1.1.1.1.1.1.0 (unique old.now house) (passes test params) (all-filter IsTalk (passes test params) table talk) in
       subst (λ l. AllByRecursion QuestionFits (map question_of l)) (sym first.are)
       (first_near test question_shown order params table first.all (lists sql 12 test question_shown order question_names is (λ db. refl) old new params first.all house first.shown)
-      question_of question_in (λ r. refl) number QuestionFits Is apart are rises 50
-      (kept_near question_in number QuestionFits keep (passes test params) IsTalk tests passing table talk fits))
+      question_of question_in (λ r. refl) number (λ q. ⊥) QuestionFits Is apart are (λ r s r_is s_is less. inr (rises r s r_is s_is less)) 50
+      (kept_near question_in number keep (passes test params) IsTalk tests (λ q. ⊥) QuestionFits most passing table talk fits (none_far keep QuestionFits (questions_in old.now.trees))))
 
   pub questions_fit : AllByRecursion QuestionFits (questions_in old.now.trees) → AllByRecursion QuestionFits (map question_of rows)
   questions_fit fits =
       subst (λ l. AllByRecursion QuestionFits (map question_of l)) (sym first.are)
       (first_fit test question_shown order params table first.all (lists sql 12 test question_shown order question_names is (λ db. refl) old new params first.all house first.shown)
       question_of question_in (λ r. refl) QuestionFits (all_unmap QuestionFits question_in table fits) 50)
+
+  -- the rows that are shown fit, where those do that WHERE keeps
+  questions_passing : AllByRecursion Fits (filter (passes test params) table) → AllByRecursion QuestionFits (map question_of rows)
+  questions_passing fits =
+      let listed = lists sql 12 test question_shown order question_names is (λ db. refl) old new params first.all house first.shown in
+      subst (λ l. AllByRecursion QuestionFits (map question_of l)) (sym first.are)
+      (subst (AllByRecursion QuestionFits) (take-map question_of 50 first.all) (all-take QuestionFits 50 (map question_of first.all)
+      (shown_fits test question_shown order params table first.all listed question_of question_in (λ r. refl) QuestionFits fits)))
 
 -- in the order of item, asker and number, rows don't tie, and they rise with their keys
 module _ (test : List Term) (params : Row) where
@@ -223,6 +233,11 @@ module _ (item : ℕ) (low : item < 2 ^ 32) (old new : State) (house : IsHouse o
 
   pub waiting_fit : AllByRecursion QuestionFits (questions_in old.now.trees) → AllByRecursion QuestionFits (map question_of rows)
   waiting_fit = questions_fit waiting_terms question_order on_item waiting_on_text waiting_on_is old new house rows first
+
+  pub waiting_kept : WaitingFit old.now.trees item → AllByRecursion QuestionFits (map question_of rows)
+  waiting_kept fits =
+      questions_passing waiting_terms question_order on_item waiting_on_text waiting_on_is old new house rows first
+      (passing_fit question_in QuestionFits (λ q. (q.item == item) && not (is_some q.answer)) IsTalk (passes waiting_terms on_item) (waiting_test item low) (old.now.trees 12) (are_questions old.now house) fits)
 
 abbrev pub asker_of : Question → ℕ
 asker_of q = q.asker
@@ -264,6 +279,12 @@ published_kept true true true over is = absurd (true≢false (sym is))
 published_kept true false negative over is = is
 published_kept false b negative over is = is
 
+published_up : (a b negative over : Bool) → (a && (b && ((not negative && over) && true))) ≡ true → negative ≡ false
+published_up a b false over is = refl
+published_up true true true over is = absurd (true≢false (sym is))
+published_up true false true over is = absurd (true≢false (sym is))
+published_up false b true over is = absurd (true≢false (sym is))
+
 published_stray : (a b negative over : Bool) → (negative ≡ true → over ≡ true) → (a && (b && (negative && true))) ≡ true → (negative ≡ true) × (((a && b) && over) ≡ true)
 published_stray true true true over so is = (refl, so refl)
 published_stray true true false over so is = absurd (true≢false (sym is))
@@ -276,18 +297,15 @@ asked_kept true false false is = is
 asked_kept true true over is = absurd (true≢false (sym is))
 asked_kept false negative over is = is
 
+asked_up : (a negative over : Bool) → (a && ((not negative && over) && true)) ≡ true → negative ≡ false
+asked_up a false over is = refl
+asked_up true true over is = absurd (true≢false (sym is))
+asked_up false true over is = absurd (true≢false (sym is))
+
 asked_stray : (a negative over : Bool) → (negative ≡ true → over ≡ true) → (a && (negative && true)) ≡ true → (negative ≡ true) × ((a && over) ≡ true)
 asked_stray true true over so is = (refl, so refl)
 asked_stray true false over so is = absurd (true≢false (sym is))
 asked_stray false negative over so is = absurd (true≢false (sym is))
-
--- what is negative is no number of 32 bits
-pub far_number : (n : ℕ) → nat_lt n (2 ^ 64) ≡ false → nat_le 4294967296 n ≡ true
-far_number n high = grind (arith, nat_tests, high)
-
-pub is_far : (a b : Bool) → a ≡ true → (a || b) ≡ true
-is_far true b is = refl
-is_far false b is = absurd (true≢false (sym is))
 
 abbrev pub keeps_published : ℕ → ℕ → Question → Bool
 keeps_published item from q = ((q.item == item) && is_some q.answer) && nat_le from q.asker
@@ -378,41 +396,52 @@ module _ (item from : ℕ) (low : item < 2 ^ 32) (small : from < 2 ^ 32) (old ne
   kept_passing r is p =
       published_kept (eqb (number_in (column r 1)) item) (is_some (maybe_text_in (column r 5))) (is_negative (column r 2)) (nat_le from (number_in (column r 2))) (sym (passes_is r is) ∙ p)
 
+  -- a row that WHERE keeps is on the item, and its asker is not negative
   abbrev IsOn : Row → Type 0
-  IsOn r = IsTalk r × (number_in (column r 1) ≡ item)
+  IsOn r = IsTalk r × (number_in (column r 1) ≡ item) × (is_negative (column r 2) ≡ false)
+
+  is_on : (r : Row) → IsTalk r → passes published_test params r ≡ true → IsOn r
+  is_on r is p = (
+    is,
+    kept_number 1 item low (was_answered ∷ from_second 2 ∷ []) (Int (pos from) ∷ []) r is.first p,
+    published_up (eqb (number_in (column r 1)) item) (is_some (maybe_text_in (column r 5))) (is_negative (column r 2)) (nat_le from (number_in (column r 2))) (sym (passes_is r is) ∙ p),
+  )
 
   are_on : AllByRecursion IsOn (filter (passes published_test params) asked)
   are_on =
-      all_both IsTalk (λ r. passes published_test params r ≡ true) IsOn (λ r is p. (is, kept_number 1 item low (was_answered ∷ from_second 2 ∷ []) (Int (pos from) ∷ []) r is.first p)) (filter (passes published_test params) asked)
+      all_both IsTalk (λ r. passes published_test params r ≡ true) IsOn is_on (filter (passes published_test params) asked)
       (all-filter IsTalk (passes published_test params) asked (are_questions old.now house)) (numbered_passes (passes published_test params) asked)
 
-  askers_rise : (r s : Row) → IsOn r → IsOn s → asker_of (question_in r) < 2 ^ 32 → rise published_test question_order params r s → asker_of (question_in r) ≤ asker_of (question_in s)
-  askers_rise r s r_is s_is near less =
+  askers_rise : (r s : Row) → IsOn r → IsOn s → rise published_test question_order params r s → asker_of (question_in r) ≤ asker_of (question_in s)
+  askers_rise r s r_is s_is less =
       let fixed : number_in (column r 1) < 2 ^ 32 = rw r_is.1 low in
-      second_rises (column r 1) (column r 2) (column s 1) (column s 2) (ordering_then (value_cmp (column r 3) (column s 3)) Equal) fixed near s_is.0.first s_is.0.second (r_is.1 ∙ sym s_is.1) less
+      second_rises (column r 1) (column r 2) (column s 1) (column s 2) (ordering_then (value_cmp (column r 3) (column s 3)) Equal) fixed s_is.0.first r_is.0.second s_is.0.second r_is.2 (r_is.1 ∙ sym s_is.1) less
 
   pub published_near : (rows : List Row) → ShowsFirst 50 published_text params old new rows → FirstFit (keeps_published item from) asker_of QuestionFits (questions_in old.now.trees)
       → AllByRecursion QuestionFits (map question_of rows)
   published_near rows first fits =
-      questions_near published_test question_order params published_text published_is old new house rows first (agrees published_test params) IsOn are_on asker_of askers_rise (keeps_published item from) low_passing kept_passing fits
+      questions_near published_test question_order params published_text published_is old new house rows first (agrees published_test params) IsOn are_on asker_of (λ r. number_most (column r 2)) askers_rise
+      (keeps_published item from) low_passing kept_passing fits
 
   abbrev IsTaken : Question → Type 0
   IsTaken q = keeps_published item from q ≡ true → is_near (keeps_published item from) asker_of (questions_in old.now.trees) q ≡ true → QuestionFits q
 
-  taken_no_stray : (r : Row) → IsTalk r → IsTaken (question_in r) → passes stray_askers here r ≡ false
-  taken_no_stray r is fit =
+  taken_no_stray : length (filter (passes published_test params) asked) < 50 → (r : Row) → IsTalk r → IsTaken (question_in r) → passes stray_askers here r ≡ false
+  taken_no_stray few r is fit =
       elim (by_test (passes stray_askers here r)) [
         | inr none ↦ none
         | inl stray ↦ (let both = published_stray (eqb (number_in (column r 1)) item) (is_some (maybe_text_in (column r 5))) (is_negative (column r 2)) (nat_le from (number_in (column r 2))) (negative_over (column r 2) from small) (sym (stray_is r is) ∙ stray) in
-            let near : is_near (keeps_published item from) asker_of (questions_in old.now.trees) (question_in r) ≡ true = is_far (nat_le 4294967296 (number_in (column r 2))) _ (far_number (number_in (column r 2)) (negative_high (column r 2) both.0)) in
+            let near = all_near question_in asker_of (keeps_published item from) (passes published_test params) IsTalk low_passing asked (are_questions old.now house) (question_in r) (number_most (column r 2)) few in
             absurd (true≢false (sym both.0 ∙ fits_not_negative (column r 2) (asker_low r (fit both.1 near)))))
       ]
 
-  pub no_stray_taken : (end : State) → ShowsSome stray_askers_text here old end → FirstFit (keeps_published item from) asker_of QuestionFits (questions_in old.now.trees) → ⊥
-  no_stray_taken end some fits =
-      some_passes stray_askers (col 1 2 ∷ []) question_order here asked (some.first ∷ some.others)
-      (lists stray_askers_text 12 stray_askers (col 1 2 ∷ []) question_order _ stray_askers_is (λ db. refl) old end here _ house some.shown) some.first some.others refl
-      (all_both IsTalk (λ r. IsTaken (question_in r)) (λ r. passes stray_askers here r ≡ false) taken_no_stray asked (are_questions old.now house) (all_unmap IsTaken question_in asked fits))
+  pub no_stray_taken : (end : State) → HasStray published_text params stray_askers_text here old end → FirstFit (keeps_published item from) asker_of QuestionFits (questions_in old.now.trees) → ⊥
+  no_stray_taken end stray fits =
+      let listed = lists published_text 12 published_test question_shown question_order question_names published_is (λ db. refl) old end params stray.first.all house stray.first.shown in
+      let few = few_kept published_test question_shown question_order params asked stray.first.all listed stray.rows stray.first.are stray.few in
+      some_passes stray_askers (col 1 2 ∷ []) question_order here asked (stray.some.first ∷ stray.some.others)
+      (lists stray_askers_text 12 stray_askers (col 1 2 ∷ []) question_order _ stray_askers_is (λ db. refl) old end here _ house stray.some.shown) stray.some.first stray.some.others refl
+      (all_both IsTalk (λ r. IsTaken (question_in r)) (λ r. passes stray_askers here r ≡ false) (taken_no_stray few) asked (are_questions old.now house) (all_unmap IsTaken question_in asked fits))
 
 pub published_fit : (item from : ℕ) (old new : State) → IsHouse old.now → (rows : List Row) → ShowsFirst 50 published_text (Int (pos item) ∷ Int (pos from) ∷ []) old new rows
     → AllByRecursion QuestionFits (questions_in old.now.trees) → AllByRecursion QuestionFits (map question_of rows)
@@ -512,32 +541,50 @@ module _ (asker from : ℕ) (low : asker < 2 ^ 32) (small : from < 2 ^ 32) (old 
   kept_asked r is p =
       asked_kept (eqb (number_in (column r 2)) asker) (is_negative (column r 1)) (nat_le from (number_in (column r 1))) (sym (asked_is r is) ∙ p)
 
-  items_rise : (r s : Row) → IsOf r → IsOf s → item_of (question_in r) < 2 ^ 32 → rise questions_test by_asker with_from r s → item_of (question_in r) ≤ item_of (question_in s)
-  items_rise r s r_is s_is near less =
+  -- a row that WHERE keeps is the asker's, and its item is not negative
+  abbrev IsOwn : Row → Type 0
+  IsOwn r = IsTalk r × (number_in (column r 2) ≡ asker) × (is_negative (column r 1) ≡ false)
+
+  is_own : (r : Row) → IsTalk r → passes questions_test with_from r ≡ true → IsOwn r
+  is_own r is p = (
+    is,
+    first_passes 2 1 asker low r is.second is.first from p,
+    asked_up (eqb (number_in (column r 2)) asker) (is_negative (column r 1)) (nat_le from (number_in (column r 1))) (sym (asked_is r is) ∙ p),
+  )
+
+  are_own : AllByRecursion IsOwn (filter (passes questions_test with_from) all_asked)
+  are_own =
+      all_both IsTalk (λ r. passes questions_test with_from r ≡ true) IsOwn is_own (filter (passes questions_test with_from) all_asked)
+      (all-filter IsTalk (passes questions_test with_from) all_asked (are_questions old.now house)) (numbered_passes (passes questions_test with_from) all_asked)
+
+  items_rise : (r s : Row) → IsOwn r → IsOwn s → rise questions_test by_asker with_from r s → item_of (question_in r) ≤ item_of (question_in s)
+  items_rise r s r_is s_is less =
       let fixed : number_in (column r 2) < 2 ^ 32 = rw r_is.1 low in
-      second_rises (column r 2) (column r 1) (column s 2) (column s 1) (ordering_then (value_cmp (column r 3) (column s 3)) Equal) fixed near s_is.0.second s_is.0.first (r_is.1 ∙ sym s_is.1) less
+      second_rises (column r 2) (column r 1) (column s 2) (column s 1) (ordering_then (value_cmp (column r 3) (column s 3)) Equal) fixed s_is.0.second r_is.0.first s_is.0.first r_is.2 (r_is.1 ∙ sym s_is.1) less
 
   pub asked_near : (rows : List Row) → ShowsFirst 50 questions_text with_from old new rows → FirstFit keeps_asked item_of QuestionFits (questions_in old.now.trees) → AllByRecursion QuestionFits (map question_of rows)
   asked_near rows first fits =
-      questions_near questions_test by_asker with_from questions_text questions_is old new house rows first asker_agrees IsOf are_of item_of items_rise keeps_asked asked_low kept_asked fits
+      questions_near questions_test by_asker with_from questions_text questions_is old new house rows first asker_agrees IsOwn are_own item_of (λ r. number_most (column r 1)) items_rise keeps_asked asked_low kept_asked fits
 
   abbrev IsReached : Question → Type 0
   IsReached q = keeps_asked q ≡ true → is_near keeps_asked item_of (questions_in old.now.trees) q ≡ true → QuestionFits q
 
-  reached_no_stray : (r : Row) → IsTalk r → IsReached (question_in r) → passes stray_asked of_asker r ≡ false
-  reached_no_stray r is fit =
+  reached_no_stray : length (filter (passes questions_test with_from) all_asked) < 50 → (r : Row) → IsTalk r → IsReached (question_in r) → passes stray_asked of_asker r ≡ false
+  reached_no_stray few r is fit =
       elim (by_test (passes stray_asked of_asker r)) [
         | inr none ↦ none
         | inl stray ↦ (let both = asked_stray (eqb (number_in (column r 2)) asker) (is_negative (column r 1)) (nat_le from (number_in (column r 1))) (negative_over (column r 1) from small) (sym (stray_asked_is_so r is) ∙ stray) in
-            let near : is_near keeps_asked item_of (questions_in old.now.trees) (question_in r) ≡ true = is_far (nat_le 4294967296 (number_in (column r 1))) _ (far_number (number_in (column r 1)) (negative_high (column r 1) both.0)) in
+            let near = all_near question_in item_of keeps_asked (passes questions_test with_from) IsTalk asked_low all_asked (are_questions old.now house) (question_in r) (number_most (column r 1)) few in
             absurd (true≢false (sym both.0 ∙ fits_not_negative (column r 1) (item_low r (fit both.1 near)))))
       ]
 
-  pub no_stray_reached : (end : State) → ShowsSome stray_asked_text of_asker old end → FirstFit keeps_asked item_of QuestionFits (questions_in old.now.trees) → ⊥
-  no_stray_reached end some fits =
-      some_passes stray_asked (col 1 1 ∷ []) by_asker of_asker all_asked (some.first ∷ some.others)
-      (lists stray_asked_text 12 stray_asked (col 1 1 ∷ []) by_asker _ stray_asked_is (λ db. refl) old end of_asker _ house some.shown) some.first some.others refl
-      (all_both IsTalk (λ r. IsReached (question_in r)) (λ r. passes stray_asked of_asker r ≡ false) reached_no_stray all_asked (are_questions old.now house) (all_unmap IsReached question_in all_asked fits))
+  pub no_stray_reached : (end : State) → HasStray questions_text with_from stray_asked_text of_asker old end → FirstFit keeps_asked item_of QuestionFits (questions_in old.now.trees) → ⊥
+  no_stray_reached end stray fits =
+      let listed = lists questions_text 12 questions_test question_shown by_asker question_names questions_is (λ db. refl) old end with_from stray.first.all house stray.first.shown in
+      let few = few_kept questions_test question_shown by_asker with_from all_asked stray.first.all listed stray.rows stray.first.are stray.few in
+      some_passes stray_asked (col 1 1 ∷ []) by_asker of_asker all_asked (stray.some.first ∷ stray.some.others)
+      (lists stray_asked_text 12 stray_asked (col 1 1 ∷ []) by_asker _ stray_asked_is (λ db. refl) old end of_asker _ house stray.some.shown) stray.some.first stray.some.others refl
+      (all_both IsTalk (λ r. IsReached (question_in r)) (λ r. passes stray_asked of_asker r ≡ false) (reached_no_stray few) all_asked (are_questions old.now house) (all_unmap IsReached question_in all_asked fits))
 
 pub asked_fit : (asker from : ℕ) (old new : State) → IsHouse old.now → (rows : List Row) → ShowsFirst 50 questions_text (Int (pos asker) ∷ Int (pos from) ∷ []) old new rows
     → AllByRecursion QuestionFits (questions_in old.now.trees) → AllByRecursion QuestionFits (map question_of rows)

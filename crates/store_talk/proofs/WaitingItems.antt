@@ -5,11 +5,12 @@ use Rattle.std.specs.List.{AllByRecursion, list_any}
 use Rattle.sqlite_keyed.proofs.ListLemmas.{all_weaker, all_unmap, ascending-filter, filter_same, flat_map-map, map-map}
 use Rattle.std.proofs.lemmas.Bool.Decides.{nat_tests}
 use Rattle.sqlite_keyed.proofs.RuleLemmas.{first_of_both, second_of_both}
+use Rattle.sqlite_trees.specs.Tree.{IsAscending, Trees}
 use Rattle.sqlite.specs.Effect.{Database}
-use Rattle.house_rows.specs.Changed.{is_item}
+use Rattle.house_rows.specs.Changed.{is_item, question_key}
 use Rattle.house_rows.specs.Fits.{QuestionFits, TermsFit}
 use Rattle.house_rows.specs.Found.{row_at, sells, waiting_for}
-use Rattle.house_rows.specs.Keeping.{FitWhere}
+use Rattle.house_rows.specs.Taken.{FirstFit, FitWhere}
 use Rattle.house_rows.specs.Tables.{ItemRow}
 use Rattle.house_rows.specs.declared.item.Terms.{Terms}
 use Rattle.house_rows.specs.declared.talk.Question.{Question}
@@ -20,8 +21,10 @@ use Rattle.store_rows.specs.Sorted.{sorted_questions}
 use Rattle.store_rows.specs.Tables.{tables_in}
 use Rattle.store_talk.proofs.SortedTalk.{waiting_grouped}
 use Rattle.store_rows.specs.Joined.{found_of}
-use Rattle.store_talk.specs.Waiting.{WaitingFit, waiting_in}
+use Rattle.store_talk.specs.Waiting.{WaitingFit, WaitingInTurn, waiting_in}
 use Rattle.store_items.proofs.ItemRising.{items_rise, number_of}
+use Rattle.store_rows.proofs.Near.{first_stored}
+use Rattle.store_talk.proofs.WaitingTurn.{all_in_turn, item_of}
 use Rattle.store_rows.proofs.Joined.{IsBelow, each_among, first_passes, numbers_rise}
 
 -- whether a row that was found is sold by a member
@@ -53,6 +56,18 @@ asked_of db member own house are fits q =
     both_turned (list_any (λ n. q.item == n) (map (λ (t : Terms). t.item) own)) (not (is_some q.answer)) (sells (find (is_item q.item) rows) member)
     (ap (list_any (λ n. q.item == n)) told ∙ first_passes number_of mine q.item rows rise low ∙ found_sells member (find (is_item q.item) rows))
 
+-- the items of a member rise in their numbers
+own_rise : (db : Database) (member : ℕ) (own : List Terms) → IsHouse db → own ≡ map (λ (row : ItemRow). row.item.terms) (filter (λ row. row.item.terms.seller == member) (items_in db.trees)) → AllByRecursion TermsFit own
+    → IsAscending (λ m n. m < n) (map item_of own)
+own_rise db member own house are fits =
+    let rows = items_in db.trees in
+    let mine : ItemRow → Bool = λ row. row.item.terms.seller == member in
+    let part = λ (row : ItemRow). row.item.terms in
+    let numbers : List ℕ = map number_of (filter mine rows) in
+    let low = all_weaker (λ row. TermsFit (part row)) (λ row. number_of row < 2 ^ 64) (λ row fit. omega (arith, fit.item.1)) (filter mine rows) (all_unmap TermsFit part (filter mine rows) (rw are at fits)) in
+    let told : map item_of own ≡ numbers = ap (map item_of) are ∙ map-map item_of part (filter mine rows) in
+    subst (IsAscending (λ m n. m < n)) (sym told) (numbers_rise number_of (filter mine rows) (ascending-filter (IsBelow number_of) mine rows (items_rise db house)) low)
+
 -- where the questions fit that wait for a member, those fit that wait on its items
 pub waiting_fit_at : (db : Database) (member : ℕ) (own : List Terms) → IsHouse db → own ≡ map (λ (row : ItemRow). row.item.terms) (filter (λ row. row.item.terms.seller == member) (items_in db.trees)) → AllByRecursion TermsFit own
     → FitWhere (λ q. not (is_some q.answer) && sells (row_at (tables_in db.trees) q.item) member) QuestionFits (questions_in db.trees) → AllByRecursion (λ (t : Terms). WaitingFit db.trees t.item) own
@@ -68,6 +83,18 @@ waiting_fit_at db member own house are fits asked =
         let same : item ≡ n = grind (arith, nat_tests, first_of_both (item == n) open' waits) in
         let there : list_any (λ m. item == m) numbers ≡ true = subst (λ (k : ℕ). list_any (λ m. k == m) numbers ≡ true) (sym same) is in
         rw there (second_of_both (item == n) open' waits)
+
+-- and where those fit that the first fifty take, those fit that wait on its items, in turn
+pub waiting_in_turn : (db : Database) (member : ℕ) (own : List Terms) → IsHouse db → own ≡ map (λ (row : ItemRow). row.item.terms) (filter (λ row. row.item.terms.seller == member) (items_in db.trees)) → AllByRecursion TermsFit own
+    → FirstFit (λ q. not (is_some q.answer) && sells (row_at (tables_in db.trees) q.item) member) (λ q. q.item) QuestionFits (questions_in db.trees) → WaitingInTurn db.trees 0 own
+unfolding tables_in
+waiting_in_turn db member own house are fits asked =
+    all_in_turn db.trees own (own_rise db member own house are fits) (λ q. not (is_some q.answer) && sells (find (is_item q.item) (items_in db.trees)) member) (asked_of db member own house are fits) asked
+
+pub first_stored_waiting : (db : Trees) (member : ℕ) → FirstFit (λ q. not (is_some q.answer) && sells (row_at (tables_in db) q.item) member) (λ q. q.item) QuestionFits (tables_in db).questions
+    → FirstFit (λ q. not (is_some q.answer) && sells (row_at (tables_in db) q.item) member) (λ q. q.item) QuestionFits (questions_in db)
+unfolding tables_in
+first_stored_waiting db member fits = first_stored question_key (λ (q : Question). not (is_some q.answer) && sells (find (is_item q.item) (items_in db)) member) (λ (q : Question). q.item) QuestionFits (questions_in db) fits
 
 pub waiting_found : (db : Database) (member : ℕ) (own : List Terms) → IsHouse db → own ≡ map (λ (row : ItemRow). row.item.terms) (filter (λ row. row.item.terms.seller == member) (items_in db.trees)) → AllByRecursion TermsFit own
     → flat_map (λ (t : Terms). waiting_in db.trees t.item) own ≡ waiting_for (tables_in db.trees) member

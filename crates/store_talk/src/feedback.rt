@@ -3,7 +3,7 @@ ghost use Rattle.std.specs.Prelude.{◌≡◌, ◌==◌, filter, IfOk, OnOk, IsE
 ghost use Rattle.std.specs.List.{AllByRecursion};
 ghost use Rattle.sqlite.specs.State.{HasCleanDisk};
 ghost use Rattle.sqlite.specs.Held.{state};
-ghost use Rattle.house_rows.specs.Keeping.{FitWhere};
+ghost use Rattle.house_rows.specs.Taken.{FitWhere};
 ghost use Rattle.house_rows.specs.Fits.{FeedbackFits};
 ghost use Rattle.house_rows.specs.declared.fault.KeepFault.TheVariants.{Damaged};
 ghost use Rattle.store_rows.specs.House.{IsBegun, Serves, AddsFeedback};

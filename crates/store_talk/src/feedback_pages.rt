@@ -3,7 +3,7 @@ ghost use Rattle.std.specs.Prelude.{◌≡◌, ◌==◌, ◌&&◌, pos, [], ◌�
 ghost use Rattle.std.specs.List.{AllByRecursion};
 ghost use Rattle.house_rows.specs.Fits.{FeedbackFits};
 ghost use Rattle.house_rows.specs.Found.{feedback_to};
-ghost use Rattle.house_rows.specs.Keeping.{FirstFit, start_of};
+ghost use Rattle.house_rows.specs.Taken.{FirstFit, FitWhere, start_of};
 ghost use Rattle.house_rows.specs.Limits.{most_shown};
 ghost use Rattle.house_rows.specs.declared.fault.KeepFault.TheVariants.{Damaged};
 ghost use Rattle.sqlite_value.specs.declared.value.Value.TheVariants.{Int};
@@ -44,6 +44,8 @@ fn given_from<S: Alter>(
     ensures reached { HasCleanDisk (state S.Store conn.new)
         → FirstFit (λ f. (f.to == member) && nat_le from f.item)
         (λ f. f.item) FeedbackFits (feedback_in (state S.Store conn.old).now.trees)
+        → FitWhere (λ f. (f.to == member) && nat_le 4294967296 f.item) FeedbackFits
+        (feedback_in (state S.Store conn.old).now.trees)
         → ¬ (IsErrOf result Damaged) }
     ensures spoiled { HasCleanDisk (state S.Store conn.new)
         → IsErrOf result Damaged
@@ -81,6 +83,8 @@ pub fn feedback_to<S: Alter>(
     ensures reached { HasCleanDisk (state S.Store conn.new)
         → FirstFit (λ f. (f.to == member) && nat_le (start_of from) f.item)
         (λ f. f.item) FeedbackFits (tables_in (state S.Store conn.old).now.trees).feedback
+        → FitWhere (λ f. (f.to == member) && nat_le 4294967296 f.item) FeedbackFits
+        (tables_in (state S.Store conn.old).now.trees).feedback
         → ¬ (IsErrOf result Damaged) }
     ensures read { OnlyReads (state S.Store conn.old) (state S.Store conn.new) result }
 {

@@ -3,7 +3,7 @@ ghost use Rattle.std.specs.Prelude.{◌≡◌, ◌==◌, ◌&&◌, pos, [], ◌�
 ghost use Rattle.std.specs.List.{AllByRecursion};
 ghost use Rattle.house_rows.specs.Fits.{QuestionFits};
 ghost use Rattle.house_rows.specs.Found.{published_on, questions_of};
-ghost use Rattle.house_rows.specs.Keeping.{FirstFit, start_of};
+ghost use Rattle.house_rows.specs.Taken.{FirstFit, start_of};
 ghost use Rattle.house_rows.specs.Limits.{most_shown};
 ghost use Rattle.house_rows.specs.declared.fault.KeepFault.TheVariants.{Damaged};
 ghost use Rattle.sqlite_value.specs.declared.value.Value.TheVariants.{Int};
@@ -14,6 +14,7 @@ ghost use Rattle.store_rows.specs.Rows.{question_of, questions_in};
 ghost use Rattle.store_rows.specs.Sorted.{sorted_questions};
 ghost use Rattle.store_rows.specs.Tables.{tables_in};
 ghost use Rattle.store_rows.specs.Frames.{OnlyReads};
+ghost use Rattle.store_talk.specs.Waiting.{WaitingFit};
 ghost use Rattle.store_talk.specs.Spoiled.{IsSpoiled};
 ghost use Rattle.store_talk.specs.Texts.{published_text, questions_text, stray_asked_text, stray_askers_text};
 
@@ -100,6 +101,9 @@ pub(crate) fn first_waiting_on<S: Alter>(
     ensures fits { IfOk result (λ asked. AllByRecursion QuestionFits asked.items) }
     ensures damaged { HasCleanDisk (state S.Store conn.new)
         → AllByRecursion QuestionFits (questions_in (state S.Store conn.old).now.trees)
+        → ¬ (IsErrOf result Damaged) }
+    ensures here { HasCleanDisk (state S.Store conn.new)
+        → WaitingFit (state S.Store conn.old).now.trees item
         → ¬ (IsErrOf result Damaged) }
     ensures read { OnlyReads (state S.Store conn.old) (state S.Store conn.new) result }
 {

@@ -5,7 +5,8 @@ ghost use Rattle.sqlite.specs.State.{HasCleanDisk};
 ghost use Rattle.sqlite.specs.Held.{state};
 ghost use Rattle.house_rows.specs.Fits.{QuestionFits};
 ghost use Rattle.house_rows.specs.Found.{first_waiting, waiting_for, row_at, sells};
-ghost use Rattle.house_rows.specs.Keeping.{AreSoundBy, FitWhere, FitsBy};
+ghost use Rattle.house_rows.specs.Keeping.{AreSoundBy, FitsBy};
+ghost use Rattle.house_rows.specs.Taken.{FirstFit, FitWhere};
 ghost use Rattle.house_rows.specs.Limits.{most_shown};
 ghost use Rattle.house_rows.specs.declared.item.Terms.{Terms as TermsRow};
 ghost use Rattle.house_rows.specs.declared.fault.KeepFault.TheVariants.{Damaged};
@@ -13,7 +14,7 @@ ghost use Rattle.store_rows.specs.ItemRows.{items_in};
 ghost use Rattle.store_rows.specs.House.{Serves};
 ghost use Rattle.store_rows.specs.Rows.{questions_in};
 ghost use Rattle.store_rows.specs.Tables.{tables_in};
-ghost use Rattle.store_talk.specs.Waiting.{waiting_in, WaitingFit};
+ghost use Rattle.store_talk.specs.Waiting.{waiting_in, WaitingFit, WaitingInTurn};
 ghost use Rattle.store_items.specs.RowsStanding.{ItemStands};
 ghost use Rattle.store_rows.specs.Frames.{OnlyReads};
 
@@ -126,6 +127,9 @@ fn add_first_waiting<S: Alter>(
     ensures damaged { HasCleanDisk (state S.Store conn.new)
         → AllByRecursion QuestionFits (questions_in (state S.Store conn.old).now.trees)
         → ¬ (IsErrOf result Damaged) }
+    ensures here { HasCleanDisk (state S.Store conn.new)
+        → WaitingFit (state S.Store conn.old).now.trees item
+        → ¬ (IsErrOf result Damaged) }
     ensures read { OnlyReads (state S.Store conn.old) (state S.Store conn.new) result }
 {
     let mut more = first_waiting_on(alloc, conn, item)?;
@@ -152,6 +156,9 @@ fn first_on_each<S: Alter>(
     ensures fits { IfOk result (λ asked. AllByRecursion QuestionFits asked.items) }
     ensures damaged { HasCleanDisk (state S.Store conn.new)
         → AllByRecursion QuestionFits (questions_in (state S.Store conn.old).now.trees)
+        → ¬ (IsErrOf result Damaged) }
+    ensures reached { HasCleanDisk (state S.Store conn.new)
+        → WaitingInTurn (state S.Store conn.old).now.trees 0 own.now
         → ¬ (IsErrOf result Damaged) }
     ensures read { OnlyReads (state S.Store conn.old) (state S.Store conn.new) result }
 {
@@ -186,6 +193,13 @@ pub fn first_waiting<S: Alter>(
     ensures fits { IfOk result (λ asked. AllByRecursion QuestionFits asked.items) }
     ensures damaged { HasCleanDisk (state S.Store conn.new)
         → AreSoundBy editions.now (tables_in (state S.Store conn.old).now.trees)
+        → ¬ (IsErrOf result Damaged) }
+    ensures reached { HasCleanDisk (state S.Store conn.new)
+        → FitWhere (λ row. row.item.terms.seller == member) (FitsBy editions.now)
+        (items_in (state S.Store conn.old).now.trees)
+        → FirstFit (λ q. not (is_some q.answer)
+        && sells (row_at (tables_in (state S.Store conn.old).now.trees) q.item) member)
+        (λ q. q.item) QuestionFits (questions_in (state S.Store conn.old).now.trees)
         → ¬ (IsErrOf result Damaged) }
     ensures read { OnlyReads (state S.Store conn.old) (state S.Store conn.new) result }
 {

@@ -20,7 +20,7 @@ use Rattle.sqlite.proofs.Callers.{IsPlain, command_of, reads_as}
 use Rattle.sqlite_tied.specs.Compute.{everything}
 use Rattle.house_rows.specs.Fits.{WatchRowFits}
 use Rattle.house_rows.specs.History.{is_less}
-use Rattle.house_rows.specs.Keeping.{FitWhere}
+use Rattle.house_rows.specs.Taken.{FitWhere}
 use Rattle.house_rows.specs.Watches.{WatchRow, watch_key}
 use Rattle.store_rows.specs.Schema.{house_schema}
 use Rattle.store_rows.specs.House.{IsHouse}

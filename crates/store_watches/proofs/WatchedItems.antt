@@ -9,7 +9,8 @@ use Rattle.sqlite_keyed.proofs.ListLemmas.{filter-map, filter_same}
 use Rattle.sqlite.specs.Effect.{Database}
 use Rattle.house_rows.specs.Editions.{BandTables}
 use Rattle.house_rows.specs.Found.{is_watched, items_watched}
-use Rattle.house_rows.specs.Keeping.{FitWhere, FitsBy}
+use Rattle.house_rows.specs.Keeping.{FitsBy}
+use Rattle.house_rows.specs.Taken.{FitWhere}
 use Rattle.house_rows.specs.Tables.{ItemRow}
 use Rattle.house_rows.specs.Watches.{WatchRow, is_watch}
 use Rattle.house_rows.specs.declared.item.Item.{Item}

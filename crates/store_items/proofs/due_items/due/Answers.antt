@@ -4,7 +4,8 @@ use Rattle.std.specs.List.{AllByRecursion}
 use Rattle.sqlite.specs.Held.{state}
 use Rattle.house_rows.specs.Found.{due_at}
 use Rattle.house_rows.specs.Items.{is_due}
-use Rattle.house_rows.specs.Keeping.{FitWhere, FitsBy, StandsBy}
+use Rattle.house_rows.specs.Keeping.{FitsBy, StandsBy}
+use Rattle.house_rows.specs.Taken.{FitWhere}
 use Rattle.house_rows.specs.Tables.{ItemRow}
 use Rattle.store_rows.specs.ItemRows.{items_in}
 use Rattle.store_rows.specs.Tables.{tables_in}

@@ -3,7 +3,8 @@ use Rattle.std.specs.List.{AllByRecursion}
 use Rattle.sqlite.specs.Effect.{Database}
 use Rattle.sqlite.specs.Held.{state}
 use Rattle.proxy.specs.Bids.{is_leader}
-use Rattle.house_rows.specs.Keeping.{FitWhere, FitsBy}
+use Rattle.house_rows.specs.Keeping.{FitsBy}
+use Rattle.house_rows.specs.Taken.{FitWhere}
 use Rattle.house_rows.specs.Pages.{sale_of}
 use Rattle.house_rows.specs.Tables.{ItemRow}
 use Rattle.store_rows.specs.ItemRows.{items_in}

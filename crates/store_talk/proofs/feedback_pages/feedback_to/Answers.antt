@@ -3,11 +3,12 @@ use Rattle.std.specs.Prelude.{nat_le}
 use Rattle.std.specs.List.{AllByRecursion}
 use Rattle.sqlite.specs.Held.{state}
 use Rattle.house_rows.specs.Fits.{FeedbackFits}
-use Rattle.house_rows.specs.Keeping.{FirstFit, start_of}
+use Rattle.house_rows.specs.Taken.{FirstFit, start_of}
 use Rattle.house_rows.specs.declared.talk.Feedback.{Feedback}
 use Rattle.store_rows.specs.Rows.{feedback_in}
 use Rattle.store_rows.specs.Sorted.{sorted_feedback}
 use Rattle.store_rows.proofs.Both.{ok_both}
+use Rattle.store_rows.proofs.Sound.{feedback_where}
 use Rattle.store_talk.proofs.FeedbackPages.{given_found, given_stored}
 use Rattle.store_talk.proofs.feedback_pages.feedback_to.Goals as goal
 
@@ -19,7 +20,8 @@ returns-clause-given g c clean =
     bounded ∙ given_found c.args.member c.args.from db (subst (AllByRecursion FeedbackFits) bounded fits))
 
 pub returns-clause-reached : goal.returns-clause-reached
-returns-clause-reached g c clean fits =
+returns-clause-reached g c clean fits far =
     let db = (state g.S.Store c.args.conn.now).now.trees in
     let taken = λ (begin : ℕ). FirstFit (λ (x : Feedback). (x.to == c.args.member) && nat_le begin x.item) (λ (x : Feedback). x.item) FeedbackFits (feedback_in db) in
     c.given_from.ensures.reached clean (subst taken (sym c.bound_of.ensures) (given_stored c.args.member (start_of c.args.from) db fits))
+    (feedback_where db (λ f. (f.to == c.args.member) && nat_le 4294967296 f.item) far)

@@ -60,17 +60,17 @@ returns-in_err-rows-clause-damaged g c clean fits is =
     no_stray_given c.args.member c.args.from low small (state g.S.Store c.args.conn.now) (state g.S.Store c.listed_rows.new.conn) (c.listed_rows.ensures.house clean) (state g.S.Store c.listed_rows.new.conn) stray.some fits
 
 pub returns-clause-reached : goal.returns-clause-reached
-returns-clause-reached g c clean fits =
+returns-clause-reached g c clean fits far =
     let low : c.args.member < 2 ^ 32 = omega (arith, c.ranges.member) in
     let small : c.args.from < 2 ^ 32 = omega (arith, c.ranges.from) in
     let first = rw (c.params-to_sql.ensures, c.params-to_sql-2.ensures) at (c.in_ok-rows.ensures.rows clean) in
     let same : c.deref.result.now ≡ c.in_ok-rows.rows.items = search rules in
-    let fit = given_near c.args.member c.args.from low small (state g.S.Store c.args.conn.now) (state g.S.Store c.listed_rows.new.conn) (c.listed_rows.ensures.house clean) c.in_ok-rows.rows.items first fits in
+    let fit = given_near c.args.member c.args.from low small (state g.S.Store c.args.conn.now) (state g.S.Store c.listed_rows.new.conn) (c.listed_rows.ensures.house clean) c.in_ok-rows.rows.items first fits far in
     c.all_of.ensures.damaged (subst (AllByRecursion FeedbackFits) (sym (ap (map feedback_of) same)) fit)
 
 pub returns-in_err-rows-clause-reached : goal.returns-in_err-rows-clause-reached
-returns-in_err-rows-clause-reached g c clean fits is =
+returns-in_err-rows-clause-reached g c clean fits far is =
     let low : c.args.member < 2 ^ 32 = omega (arith, c.ranges.member) in
     let small : c.args.from < 2 ^ 32 = omega (arith, c.ranges.from) in
     let stray = rw (c.params-to_sql.ensures, c.params-to_sql-2.ensures, c.params-to_sql-3.ensures, c.params-to_sql-4.ensures) at (c.listed_rows.ensures.damaged clean (search rules)) in
-    no_stray_taken c.args.member c.args.from low small (state g.S.Store c.args.conn.now) (state g.S.Store c.listed_rows.new.conn) (c.listed_rows.ensures.house clean) (state g.S.Store c.listed_rows.new.conn) stray.some fits
+    no_stray_taken c.args.member c.args.from low small (state g.S.Store c.args.conn.now) (state g.S.Store c.listed_rows.new.conn) (c.listed_rows.ensures.house clean) (state g.S.Store c.listed_rows.new.conn) stray.some far

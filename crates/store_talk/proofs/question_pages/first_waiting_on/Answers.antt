@@ -5,7 +5,7 @@ use Rattle.house_rows.specs.Fits.{QuestionFits}
 use Rattle.store_rows.specs.Rows.{question_of}
 use Rattle.store_rows.proofs.Both.{ok_both}
 use Rattle.store_talk.proofs.QuestionMeaning.{waiting_on_is}
-use Rattle.store_talk.proofs.QuestionPages.{waiting_finite, waiting_fit, waiting_shown}
+use Rattle.store_talk.proofs.QuestionPages.{waiting_finite, waiting_fit, waiting_kept, waiting_shown}
 use Rattle.store_talk.proofs.question_pages.first_waiting_on.Goals as goal
 
 pub first_rows-requires-clause-plain : goal.first_rows-requires-clause-plain
@@ -29,4 +29,12 @@ returns-clause-damaged g c clean fits =
     let first = rw c.params-to_sql.ensures at (c.in_ok-rows.ensures.rows clean) in
     let same : c.deref.result.now ≡ c.in_ok-rows.rows.items = search rules in
     let fit = waiting_fit c.args.item low (state g.S.Store c.args.conn.now) (state g.S.Store c.first_rows.new.conn) (c.first_rows.ensures.house clean) c.in_ok-rows.rows.items first fits in
+    c.all_of.ensures.damaged (subst (AllByRecursion QuestionFits) (sym (ap (map question_of) same)) fit)
+
+pub returns-clause-here : goal.returns-clause-here
+returns-clause-here g c clean fits =
+    let low : c.args.item < 2 ^ 32 = omega (arith, c.ranges.item) in
+    let first = rw c.params-to_sql.ensures at (c.in_ok-rows.ensures.rows clean) in
+    let same : c.deref.result.now ≡ c.in_ok-rows.rows.items = search rules in
+    let fit = waiting_kept c.args.item low (state g.S.Store c.args.conn.now) (state g.S.Store c.first_rows.new.conn) (c.first_rows.ensures.house clean) c.in_ok-rows.rows.items first fits in
     c.all_of.ensures.damaged (subst (AllByRecursion QuestionFits) (sym (ap (map question_of) same)) fit)

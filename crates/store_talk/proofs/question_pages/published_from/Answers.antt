@@ -71,4 +71,4 @@ returns-in_err-rows-clause-reached g c clean fits is =
     let low : c.args.item < 2 ^ 32 = omega (arith, c.ranges.item) in
     let small : c.args.from < 2 ^ 32 = omega (arith, c.ranges.from) in
     let stray = rw (c.params-to_sql.ensures, c.params-to_sql-2.ensures, c.params-to_sql-3.ensures) at (c.listed_rows.ensures.damaged clean (search rules)) in
-    no_stray_taken c.args.item c.args.from low small (state g.S.Store c.args.conn.now) (state g.S.Store c.listed_rows.new.conn) (c.listed_rows.ensures.house clean) (state g.S.Store c.listed_rows.new.conn) stray.some fits
+    no_stray_taken c.args.item c.args.from low small (state g.S.Store c.args.conn.now) (state g.S.Store c.listed_rows.new.conn) (c.listed_rows.ensures.house clean) (state g.S.Store c.listed_rows.new.conn) stray fits

@@ -3,7 +3,7 @@ use Rattle.std.specs.Prelude.{nat_le}
 use Rattle.std.specs.List.{AllByRecursion}
 use Rattle.sqlite.specs.Held.{state}
 use Rattle.house_rows.specs.Fits.{QuestionFits}
-use Rattle.house_rows.specs.Keeping.{FirstFit, start_of}
+use Rattle.house_rows.specs.Taken.{FirstFit, start_of}
 use Rattle.house_rows.specs.declared.talk.Question.{Question}
 use Rattle.store_rows.specs.Rows.{questions_in}
 use Rattle.store_rows.specs.Sorted.{sorted_questions}

@@ -9,12 +9,12 @@ use Rattle.house_rows.specs.declared.talk.Question.{Question}
 use Rattle.store_rows.specs.Rows.{questions_in}
 use Rattle.store_rows.proofs.StateLemmas.{ok_then}
 use Rattle.store_rows.proofs.Tested.{all-take}
-use Rattle.store_talk.specs.Waiting.{waiting_in}
+use Rattle.store_talk.specs.Waiting.{WaitingInTurn, waiting_in}
 use Rattle.store_items.specs.RowsStanding.{ItemStands}
 use Rattle.store_rows.proofs.Sound.{questions_fit, rows_fit}
 use Rattle.store_talk.proofs.WaitingStanding.{waiting_stand}
 use Rattle.store_rows.proofs.Steps.{clean_before}
-use Rattle.store_talk.proofs.WaitingItems.{waiting_found}
+use Rattle.store_talk.proofs.WaitingItems.{waiting_found, waiting_in_turn}
 use Rattle.store_talk.proofs.waiting.first_waiting.Goals as goal
 
 pub returns-in_err-own-clause-damaged : goal.returns-in_err-own-clause-damaged
@@ -48,3 +48,19 @@ returns-clause-stands g c clean =
     let P = λ (q : Question). ItemStands c.args.editions.now old.now.trees q.item in
     let stand = all-take P most_shown _ (waiting_stand c.args.editions.now old.now.trees c.args.member c.in_ok-own.own.items (c.in_ok-own.ensures.terms before) c.in_ok-own.ensures.stands) in
     ok_then c.first_on_each.result (returns-clause-value g c clean) (λ asked e. subst (AllByRecursion P) (sym e) stand)
+
+pub returns-in_err-own-clause-reached : goal.returns-in_err-own-clause-reached
+returns-in_err-own-clause-reached g c clean items asked is = c.in_err-own.ensures.here clean items (search rules)
+
+pub returns-clause-reached : goal.returns-clause-reached
+returns-clause-reached g c clean items asked =
+    let old = state g.S.Store c.args.conn.now in
+    let mid = state g.S.Store c.terms_of_seller.new.conn in
+    let before = clean_before mid (state g.S.Store c.first_on_each.new.conn) c.first_on_each.ensures.read.crash clean in
+    let house = (c.requires (clean_before old mid c.terms_of_seller.ensures.read.crash before)).1 in
+    let own = c.in_ok-own.own.items in
+    let same : c.deref.result.now ≡ own = search rules in
+    let reached = waiting_in_turn old.now c.args.member own house (c.in_ok-own.ensures.terms before) c.in_ok-own.ensures.fits asked in
+    c.first_on_each.ensures.reached clean
+    (subst (λ (db : Database). WaitingInTurn db.trees 0 c.deref.result.now) (sym (c.in_ok-own.ensures.read.same before).0.now_is)
+    (subst (WaitingInTurn old.now.trees 0) (sym same) reached))

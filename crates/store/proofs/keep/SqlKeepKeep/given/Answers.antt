@@ -3,7 +3,7 @@ use Rattle.std.specs.Prelude.{Err, ◌==◌}
 use Rattle.sqlite.specs.Held.{state}
 use Rattle.sqlite.specs.State.{HasCleanDisk}
 use Rattle.house_rows.specs.Fits.{FeedbackFits}
-use Rattle.house_rows.specs.Keeping.{FitWhere}
+use Rattle.house_rows.specs.Taken.{FitWhere}
 use Rattle.house_rows.specs.declared.talk.Feedback.{Feedback}
 use Rattle.store_rows.specs.Rows.{feedback_in}
 use Rattle.store_rows.proofs.Sound.{feedback_where}

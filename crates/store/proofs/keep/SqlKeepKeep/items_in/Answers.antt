@@ -3,7 +3,8 @@ use Rattle.std.specs.Prelude.{Err, ◌==◌, ◌&&◌}
 use Rattle.sqlite.specs.Held.{state}
 use Rattle.sqlite.specs.State.{HasCleanDisk}
 use Rattle.std.specs.List.{AllByRecursion}
-use Rattle.house_rows.specs.Keeping.{FitsBy, start_of}
+use Rattle.house_rows.specs.Keeping.{FitsBy}
+use Rattle.house_rows.specs.Taken.{start_of}
 use Rattle.house_rows.specs.Tables.{ItemRow}
 use Rattle.store_rows.specs.ItemRows.{items_in}
 use Rattle.store_rows.specs.Tables.{tables_in}

@@ -3,7 +3,7 @@ use Rattle.std.specs.Prelude.{Err, ◌==◌, ◌&&◌, is_some, nat_le}
 use Rattle.sqlite.specs.Held.{state}
 use Rattle.sqlite.specs.State.{HasCleanDisk}
 use Rattle.house_rows.specs.Fits.{QuestionFits}
-use Rattle.house_rows.specs.Keeping.{FirstFit, start_of}
+use Rattle.house_rows.specs.Taken.{FirstFit, start_of}
 use Rattle.house_rows.specs.declared.talk.Question.{Question}
 use Rattle.store_rows.specs.Tables.{tables_in}
 use Rattle.store.proofs.Known.{not_told}

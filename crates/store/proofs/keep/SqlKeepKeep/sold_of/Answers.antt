@@ -3,7 +3,8 @@ use Rattle.std.specs.Prelude.{Err}
 use Rattle.sqlite.specs.Held.{state}
 use Rattle.sqlite.specs.State.{HasCleanDisk}
 use Rattle.store_rows.specs.Tables.{tables_in}
-use Rattle.house_rows.specs.Keeping.{FitWhere, FitsBy, may_be_party}
+use Rattle.house_rows.specs.Keeping.{FitsBy}
+use Rattle.house_rows.specs.Taken.{FitWhere, may_be_party}
 use Rattle.store_rows.specs.ItemRows.{items_in}
 use Rattle.store.proofs.Known.{all_stand, known_sound, known_where, not_told, told_sound, works}
 use Rattle.store.proofs.keep.SqlKeepKeep.sold_of.Goals as goal

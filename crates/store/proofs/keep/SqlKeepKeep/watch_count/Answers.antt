@@ -3,7 +3,7 @@ use Rattle.std.specs.Prelude.{Err, ◌==◌}
 use Rattle.sqlite.specs.Held.{state}
 use Rattle.sqlite.specs.State.{HasCleanDisk}
 use Rattle.house_rows.specs.Fits.{WatchRowFits}
-use Rattle.house_rows.specs.Keeping.{FitWhere}
+use Rattle.house_rows.specs.Taken.{FitWhere}
 use Rattle.house_rows.specs.Watches.{WatchRow}
 use Rattle.store_rows.specs.Rows.{watches_in}
 use Rattle.store_rows.proofs.Sound.{watches_where}

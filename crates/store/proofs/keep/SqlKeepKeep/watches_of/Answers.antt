@@ -4,7 +4,8 @@ use Rattle.sqlite.specs.Held.{state}
 use Rattle.sqlite.specs.State.{HasCleanDisk}
 use Rattle.house_rows.specs.Fits.{WatchRowFits}
 use Rattle.house_rows.specs.Found.{is_watched}
-use Rattle.house_rows.specs.Keeping.{FitWhere, FitsBy}
+use Rattle.house_rows.specs.Keeping.{FitsBy}
+use Rattle.house_rows.specs.Taken.{FitWhere}
 use Rattle.house_rows.specs.Tables.{ItemRow}
 use Rattle.house_rows.specs.Watches.{WatchRow}
 use Rattle.store_rows.specs.ItemRows.{items_in}
