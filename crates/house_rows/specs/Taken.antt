@@ -1,5 +1,5 @@
 -- Which rows a look-up or a list of a keep takes: that these fit is enough for it not to be damaged.
-use Rattle.std.specs.Prelude.{◌≡◌, ◌==◌, ◌||◌, ◌&&◌, if◌then◌else◌, ℕ, List, Bool, true, Result, IsErrOf, nat_le, nat_lt}
+use Rattle.std.specs.Prelude.{◌≡◌, ◌==◌, ◌||◌, ◌&&◌, if◌then◌else◌, ℕ, List, Bool, true, Result, IsErrOf, nat_lt}
 use Rattle.std.specs.List.{AllByRecursion}
 use Rattle.proxy.specs.Bids.{is_leader}
 use Rattle.house_rows.specs.declared.fault.KeepFault.{KeepFault}
