@@ -138,7 +138,9 @@ module _ (test project : List Term) (order : List (Term × Sorting)) (params : R
         let there = moved (λ x. IsNear number Far n (map inside kept) x → Fits x) (map inside kept) (map told_of a.ordered) same fits in
         let counts = all_weaker (λ x. IsNear number Far n (map inside kept) x → Fits x) (λ x. IsNear number Far n (map told_of a.ordered) x → Fits x)
         (λ x fit near. fit (elim near [ inl far ↦ inl far | inr few ↦ inr (omega (arith, few, many x)) ])) (map told_of a.ordered) there in
-        subst (AllByRecursion Fits) (sym typed) (walk number Far Fits n [] (map told_of a.ordered) up counts)
+        let start : n ≡ 0 + n = omega arith in
+        subst (AllByRecursion Fits) (sym typed) (walk number Far Fits n [] (map told_of a.ordered) up
+        (subst (λ many. AllByRecursion (λ x. IsNear number Far many (map told_of a.ordered) x → Fits x) (map told_of a.ordered)) start counts))
 
 -- ---- the rows that a query keeps, where the test is told of low numbers alone
 
@@ -162,7 +164,7 @@ module _ {T : Type 0} (inside : Row → T) (number : T → ℕ) (keep : T → Bo
         | inl less ↦ (let small : nat_lt (number (inside r)) (2 ^ 64) ≡ true = grind (arith, nat_tests, less) in
             let same : p r ≡ keep (inside r) = low_same (p r) (keep (inside r)) (nat_lt (number (inside r)) (2 ^ 64)) (low_tests r are.0) small in
             elim (by_test (p r)) [
-              | inl is ↦ (let also : keep (inside r) ≡ true = sym same ∙ is in rw (is, also, less) (let e = rw less (ap suc rest) in e))
+              | inl is ↦ (let also : keep (inside r) ≡ true = sym same ∙ is in rw (is, also, less) (rw less (ap suc rest)))
               | inr not ↦ (let nor : keep (inside r) ≡ false = sym same ∙ not in rw (not, nor) rest)
             ])
         | inr more ↦ elim (by_test (p r)) [
