@@ -164,18 +164,20 @@ module _ {T : Type 0} (inside : Row → T) (number : T → ℕ) (keep : T → Bo
         | inl less ↦ (let small : nat_lt (number (inside r)) (2 ^ 64) ≡ true = grind (arith, nat_tests, less) in
             let same : p r ≡ keep (inside r) = low_same (p r) (keep (inside r)) (nat_lt (number (inside r)) (2 ^ 64)) (low_tests r are.0) small in
             elim (by_test (p r)) [
-              | inl is ↦ (let also : keep (inside r) ≡ true = sym same ∙ is in rw (is, also, less) (rw less (ap suc rest)))
+              | inl is ↦ (let also : keep (inside r) ≡ true = sym same ∙ is in rw (is, also, less) (ap suc rest))
               | inr not ↦ (let nor : keep (inside r) ≡ false = sym same ∙ not in rw (not, nor) rest)
             ])
         | inr more ↦ elim (by_test (p r)) [
-          | inl is ↦ elim (by_test (keep (inside r))) [ inl also ↦ rw (is, also, more) (rw more rest) | inr nor ↦ rw (is, nor) (rw more rest) ]
+          | inl is ↦ elim (by_test (keep (inside r))) [ inl also ↦ rw (is, also, more) rest | inr nor ↦ rw (is, nor) (rw more rest) ]
           | inr not ↦ elim (by_test (keep (inside r))) [ inl also ↦ rw (not, also, more) rest | inr nor ↦ rw (not, nor) rest ]
         ]
       ]
 
   near_in : (table : List Row) → AllByRecursion Is table → (x : T) → number x ≤ 2 ^ 64
       → counted (λ y. nat_lt (number y) (number x)) (map inside (filter p table)) < 50 → is_near keep number (map inside table) x ≡ true
-  near_in table are x low few = rw (counted_kept x low table are) (grind (arith, nat_tests, few))
+  near_in table are x low few =
+      let so : nat_lt (counted (λ y. nat_lt (number y) (number x)) (map inside (filter p table))) 50 ≡ true = grind (arith, nat_tests, few) in
+      subst (λ (n : ℕ). nat_lt n 50 ≡ true) (sym (counted_kept x low table are)) so
 
   -- a list that is not full reaches every row
   pub all_near : (table : List Row) → AllByRecursion Is table → (x : T) → number x ≤ 2 ^ 64 → length (filter p table) < 50 → is_near keep number (map inside table) x ≡ true
