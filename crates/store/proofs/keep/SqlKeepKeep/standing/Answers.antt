@@ -3,8 +3,15 @@ use Rattle.std.specs.Prelude.{Err}
 use Rattle.sqlite.specs.Held.{state}
 use Rattle.sqlite.specs.State.{HasCleanDisk}
 use Rattle.store_items.specs.RowsStanding.{RowFitsAt}
-use Rattle.store.proofs.Known.{known_row, not_told, works}
+use Rattle.store.proofs.Known.{known_row, known_rows, not_told, told_sound, works}
 use Rattle.store.proofs.keep.SqlKeepKeep.standing.Goals as goal
+
+pub returns-in-Err-clause-faults : goal.returns-in-Err-clause-faults
+returns-in-Err-clause-faults g c = rw (← c.self.view_is)
+    (told_sound _ _ _ _ _ c.told_fault.ensures.fault c.told_fault.ensures.store (λ honest sound is.
+    let clean : HasCleanDisk (state g.S.Store c.standing_at.new.conn) = omega (arith, c.told_fault.ensures.crash.clean, honest) in
+    let before : HasCleanDisk (state g.S.Store c.self.inside.conn) = omega (arith, c.in-Err.ensures.read.crash.clean, clean) in
+    c.in-Err.ensures.damaged clean (known_rows _ _ _ _ (c.self.invariant.known (works _ _ c.self.view_is c.in_ok-serves.ensures.ok) before) sound) (ap Err is)))
 
 pub returns-in-Err-clause-damaged : goal.returns-in-Err-clause-damaged
 returns-in-Err-clause-damaged g c = rw (← c.self.view_is)
