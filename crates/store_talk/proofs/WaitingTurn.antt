@@ -1,5 +1,5 @@
 -- The items on which questions wait, in turn, until fifty are found.
-use Rattle.std.proofs.Common.{◌≡◌, ◌≤◌, ◌<◌, ◌+◌, ◌&&◌, ℕ, Bool, true, false, not, List, [], ◌∷◌, ◌++◌, append_assoc, filter, flat_map, length, map, nat_lt, take, refl, ap, sym, subst, ◌∙◌, arith, inl, inr}
+use Rattle.std.proofs.Common.{◌≡◌, ◌≤◌, ◌<◌, ◌+◌, ◌&&◌, ℕ, Bool, true, false, not, List, [], ◌∷◌, ◌++◌, append_assoc, flat_map, length, map, nat_lt, take, refl, ap, sym, subst, ◌∙◌, arith, inl, inr}
 use Rattle.std.specs.Prelude.{◌==◌, is_some}
 use Rattle.std.specs.List.{AllByRecursion, list_any}
 use Rattle.std.proofs.lemmas.Bool.Decides.{nat_tests}
@@ -17,7 +17,6 @@ use Rattle.house_rows.specs.declared.item.Terms.{Terms}
 use Rattle.house_rows.specs.declared.talk.Question.{Question}
 use Rattle.house_rows.proofs.Put.{by_test}
 use Rattle.store_rows.specs.Rows.{questions_in}
-use Rattle.store_rows.specs.Sorted.{sorted_questions}
 use Rattle.store_rows.proofs.Sorting.{count-sorted}
 use Rattle.store_talk.specs.Waiting.{WaitingFit, WaitingInTurn, waiting_in}
 use Rattle.store_talk.proofs.SortedTalk.{waiting_grouped}
@@ -124,7 +123,8 @@ module _ (db : Trees) where
         let same : q.item ≡ t.item = grind (arith, nat_tests, first_of_both (q.item == t.item) (not (is_some q.answer)) waits) in
         let there : list_any (λ n. q.item == n) (map item_of own) ≡ true = rw (same, split) (is_among before t ts) in
         let asked : asked_on own q ≡ true = rw there (second_of_both (q.item == t.item) (not (is_some q.answer)) waits) in
-        let many : counted (λ y. keep y && nat_lt y.item q.item) (questions_in db) ≤ length (flat_map found_on before) = rw same (few_lesser before t ts split) in
+        let many : counted (λ y. keep y && nat_lt y.item q.item) (questions_in db) ≤ length (flat_map found_on before) =
+        subst (λ (i : ℕ). counted (λ y. keep y && nat_lt y.item i) (questions_in db) ≤ length (flat_map found_on before)) (sym same) (few_lesser before t ts split) in
         fit (sym (are q) ∙ asked) (grind (arith, nat_tests, many, few))) (questions_in db) fits
       where
         is_among : (before : List Terms) (t : Terms) (ts : List Terms) → list_any (λ n. t.item == n) (map item_of (before ++ t ∷ ts)) ≡ true
