@@ -1,5 +1,5 @@
 -- What is due at a moment from 2 ^ 32 on is due at the last moment before it: no stored end is as great.
-use Rattle.std.proofs.Common.{◌≡◌, ◌<◌, ◌^◌, ◌&&◌, ℕ, pos, negsuc, Bool, true, false, not, List, [], ◌∷◌, map, filter, nat_le, nat_lt, refl, sym, ap, ap₂, ◌∙◌, inl, inr, arith}
+use Rattle.std.proofs.Common.{◌≡◌, ◌<◌, ◌^◌, ◌&&◌, ℕ, pos, negsuc, Bool, true, false, not, List, [], ◌∷◌, length, map, filter, nat_le, nat_lt, refl, sym, ap, ap₂, ◌∙◌, inl, inr, arith}
 use Rattle.std.proofs.lemmas.Bool.Decides.{nat_tests}
 use Rattle.sqlite_value.specs.declared.value.Value.{Value}
 use Rattle.sqlite_value.specs.declared.value.Value.TheVariants.{Null, Int, Real, Text, Blob}
@@ -9,6 +9,7 @@ use Rattle.sqlite_trees.specs.Tree.{Trees}
 use Rattle.house_rows.specs.Found.{due_at}
 use Rattle.house_rows.specs.History.{counted}
 use Rattle.house_rows.specs.Items.{close_sells, is_due, is_open}
+use Rattle.house_rows.specs.declared.item.Due.{Due}
 use Rattle.house_rows.specs.Taken.{FitWhere}
 use Rattle.house_rows.specs.Tables.{ItemRow}
 use Rattle.house_rows.proofs.Put.{by_test}
@@ -45,9 +46,12 @@ module _ (moment : ℕ) (low : moment < 2 ^ 64) where
   due_bound : (r : Row) → is_due (bound_of moment) (item_row_in r).item.terms ≡ is_due moment (item_row_in r).item.terms
   due_bound r = ap (λ (b : Bool). is_open (item_row_in r).item.terms.state && b) (end_bound moment low (column r 9))
 
+  filter_with : (q : ItemRow → Bool) (rows : List Row) → filter (λ row. is_due (bound_of moment) row.item.terms && q row) (map item_row_in rows) ≡ filter (λ row. is_due moment row.item.terms && q row) (map item_row_in rows)
+  filter_with q [] = refl
+  filter_with q (r ∷ rows) = rw (due_bound r, filter_with q rows) refl
+
   counted_bound : (q : ItemRow → Bool) (rows : List Row) → counted (λ row. is_due (bound_of moment) row.item.terms && q row) (map item_row_in rows) ≡ counted (λ row. is_due moment row.item.terms && q row) (map item_row_in rows)
-  counted_bound q [] = refl
-  counted_bound q (r ∷ rows) = rw (due_bound r, counted_bound q rows) refl
+  counted_bound q rows = ap length (filter_with q rows)
 
   filter_bound : (rows : List Row) → filter (λ row. is_due (bound_of moment) row.item.terms) (map item_row_in rows) ≡ filter (λ row. is_due moment row.item.terms) (map item_row_in rows)
   filter_bound [] = refl
@@ -55,8 +59,9 @@ module _ (moment : ℕ) (low : moment < 2 ^ 64) where
 
   pub due_found : (db : Trees) → due_at (tables_in db) (bound_of moment) ≡ due_at (tables_in db) moment
   unfolding tables_in
-  due_found db = ap₂ (λ sold unsold. record { sold = sold; unsold = unsold })
-      (counted_bound (λ row. close_sells row.item.terms.leader) (db 6)) (counted_bound (λ row. not (close_sells row.item.terms.leader)) (db 6))
+  due_found db =
+      let both : ℕ → ℕ → Due = λ sold unsold. record { sold = sold; unsold = unsold } in
+      ap₂ both (counted_bound (λ row. close_sells row.item.terms.leader) (db 6)) (counted_bound (λ row. not (close_sells row.item.terms.leader)) (db 6))
 
   pub due_rows : (db : Trees) → filter (λ row. is_due (bound_of moment) row.item.terms) (items_in db) ≡ filter (λ row. is_due moment row.item.terms) (items_in db)
   due_rows db = filter_bound (db 6)
