@@ -136,8 +136,7 @@ module _ (db : Trees) where
     go before (t ∷ ts) split =
         let joined = flat_map-append found_on before (t ∷ []) in
         let last : length (flat_map found_on (before ++ t ∷ [])) ≡ length (flat_map found_on before) + length (found_on t) =
-        ap length joined ∙ length-append (flat_map found_on before) (found_on t ++ []) ∙ ap (λ l. length (flat_map found_on before) + length l) (append-nil (found_on t)) in
-        (
+        ap length joined ∙ length-append (flat_map found_on before) (found_on t ++ []) ∙ ap (λ l. length (flat_map found_on before) + length l) (append-nil (found_on t)) in (
           fit_here before t ts split,
           subst (λ k. WaitingInTurn db k ts) last (go (before ++ t ∷ []) ts (split ∙ sym (append_assoc before (t ∷ []) ts))),
         )
