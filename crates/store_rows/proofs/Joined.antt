@@ -120,8 +120,7 @@ module _ {A : Type 0} (number : A → ℕ) where
 pub each_among : (P : ℕ → Type 0) (numbers : List ℕ) → ((n : ℕ) → list_any (λ m. n == m) numbers ≡ true → P n) → AllByRecursion P numbers
 each_among P [] all = tt
 each_among P (x ∷ numbers) all =
-    let same : (x == x) ≡ true = grind (arith, nat_tests) in
-    (
+    let same : (x == x) ≡ true = grind (arith, nat_tests) in (
       all x (rw same refl),
       each_among P numbers (λ n is. all n (elim (by_test (n == x)) [ inl here ↦ rw here refl | inr other ↦ rw other is ])),
     )
