@@ -1,5 +1,5 @@
 -- What is found in sound tables.
-use Rattle.std.proofs.Common.{◌≡◌, ◌<◌, ◌^◌, ℕ, arith, List, [], ◌∷◌, Bool, true, false, Option, Some, find}
+use Rattle.std.proofs.Common.{◌≡◌, ◌<◌, ◌^◌, ℕ, arith, List, [], ◌∷◌, Bool, true, false, Option, None, Some, find}
 use Rattle.std.specs.Prelude.{IfSome, option_map, if◌then◌else◌}
 use Rattle.std.specs.List.{AllByRecursion}
 use Rattle.sqlite_trees.specs.Tree.{Trees}
@@ -33,3 +33,8 @@ sound_number db p sound = number (items_in db) sound.items
 pub question_found : (db : Database) → IsHouse db → (item asker number : ℕ) → item < 2 ^ 32 → asker < 2 ^ 32 → number < 2 ^ 32
     → find (is_question item asker number) (sorted_questions db.trees) ≡ find (is_question item asker number) (questions_in db.trees)
 question_found db house item asker number low small less = found_sorted db house item asker number (omega arith) (omega arith) (omega arith)
+
+-- an item's number has 32 bits
+pub number_low : (found : Option ℕ) → IfSome found IsItem → IfSome found (λ n. n < 2 ^ 32)
+number_low None is = search
+number_low (Some n) is = omega (arith, is.1)

@@ -215,7 +215,7 @@ impl<S: Alter> Keep for SqlKeep<S> {
         told!(self, standing_at(&mut self.conn, &self.editions, item))
     }
 
-    #[tactic(auto, using(crate::proofs::Absent::no_best_of, crate::proofs::Absent::no_best_at, crate::proofs::Known::own_fit))]
+    #[tactic(auto, using(crate::proofs::Absent::no_best_of, crate::proofs::Absent::no_best_at))]
     fn own_best(&mut self, item: u64, member: u64) -> Result<OwnBest, KeepFault> {
         self.serves()?;
         let (Ok(item), Ok(member)) = (u32::try_from(item), u32::try_from(member)) else {

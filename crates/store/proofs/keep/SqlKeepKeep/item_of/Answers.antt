@@ -1,0 +1,33 @@
+use Rattle.std.proofs.Common.{ap, arith, ◌≡◌, rules, subst, sym, ℕ, Option, true, false}
+use Rattle.std.specs.Prelude.{Err, IfSome}
+use Rattle.sqlite.specs.Held.{state}
+use Rattle.sqlite.specs.State.{HasCleanDisk}
+use Rattle.house_rows.specs.Fits.{IsItem}
+use Rattle.store_rows.specs.Tables.{tables_in}
+use Rattle.store.proofs.Known.{not_told}
+use Rattle.store.proofs.Sound.{number_low}
+use Rattle.store.proofs.keep.SqlKeepKeep.item_of.Goals as goal
+
+pub returns-then-not-is_item_number-clause-damaged : goal.returns-then-not-is_item_number-clause-damaged
+unfolding tables_in
+returns-then-not-is_item_number-clause-damaged g c = rw (← c.self.view_is)
+    (λ honest fits is.
+    let seller : c.in-Ok.seller ≡ c.args.seller = search rules in
+    let stored = rw (← seller) at fits in
+    let no : false ≡ true = c.if-not-is_item_number.ensures.whole (subst (λ (o : Option ℕ). IfSome o IsItem) (sym (c.in-Ok-item_with_lot.ensures.found honest)) stored) in
+    absurd cc)
+
+pub returns-else-not-is_item_number-clause-value : goal.returns-else-not-is_item_number-clause-value
+unfolding tables_in
+returns-else-not-is_item_number-clause-value g c =
+    let seller : c.in-Ok.seller ≡ c.args.seller = search rules in
+    rw (← c.self.view_is, ← seller) (λ honest. c.in-Ok-item_with_lot.ensures.found honest)
+
+pub returns-in-Err-clause-damaged : goal.returns-in-Err-clause-damaged
+unfolding tables_in
+returns-in-Err-clause-damaged g c = rw (← c.self.view_is)
+    (λ honest fits. not_told _ _ _ c.told_fault.ensures.fault c.told_fault.ensures.store (λ is.
+    let clean : HasCleanDisk (state g.S.Store c.item_with_lot.new.conn) = omega (arith, c.told_fault.ensures.crash.clean, honest) in
+    let seller : c.in-Ok.seller ≡ c.args.seller = search rules in
+    let stored = rw (← seller) at fits in
+    c.in-Err.ensures.here clean (number_low _ stored) (ap Err is)))
