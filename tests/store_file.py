@@ -163,10 +163,12 @@ def every_question():
             yield from (f"? ask_count {number} {member}", f"? question {number} {member} 1")
 
 
-def readers(number):
-    """The questions that read the row of an item, by the tables."""
+def readers(number, is_open):
+    """The questions that read the row of an item, by the tables; what is due, where it is open."""
     item = next(row for row in TABLES["item"] if row[0] == number)
-    yield from ("? items", "? due 4294967296", f"? item {number}", f"? state {number}", f"? items_in {item[2]} 0")
+    yield from ("? items", f"? item {number}", f"? state {number}", f"? items_in {item[2]} 0")
+    if is_open:
+        yield "? due 4294967296"
     yield from (f"? sales {item[1]}", f"? waiting {item[1]}", f"? first_waiting {item[1]}")
     yield from (f"? watches {member}" for member, watched in TABLES["watch"] if watched == number)
     yield from {f"? bids {bid[2]} 0" for bid in TABLES["bid"] if bid[0] == number}
@@ -297,7 +299,7 @@ def all_columns(program, whole, folder):
         now = answers(program, str(path), questions)
         told = [each for each in questions if now[each] not in (None, before[each], left_out(before[each], number))]
         wrong = [each for each in told if each != f"? standing {number}"]
-        read = [each for each in readers(number) if now[each] is not None]
+        read = [each for each in readers(number, change.startswith("state = 0")) if now[each] is not None]
         yield f"{change} of item {number}", (wrong, read), ([], [])
 
 
