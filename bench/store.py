@@ -25,7 +25,7 @@ STATEMENTS = {
     "member": ("SELECT id, name FROM member WHERE id = ?1 ORDER BY id", lambda h: (h.member(),)),
     "member of a name": ("SELECT id, name FROM member WHERE name = ?1 ORDER BY id", lambda h: (f"M{h.member()}",)),
     "item": (f"SELECT {ITEM} FROM item WHERE id = ?1 ORDER BY id", lambda h: (h.item(),)),
-    "standing": ("SELECT start, price, leader, top, second, count FROM item WHERE id = ?1 ORDER BY id",
+    "standing": ("SELECT start, price, leader, top, second, count, id FROM item WHERE id = ?1 ORDER BY id",
                  lambda h: (h.item(),)),
     "item of a lot": ("SELECT id FROM item WHERE seller = ?1 AND lot = ?2 ORDER BY id",
                       lambda h: (h.member(), f"L{h.item()}")),

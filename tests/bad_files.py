@@ -96,6 +96,9 @@ NO_HOUSES = [
     ("a later version", changed("UPDATE house SET version = 3"), DAMAGED),
     ("another clock", changed("UPDATE house SET clock = 4102444801"), DAMAGED),
     ("no band", changed("DELETE FROM band"), DAMAGED),
+    ("a reserve of no item", changed("INSERT INTO reserve VALUES (2, 900)"), DAMAGED),
+    ("a reserve below 0", changed("INSERT INTO reserve VALUES (1, -1)"), DAMAGED),
+    ("a reserve over the limit", changed("INSERT INTO reserve VALUES (1, 1000000001)"), DAMAGED),
     ("one table more", changed("CREATE TABLE more (id INTEGER PRIMARY KEY) STRICT"), DAMAGED),
 ]
 

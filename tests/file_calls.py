@@ -20,8 +20,9 @@ from served import SETTINGS, Program, check, exchange, fault, message, served
 COMMANDS = [text for text in house_file.COMMANDS if b'"maximum":400' not in text]
 CLOSE = next(place for place, text in enumerate(COMMANDS) if text.startswith(b"POST /close "))
 COMMANDS[CLOSE:CLOSE] = [
-    message("POST", "/items", 1, 1005, '{"category":1,"end":5000,"lot":"%s","start":500,"text":"","title":"Map"}' % lot)
-    for lot in ("C3", "D4")]
+    message("POST", "/items", 1, 1005,
+            '{"category":1,"end":5000,"lot":"%s","reserve":%s,"start":500,"text":"","title":"Map"}' % row)
+    for row in (("C3", "900"), ("D4", "null"))]
 NEXT = message("POST", "/members", 0, 9000, '{"name":"Zoe"}')
 BANDS = "at,step\n0,5\n100,25\n500,50\n"
 FILES = ("", "-wal")

@@ -2,20 +2,20 @@
 """Sends random streams of messages to the program: `fuzz.py PROGRAM [COUNT [SEED [EVERY]]]`.
 
 A stream has commands and reads of every kind, with callers, moments, bodies, targets and fields that are right or
-broken, and it ends cleanly, by a message that ends the connection, at a broken frame, cut short, or in bytes at
-random. One maximum in four is any from 1 to the limit, near a bound, or equal to another. Each answer has to be well
-formed and the one of tests/plain_site.py; of bytes at random nothing is known but the form, and that memory is ample,
-so that no answer is 503 or 500. Then what one member has sealed is changed, its maximum, a watch or a question that waits, so that the
-stream is a twin for others by the plain site: what these are answered has to stay the same, byte for byte. One stream
-in EVERY, 5 without it and none where it is 0, is sent over TCP too, to a house in a file: it has to be answered the
-same, and the house that is served again has to show every page as the plain site does. The last line is 'N messages,
-M accepted, K wrong'; COUNT messages are sent at least, 5,000 without it.
+broken, and it ends cleanly, by a message that ends the connection, at a broken frame, cut short, or in bytes at random.
+One maximum in four is any from 1 to the limit, near a bound, or equal to another. Each answer has to be well formed and
+the one of tests/plain_site.py; of bytes at random nothing is known but the form, and that memory is ample, so that no
+answer is 503 or 500. Then what one member has sealed is changed, its maximum, a reserve, a watch or a question that
+waits, so that the stream is a twin for others by the plain site: what these are answered has to stay the same, byte for
+byte. One stream in EVERY, 5 without it and none where it is 0, is sent over TCP too, to a house in a file: it has to be
+answered the same, and the house that is served again has to show every page as the plain site does. The last line is 'N
+messages, M accepted, K wrong'; COUNT messages are sent at least, 5,000 without it.
 
-Seed 2026, on the proved program: 5,106 messages, of which 1,933 were accepted; every refusal was told; 32 pairs of twin
-runs, with 2,951 answers compared. None was wrong. A stand-in for the program that told another price, a key by another
-name, another phrase, no `connection: close`, another clock in the record, or a floor over the leader's maximum to who
-bid too low, was found wrong each time, the last by twin runs alone too. plain_site.py gives the answers of 418 of the
-conformance cases too; the others have another band table or zone, or what is no head.
+Seed 2026, on the proved program before reserves: 5,106 messages, of which 1,933 were accepted; every refusal was told;
+32 pairs of twin runs, with 2,951 answers compared. None was wrong. A stand-in for the program that told another price,
+a key by another name, another phrase, no `connection: close`, another clock in the record, or a floor over the leader's
+maximum to who bid too low, was found wrong each time, the last by twin runs alone too. plain_cases.py holds the plain
+site to the conformance cases.
 """
 import collections
 import dataclasses
@@ -96,6 +96,8 @@ class Sender:
         members = dict(zip(FIELDS.get(name, {}), words))
         if members.get("buy_now", 0) is None and self.rarely(50):
             del members["buy_now"]
+        if name == "list" and "reserve" not in members and self.rarely(20):
+            members["reserve"] = None
         if name not in FIELDS:
             return self.one_of([b"", b"", b"not json", b"{}", b"\0\xff"])
         pairs = list(members.items())
@@ -295,7 +297,7 @@ def sealed_changes(first, chance):
     """Accepted messages with what else a member could have sealed in their place, one kind of them first."""
     parts = {at: first.requests[at].target.split("/")[-1] for at, answer in enumerate(first.answers)
              if answer.status in (200, 201) and first.requests[at].method == "POST"}
-    places, kind = list(parts), chance.choice(["bids", "bids", "questions", "watch"])
+    places, kind = list(parts), chance.choice(["bids", "bids", "questions", "watch", "items"])
     maxima = {at: json.loads(first.requests[at].body)["maximum"] for at in places if parts[at] == "bids"}
     chance.shuffle(places)
     for at in sorted(places, key=lambda at: parts[at] != kind):
@@ -303,6 +305,8 @@ def sealed_changes(first, chance):
         if part == "bids":
             near = max(0, maxima[at] + chance.choice([-1, 1, 7, 500, 100_000]))
             body = compact({"maximum": chance.choice([near, any_maximum(chance, list(maxima.values()))])})
+        elif part == "items" and json.loads(request.body).get("reserve") is not None:
+            body = other_reserve(chance, json.loads(request.body))
         elif part == "questions":
             body = compact({"text": f"Is it {chance.randrange(1_000)} years old?"})
         elif part in ("watch", "unwatch"):
@@ -313,6 +317,14 @@ def sealed_changes(first, chance):
             continue
         request = request.without("content-length")
         yield at, dataclasses.replace(request, fields=request.fields + lengthened(body), body=body)
+
+
+def other_reserve(chance, listing):
+    """A listing with another reserve: one near it, or any."""
+    start, most = listing["start"], listing.get("buy_now") or MOST_CENTS
+    near = listing["reserve"] + chance.choice([-100, -1, 1, 7, 500])
+    reserve = chance.choice([near, chance.randint(start, most), most, int(start * chance.uniform(1, 3)) + 1])
+    return compact({**listing, "reserve": max(start + 1, min(most, reserve))})
 
 
 def twins(first, second, changer):
@@ -332,7 +344,7 @@ def sights(site):
     pages += [f"/items/{item.number}/questions/1" for item in house.rows]
     for number in range(1, len(house.names) + 1):
         pages += [f"/members/{number}", f"/members/{number}/feedback/1"]
-        for page in ("bids/1", "watches", "questions/1", "waiting", "statement/1970-01-01/2100-12-31"):
+        for page in ("bids/1", "reserves/1", "watches", "questions/1", "waiting", "statement/1970-01-01/2100-12-31"):
             yield read(f"/me/{page}", number)
     yield from (read(page, 0) for page in pages)
 

@@ -52,7 +52,7 @@ PAGES = {"house": "house(alloc, keep)", "bands": "bands(alloc, keep)", "categori
          "items": "items_in(alloc, keep, category, from)", "item": "item(keep, number)",
          "published": "published(keep, item, from)", "member": "member(keep, number)",
          "ratings": "feedback_to(keep, member, from)", "bids": "bids(keep, caller, from)",
-         "watches": "watches(alloc, keep, caller)", "questions": "=> questions(keep, caller, from)",
+         "reserves": "=> reserves(keep, caller, from)", "watches": "watches(alloc, keep, caller)", "questions": "=> questions(keep, caller, from)",
          "waiting": "waiting(keep, caller)", "account": "statement(keep, caller, from, to)"}
 
 
@@ -64,7 +64,7 @@ BODIES = [
     Body("everything-503", ENGINE, ACT, MEMORY, STREAMS),
     Body("everything-500", ENGINE, ACT, STORE, STREAMS),
     Body("record", ENGINE, RECORD, f"{RECORD}\n        if !text.is_empty() {{\n            return {MEMORY};\n        }}", STREAMS),
-    Body("look-up", KEEP, "told!(self, item_at(&mut self.conn, &self.editions, item))", STORE, RUNS),
+    Body("look-up", KEEP, "told!(self, item_at(&mut self.conn, &self.rules, item))", STORE, RUNS),
     Body("statement", ACCOUNT, "Ok(statement) => Ok(statement),", "Ok(_) => Err(StatementFault::Memory),", OFFICE),
     Body("import", IMPORTS, "Ok(lot) => list(room, site, by, &lot, number, output),", "Ok(_) => Err(ImportFault::Memory),",
          OFFICE),

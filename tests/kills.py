@@ -3,9 +3,9 @@
 
 A client sends commands one after the other, each of which makes one row, and counts those that were answered. The
 server is killed by SIGKILL, and the house's file with its log has to be sound for SQLite, and to hold what the
-commands that were answered make, or one command more: the rows of a house that took as many and was never killed. Then
-the same file is served again. This shows a killed process, not a power cut: what was written is there though nobody
-had synced it.
+commands that were answered make, each item with its reserve, or one command more: the rows of a house that took as
+many and was never killed. Then the same file is served again. This shows a killed process, not a power cut: what was
+written is there though nobody had synced it.
 
 As many upgrades of each house of version 1 that is kept are killed within the time that one takes. Each leaves the
 house as it was, or upgraded, and it is then upgraded, or of version 2. A line tells how many left which. The last line
@@ -43,8 +43,8 @@ def commands():
     for number in itertools.count(2):
         item = number - 1
         yield command("/members", 0, 1000, compact({"name": f"member {number}"}))
-        yield command("/items", number, 1000, compact({"category": 1, "end": 5000, "lot": f"A{item}", "start": 500,
-                                                       "text": "", "title": "Atlas"}))
+        yield command("/items", number, 1000, compact({"category": 1, "end": 5000, "lot": f"A{item}", "reserve": 700,
+                                                       "start": 500, "text": "", "title": "Atlas"}))
         for maximum in (500, 900):
             yield command(f"/items/{item}/bids", item, 1000, compact({"maximum": maximum}))
         yield command(f"/items/{item}/watch", item, 1000)

@@ -1,10 +1,10 @@
 #!/usr/bin/env python3
 """Compares lists of 0, 1, 50, 51 and 120 rows with plain lists: `long_lists.py PROGRAM [WORD]`.
 
-The program is that of the crate `store_tests`, with `memory` for a house in memory and no word for one in SQLite. Of each length there are a category, a member's bids, watches,
-questions, sales and feedback, the questions on one item, and those that wait for a seller, on one item or on as
-many. Each list is asked for from several of its rows on; each answer has to be that of tests/plain_house.py. The
-last line is 'N of N answers, M wrong'.
+The program is that of the crate `store_tests`, with `memory` for a house in memory and no word for one in SQLite. Of
+each length there are a category, a member's bids, watches, questions, sales, reserves and feedback, the questions on
+one item, and those that wait for a seller, on one item or on as many. Each list is asked for from several of its rows
+on; each answer has to be that of tests/plain_house.py. The last line is 'N of N answers, M wrong'.
 """
 import sys
 
@@ -43,10 +43,10 @@ class Script:
         for least in (0, *points):
             self.ask(name, number, least)
 
-    def listed(self, seller, category):
+    def listed(self, seller, category, *reserve):
         """The number of a new item."""
         number = len(self.house.rows) + 1
-        self.order(seller, "list", category, f"L-{number}", "Title", "", 500, 900, END)
+        self.order(seller, "list", category, f"L-{number}", "Title", "", 500, 900, END, *reserve)
         return number
 
 
@@ -62,7 +62,7 @@ def make(script, place, length):
         asker = ASKERS[nth // 20]
         script.order(asker, "ask", items[0], "How big?")
         script.order(SELLER, "answer", items[0], asker, nth % 20 + 1, "So big.")
-    sold = [script.listed(member + 1, SOLD) for _ in range(length)]
+    sold = [script.listed(member + 1, SOLD, 700 + nth) for nth in range(length)]
     for item in sold:
         script.order(BUYER, "ask", item, "How new?")
         script.order(BUYER, "buy", item)
@@ -80,6 +80,7 @@ def question(script, place, items, sold):
     script.ask_from("bids", member, items)
     script.ask_from("questions", member, items)
     script.ask_from("feedback", member + 1, sold)
+    script.ask_from("reserves", member + 1, sold)
     script.ask_from("published", items[0] if items else 0, ASKERS)
     for name in ("watches", "watch_count"):
         script.ask(name, member)

@@ -166,7 +166,7 @@ def import_faults(program, folder):
     check("no lots", program.ended("import", "house", "missing.csv", *BY_ANA), fault("input: Read"))
     check("a folder of lots", program.ended("import", "house", ".", *BY_ANA), fault("input: Read"))
     for number, text in enumerate(["", "A1,1,Atlas,,5.00,,5000\n", HEAD.replace("end", "ends"),
-                                   HEAD.replace(",end", ""), HEAD.upper()]):
+                                   HEAD.replace(",end", ""), HEAD.replace("end", "end,reserve"), HEAD.upper()]):
         check(f"no head {number}", program.ended("import", "house", written(folder, "head.csv", text), *BY_ANA),
               fault("lots: Head"))
     before = rows(folder, "house")
@@ -264,11 +264,21 @@ def run(third, behind=()):
                      message("POST", "/items/1/bids", 3, 1002, '{"maximum":%d}' % third), READ_ITEM, *behind])
 
 
+def sealed(reserve, maximum=700, behind=()):
+    """A run in which an item has a reserve, and one member bids on it and looks at it."""
+    listing = '{"category":1,"end":6000,"lot":"B2","reserve":%d,"start":500,"text":"","title":"Globe"}' % reserve
+    return b"".join([*PRESET, message("POST", "/items", 1, 1000, listing),
+                     message("POST", "/items/2/bids", 2, 1001, '{"maximum":%d}' % maximum),
+                     message("GET", "/items/2", 2), *behind])
+
+
 def audits(program, folder):
     """Runs that look alike to a member or don't."""
     files = {"left": run(3000), "right": run(8000), "near": run(1040), "mid": run(1500),
              "long": run(3000, [READ_ITEM]), "empty": b"", "named": b"".join(PRESET[:2]),
-             "broken": run(3000) + b"GET", "other": run(3000, [b"G\r\n\r\n"])}
+             "broken": run(3000) + b"GET", "other": run(3000, [b"G\r\n\r\n"]),
+             "sealed": sealed(900), "higher": sealed(2000), "met": sealed(600),
+             "raised": sealed(900, 900, [message("GET", "/items/2", 3)])}
     for name, data in files.items():
         written(folder, name, data)
 
@@ -279,6 +289,9 @@ def audits(program, folder):
     check("another price", audit("left", "near"), printed(b"apart at step 7\n", 1))
     check("for who bid", audit("left", "right", "3"), printed(b"apart at step 7\n", 1))
     check("for another", audit("left", "right", "1"), printed(b"equal, 1 replies\n"))
+    check("another reserve", audit("sealed", "higher"), printed(b"equal, 2 replies\n"))
+    check("a reserve that is met", audit("sealed", "met"), printed(b"apart at step 7\n", 1))
+    check("another reserve, for its seller", audit("sealed", "higher", "1"), printed(b"apart at step 6\n", 1))
     # What waits for a seller's answer is the seller's to see.
     for name, text in (("asked", "Old?"), ("asked-so", "New?")):
         written(folder, name, b"".join([*PRESET, message("POST", "/items/1/questions", 2, 1001, '{"text":"%s"}' % text)]))
@@ -340,6 +353,9 @@ def surpluses(program, folder):
     check("of what is no bid", surplus("left", 8, 8000), none)
     check("of no message", surplus("left", 9, 8000), none)
     check("of no message at all", surplus("empty", 1, 8000), none)
+    check("under the reserve", surplus("sealed", 7, 800, "3"), none)
+    check("under the reserve, and raised over it", surplus("sealed", 7, 8000, "3"), none)
+    check("at the reserve", surplus("raised", 7, 8000, "3"), printed(b"same, 1 replies\n"))
     # A step over 1000 is 1050 by the example table, and 2000 by the wide one.
     check("too near the second", surplus("near", 7, 8000), none)
     check("by narrow bands", surplus("mid", 7, 8000), printed(b"same, 2 replies\n"))

@@ -33,6 +33,7 @@ class Item:
     start: int
     buy_now: int | None
     end: int
+    reserve: int | None = None
     state: str = "open"
     closed: int | None = None
     buyer: int | None = None
@@ -124,6 +125,8 @@ class House:
         leader = next(bid.member for bid in bids if bid.maximum == top)
         second = max((bid.maximum for bid in bids if bid.member != leader), default=None)
         price = item.start if second is None else max(item.start, min(top, over(second, self.bands)))
+        if item.reserve is not None and top >= item.reserve:
+            price = max(price, item.reserve)
         return Standing(price, leader, top, second, len(bids), over(price, self.bands))
 
     def leader(self, item):
@@ -131,6 +134,16 @@ class House:
 
     def price(self, item):
         return self.stands(item).price if item.buyer is None else item.buy_now
+
+    def met(self, item):
+        """Whether an item's reserve is met, or none where it has no reserve."""
+        if item.reserve is None:
+            return None
+        return item.buyer is not None or (self.stands(item).top or 0) >= item.reserve
+
+    def sells(self, item):
+        """Whether an item that is taken now is sold."""
+        return self.leader(item) is not None and self.met(item) is not False
 
     def maxima(self, item, member):
         return [bid.maximum for bid in self.placed if (bid.item, bid.member) == (item, member)]
@@ -187,16 +200,17 @@ class House:
         refuse(len(self.kinds) >= 1_000, "Limit")
         self.kinds.append(name)
 
-    def order_list(self, moment, caller, category, lot, title, text, start, buy_now, end):
+    def order_list(self, moment, caller, category, lot, title, text, start, buy_now, end, reserve=None):
         refuse(not is_lot(lot), "Range")
         refuse(any(item.seller == caller and item.lot == lot for item in self.rows), "LotExists")
         refuse(not (fits(1, 80, title) and fits(0, 2000, text) and 1 <= start <= MOST_CENTS
                     and (buy_now is None or start <= buy_now <= MOST_CENTS)
-                    and moment < end <= LAST_MOMENT), "Range")
+                    and moment < end <= LAST_MOMENT
+                    and (reserve is None or start < reserve <= (MOST_CENTS if buy_now is None else buy_now))), "Range")
         refuse(not 1 <= category <= len(self.kinds), "Unknown")
         refuse(len(self.rows) >= 1_000_000, "Limit")
         self.rows.append(Item(len(self.rows) + 1, caller, category, lot, title, text, start,
-                              buy_now, end))
+                              buy_now, end, reserve))
 
     def order_bid(self, moment, caller, number, maximum):
         item = self.open_to(moment, caller, number)
@@ -216,7 +230,7 @@ class House:
 
     def order_close(self, moment, caller):
         for item in self.due_items(moment):
-            item.state = "unsold" if self.leader(item) is None else "sold"
+            item.state = "sold" if self.sells(item) else "unsold"
             item.closed = item.end
 
     def order_settle(self, moment, caller, number):
@@ -312,7 +326,8 @@ class House:
         item = self.found(number)
         return "-" if item is None else (
             f"{item.state}, price {self.price(item)}, leader {dash(self.leader(item))}, "
-            f"count {len(self.placed_on(item))}, closed {dash(item.closed)}")
+            f"count {len(self.placed_on(item))}, closed {dash(item.closed)}"
+            f"{'' if item.reserve is None else f', met {self.met(item)}'.lower()}")
 
     def standing(self, number):
         item = self.found(number)
@@ -321,6 +336,18 @@ class House:
         s = self.stands(item)
         return (f"price {s.price}, leader {dash(s.leader)}, top {dash(s.top)}, "
                 f"second {dash(s.second)}, count {s.count}, floor {s.floor}")
+
+    def reserve(self, number):
+        item = self.found(number)
+        return dash(item and item.reserve)
+
+    def reserves(self, member, least):
+        return line([f"item {item.number}, reserve {item.reserve}, met {self.met(item)}".lower()
+                     for item in self.own_reserves(member, least)])
+
+    def own_reserves(self, member, least):
+        return [item for item in self.rows
+                if item.seller == member and item.number >= least and item.reserve is not None][:50]
 
     def own(self, number, member):
         maxima = self.maxima(number, member)
@@ -389,9 +416,8 @@ class House:
         return line([feedback_line(f) for f in self.sorted_feedback()])
 
     def due(self, moment):
-        leaders = [self.leader(item) for item in self.due_items(moment)]
-        unsold = leaders.count(None)
-        return f"sold {len(leaders) - unsold}, unsold {unsold}"
+        sells = [self.sells(item) for item in self.due_items(moment)]
+        return f"sold {sells.count(True)}, unsold {sells.count(False)}"
 
     def sales(self, member):
         return line([f"item {item.number}, seller {item.seller}, buyer {self.leader(item)}, "

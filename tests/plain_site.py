@@ -32,11 +32,11 @@ COMMANDS = {"register": "/members", "add_category": "/categories", "list": "/ite
 READS = {"house": "/house", "bands": "/bands", "categories": "/categories",
          "items_in": "/categories/C/items/F", "item": "/items/I", "published": "/items/I/questions/F",
          "member": "/members/M", "given": "/members/M/feedback/F", "own_bids": "/me/bids/F",
-         "watches": "/me/watches", "own_questions": "/me/questions/F", "waiting": "/me/waiting",
-         "statement": "/me/statement/FROM/TO"}
+         "own_reserves": "/me/reserves/F", "watches": "/me/watches", "own_questions": "/me/questions/F",
+         "waiting": "/me/waiting", "statement": "/me/statement/FROM/TO"}
 FIELDS = {"register": {"name": "text"}, "add_category": {"name": "text"},
           "list": {"category": "number", "lot": "text", "title": "text", "text": "text", "start": "number",
-                   "buy_now": "maybe", "end": "number"},
+                   "buy_now": "maybe", "end": "number", "reserve": "maybe"},
           "bid": {"maximum": "number"}, "ask": {"text": "text"}, "answer": {"text": "text"},
           "feedback": {"rating": "integer", "text": "text"}}
 SHORT = re.compile(r"0|[1-9][0-9]{0,9}", re.ASCII)
@@ -228,13 +228,13 @@ class Site:
     # Commands.
 
     def ordered(self, moment, caller, name, words):
-        leaders = [self.house.leader(item) for item in self.house.due_items(moment)]
+        sells = [self.house.sells(item) for item in self.house.due_items(moment)]
         answer = self.house.order(moment, caller, name, *words)
         if answer != "ok":
             return refused(answer)
         self.accepted[name] += 1
         if name == "close":
-            return 200, {"sold": len(leaders) - leaders.count(None), "unsold": leaders.count(None)}
+            return 200, {"sold": sells.count(True), "unsold": sells.count(False)}
         status = 200 if name in ("settle", "watch", "unwatch") else 201
         return status, getattr(self, f"told_{name}")(caller, *words)
 
@@ -335,6 +335,10 @@ class Site:
                              "mine": len(maxima), "price": house.price(item), "state": item.state})
         return {"bids": rows[:LISTED]}
 
+    def page_own_reserves(self, caller, least):
+        return {"reserves": [{"item": item.number, "met": self.house.met(item), "reserve": item.reserve}
+                             for item in self.house.own_reserves(caller, least)]}
+
     def page_watches(self, caller):
         return {"items": [self.shown(item) for item in self.house.rows
                           if (caller, item.number) in self.house.watching]}
@@ -366,9 +370,9 @@ class Site:
         floor = self.house.stands(item).floor if item.state == "open" else None
         return {"buy_now": item.buy_now, "category": item.category, "closed": item.closed,
                 "count": len(self.house.placed_on(item)), "end": item.end, "floor": floor, "item": item.number,
-                "leader": self.house.leader(item), "lot": item.lot, "price": self.house.price(item),
-                "seller": item.seller, "start": item.start, "state": item.state, "text": item.text,
-                "title": item.title}
+                "leader": self.house.leader(item), "lot": item.lot, "met": self.house.met(item),
+                "price": self.house.price(item), "seller": item.seller, "start": item.start, "state": item.state,
+                "text": item.text, "title": item.title}
 
     def line(self, member, item):
         """A member's line of a sale, with the day's number, or none."""
@@ -377,9 +381,13 @@ class Site:
             return None
         sells = member == item.seller
         fee = price * self.rate // 10_000 if sells else 0
-        return {"day": (item.closed + AHEAD[self.zone]) // SECONDS_OF_DAY, "fee": fee, "item": item.number,
+        return {"day": self.day(item.closed), "fee": fee, "item": item.number,
                 "net": price - fee, "other": buyer if sells else item.seller, "price": price,
                 "role": "sell" if sells else "buy"}
+
+    def day(self, moment):
+        """The number of a moment's day in the house's zone."""
+        return (moment + AHEAD[self.zone]) // SECONDS_OF_DAY
 
     def waiting(self, member):
         return [q for q in self.house.sorted_questions()

@@ -3,14 +3,14 @@
 
 A raise is a place in a list, a maximum for the bid there, and another member. It is covered where the bid there was
 accepted, is the last accepted one of its bidder on its item, and in the end has the lead, with a step over the second
-maximum, if there is one, at or below its own; where the new maximum is greater, and at most the limit; and where the
-other isn't the bidder. All of this is found by the plain site of tests/plain_site.py alone. Where it holds, the list
-with that bid raised has to be a twin of the list for the other, by the plain site; `surplus` has to print `same, N
-replies`; and two replays have to give the other N replies which are the same, byte for byte, in answers which are those
-of the plain site, so that none is 503 or 500. Where it doesn't, `surplus` has to print `not covered`. Numbers that no
-words of the program's may have are refused. COUNT raises are tried, 1,000 without it, each in a list of its own, by two
-tables of bands; nine in twenty are chosen to be covered, the others miss one condition each or are any. New maxima are
-near the old, anywhere up to the limit, or at it. The last line is 'N covered, M not, K wrong'.
+maximum and the reserve, where there are such, at or below its own; where the new maximum is greater, and at most the
+limit; and where the other isn't the bidder. All of this is found by the plain site of tests/plain_site.py alone. Where
+it holds, the list with that bid raised has to be a twin of the list for the other, by the plain site; `surplus` has to
+print `same, N replies`; and two replays have to give the other N replies which are the same, byte for byte, in answers
+which are those of the plain site, so that none is 503 or 500. Where it doesn't, `surplus` has to print `not covered`.
+Numbers that no words of the program's may have are refused. COUNT raises are tried, 1,000 without it, each in a list of
+its own, by two tables of bands; nine in twenty-one are chosen to be covered, the others miss one condition each or are
+any. New maxima are near the old, anywhere up to the limit, or at it. The last line is 'N covered, M not, K wrong'.
 """
 import collections
 import dataclasses
@@ -75,6 +75,16 @@ def is_over_second(run, bid):
     return most is None or over(most, run.site.house.bands) <= bid.maximum
 
 
+def reserve(run, bid):
+    """The reserve of a bid's item, or none."""
+    return run.site.house.found(bid.item).reserve
+
+
+def is_over_reserve(run, bid):
+    """Whether a bid's maximum is at least the reserve, if there is one."""
+    return reserve(run, bid) is None or reserve(run, bid) <= bid.maximum
+
+
 def leads(run, bid):
     house = run.site.house
     return house.leader(house.found(bid.item)) == bid.member
@@ -83,7 +93,7 @@ def leads(run, bid):
 def covered_bid(run, raising):
     """The bid that is raised where this is covered, or none."""
     bid = next((bid for bid in last_bids(run) if bid.place == raising.place), None)
-    is_covered = bid is not None and leads(run, bid) and is_over_second(run, bid) \
+    is_covered = bid is not None and leads(run, bid) and is_over_second(run, bid) and is_over_reserve(run, bid) \
         and bid.maximum < raising.maximum <= MOST_CENTS and raising.other != bid.member
     return bid if is_covered else None
 
@@ -99,15 +109,15 @@ class Raises(Lists):
 
     def __init__(self, program, folder, seed):
         super().__init__(program, folder, seed)
-        # How many were covered, of these how many with a second maximum, and how many for nobody's number.
-        self.covered = self.with_second = self.strangers = self.replies = 0
+        # How many were covered, of these how many with a second maximum, with a reserve, and for nobody's number.
+        self.covered = self.with_second = self.with_reserve = self.strangers = self.replies = 0
         self.kinds = collections.Counter()
 
     def kind(self, number):
         """Of which kind the raise of a number is."""
-        others = [self.no_bid, self.refused, self.earlier, self.behind, self.within_a_step, self.past_the_end,
-                  self.not_greater, self.over_the_limit, self.of_the_bidder, self.for_the_house, self.any]
-        return ([self.good] * 9 + others)[number % 20]
+        others = [self.no_bid, self.refused, self.earlier, self.behind, self.within_a_step, self.under_the_reserve,
+                  self.past_the_end, self.not_greater, self.over_the_limit, self.of_the_bidder, self.for_the_house, self.any]
+        return ([self.good] * 9 + others)[number % 21]
 
     def one(self, number):
         """Tries one raise of a random list that has one of its kind."""
@@ -145,6 +155,7 @@ class Raises(Lists):
         count = len(self.places(run, raising))
         self.covered += 1
         self.with_second += second(run, bid) is not None
+        self.with_reserve += reserve(run, bid) is not None
         self.strangers += raising.other > len(run.site.house.names)
         self.replies += count
         self.judge(settings, run, raising, (0, b"same, %d replies\n" % count, b""))
@@ -195,7 +206,8 @@ class Raises(Lists):
 
     def coverable(self, run):
         """The bids of which some raise is covered, mostly those with a second maximum, if there are some."""
-        bids = [bid for bid in last_bids(run) if leads(run, bid) and is_over_second(run, bid)]
+        bids = [bid for bid in last_bids(run)
+                if leads(run, bid) and is_over_second(run, bid) and is_over_reserve(run, bid)]
         contested = [bid for bid in bids if second(run, bid) is not None]
         return contested if contested and self.random.random() < 0.7 else bids
 
@@ -223,6 +235,9 @@ class Raises(Lists):
 
     def within_a_step(self, run):
         return self.of([bid for bid in last_bids(run) if leads(run, bid) and not is_over_second(run, bid)], run)
+
+    def under_the_reserve(self, run):
+        return self.of([bid for bid in last_bids(run) if leads(run, bid) and not is_over_reserve(run, bid)], run)
 
     def past_the_end(self, run):
         raising = self.good(run)
@@ -278,7 +293,8 @@ def main():
         for number in range(count):
             raises.one(number)
     print("raises:", ", ".join(f"{kind} {count}" for kind, count in sorted(raises.kinds.items())))
-    print(f"covered with a second maximum: {raises.with_second}; for nobody's number: {raises.strangers};",
+    print(f"covered with a second maximum: {raises.with_second}; with a reserve: {raises.with_reserve};",
+          f"for nobody's number: {raises.strangers};",
           f"with {raises.replies} replies")
     print(f"{raises.covered} covered, {count - raises.covered} not, {raises.wrong} wrong")
     return 1 if raises.wrong else 0

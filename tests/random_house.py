@@ -99,7 +99,15 @@ class Chance:
         end = self.house.now + self.random.choice([0, 1, 30, 100, 300, 3_000])
         text = "" if self.rarely(50) else self.text(2_000)
         return self.member(), self.category(), self.lot(), self.text(80), text, start, \
-            None if buy_now is None else max(0, buy_now), end
+            None if buy_now is None else max(0, buy_now), end, *self.reserve(start, buy_now)
+
+    def reserve(self, start, buy_now):
+        """The reserve of a listing, where it has one; now and then one that is out of its range."""
+        if self.rarely(60):
+            return []
+        if self.rarely(5):
+            return [max(0, self.random.choice([start, start - 1, (buy_now or 1_000_000_000) + 1]))]
+        return [self.random.randint(start + 1, max(start + 1, start + 2_000 if buy_now is None else buy_now))]
 
     def bid(self):
         number = self.item_of([i for i in self.house.rows if i.state == "open"])
@@ -107,6 +115,8 @@ class Chance:
         floor = 500 if item is None else self.house.stands(item).floor
         own = max(self.house.maxima(number, caller), default=floor)
         near = [floor, floor - 1, own, own + 1, floor + self.random.randint(0, 1_000), floor + 5_000]
+        if item is not None and item.reserve is not None:
+            near += [item.reserve, item.reserve - 1]
         far = [0, 1_000_000_000, 1_000_000_001]
         return caller, number, max(0, self.random.choice(far if self.rarely(2) else near))
 
@@ -165,6 +175,7 @@ class Chance:
             ("item", item()), ("item_of", member(), self.lot()), *lots, ("items",),
             ("items_in", category(), 0), ("items_in", category(), item()),
             ("state", item()), ("standing", item()), ("own", item(), member()),
+            ("reserve", item()), ("reserves", member(), 0), ("reserves", member(), item()),
             ("bids", member(), 0), ("bids", member(), item()),
             ("watched", member(), item()), ("watches", member()), ("watch_count", member()),
             ("question", item(), member(), self.random.randint(0, 3)), *named,

@@ -21,7 +21,7 @@ body {"name":"Ana","of":{"age":[1,2]}}
 body {"name":7}
 send POST /items
 head \r\nx-member: 1\r\nx-moment: 1000
-body {"category":1,"end":5000,"lot":"A1","start":500,"text":"Good.","title":"Atlas","buy_now":2000}
+body {"category":1,"end":5000,"lot":"A1","start":500,"text":"Good.","title":"Atlas","buy_now":2000,"reserve":900}
 send POST /items/1/bids
 body {"maximum":500}
 body { "maximum":500}

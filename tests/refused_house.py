@@ -19,8 +19,8 @@ record
 1000 0 register Cid
 1000 0 add_category Books
 1000 1 list 1 A1 Atlas An_atlas_of_1952 500 - 5000
-1000 1 list 1 B2 Globe - 500 900 6000
-1000 1 list 1 C3 Chart - 500 - 5000
+1000 1 list 1 B2 Globe - 500 900 6000 800
+1000 1 list 1 C3 Chart - 500 - 5000 700
 1001 2 bid 1 500
 1001 3 bid 1 1000
 1001 3 bid 3 400
@@ -50,6 +50,8 @@ fill
 ? items_in 1 0
 ? state 1
 ? standing 1
+? reserve 2
+? reserves 1 0
 ? own 1 3
 ? bids 3 0
 ? watched 2 1

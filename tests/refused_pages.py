@@ -17,7 +17,7 @@ house UTC0
 post 0 1000 /members {"name":"Ana"}
 post 0 1000 /members {"name":"\\"Ben\\""}
 post 0 1000 /categories {"name":"Books"}
-each 2 1 1000 /items {"category":1,"end":5000,"lot":"A#","start":500,"text":"An atlas of 1952","title":"Atlas"}
+each 2 1 1000 /items {"category":1,"end":5000,"lot":"A#","reserve":60#,"start":500,"text":"An atlas","title":"Atlas"}
 each 2 2 1001 /items/#/bids {"maximum":700}
 post 2 1001 /items/1/watch
 each 2 2 1001 /items/1/questions {"text":"Is it \\"#\\" years old?"}
@@ -34,6 +34,7 @@ get 0 /items/1/questions/1
 get 0 /members/2
 get 0 /members/1/feedback/1
 get 2 /me/bids/1
+get 1 /me/reserves/1
 get 2 /me/watches
 get 2 /me/questions/1
 get 1 /me/statement/1970-01-01/1970-01-01

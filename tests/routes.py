@@ -1,6 +1,7 @@
 """A list of messages with every command accepted, every page read and every refusal and fault told.
 
-They are for the house that `--preset` stands for: Ana, who sells item 1, Ben and Cid.
+They are for the house that `--preset` stands for: Ana, who sells item 1, Ben and Cid. No command of `commands` has a
+reserve: these are in `sealed`, which a house of version 1 doesn't take.
 """
 import dataclasses
 
@@ -83,6 +84,19 @@ def commands():
     yield rated(2, 3, 5001, 2)
 
 
+def sealed():
+    """Reserves, in the house that `commands` leaves: of item 6 without a bid, of item 7 with one under it, of item 8 with
+    one over it, and of item 9, which is bought; and one that is refused."""
+    yield listed(1, 5001, "R6", 7000, reserve=900)
+    yield listed(1, 5001, "R7", 7000, reserve=900)
+    yield listed(1, 5001, "R8", 7000, reserve=900)
+    yield listed(1, 5001, "R9", 7000, reserve=900, buy_now=2000)
+    yield listed(1, 5001, "R10", 7000, reserve=500)
+    yield bid(7, 3, 5001, 700)
+    yield bid(8, 3, 5001, 1000)
+    yield command("/items/9/purchase", 3, 5001)
+
+
 def reads():
     """Each page: by a member who has what it shows, by the house, and of what isn't there."""
     numbers = {"I": 1, "C": 1, "M": 1, "F": 1, "A": 1, "FROM": "1970-01-01", "TO": "1970-01-01"}
@@ -110,6 +124,7 @@ def malformed():
                  b"{}"):
         yield command("/items/1/bids", 2, 5001, body)
     yield command("/items/1/feedback", 2, 5001, b'{"rating":1,"text":5}')
+    yield listed(1, 5001, "R10", 7000, reserve="900")
     yield read("/me/statement/1970-01-01/1970-02-30", 2)
     yield read("/me/statement/1970-01-02/1970-01-01", 2)
 
@@ -120,7 +135,7 @@ def messages():
     place = next(at for at, request in enumerate(first) if request.target.endswith("/answer"))
     waiting = [read("/me/waiting", 1), read("/me/questions/1", 3), read("/items/1", 3), read("/me/bids/1", 3)]
     last = dataclasses.replace(read("/house", 0), version="HTTP/1.0")
-    return [*first[:place], *waiting, *first[place:], *reads(), *malformed(), last]
+    return [*first[:place], *waiting, *first[place:], *sealed(), *reads(), *malformed(), last]
 
 
 def lacking():

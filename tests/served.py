@@ -6,8 +6,9 @@ ended and served again between them; and each fault of `init` and `serve` has it
 CASES is a folder of stored cases of `replay`, as `make cases` runs them: a house that is set up by the words
 of a case has to be answered what the case was. The last line is 'N checks, M wrong'.
 
-Nineteen messages come in one, three and nineteen connections, and then the house is ended and served again for each,
-with a connection that is reset before it and one that goes on after what is no message. Outputs of both are full, and
+Twenty messages come in one, three and twenty connections, and then the house is ended and served again for each, with
+a connection that is reset before it and one that goes on after what is no message. So are houses that have the worked
+rows of reserves, in tests/worked.py. Outputs of both are full, and
 one is closed after its first line. Of 10,001 messages of one connection 10,000 are answered. While the last connection is
 served, another is refused.
 
@@ -26,6 +27,7 @@ import sys
 import tempfile
 import threading
 
+import worked
 from sent import PATIENCE
 
 SETTINGS = ["--rate", "2000", "--zone", "CET-1"]
@@ -52,7 +54,7 @@ MESSAGES = [
     message("POST", "/items/1/questions/2/1/answer", 1, 1003, '{"text":"No"}'),
     message("POST", "/items/1/bids", 2, 1004, '{"maximum":400}'),
     message("POST", "/items", 1, 1004,
-            '{"buy_now":900,"category":1,"end":5000,"lot":"B2","start":500,"text":"","title":"Globe"}'),
+            '{"buy_now":900,"category":1,"end":5000,"lot":"B2","reserve":700,"start":500,"text":"","title":"Globe"}'),
     message("POST", "/items/2/watch", 2, 1004),
     message("POST", "/items/2/purchase", 2, 1005),
     message("POST", "/items/2/unwatch", 2, 1005),
@@ -61,11 +63,12 @@ MESSAGES = [
     message("POST", "/items/1/feedback", 2, 5002, '{"rating":1,"text":"Good"}'),
     message("GET", "/items/1", 2),
     message("GET", "/me/bids/1", 2),
+    message("GET", "/me/reserves/1", 1),
     message("GET", "/me/statement/1970-01-01/1970-01-01", 1),
 ]
 
 # Those that read.
-READS = MESSAGES[-3:]
+READS = MESSAGES[-4:]
 
 # The example table, and the messages that `--preset` stands for.
 EXAMPLE = [(0, 5), (100, 25), (500, 50), (2500, 100), (10000, 250), (25000, 500), (50000, 1000), (100000, 2500),
@@ -207,6 +210,16 @@ def compare(program, init):
     check("broken ended", ending, served(2))
 
 
+def reserves_again(program):
+    """The worked rows of reserves, on houses that are ended and served again for each message."""
+    for number, case in enumerate(worked.reserves()):
+        init = ["--bands", "example.csv", "--rate", "1000", "--zone", case.zone]
+        check(f"{case.name}, made", program.ended("init", f"reserves-{number}", *init), (0, b"created\n", b""))
+        for request, answer in worked.steps(case)[1]:
+            told, ending = program.answers(f"reserves-{number}", [request.text()])
+            check(f"{case.name}: {request.text()}", (told[0], ending), (answer.text(), served(1)))
+
+
 def fault(line):
     return 1, b"", f"auction: {line}\n".encode()
 
@@ -305,14 +318,15 @@ def main():
         (pathlib.Path(folder) / "bands.csv").write_text("at,step\n0,5\n100,25\n500,50\n")
         program = Program(str(pathlib.Path(sys.argv[1]).resolve()), folder)
         init = ["--bands", "bands.csv", *SETTINGS]
+        rows = "".join(f"{at},{step}\n" for at, step in EXAMPLE)
+        (pathlib.Path(folder) / "example.csv").write_text("at,step\n" + rows)
         compare(program, init)
+        reserves_again(program)
         faults(program, init)
         lost_output(program, init)
         most(program)
         last(program)
         if len(sys.argv) > 2:
-            rows = "".join(f"{at},{step}\n" for at, step in EXAMPLE)
-            (pathlib.Path(folder) / "example.csv").write_text("at,step\n" + rows)
             for args in sorted(pathlib.Path(sys.argv[2]).resolve().glob("*.args")):
                 compare_case(program, args, "case")
     print(f"{len(CHECKS)} checks, {CHECKS.count(False)} wrong")

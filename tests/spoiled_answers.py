@@ -13,6 +13,7 @@ NULLED = {"closed", "floor", "leader"}
 BOUNDS = {key: bounds for keys, bounds in {
     "member seller leader asker from to other": (1, 100_000), "category": (1, 1_000), "item": (1, 1_000_000),
     "buy_now maximum price start step": (1, MOST_CENTS), "at": (0, MOST_CENTS), "floor": (1, 2 * MOST_CENTS),
+    "reserve": (2, MOST_CENTS),
     "fee": (0, MOST_CENTS // 5), "fees bought": (0, 1_000_000 * MOST_CENTS), "closed clock": (0, LAST_MOMENT),
     "end": (1, LAST_MOMENT), "count": (0, 10_000), "mine": (1, 10_000), "number": (1, 20), "rate": (0, 2_000),
     "minus plus unsold zero": (0, 1_000_000), "members": (0, 100_000), "categories": (0, 1_000),
@@ -41,7 +42,7 @@ def without(parts, gone):
 
 
 def spoiled_page(name, value):
-    """A page that has too much, or a question of another one; and a watch that is none."""
+    """A page that has too much, a question of another one, or a reserve of none; and a watch that is none."""
     most = LONGER.get(name, LISTED)
     for key, part in value.items():
         # So long a statement would take minutes.
@@ -50,6 +51,8 @@ def spoiled_page(name, value):
     if name in ("published", "waiting"):
         for question in value.get("questions", []):
             yield {"questions": [{**question, "answer": None if name == "published" else "No"}]}
+    for reserve in value.get("reserves", []):
+        yield {"reserves": [{**reserve, "met": None}]}
     if "watched" in value:
         yield {**value, "watched": not value["watched"]}
 
@@ -68,7 +71,8 @@ def spoiled_value(value, key=""):
     elif value is None:
         yield from ("", 1.5, [], {})
     elif isinstance(value, bool):
-        yield from ("", 1, None, [value], {})
+        # An item may have no reserve that is met.
+        yield from ("", 1, [value], {}, *(() if key == "met" else (None,)))
     elif isinstance(value, int):
         least, most = BOUNDS.get(key, (-1, 10**15))
         yield from (least - 1, most + 1, value + 0.5, float(value), str(value), True, [value])

@@ -6,9 +6,9 @@ row of a house's. Then every page is asked by everybody, and commands name each 
 500 `damaged`, and has not acted; what only names it may be; everything else is answered as the plain site answers it,
 on the same connection, and so it is when the house is served again. The last line is 'N answers, M wrong'.
 
-19 rows are spoiled: a standing that no bids leave, a leader who is the seller, a purchase at another price, texts with
-control characters; a close goes over it. Of lists of fifty from sixty rows and more those that end before the row are
-answered as if it were sound.
+29 rows are spoiled: a standing that no bids leave, a leader who is the seller, a purchase at another price, a reserve
+that doesn't go with the price, texts with control characters; a close goes over it. Of lists of fifty from sixty rows
+and more those that end before the row are answered as if it were sound.
 """
 import dataclasses
 import pathlib
@@ -19,7 +19,7 @@ import tempfile
 
 from plain_house import BANDS
 from plain_site import READS, Site, setup
-from routes import answered, asked, bid, commands, listed, rated
+from routes import answered, asked, bid, commands, listed, rated, sealed
 from sent import answers_in, command, compact, read
 from served import Program, served
 
@@ -48,10 +48,10 @@ def shows(number, category, bidders=(), watchers=(), parties=()):
 
 
 def names(number, seller, leader=None):
-    """What goes by an item's row without showing it: commands on it, its questions, what waits for its seller, and the
-    statements of its seller and its leader, which need the row where it was sold."""
+    """What goes by an item's row without showing it: commands on it, its questions, what waits for its seller, the
+    reserves of its seller, and the statements of its seller and its leader, which need the row where it was sold."""
     statements = ((member, "/me/statement/") for member in (seller, leader) if member)
-    return ((None, f"/items/{number}/"), (seller, "/me/waiting"), *statements)
+    return ((None, f"/items/{number}/"), (seller, "/me/waiting"), (seller, "/me/reserves/"), *statements)
 
 
 ATLAS = shows(1, 1, bidders=(2, 3), watchers=(2,), parties=(1, 3)), names(1, 1, 3)
@@ -60,7 +60,7 @@ CHART = shows(3, 1, watchers=(2,)), names(3, 2)
 NOVEL = shows(4, 1, bidders=(3,)), names(4, 2, 3)
 CLOSE = ((0, "/close"),)
 
-# By the messages: item 1 was sold to 3 for 1000 by bids of 500, 1000 and 1000 and is settled, item 2 was bought by 3
+# By the commands: item 1 was sold to 3 for 1000 by bids of 500, 1000 and 1000 and is settled, item 2 was bought by 3
 # for 2000, item 3 is open without a bid, item 4 is open with one of 500 by 3.
 SPOILED = [
     Spoiled("UPDATE item SET second = 1001 WHERE id = 1", *ATLAS),
@@ -88,6 +88,27 @@ SPOILED = [
             ((None, "/members/1"), (None, "/members/1/feedback/1"), (3, "/items/1/feedback"))),
     Spoiled("UPDATE feedback SET body = char(0x1f) WHERE giver = 1", ((None, "/members/3/feedback/1"),),
             ((None, "/members/3"),)),
+]
+RESERVES = ((1, "/me/reserves/1"),)
+UNBID = shows(6, 1) + RESERVES + CLOSE, names(6, 1)
+UNMET = shows(7, 1, bidders=(3,)) + RESERVES + CLOSE, names(7, 1, 3)
+MET = shows(8, 1, bidders=(3,)) + RESERVES + CLOSE, names(8, 1, 3)
+BOUGHT = shows(9, 1, parties=(1, 3)) + RESERVES, names(9, 1, 3)
+
+# By the sealed ones: items 6 to 9 have a start of 500 and a reserve of 900. Item 6 is open without a bid, item 7 with one
+# of 700 at 500, item 8 with one of 1000 at 900, and item 9 was bought for 2000, all by 3.
+SPOILED_RESERVES = [
+    Spoiled("UPDATE item SET price = 900 WHERE id = 6", *UNBID),
+    Spoiled("UPDATE reserve SET amount = 500 WHERE item = 6", *UNBID),
+    Spoiled("UPDATE item SET price = 950 WHERE id = 7", *UNMET),
+    Spoiled("UPDATE item SET top = 900 WHERE id = 7", *UNMET),
+    Spoiled("UPDATE reserve SET amount = 600 WHERE item = 7", *UNMET),
+    Spoiled("UPDATE item SET price = 500 WHERE id = 8", *MET),
+    Spoiled("UPDATE reserve SET amount = 500 WHERE item = 8", *MET),
+    Spoiled("UPDATE reserve SET amount = 1001 WHERE item = 8", *MET),
+    Spoiled("DELETE FROM reserve WHERE item = 8", *MET),
+    Spoiled("UPDATE item SET price = 900 WHERE id = 9", *BOUGHT),
+    Spoiled("UPDATE reserve SET amount = 2001 WHERE item = 9", *BOUGHT),
 ]
 
 
@@ -161,7 +182,7 @@ def long_lists():
 def pages():
     """Every page, by everybody."""
     for path in READS.values():
-        for number in range(1, 6 if "I" in path.split("/") else 5 if "M" in path.split("/") else 3):
+        for number in range(1, 11 if "I" in path.split("/") else 5 if "M" in path.split("/") else 3):
             parts = {"I": number, "C": number, "M": number, "F": 1, "FROM": "1970-01-01", "TO": "1970-01-01"}
             target = "/".join(str(parts.get(part, part)) for part in path.split("/"))
             yield from (read(target, caller) for caller in range(5))
@@ -170,8 +191,8 @@ def pages():
 
 
 def orders():
-    """Commands that name each item, accepted or refused, and in the end a close that takes items 3 and 4."""
-    for number in range(1, 6):
+    """Commands that name each item, accepted or refused, and in the end a close that takes those that are open."""
+    for number in range(1, 11):
         yield bid(number, 4, 5001, 5000)
         yield bid(number, 2, 5001, 6000)
         yield command(f"/items/{number}/purchase", 4, 5001)
@@ -205,6 +226,9 @@ def answering(requests):
 class Houses:
     """Spoiled houses, and what was wrong."""
 
+    # The commands that they took.
+    taken = (*commands(), *sealed())
+
     def __init__(self, program, folder):
         self.program, self.folder = program, pathlib.Path(folder)
         self.count = self.wrong = self.damaged = 0
@@ -212,7 +236,7 @@ class Houses:
     def make(self):
         """The house before anything of it is spoiled."""
         init = ["--bands", "bands.csv", "--rate", "1000", "--zone", "UTC0"]
-        for name, requests in (("whole", commands()), ("long", long_lists())):
+        for name, requests in (("whole", self.taken), ("long", long_lists())):
             self.program.ended("init", name, *init)
             self.program.answers(name, [b"".join(request.text() for request in (*setup(), *requests))])
 
@@ -227,7 +251,7 @@ class Houses:
     def spoil(self, spoiled):
         """Serves the house with a row spoiled, twice."""
         self.change("whole", spoiled.change)
-        site = answering(commands())
+        site = answering(self.taken)
         for requests in (MESSAGES, list(pages())):
             for request, text in self.texts(spoiled, requests):
                 self.judge(spoiled, site, request, text)
@@ -280,11 +304,12 @@ def main():
         houses = Houses(Program(str(pathlib.Path(sys.argv[1]).resolve()), folder), folder)
         houses.make()
         # A house that isn't spoiled answers everything.
-        for spoiled in [Spoiled("UPDATE item SET id = 1 WHERE id = 1", ()), *SPOILED]:
+        for spoiled in [Spoiled("UPDATE item SET id = 1 WHERE id = 1", ()), *SPOILED, *SPOILED_RESERVES]:
             houses.spoil(spoiled)
         for reached in REACHED:
             houses.reach(reached)
-    print(f"{len(SPOILED) + len(REACHED)} spoiled houses, {houses.damaged} answers of 500")
+    rows = [*SPOILED, *SPOILED_RESERVES, *REACHED]
+    print(f"{len(rows)} spoiled houses, {houses.damaged} answers of 500")
     print(f"{houses.count} answers, {houses.wrong} wrong")
     return 1 if houses.wrong else 0
 

@@ -22,13 +22,14 @@ KINDS = {
     "an item page": (message("GET", "/items/1", 2), 1),
     "a list of fifty items": (message("GET", "/categories/1/items/1", 2), 3),
     "a list of fifty own bids": (message("GET", "/me/bids/1", 2), 102),
+    "a list of fifty own reserves": (message("GET", "/me/reserves/1", 1), 2),
 }
 SETUP = b"".join([
     message("POST", "/members", 0, 1000, '{"name":"Ana"}'),
     message("POST", "/members", 0, 1000, '{"name":"Ben"}'),
     message("POST", "/categories", 0, 1000, '{"name":"Books"}'),
     *(message("POST", "/items", 1, 1000,
-              f'{{"category":1,"end":5000,"lot":"A{number}","start":500,"text":"","title":"Atlas"}}')
+              f'{{"category":1,"end":5000,"lot":"A{number}","reserve":600,"start":500,"text":"","title":"Atlas"}}')
       for number in range(1, ITEMS + 1)),
     *(message("POST", f"/items/{number}/bids", 2, 1001, '{"maximum":700}') for number in range(1, ITEMS + 1)),
 ])

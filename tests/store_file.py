@@ -10,11 +10,11 @@ is: an empty one, one cut short, one with a page overwritten, and one with other
 with a row that has a column out of its range, or whose columns don't fit together, is opened, and doesn't
 answer when that row is asked for. Then each column of each row of every table is spoiled in turn, and every
 look-up and every list is asked: each is refused, or answers as before, or as if the row weren't there where the
-column is one by which rows are found. The same of items as no bids and no purchase leave them, whose readers are
-all refused; but a standing is told by its own columns alone, and a former leader has bought no such item. The last
-line is 'N checks, M wrong'.
+column is one by which rows are found. The same of items as no bids and no purchase leave them, by their columns or
+by their reserves, whose readers are all refused; but a standing is told by its own columns and its reserve alone, and
+a former leader has bought no such item. The last line is 'N checks, M wrong'.
 
-Twenty-three items are as no bids and no purchase leave them.
+Thirty-four items are as no bids and no purchase leave them.
 """
 import contextlib
 import pathlib
@@ -41,13 +41,17 @@ TABLES = {
              (2, 1, 2, "B2", "Globe", "", 500, 900, 6000, 1, 1003, 900, 2, None, None, 0),
              (3, 1, 2, "C3", "Chart", "", 500, None, 5000, 1, 5000, 500, 3, 700, None, 1),
              (4, 2, 1, "A1", "Novel", "", 100, None, 7000, 1, 7000, 125, 3, 600, 100, 2),
-             (5, 1, 2, "K4", "Compass", "", 500, 800, 6000, 2, 6000, 500, None, None, None, 0)],
-    "bid": [(1, 1, 2, 500), (1, 2, 3, 1000), (1, 3, 2, 1000), (3, 1, 3, 700), (4, 1, 1, 100), (4, 2, 3, 600)],
+             (5, 1, 2, "K4", "Compass", "", 500, 800, 6000, 2, 6000, 500, None, None, None, 0),
+             (6, 2, 2, "R6", "Lamp", "", 500, None, 7000, 2, 7000, 750, 1, 750, 700, 2),
+             (7, 1, 1, "R7", "Vase", "", 500, None, 5000, 1, 5000, 900, 2, 1000, None, 2),
+             (8, 1, 2, "R8", "Bell", "", 100, 600, 6000, 1, 1003, 600, 2, None, None, 0)],
+    "bid": [(1, 1, 2, 500), (1, 2, 3, 1000), (1, 3, 2, 1000), (3, 1, 3, 700), (4, 1, 1, 100), (4, 2, 3, 600),
+            (6, 1, 3, 700), (6, 2, 1, 750), (7, 1, 2, 899), (7, 2, 2, 1000)],
     "watch": [(2, 1), (2, 4), (3, 1)],
     "question": [(1, 2, 1, "How old?", None), (1, 3, 1, "Is it signed?", None),
                  (1, 3, 2, "By whom?", "By its maker"), (4, 3, 1, "In French?", None)],
     "feedback": [(1, 1, 3, 1, "Good"), (1, 3, 1, 1, "No party"), (2, 2, 1, -1, "Late")],
-    "reserve": [],
+    "reserve": [(6, 900), (7, 900), (8, 600)],
     "edition": [],
     "later_band": [],
 }
@@ -94,6 +98,14 @@ SPOILED = [
     ("UPDATE item SET top = 999 WHERE id = 1", "? standing 1"),
     ("UPDATE item SET second = 1001 WHERE id = 1", "? standing 1"),
     ("UPDATE item SET price = 499 WHERE id = 1", "? standing 1"),
+    ("DROP TABLE reserve", CLOCK),
+    ("UPDATE reserve SET amount = -1 WHERE item = 6", CLOCK),
+    ("UPDATE reserve SET amount = 1000000001 WHERE item = 6", CLOCK),
+    ("UPDATE reserve SET item = 9 WHERE item = 8", CLOCK),
+    ("INSERT INTO reserve VALUES (4, 200)", "? state 4"),
+    ("UPDATE reserve SET amount = 901 WHERE item = 7", "? reserves 1 0"),
+    ("UPDATE reserve SET amount = 901 WHERE item = 7", "? reserve 7"),
+    ("DELETE FROM reserve WHERE item = 7", "? standing 7"),
     ("UPDATE bid SET maximum = -1 WHERE item = 1 AND member = 2", "? own 1 2"),
     ("UPDATE question SET n = 21 WHERE n = 2", "? questions 3 0"),
     ("UPDATE question SET body = '' WHERE asker = 2", "? questions 2 0"),
@@ -128,6 +140,21 @@ UNSTANDING = [
     ("count = 1", 5),
     ("top = 500", 5),
     ("second = 500", 5),
+    ("price = 950", 6),
+    ("top = 900", 6),
+    ("price = 500", 7),
+    ("price = 950", 7),
+    ("top = 899", 7),
+    ("buy_now = 601", 8),
+]
+# The same of reserves: one over the price that it has to have raised, one at the start, one that isn't met under the
+# price, none, and one that would have raised it.
+UNSTANDING_RESERVES = [
+    ("UPDATE reserve SET amount = 901 WHERE item = 7", 7),
+    ("UPDATE reserve SET amount = 500 WHERE item = 7", 7),
+    ("UPDATE reserve SET amount = 1001 WHERE item = 7", 7),
+    ("DELETE FROM reserve WHERE item = 7", 7),
+    ("INSERT INTO reserve VALUES (4, 200)", 4),
 ]
 
 
@@ -150,26 +177,33 @@ def every_question():
         yield from (f"? member {number}", f"? has_member {number}", f"? sales {number}", f"? ratings {number}")
         yield from (f"? watches {number}", f"? watch_count {number}")
         yield from (f"? waiting {number}", f"? first_waiting {number}")
-        yield from (f"? bids {number} 0", f"? questions {number} 0", f"? feedback {number} 0")
+        yield from (f"? bids {number} 0", f"? questions {number} 0", f"? feedback {number} 0", f"? reserves {number} 0")
     for number, name in TABLES["category"]:
         yield from (f"? category_named {name}", f"? category {number}", f"? has_category {number}")
         yield f"? items_in {number} 0"
     for item in TABLES["item"]:
         number = item[0]
         yield from (f"? item {number}", f"? state {number}", f"? standing {number}", f"? published {number} 0")
+        yield f"? reserve {number}"
         yield f"? item_of {item[1]} {item[3]}"
         for member in numbers("member"):
             yield from (f"? own {number} {member}", f"? watched {member} {number}", f"? given {number} {member}")
             yield from (f"? ask_count {number} {member}", f"? question {number} {member} 1")
 
 
-def readers(number, is_open):
-    """The questions that read the row of an item, by the tables; what is due, where it is open."""
+def is_open(path, number):
+    """Whether an item is open in a file."""
+    with contextlib.closing(sqlite3.connect(path)) as tables:
+        return tables.execute("SELECT state FROM item WHERE id = ?", (number,)).fetchone() == (0,)
+
+
+def readers(number, is_due):
+    """The questions that read the row of an item, by the tables; what is due, where it may be."""
     item = next(row for row in TABLES["item"] if row[0] == number)
     yield from ("? items", f"? item {number}", f"? state {number}", f"? items_in {item[2]} 0")
-    if is_open:
+    if is_due:
         yield "? due 4294967296"
-    yield from (f"? sales {item[1]}", f"? waiting {item[1]}", f"? first_waiting {item[1]}")
+    yield from (f"? sales {item[1]}", f"? waiting {item[1]}", f"? first_waiting {item[1]}", f"? reserves {item[1]} 0")
     yield from (f"? watches {member}" for member, watched in TABLES["watch"] if watched == number)
     yield from {f"? bids {bid[2]} 0" for bid in TABLES["bid"] if bid[0] == number}
 
@@ -294,13 +328,14 @@ def all_columns(program, whole, folder):
                 none = "-" if (table, name) in FOUND_BY else None
                 wrong = [each for each in questions if now[each] not in (None, before[each], gone[each], none)]
                 yield f"{table}.{name} = {value} where {row}", (wrong, now == before), ([], False)
-    for change, number in UNSTANDING:
-        changed(whole, path, f"UPDATE item SET {change} WHERE id = {number}")
+    of_items = [(f"UPDATE item SET {change} WHERE id = {number}", number) for change, number in UNSTANDING]
+    for statement, number in [*of_items, *UNSTANDING_RESERVES]:
+        changed(whole, path, statement)
         now = answers(program, str(path), questions)
         told = [each for each in questions if now[each] not in (None, before[each], left_out(before[each], number))]
         wrong = [each for each in told if each != f"? standing {number}"]
-        read = [each for each in readers(number, change.startswith("state = 0")) if now[each] is not None]
-        yield f"{change} of item {number}", (wrong, read), ([], [])
+        read = [each for each in readers(number, is_open(path, number)) if now[each] is not None]
+        yield statement, (wrong, read), ([], [])
 
 
 def tables_checked(path):

@@ -5,7 +5,8 @@ The houses are those that tests/version-1 keeps, which a program of version 1 ha
 and one whose log belongs to it. What other commands on a file tell of them is that they are damaged, and they stay as
 they are. SQLite reads each before and after its upgrade: the rows are those of the rules in Python, and stay, but that
 the row of the house has version 2; the tables that are new are empty, the texts of the schema are those of a new house, in their order, and SQLite keeps the
-keys and references of the new tables. Then the house answers every page, and further commands, as the plain site does.
+keys and references of the new tables. Then the house answers every page, and further commands, some with a reserve, as
+the plain site does.
 Upgraded again it is of version 2, and stays byte for byte what it was.
 
 What is no house of version 1 is told as damaged, byte for byte as it was: another version, a table more or less, a row
@@ -26,7 +27,7 @@ from first_version import IS_VERSION_2, LATER, TABLES, UPGRADED, by_key, found, 
 from house_file import limited
 from office import on_full_device
 from plain_house import BANDS
-from routes import commands
+from routes import commands, sealed
 from sent import answers_in, read
 from served import CHECKS, Program, check, fault, served
 from spoiled_house import MESSAGES, SPOILED, Houses, answering
@@ -149,12 +150,12 @@ class Upgrades:
 
     def answers(self, name):
         """Every page and further commands, beside the plain site."""
-        site = answering(commands())
-        told, ending = self.program.answers(name, [b"".join(request.text() for request in MESSAGES)])
+        site, messages = answering(commands()), [*sealed(), *MESSAGES]
+        told, ending = self.program.answers(name, [b"".join(request.text() for request in messages)])
         check(f"{name}: served", ending, served(1))
         texts, rest = answers_in(told[0])
-        check(f"{name}: answers", (len(texts), rest), (len(MESSAGES), b""))
-        for request, text in zip(MESSAGES, texts):
+        check(f"{name}: answers", (len(texts), rest), (len(messages), b""))
+        for request, text in zip(messages, texts):
             check(f"{name}: {request.text()}", text, site.answer(request).text())
 
     def no_houses(self):
@@ -198,6 +199,8 @@ class Upgrades:
 
 class SpoiledHouses(Houses):
     """Houses with a spoiled row, which are upgraded before they are served."""
+
+    taken = (*commands(),)
 
     def change(self, name, change):
         super().change(name, change)

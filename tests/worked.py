@@ -11,7 +11,10 @@ from sent import Answer, Request, command, compact, lengthened, read
 from transcript import MARK
 
 ATLAS = ('{"buy_now":null,"category":1,"closed":%s,"count":%d,"end":5000,"floor":%s,"item":1,"leader":%s,"lot":"A1",'
-         '"price":%d,"seller":1,"start":500,"state":"%s","text":"","title":"Atlas"}')
+         '"met":null,"price":%d,"seller":1,"start":500,"state":"%s","text":"","title":"Atlas"}')
+# An item with a reserve.
+GLOBE = ('{"buy_now":%s,"category":1,"closed":%s,"count":%d,"end":6000,"floor":%s,"item":2,"leader":%s,"lot":"B2",'
+         '"met":%s,"price":%d,"seller":1,"start":500,"state":"%s","text":"","title":"Globe"}')
 FIRST_BID = (b'POST /items/1/bids HTTP/1.1\r\nhost: h\r\nx-member: 2\r\nx-moment: 1001\r\ncontent-length: 15\r\n\r\n'
              b'{"maximum":500}')
 FORMS = ("in a database", "run", "run in a database")
@@ -115,6 +118,78 @@ def sales():
                 (command("/items/1/feedback", 3, 5000, rating), refusal("NotParty", 17))])
 
 
+def reserves():
+    """Reserves: what is sold and shown by them, what a seller may seal, and whom it is told."""
+    globe, page = (listed(1, 1000, "B2", 6000, reserve=900), '{"item":2}'), read("/items/2", 3)
+    first = (bid(2, 2, 1001, 700), placed(1, 550, 2, 500))
+    second = (bid(2, 3, 1002, 750), placed(2, 800, 3, 750))
+
+    def sealed(met, amount=900):
+        return read("/me/reserves/1", 1), '{"reserves":[{"item":2,"met":%s,"reserve":%d}]}' % (met, amount)
+
+    yield Case("A reserve that is met by the third bid, which leads at it",
+               [globe, (read("/items/1", 2), ATLAS % ("null", 0, "500", "null", 500, "open")),
+                (page, GLOBE % ("null", "null", 0, "500", "null", "false", 500, "open")), first,
+                (page, GLOBE % ("null", "null", 1, "550", "2", "false", 500, "open")), second, sealed("false"),
+                (page, GLOBE % ("null", "null", 2, "800", "3", "false", 750, "open")),
+                (bid(2, 2, 1003, 1000), placed(3, 950, 2, 900)), sealed("true"),
+                (page, GLOBE % ("null", "null", 3, "950", "2", "true", 900, "open")),
+                (bid(2, 3, 1004, 949), '{"error":"Low","floor":950,"number":9}'),
+                (bid(2, 3, 1004, 950), placed(4, 1050, 2, 1000)), (close(6000), '{"sold":1,"unsold":1}'),
+                (page, GLOBE % ("null", "6000", 4, "null", "2", "true", 1000, "sold")), sealed("true"),
+                (read("/me/reserves/2", 1), '{"reserves":[{"item":2,"met":true,"reserve":900}]}'),
+                (read("/me/reserves/3", 1), '{"reserves":[]}'), (read("/me/reserves/1", 2), '{"reserves":[]}'),
+                (read("/me/reserves/1", 0), refusal("NoCaller", 1))])
+    yield Case("A leader raises to a reserve, and over it",
+               [globe, first, (bid(2, 2, 1002, 899), placed(2, 550, 2, 500)), sealed("false"),
+                (bid(2, 2, 1003, 900), placed(3, 950, 2, 900)), sealed("true"),
+                (bid(2, 2, 1004, 5000), placed(4, 950, 2, 900)),
+                (page, GLOBE % ("null", "null", 4, "950", "2", "true", 900, "open"))])
+    yield Case("A second maximum under a reserve, and one over it",
+               [globe, (bid(2, 2, 1001, 5000), placed(1, 950, 2, 900)), (bid(2, 3, 1002, 950), placed(2, 1050, 2, 1000)),
+                (bid(2, 3, 1003, 1050), placed(3, 1150, 2, 1100))])
+    yield Case("A reserve that isn't met: the item is unsold, and keeps its leader and its price",
+               [globe, first, second, (close(6000), '{"sold":0,"unsold":2}'),
+                (page, GLOBE % ("null", "6000", 2, "null", "3", "false", 750, "unsold")), sealed("false"),
+                (read("/me/bids/1", 3),
+                 '{"bids":[{"item":2,"leading":true,"maximum":750,"mine":1,"price":750,"state":"unsold"}]}'),
+                (command("/items/2/settle", 0, 6001), refusal("NotSold", 18)),
+                (rated(2, 3, 6001, 1), refusal("NotSold", 18)),
+                (read("/me/statement/1970-01-01/1970-01-02", 1),
+                 '{"bought":0,"fees":0,"lines":[],"member":1,"net":0,"sold":0}')])
+    yield Case("An item that is bought at once meets its reserve",
+               [(listed(1, 1000, "B2", 6000, buy_now=2000, reserve=2000), '{"item":2}'), sealed("false", 2000),
+                (purchase(2, 1001), '{"item":2,"price":2000}'), sealed("true", 2000),
+                (page, GLOBE % ("2000", "1001", 0, "null", "2", "true", 2000, "sold")),
+                (command("/items/2/settle", 0, 1002), '{"fee":200,"item":2,"net":1800,"price":2000}')])
+    field = '{"error":"field","field":"reserve"}'
+    yield Case("What is no reserve, and what is none",
+               [*((listed(1, 1000, "B2", 6000, reserve=wrong), refusal("Range", 20))
+                  for wrong in (0, 499, 500, 1_000_000_001, 2**64 - 1)),
+                (listed(1, 1000, "B2", 6000, buy_now=2000, reserve=2001), refusal("Range", 20)),
+                *((listed(1, 1000, "B2", 6000, reserve=wrong), field) for wrong in ("900", True, [], -1, 9.5, 2**64)),
+                (listed(1, 1000, "B2", "6000", reserve="900"), '{"error":"field","field":"end"}'),
+                (listed(1, 1000, "A1", 6000, reserve=500), refusal("LotExists", 13)),
+                (listed(1, 1000, "B2", 6000, category=9, reserve=500), refusal("Range", 20)),
+                (listed(1, 1000, "B2", 6000, category=9, reserve=501), refusal("Unknown", 4)),
+                (listed(1, 1000, "B2", 6000, reserve=None), '{"item":2}'),
+                (page, GLOBE % ("null", "null", 0, "500", "null", "null", 500, "open")),
+                (listed(1, 1000, "C3", 6000, reserve=501), '{"item":3}'),
+                (listed(2, 1000, "D4", 6000, reserve=1_000_000_000), '{"item":4}'),
+                (read("/me/reserves/1", 1), '{"reserves":[{"item":3,"met":false,"reserve":501}]}'),
+                (read("/me/reserves/1", 2), '{"reserves":[{"item":4,"met":false,"reserve":1000000000}]}')])
+    yield Case("Reserves of fifty-one items, of which a page shows fifty",
+               [*((listed(1, 1000, f"L{number}", 6000, reserve=number + 600), '{"item":%d}' % number)
+                  for number in range(2, 53)),
+                (read("/me/reserves/1", 1), own_reserves(range(2, 52))), (read("/me/reserves/3", 1), own_reserves(range(3, 53))),
+                (read("/me/reserves/52", 1), own_reserves([52]))])
+
+
+def own_reserves(numbers):
+    rows = ",".join('{"item":%d,"met":false,"reserve":%d}' % (number, number + 600) for number in numbers)
+    return '{"reserves":[%s]}' % rows
+
+
 def talk():
     """Questions and answers."""
     yield Case("Questions of two, one of which is answered",
@@ -172,7 +247,7 @@ def whole():
     yield Case("Every command is accepted, and then every page is read",
                [command("/members", 0, 1000, compact({"name": "Dora"})),
                 command("/categories", 0, 1000, compact({"name": "Maps"})),
-                listed(1, 1000, "B2", 6000, category=2, buy_now=2000, title="\u00c9toile"), bid(1, 2, 1001, 500),
+                listed(1, 1000, "B2", 6000, category=2, buy_now=2000, reserve=900, title="\u00c9toile"), bid(1, 2, 1001, 500),
                 bid(1, 3, 1001, 1000), command("/items/1/watch", 3, 1001), command("/items/2/watch", 3, 1001),
                 command("/items/2/unwatch", 3, 1001), asked(1, 3, 1001, "How old?"), asked(1, 3, 1001),
                 asked(1, 2, 1001), answered(1, 1, 1002, 3), purchase(4, 1003), close(5000),
@@ -194,7 +269,7 @@ def replays():
 
 
 def cases():
-    yield from (*bids(), *sales(), *talk(), *frames(), *whole(), *replays())
+    yield from (*bids(), *sales(), *reserves(), *talk(), *frames(), *whole(), *replays())
 
 
 def is_new(site):

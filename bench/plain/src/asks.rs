@@ -104,6 +104,7 @@ enum Route<'b> {
     House,
     Bands,
     OwnBids(u64),
+    OwnReserves(u64),
     Watches,
     OwnQuestions(u64),
     Waiting,
@@ -144,6 +145,7 @@ fn route(target: &str) -> Option<(Route<'_>, &'static [&'static str])> {
         ["house"] => (House, &["GET"]),
         ["bands"] => (Bands, &["GET"]),
         ["me", "bids", f] => (OwnBids(number(f)?), &["GET"]),
+        ["me", "reserves", f] => (OwnReserves(number(f)?), &["GET"]),
         ["me", "watches"] => (Watches, &["GET"]),
         ["me", "questions", f] => (OwnQuestions(number(f)?), &["GET"]),
         ["me", "waiting"] => (Waiting, &["GET"]),
@@ -166,6 +168,7 @@ struct Listing {
     start: u64,
     buy_now: Option<u64>,
     end: u64,
+    reserve: Option<u64>,
 }
 
 #[derive(Deserialize)]

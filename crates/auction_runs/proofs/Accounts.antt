@@ -1,5 +1,5 @@
 -- An account that was read from a keep.
-use Rattle.std.proofs.Common.{◌≡◌, ℕ, List, Bool, true, sym, subst}
+use Rattle.std.proofs.Common.{◌≡◌, ℕ, List, Bool, true, subst}
 use Rattle.std.specs.Prelude.{is_some}
 use Rattle.house_rows.specs.Found.{sales_to}
 use Rattle.house_rows.specs.Keeping.{IsRead}
@@ -8,7 +8,7 @@ use Rattle.house_rows.specs.Tables.{Tables}
 use Rattle.settle.specs.Statement.{Account, statement_of}
 use Rattle.settle.specs.Zoned.{IsZoneOf}
 use Rattle.settle.specs.declared.zone.Zone.{Zone}
-use Rattle.auction_runs.specs.Stated.{HasRead, IsAccount}
+use Rattle.auction_runs.specs.Stated.{HasRead}
 use Rattle.auction_runs.specs.declared.statement.Inquiry.{Inquiry}
 
 -- from what the look-up of the member and of its sales says

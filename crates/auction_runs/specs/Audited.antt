@@ -1,5 +1,5 @@
 -- What an audit's run tells.
-use Rattle.std.specs.Prelude.{◌≡◌, ◌≢◌, ◌⊎◌, ℕ, List, [], map, length, Bool, true, false, Option, IfSome, Result, Ok, Err}
+use Rattle.std.specs.Prelude.{◌≡◌, ◌≢◌, ◌⊎◌, ℕ, List, [], length, Bool, true, false, Option, IfSome, Result, Ok, Err}
 use Rattle.std.specs.List.{AllZip}
 use Rattle.std.specs.Io.KnownBytes.{Appends}
 use Rattle.house_rows.specs.declared.settings.Settings.{Settings}

@@ -5,7 +5,7 @@ use Rattle.auction_runs.specs.declared.fault.Fault.TheVariants.{Memory, Store, D
 use Rattle.auction_runs.specs.declared.fault.Fault.TheVariants as lots
 use Rattle.auction_runs.specs.declared.fault.Side.{Side}
 use Rattle.auction_runs.specs.declared.fault.Side.TheVariants.{Left, Right, Only}
-use Rattle.steps.specs.Fault.{name_of, row_of}
+use Rattle.steps.specs.Fault.{name_of}
 use Rattle.steps.specs.declared.fault.BandsFault.{BandsFault}
 use Rattle.steps.specs.declared.fault.BandsFault.TheVariants.{Csv, Head, Row, First, Order as OutOfOrder, Falls, TooMany, Device, Memory as NoMemory}
 

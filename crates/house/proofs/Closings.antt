@@ -13,7 +13,7 @@ use Rattle.house_rows.specs.declared.state.State.TheVariants.{Sold, Unsold}
 use Rattle.house_rows.specs.Changed.{changed, with_close}
 use Rattle.house_rows.specs.Fits.{IsMoment}
 use Rattle.house_rows.specs.History.{History}
-use Rattle.house_rows.specs.Items.{Closing, Purchase, closed_at, closed_from, closings, is_bought, is_open, is_settled, is_taken, leader_of, purchase_of, state_from, state_of}
+use Rattle.house_rows.specs.Items.{Closing, Purchase, closed_at, closed_from, closings, is_bought, is_open, is_settled, is_taken, leader_of, purchase_of, state_from, state_of, close_sells, met_of}
 use Rattle.house_rows.specs.Listings.{Listing, listing_at, listings}
 use Rattle.house_rows.specs.Questions.{questions}
 use Rattle.house_rows.specs.Runs.{entry}
@@ -92,12 +92,12 @@ closed_row settings h moment caller l small before =
     let any : Bool = list_any (λ (c : Closing). nat_le l.item c.listed && nat_le l.end c.moment) (closings h) in
     elim (by_test (nat_le l.end moment)) [
       | inl due ↦ elim (by_test (is_open (state_of h l))) [
-        | inl is ↦ (let now = closes (purchase_of h l.item) any (is_some (leader_of h l)) (is_settled h l.item) l.end is in
+        | inl is ↦ (let now = closes (purchase_of h l.item) any (close_sells (leader_of h l) (met_of h l)) (is_settled h l.item) l.end is in
             simp append-nil (rw (any_more h moment l (closings h) small, due, is, now.state, now.closed) refl))
-        | inr not ↦ (let now = keeps (purchase_of h l.item) any true (is_some (leader_of h l)) (is_settled h l.item) l.end (rw not refl) before in
+        | inr not ↦ (let now = keeps (purchase_of h l.item) any true (close_sells (leader_of h l) (met_of h l)) (is_settled h l.item) l.end (rw not refl) before in
             simp append-nil (rw (any_more h moment l (closings h) small, due, not, now.state, now.closed) refl))
       ]
-      | inr later ↦ (let now = keeps (purchase_of h l.item) any false (is_some (leader_of h l)) (is_settled h l.item) l.end (and_false (is_open (state_of h l))) before in
+      | inr later ↦ (let now = keeps (purchase_of h l.item) any false (close_sells (leader_of h l) (met_of h l)) (is_settled h l.item) l.end (and_false (is_open (state_of h l))) before in
           simp append-nil (rw (any_more h moment l (closings h) small, later, and_false (is_open (state_of h l)), now.state, now.closed) refl))
     ] where
       and_false : (b : Bool) → (b && false) ≡ false
@@ -110,7 +110,7 @@ settled_was bought taken led false is = cc
 
 settled_is_closed : (settings : Settings) (h : History) (l : Listing) → IsHistory settings h → listing_at (listings h) l.item ≡ Some l → is_settled h l.item ≡ true → is_some (closed_at h l) ≡ true
 settled_is_closed settings h l is own settled =
-    sold_is_closed settings h l is own (settled_was (is_bought h l.item) (is_taken h l) (is_some (leader_of h l)) (is_settled h l.item) settled)
+    sold_is_closed settings h l is own (settled_was (is_bought h l.item) (is_taken h l) (close_sells (leader_of h l) (met_of h l)) (is_settled h l.item) settled)
 
 record IsOwn (h : History) (l : Listing) : Type 0 where
   small : l.item ≤ length (listings h)

@@ -1,4 +1,6 @@
 -- A listing: the verdict by the tables, and the tables after it.
+use Rattle.proxy.proofs.Prices.{price-none}
+use Rattle.house_rows.proofs.Ranged.{reserve_within}
 use Rattle.std.proofs.Common.{Bor, ◌≡◌, ℕ, ◌+◌, ◌≤◌, ◌<◌, List, [], ◌∷◌, ◌++◌, map, length, Bool, true, false, not, refl, ◌∙◌, ap, sym, arith, inl, inr, Option, Some, None}
 use Rattle.std.specs.Prelude.{◌==◌, ◌&&◌, find, nat_le, nat_lt, IfSome}
 use Rattle.std.specs.List.{AllByRecursion, list_any}
@@ -15,7 +17,7 @@ use Rattle.house_rows.specs.declared.refusal.Refusal.{Refusal}
 use Rattle.house_rows.specs.declared.refusal.Refusal.TheVariants.{Limit, LotExists, Range, Unknown}
 use Rattle.house_rows.specs.declared.settings.Settings.{Settings}
 use Rattle.house_rows.specs.Asks.{ListingFits}
-use Rattle.house_rows.specs.Changed.{changed, new_item}
+use Rattle.house_rows.specs.Changed.{changed, new_item, new_opening}
 use Rattle.house_rows.specs.Fits.{IsWithin}
 use Rattle.house_rows.specs.Found.{item_with_lot}
 use Rattle.house_rows.specs.History.{Entry, History, clock}
@@ -28,7 +30,7 @@ use Rattle.house_rows.specs.Questions.{questions}
 use Rattle.house_rows.specs.Runs.{entry}
 use Rattle.house_rows.specs.Tables.{ItemRow, Tables, row_now, tables_of}
 use Rattle.house_rows.specs.Text.{is_lot, is_text, same_text}
-use Rattle.house_rows.specs.Verdict.{IsHistory, are_terms, by_terms, common_rules, is_buy_now, listing_rules, settlement_rules, verdict}
+use Rattle.house_rows.specs.Verdict.{IsHistory, are_terms, by_terms, common_rules, is_buy_now, listing_rules, settlement_rules, verdict, is_reserve}
 use Rattle.house_rows.proofs.Every.{every_as, found_has, found_is}
 use Rattle.house_rows.proofs.Numbered.{numbered}
 use Rattle.house_rows.proofs.Passed.{first_pass, item_pass, later_pass, own_pass}
@@ -62,12 +64,12 @@ unfolding items_shown tables_of
 count_shown settings h = simp length-map
 
 list_verdict : (t : Tables) (settings : Settings) (h : History) (moment caller : ℕ) (offer : Offer) → t ≡ tables_of settings h
-    → verdict settings h moment caller (Listed offer.category offer.lot.now offer.title.now offer.text.now offer.start offer.buy_now offer.end)
+    → verdict settings h moment caller (Listed offer.category offer.lot.now offer.title.now offer.text.now offer.start offer.buy_now offer.end offer.reserve)
     ≡ first_failing (first_rules t moment caller false ++ offer_rules t moment caller offer)
 unfolding tables_of verdict
 list_verdict t settings h moment caller offer e =
     let first = common_rules (clock h) (length (members h)) moment caller false in
-    let fits = are_terms moment offer.title.now offer.text.now offer.start offer.buy_now offer.end in
+    let fits = are_terms moment offer.title.now offer.text.now offer.start offer.buy_now offer.end offer.reserve in
     let has_category = list_any (λ k. k.category == offer.category) (categories h) in
     let has_lot = list_any (λ (row : ItemRow). (row.item.terms.seller == caller) && same_text row.item.lot offer.lot.now) (tables_of settings h).items in
     rw e (
@@ -77,20 +79,20 @@ list_verdict t settings h moment caller offer e =
 
 pub list_refusal : (t : Tables) (settings : Settings) (h : History) (moment caller : ℕ) (offer : Offer) (refusal : Refusal) → t ≡ tables_of settings h
     → Some refusal ≡ first_failing (first_rules t moment caller false ++ offer_rules t moment caller offer)
-    → verdict settings h moment caller (Listed offer.category offer.lot.now offer.title.now offer.text.now offer.start offer.buy_now offer.end) ≡ Some refusal
+    → verdict settings h moment caller (Listed offer.category offer.lot.now offer.title.now offer.text.now offer.start offer.buy_now offer.end offer.reserve) ≡ Some refusal
 list_refusal t settings h moment caller offer refusal e told = list_verdict t settings h moment caller offer e ∙ sym told
 
 -- what holds where no rule of a listing fails
-all_pass : (a b c d e f g : Bool) → (a && (b && (c && (d && (e && (f && g)))))) ≡ true
-    → (a ≡ true) × (b ≡ true) × (c ≡ true) × (d ≡ true) × (e ≡ true) × (f ≡ true) × (g ≡ true)
-all_pass false b c d e f g is = cc
-all_pass true false c d e f g is = cc
-all_pass true true false d e f g is = cc
-all_pass true true true false e f g is = cc
-all_pass true true true true false f g is = cc
-all_pass true true true true true false g is = cc
-all_pass true true true true true true false is = cc
-all_pass true true true true true true true is = (refl, refl, refl, refl, refl, refl, refl)
+all_pass : (a b c d e f g r : Bool) → (a && (b && (c && (d && (e && (f && (g && r))))))) ≡ true
+    → (a ≡ true) × (b ≡ true) × (c ≡ true) × (d ≡ true) × (e ≡ true) × (f ≡ true) × (g ≡ true) × (r ≡ true)
+all_pass false b c d e f g r is = cc
+all_pass true false c d e f g r is = cc
+all_pass true true false d e f g r is = cc
+all_pass true true true false e f g r is = cc
+all_pass true true true true false f g r is = cc
+all_pass true true true true true false g r is = cc
+all_pass true true true true true true false r is = cc
+all_pass true true true true true true true r is = (refl, refl, refl, refl, refl, refl, refl, is)
 
 tests_pass : (lot taken fits known : Bool) (count : ℕ)
     → first_failing ((not lot, Range) ∷ (taken, LotExists) ∷ (not fits, Range) ∷ (not known, Unknown) ∷ (nat_le most_items count, Limit) ∷ []) ≡ None
@@ -111,10 +113,10 @@ buy_now_within start (Some amount) is = (grind (arith, nat_tests, is), grind (ar
 -- that is of an offer by the tables
 offer_pass : (t : Tables) (moment caller : ℕ) (offer : Offer) → first_failing (offer_rules t moment caller offer) ≡ None
     → (list_any (λ row. (row.item.terms.seller == caller) && same_text row.item.lot offer.lot.now) t.items ≡ false) × (is_lot offer.lot.now ≡ true)
-    × (are_terms moment offer.title.now offer.text.now offer.start offer.buy_now offer.end ≡ true)
+    × (are_terms moment offer.title.now offer.text.now offer.start offer.buy_now offer.end offer.reserve ≡ true)
     × (list_any (λ k. k.category == offer.category) t.categories ≡ true) × (length t.items < most_items)
 offer_pass t moment caller offer none =
-    tests_pass (is_lot offer.lot.now) _ (are_terms moment offer.title.now offer.text.now offer.start offer.buy_now offer.end)
+    tests_pass (is_lot offer.lot.now) _ (are_terms moment offer.title.now offer.text.now offer.start offer.buy_now offer.end offer.reserve)
     (list_any (λ k. k.category == offer.category) t.categories) (length t.items) none
 
 -- the new item is the offer's
@@ -127,10 +129,11 @@ pub record IsOffered (caller : ℕ) (offer : Offer) (item : NewItem) : Type 0 wh
   pub start : item.start ≡ offer.start
   pub buy_now : item.buy_now ≡ offer.buy_now
   pub end : item.end ≡ offer.end
+  pub reserve : item.reserve ≡ offer.reserve
 
 pub offered : (caller : ℕ) (offer : Offer) (lot title text : Bor (List ℕ)) (taken : ℕ × Prices)
     → lot.now ≡ offer.lot.now → title.now ≡ offer.title.now → text.now ≡ offer.text.now → AreOf offer taken
-    → IsOffered caller offer (record { seller = caller; category = taken.0; lot = lot; title = title; text = text; start = taken.1.start; buy_now = taken.1.buy_now; end = offer.end })
+    → IsOffered caller offer (record { seller = caller; category = taken.0; lot = lot; title = title; text = text; start = taken.1.start; buy_now = taken.1.buy_now; end = offer.end; reserve = taken.1.reserve })
 offered caller offer lot title text taken same_lot same_title same_text same = record {
   seller = refl;
   category = same.category;
@@ -140,6 +143,7 @@ offered caller offer lot title text taken same_lot same_title same_text same = r
   start = same.start;
   buy_now = same.buy_now;
   end = refl;
+  reserve = same.reserve;
 }
 
 -- and fits where nothing is told
@@ -149,7 +153,7 @@ listing_fits t moment caller offer item is told =
     let fits = caller_fits t moment caller false (first_pass (first_rules t moment caller false) (offer_rules t moment caller offer) (sym told)) in
     let pass = offer_pass t moment caller offer (later_pass (first_rules t moment caller false) (offer_rules t moment caller offer) (sym told)) in
     let terms = all_pass (is_text 1 80 offer.title.now) (is_text 0 2000 offer.text.now) (nat_le 1 offer.start) (nat_le offer.start most_cents)
-    (is_buy_now offer.start offer.buy_now) (nat_lt moment offer.end) (nat_le offer.end last_moment) pass.2 in
+    (is_buy_now offer.start offer.buy_now) (nat_lt moment offer.end) (nat_le offer.end last_moment) (is_reserve offer.start offer.buy_now offer.reserve) pass.2 in
     record {
       moment_fits = fits.moment_fits;
       seller_there = rw is.seller (fits.there refl);
@@ -160,6 +164,7 @@ listing_fits t moment caller offer item is told =
       start_fits = rw is.start (is_within 1 offer.start terms.2, is_within offer.start most_cents terms.3);
       buy_now_fits = rw (is.buy_now, is.start) (buy_now_within offer.start offer.buy_now terms.4);
       end_fits = rw is.end (is_within offer.end last_moment terms.6);
+      reserve_fits = rw (is.reserve, is.start, is.buy_now) (reserve_within offer.start offer.buy_now offer.reserve terms.7);
       room = pass.4;
     }
 
@@ -244,7 +249,7 @@ none_settled count i (s ∷ ss) above all =
 
 -- the listing of a new item
 listed_at : ℕ → NewItem → Entry
-listed_at moment item = entry moment item.seller (Listed item.category item.lot.now item.title.now item.text.now item.start item.buy_now item.end)
+listed_at moment item = entry moment item.seller (Listed item.category item.lot.now item.title.now item.text.now item.start item.buy_now item.end item.reserve)
 
 -- the row of the new item
 new_row : (settings : Settings) (h : History) (moment : ℕ) (item : NewItem) → IsHistory settings h
@@ -259,6 +264,7 @@ new_row : (settings : Settings) (h : History) (moment : ℕ) (item : NewItem) �
       buy_now = item.buy_now;
       end = item.end;
       set = [];
+      reserve = item.reserve;
     })
 unfolding leader price second listed_at
 new_row settings h moment item is =
@@ -269,7 +275,7 @@ new_row settings h moment item is =
     let taken : list_any (λ (c : Closing). nat_le i c.listed && nat_le item.end c.moment) (closings h) ≡ false =
     none_takes (length (listings h)) i item.end (closings h) above (closings_small h) in
     let settled : list_any (λ s. s == i) (settlements h) ≡ false = none_settled (length (listings h)) i (settlements h) above (settlements_small settings h is) in
-    simp append-nil (rw (bids, bought, taken, settled) refl)
+    simp append-nil (rw (bids, bought, taken, settled, price-none settings.bands (new_opening item)) refl)
 
 row_still : (settings : Settings) (h : History) (moment : ℕ) (item : NewItem) (l : Listing) → row_now settings h l ≡ row_now settings (listed_at moment item ∷ h) l
 unfolding listed_at
@@ -291,14 +297,14 @@ list_leads settings h moment item is = rw (listed_rows settings h moment item is
 
 -- what is offered is what is listed
 offered_at : (moment caller : ℕ) (offer : Offer) (item : NewItem) → IsOffered caller offer item
-    → listed_at moment item ≡ entry moment caller (Listed offer.category offer.lot.now offer.title.now offer.text.now offer.start offer.buy_now offer.end)
+    → listed_at moment item ≡ entry moment caller (Listed offer.category offer.lot.now offer.title.now offer.text.now offer.start offer.buy_now offer.end offer.reserve)
 unfolding listed_at
-offered_at moment caller offer item is = rw (is.seller, is.category, is.lot, is.title, is.text, is.start, is.buy_now, is.end) refl
+offered_at moment caller offer item is = rw (is.seller, is.category, is.lot, is.title, is.text, is.start, is.buy_now, is.end, is.reserve) refl
 
 pub list_accepts : (t : Tables) (settings : Settings) (h : History) (moment caller : ℕ) (offer : Offer) (item : NewItem) → IsHistory settings h
     → IsOffered caller offer item → t ≡ tables_of settings h
     → None ≡ first_failing (first_rules t moment caller false ++ offer_rules t moment caller offer)
-    → IsAccepted settings h moment caller (Listed offer.category offer.lot.now offer.title.now offer.text.now offer.start offer.buy_now offer.end) (change.List moment item)
+    → IsAccepted settings h moment caller (Listed offer.category offer.lot.now offer.title.now offer.text.now offer.start offer.buy_now offer.end offer.reserve) (change.List moment item)
 list_accepts t settings h moment caller offer item is offered e told = record {
   accepted = list_verdict t settings h moment caller offer e ∙ sym told;
   fits = rw e at (listing_fits t moment caller offer item offered told);

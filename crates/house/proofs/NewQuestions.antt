@@ -108,7 +108,7 @@ given_step settings h t c (Answer i asker number text) none are = record {
 }
 given_step settings h t c (Register name) none are = record { questions = are.questions; answers = simp append-nil are.answers }
 given_step settings h t c (AddCategory name) none are = record { questions = are.questions; answers = simp append-nil are.answers }
-given_step settings h t c (Listed category lot title text start buy_now end) none are = record { questions = are.questions; answers = simp append-nil are.answers }
+given_step settings h t c (Listed category lot title text start buy_now end reserve) none are = record { questions = are.questions; answers = simp append-nil are.answers }
 given_step settings h t c (Bid i maximum) none are = record { questions = are.questions; answers = simp append-nil are.answers }
 given_step settings h t c (Buy i) none are = record { questions = are.questions; answers = simp append-nil are.answers }
 given_step settings h t c Close none are = record { questions = are.questions; answers = simp append-nil are.answers }

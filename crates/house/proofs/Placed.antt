@@ -1,6 +1,6 @@
 -- Bids: the verdict by the tables, and the tables after them.
 use Rattle.std.proofs.Common.{◌≡◌, ℕ, ◌+◌, ◌≤◌, List, [], ◌∷◌, ◌++◌, map, length, Bool, true, false, not, refl, ◌∙◌, ap, sym, arith, inl, inr, Option, Some, None, subst}
-use Rattle.std.specs.Prelude.{◌==◌, ◌&&◌, is_some, nat_le, nat_lt, option_map, unwrap_or}
+use Rattle.std.specs.Prelude.{◌==◌, ◌&&◌, nat_le, nat_lt, option_map, unwrap_or}
 use Rattle.std.specs.List.{AllByRecursion, list_any}
 use Rattle.std.proofs.lemmas.Bool.Decides.{nat_tests}
 use Rattle.std.proofs.lemmas.List.{append-nil, length-append}
@@ -21,10 +21,10 @@ use Rattle.house_rows.specs.declared.state.State.{State}
 use Rattle.house_rows.specs.declared.state.State.TheVariants.{Open, Sold, Unsold, Settled}
 use Rattle.house_rows.specs.Asks.{BidFits}
 use Rattle.house_rows.specs.Bids.{BidRow, bid_in, bid_key, bid_rows, bids_on}
-use Rattle.house_rows.specs.Changed.{changed, is_item, with_standing}
+use Rattle.house_rows.specs.Changed.{changed, with_standing}
 use Rattle.house_rows.specs.Found.{standing_at, terms_at}
 use Rattle.house_rows.specs.History.{History, clock}
-use Rattle.house_rows.specs.Items.{closings, floor_of, is_bought, is_open, is_settled, is_taken, leader_of, purchase_of, shown_now, state_of, terms_now}
+use Rattle.house_rows.specs.Items.{closings, floor_of, is_bought, is_open, is_settled, is_taken, leader_of, purchase_of, shown_now, state_of, terms_now, close_sells, met_of}
 use Rattle.house_rows.specs.Keeping.{AreSound, ItemRowFits}
 use Rattle.house_rows.specs.Limits.{most_bids, most_cents}
 use Rattle.house_rows.specs.Listings.{Listing, bands_by, listed_opening, listing_at, listings}
@@ -90,7 +90,7 @@ record Biddable (h : History) (l : Listing) : Type 0 where
 biddable : (settings : Settings) (h : History) (moment caller maximum : ℕ) (l : Listing) → first_failing (first_rules moment caller maximum (terms_now settings h l)) ≡ None → Biddable h l
 biddable settings h moment caller maximum l none =
     let pass = first_passed (l.seller == caller) (is_open (state_of h l)) (nat_le l.end moment) (nat_lt most_cents maximum) none in
-    let parts = open_parts (is_bought h l.item) (is_taken h l) (is_some (leader_of h l)) (is_settled h l.item) pass.is_open in
+    let parts = open_parts (is_bought h l.item) (is_taken h l) (close_sells (leader_of h l) (met_of h l)) (is_settled h l.item) pass.is_open in
     let unsold : purchase_of h l.item ≡ None = not_bought h l.item (purchase_of h l.item) refl parts.bought_not in
     record {
       is_open = open_is (state_of h l) pass.is_open;
@@ -180,7 +180,7 @@ given_step h t c (Bid i maximum) all =
     (rw here (let more = length-append (bids_on h i) (record { member = c; maximum = maximum; no = length (bids_on h i) + 1 } ∷ []) in rw more (omega arith)))
 given_step h t c (Register name) all = every_as _ _ (bid_rows h) (given_more h t c (Register name)) all
 given_step h t c (AddCategory name) all = every_as _ _ (bid_rows h) (given_more h t c (AddCategory name)) all
-given_step h t c (Listing_command category lot title text start buy_now end) all = every_as _ _ (bid_rows h) (given_more h t c (Listing_command category lot title text start buy_now end)) all
+given_step h t c (Listing_command category lot title text start buy_now end reserve) all = every_as _ _ (bid_rows h) (given_more h t c (Listing_command category lot title text start buy_now end reserve)) all
 given_step h t c (Buy i) all = every_as _ _ (bid_rows h) (given_more h t c (Buy i)) all
 given_step h t c Close all = every_as _ _ (bid_rows h) (given_more h t c Close) all
 given_step h t c (Settle i) all = every_as _ _ (bid_rows h) (given_more h t c (Settle i)) all

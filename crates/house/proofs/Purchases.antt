@@ -1,4 +1,7 @@
 -- A purchase: the verdict by the tables, and the tables after it.
+use Rattle.house_rows.specs.Bids.{bids_on}
+use Rattle.proxy.specs.Bids.{greatest_if_any, maxima}
+use Rattle.house_rows.proofs.ChangedRows.{met_again}
 use Rattle.std.proofs.Common.{◌≡◌, ◌≢◌, ℕ, List, [], ◌∷◌, ◌++◌, map, length, subst, Bool, true, false, not, refl, ◌∙◌, ap, sym, arith, inl, inr, Some, None}
 use Rattle.std.specs.Prelude.{◌==◌, find, is_none, is_some, nat_le, nat_lt}
 use Rattle.std.proofs.lemmas.Bool.Decides.{nat_tests}
@@ -15,7 +18,7 @@ use Rattle.house_rows.specs.declared.state.State.TheVariants.{Open, Sold, Unsold
 use Rattle.house_rows.specs.Asks.{PurchaseFits}
 use Rattle.house_rows.specs.Changed.{changed, with_purchase}
 use Rattle.house_rows.specs.History.{History, clock}
-use Rattle.house_rows.specs.Items.{Purchase, is_bought, is_open, is_settled, is_taken, leader_of, purchases, state_from, state_of}
+use Rattle.house_rows.specs.Items.{Purchase, is_bought, is_open, is_settled, is_taken, leader_of, purchases, state_from, state_of, close_sells, met_of}
 use Rattle.house_rows.specs.Listings.{Listing, listing_at, listings}
 use Rattle.house_rows.specs.People.{members}
 use Rattle.house_rows.specs.Questions.{questions}
@@ -100,11 +103,12 @@ bought_here : (settings : Settings) (h : History) (moment caller i price : ℕ) 
     → with_purchase i caller price moment (row_now settings h l) ≡ row_now settings (entry moment caller (Buy i) ∷ h) l
 bought_here settings h moment caller i price l here is priced =
     let p : Purchase = record { item = i; buyer = caller; moment = moment } in
-    let parts = still (is_bought h l.item) (is_taken h l) (is_some (leader_of h l)) (is_settled h l.item) is in
+    let parts = still (is_bought h l.item) (is_taken h l) (close_sells (leader_of h l) (met_of h l)) (is_settled h l.item) is in
     let unsettled : is_settled h l.item ≡ false = parts.settled_not in
     let found : find (λ p. p.item == l.item) (purchases h ++ p ∷ []) ≡ Some p =
     find_here l.item (purchases h) p parts.bought_not (other_way l.item i true here) in
-    rw (here, found) (simp append-nil (rw (unsettled, priced) refl))
+    let unbought : is_bought h l.item ≡ false = parts.bought_not in
+    rw (here, found) (simp append-nil (rw (unsettled, priced, unbought, met_again l.reserve (greatest_if_any (maxima (bids_on h l.item)))) refl))
 
 bought_other : (settings : Settings) (h : History) (moment caller i price : ℕ) (l : Listing) → (l.item == i) ≡ false
     → with_purchase i caller price moment (row_now settings h l) ≡ row_now settings (entry moment caller (Buy i) ∷ h) l

@@ -10,7 +10,7 @@ abbrev pub command_of : Change → Command
 command_of (change.Register moment name) = command.Register name.now
 command_of (change.AddCategory moment name) = command.AddCategory name.now
 command_of (change.List moment item) =
-    command.List item.category item.lot.now item.title.now item.text.now item.start item.buy_now item.end
+    command.List item.category item.lot.now item.title.now item.text.now item.start item.buy_now item.end item.reserve
 command_of (change.Bid moment item placed standing) = command.Bid item placed.maximum
 command_of (change.Buy moment item buyer price) = command.Buy item
 command_of (change.Close moment) = command.Close

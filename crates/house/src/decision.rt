@@ -51,6 +51,7 @@ pub fn decide<'c, K: Keep>(
             start,
             buy_now,
             end,
+            reserve,
         } => {
             let offer = Offer {
                 category: *category,
@@ -60,6 +61,7 @@ pub fn decide<'c, K: Keep>(
                 start: *start,
                 buy_now: *buy_now,
                 end: *end,
+                reserve: *reserve,
             };
             list(keep, moment, caller, &offer)
         }

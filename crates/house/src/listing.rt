@@ -10,7 +10,7 @@ ghost use Rattle.house_rows.specs.Keeping.{AreSound, Faults, IsRead};
 ghost use Rattle.house_rows.specs.Limits.{most_cents};
 ghost use Rattle.house_rows.specs.Tables.{tables_of};
 ghost use Rattle.house_rows.specs.Text.{has_length, is_lot, is_lot_byte, same_text};
-ghost use Rattle.house_rows.specs.Verdict.{IsHistory, are_terms, is_buy_now};
+ghost use Rattle.house_rows.specs.Verdict.{IsHistory, are_terms, is_buy_now, is_reserve};
 ghost use Rattle.house.specs.Decided.{IfAccepted, IsDecided};
 ghost use Rattle.house.specs.Own.{IsOf};
 ghost use Rattle.house.specs.Judged.{first_rules};
@@ -39,6 +39,8 @@ pub struct Offer<'c> {
     pub buy_now: Option<u64>,
     /// When the offer ends.
     pub end: u64,
+    /// The least for which the item is sold, which is sealed.
+    pub reserve: Option<u64>,
 }
 
 // The prices of an offer that are in range.
@@ -46,6 +48,7 @@ pub struct Offer<'c> {
 struct Prices {
     start: Cents,
     buy_now: Option<Cents>,
+    reserve: Option<Cents>,
 }
 
 /// Decides on the listing of an item.
@@ -57,11 +60,11 @@ pub fn list<'c, K: Keep>(
 ) -> Result<Result<Change<'c>, Refusal>, KeepFault>
     ensures decided { K.is_honest keep.new → (settings : TheSettings) (h : History) → IsHistory settings h
         → K.content keep.old ≡ tables_of settings h → IfOk result (IsDecided settings h moment caller
-        (command.List offer.now.category offer.now.lot.now offer.now.title.now offer.now.text.now offer.now.start offer.now.buy_now offer.now.end)) }
+        (command.List offer.now.category offer.now.lot.now offer.now.title.now offer.now.text.now offer.now.start offer.now.buy_now offer.now.end offer.now.reserve)) }
     ensures fits { K.is_honest keep.new → AreSound (K.content keep.old)
         → IfAccepted result (ChangeFits (K.content keep.old)) }
     ensures own { K.is_honest keep.new → IfAccepted result (IsOf moment caller (command.List offer.now.category
-        offer.now.lot.now offer.now.title.now offer.now.text.now offer.now.start offer.now.buy_now offer.now.end)) }
+        offer.now.lot.now offer.now.title.now offer.now.text.now offer.now.start offer.now.buy_now offer.now.end offer.now.reserve)) }
     ensures faults { Faults result (K.is_honest keep.new) (K.is_failed keep.new) (K.content keep.old) }
     ensures read { IsRead K.content K.is_failed K.is_honest K.may_leave keep.old keep.new }
 {
@@ -78,6 +81,7 @@ pub fn list<'c, K: Keep>(
         start: prices.start,
         buy_now: prices.buy_now,
         end: offer.end,
+        reserve: prices.reserve,
     };
     Ok(Ok(Change::List { moment, item }))
 }
@@ -177,39 +181,62 @@ fn has_lot<K: Keep>(keep: &mut K, seller: u64, lot: &Text) -> Result<bool, KeepF
 
 // The prices of an offer, where all of it but lot and category is in range.
 fn prices_in_range(moment: u64, offer: &Offer<'_>) -> Option<Prices>
-    ensures fits { is_some result ≡ are_terms moment offer.now.title.now offer.now.text.now offer.now.start offer.now.buy_now offer.now.end }
-    ensures same { IfSome result (λ p. (p.start ≡ offer.now.start) × (p.buy_now ≡ offer.now.buy_now)) }
+    ensures fits { is_some result ≡ are_terms moment offer.now.title.now offer.now.text.now offer.now.start offer.now.buy_now offer.now.end offer.now.reserve }
+    ensures same { IfSome result (λ p. (p.start ≡ offer.now.start) × (p.buy_now ≡ offer.now.buy_now) × (p.reserve ≡ offer.now.reserve)) }
 {
     let is_described = is_text(1, 80, offer.title) && is_text(0, 2000, offer.text);
     if !is_described || offer.end <= moment || offer.end > LAST_MOMENT {
         return None;
     }
-    priced(offer.start, offer.buy_now)
+    priced(offer.start, offer.buy_now, offer.reserve)
 }
 
 // Prices of so many cents, where they are in range.
-fn priced(start: u64, buy_now: Option<u64>) -> Option<Prices>
-    ensures fits { is_some result ≡ (nat_le 1 start && (nat_le start most_cents && is_buy_now start buy_now)) }
-    ensures same { IfSome result (λ p. (p.start ≡ start) × (p.buy_now ≡ buy_now)) }
+fn priced(start: u64, buy_now: Option<u64>, reserve: Option<u64>) -> Option<Prices>
+    ensures fits { is_some result ≡ (nat_le 1 start && (nat_le start most_cents && (is_buy_now start buy_now && is_reserve start buy_now reserve))) }
+    ensures same { IfSome result (λ p. (p.start ≡ start) × (p.buy_now ≡ buy_now) × (p.reserve ≡ reserve)) }
 {
     if start == 0 {
         return None;
     }
+    let (start, buy_now) = bought_from(start, buy_now)?;
+    let reserve = reserved(start, &buy_now, reserve)?;
+    Some(Prices {
+        start,
+        buy_now,
+        reserve,
+    })
+}
+
+// A start and a buy-now price of so many cents, where they are in range.
+fn bought_from(start: u64, buy_now: Option<u64>) -> Option<(Cents, Option<Cents>)>
+    ensures fits { is_some result ≡ (nat_le start most_cents && is_buy_now start buy_now) }
+    ensures same { IfSome result (λ p. (p.0 ≡ start) × (p.1 ≡ buy_now)) }
+{
     let start = Cents::new(start)?;
     let Some(amount) = buy_now else {
-        return Some(Prices {
-            start,
-            buy_now: None,
-        });
+        return Some((start, None));
     };
     let amount = Cents::new(amount)?;
     if amount < start {
         return None;
     }
-    Some(Prices {
-        start,
-        buy_now: Some(amount),
-    })
+    Some((start, Some(amount)))
+}
+
+// A reserve of so many cents, where it is above the start, and at most the buy-now price.
+fn reserved(start: Cents, buy_now: &Option<Cents>, reserve: Option<u64>) -> Option<Option<Cents>>
+    ensures fits { is_some result ≡ is_reserve start buy_now.now reserve }
+    ensures same { IfSome result (λ r. r ≡ reserve) }
+{
+    let Some(amount) = reserve else {
+        return Some(None);
+    };
+    let amount = Cents::new(amount)?;
+    if amount <= start || buy_now.is_some_and(|most| most < amount) {
+        return None;
+    }
+    Some(Some(amount))
 }
 
 // Whether a text is a seller's code for an item.

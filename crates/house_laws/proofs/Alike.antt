@@ -18,8 +18,8 @@ use Rattle.house_rows.specs.Verdict.{verdict}
 use Rattle.house_rows.specs.Views.{own_view, public_view}
 use Rattle.house_laws.specs.Alike.{AreAlike}
 use Rattle.house_rows.proofs.Put.{by_test}
-use Rattle.house_rows.proofs.Own.{own_local, own_step}
-use Rattle.house_laws.proofs.Output.{told_same, verdict_same}
+use Rattle.house_rows.proofs.Own.{own_local}
+use Rattle.house_laws.proofs.Output.{own_steps, told_same, verdict_same}
 use Rattle.house_laws.proofs.Shown.{page_same}
 
 -- what a command is told once it is entered
@@ -27,7 +27,7 @@ pub told_after : (settings : Settings) (c : ℕ) (h k : History) (t : ℕ) (comm
     → public_view settings (entry t c command ∷ h) ≡ public_view settings (entry t c command ∷ k)
     → told settings (entry t c command ∷ h) t c command h ≡ told settings (entry t c command ∷ k) t c command k
 told_after settings c h k t command alike after =
-    told_same settings c h k (entry t c command ∷ h) (entry t c command ∷ k) t command alike.public after (own_step c h k t command alike.own)
+    told_same settings c h k (entry t c command ∷ h) (entry t c command ∷ k) t command alike.public after (own_steps settings c h k t command alike)
 
 -- and where it is accepted
 told_if : {F : Type 0} (settings : Settings) (c : ℕ) (h k : History) (t : ℕ) (command : Command) (v : Option Refusal) → AreAlike settings c h k
@@ -71,9 +71,9 @@ entered_other : (v : Option Refusal) (c : ℕ) (h : History) (e : Entry) → (e.
 entered_other None c h e other = own_local c h e other
 entered_other (Some refusal) c h e other = refl
 
-entered_own : (v : Option Refusal) (c : ℕ) (h k : History) (t : ℕ) (command : Command) → own_view h c ≡ own_view k c → own_view (entered v (entry t c command) h) c ≡ own_view (entered v (entry t c command) k) c
-entered_own None c h k t command e = own_step c h k t command e
-entered_own (Some refusal) c h k t command e = e
+entered_own : (settings : Settings) (v : Option Refusal) (c : ℕ) (h k : History) (t : ℕ) (command : Command) → AreAlike settings c h k → own_view (entered v (entry t c command) h) c ≡ own_view (entered v (entry t c command) k) c
+entered_own settings None c h k t command alike = own_steps settings c h k t command alike
+entered_own settings (Some refusal) c h k t command alike = alike.own
 
 -- and so does the message itself
 pub own_other : {F : Type 0} (settings : Settings) (c : ℕ) (h : History) (m : Message F) → is_of c m ≡ false → own_view (next settings h m) c ≡ own_view h c
@@ -87,7 +87,7 @@ unfolding next
 own_mine settings c h k (Order t caller command) is alike =
     let me : caller ≡ c = grind (arith, nat_tests) in
     let v : verdict settings h t c command ≡ verdict settings k t c command = verdict_same settings c h k t command alike in
-    rw (me, v) (entered_own (verdict settings k t c command) c h k t command alike.own)
+    rw (me, v) (entered_own settings (verdict settings k t c command) c h k t command alike)
 own_mine settings c h k (Read caller q) is alike = alike.own
 own_mine settings c h k (Broken caller fault) is alike = alike.own
 

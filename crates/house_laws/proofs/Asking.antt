@@ -21,7 +21,7 @@ use Rattle.house_rows.specs.Ratings.{feedback, party_against, with_feedback}
 use Rattle.house_rows.specs.Runs.{entry}
 use Rattle.house_rows.specs.Text.{is_text}
 use Rattle.house_rows.specs.Verdict.{IsHistory, answer_rules, by_terms, rules, verdict}
-use Rattle.house_rows.specs.Views.{own_maxima, own_questions, own_view, own_watches, public_view}
+use Rattle.house_rows.specs.Views.{own_maxima, own_questions, own_reserves, own_view, own_watches, public_view}
 use Rattle.house_rows.specs.Watches.{watches}
 use Rattle.house_rows.proofs.Every.{every_as, every_map, every_more, every_put, some_has}
 use Rattle.house_rows.proofs.Lists.{filter_made}
@@ -375,8 +375,8 @@ unfolding waiting questions
 retold_waiting i d n h k c other r = rw (r.given, r.lots) (waiting_zip i d n (listings k) (answers k) (asked h) (asked k) c other r.asks)
 
 retold_own : (i d n : ℕ) (h k : History) (c : ℕ) → (d == c) ≡ false → Retold i d n h k → own_view h c ≡ own_view k c
-unfolding own_watches own_questions
-retold_own i d n h k c other r = rw (r.maxima c, r.watched, own_zip i d n (asked h) (asked k) c other r.asks) refl
+unfolding own_reserves own_watches own_questions
+retold_own i d n h k c other r = rw (r.maxima c, r.lots, r.watched, own_zip i d n (asked h) (asked k) c other r.asks) refl
 
 -- so whoever is neither its asker nor the seller can't tell what it says
 retold_alike : (settings : Settings) (i d n c : ℕ) (h k : History) → ((q : Asked) → HasKey i d n q → answer_to (answers h) q ≡ None) → IsOutsider h d i c → Retold i d n h k → AreAlike settings c h k

@@ -6,7 +6,7 @@ use Rattle.std.proofs.lemmas.Bool.Decides.{nat_tests}
 use Rattle.steps.specs.Table.{over}
 use Rattle.proxy.specs.declared.bid.Bid.{Bid}
 use Rattle.proxy.specs.Opening.{Opening}
-use Rattle.proxy.specs.Bids.{bids_by, bids_not_by, greatest, greatest_of, leader, maxima, price, price_by_bids, price_from, second, top}
+use Rattle.proxy.specs.Bids.{bids_by, bids_not_by, greatest, greatest_of, leader, maxima, price, price_by_bids, price_from, second, top, with_reserve}
 use Rattle.proxy.proofs.Leads.{or_zero, others_below, somebody_leads}
 use Rattle.proxy.proofs.Prices.{reserve_raises}
 use Rattle.proxy.proofs.Rises.{price_covered}
@@ -89,12 +89,22 @@ from_step : (bands : List (ℕ × ℕ)) (start t : ℕ) (o : Option ℕ) → Mat
 from_step bands start t None = refl
 from_step bands start t (Some s) = omega arith
 
-by_step : (bands : List (ℕ × ℕ)) (l : Listing) (bids : List Bid)
-    → MatchOption (second bids) (price bands (listed_opening l) bids ≡ l.start) (λ s. price bands (listed_opening l) bids ≤ max l.start (over bands s))
-unfolding price
-by_step bands l bids = from_step bands l.start (top bids) (second bids)
+-- a reserve raises the more to no less
+raises_more : (r : Option ℕ) (t p q : ℕ) → p ≤ q → with_reserve r t p ≤ with_reserve r t q
+raises_more None t p q le = le
+raises_more (Some r) t p q le = grind (arith, nat_tests)
 
--- and pays the start, or at most one step over the others
+over_step : (bands : List (ℕ × ℕ)) (opening : Opening) (t : ℕ) (o : Option ℕ)
+    → MatchOption o (price_from bands opening t o ≡ with_reserve opening.reserve t opening.start) (λ s. price_from bands opening t o ≤ with_reserve opening.reserve t (max opening.start (over bands s)))
+over_step bands opening t None = refl
+over_step bands opening t (Some s) = raises_more opening.reserve t _ _ (from_step bands opening.start t (Some s))
+
+by_step : (bands : List (ℕ × ℕ)) (opening : Opening) (bids : List Bid)
+    → MatchOption (second bids) (price bands opening bids ≡ with_reserve opening.reserve (top bids) opening.start) (λ s. price bands opening bids ≤ with_reserve opening.reserve (top bids) (max opening.start (over bands s)))
+unfolding price
+by_step bands opening bids = over_step bands opening (top bids) (second bids)
+
+-- and pays the start, or at most one step over the others, or the reserve where it is met
 pub price_one_step : (bands : List (ℕ × ℕ)) (h : History) (l : Listing) → is_bought h l.item ≡ false
-    → MatchOption (second (bids_on h l.item)) (price_of bands h l ≡ l.start) (λ s. price_of bands h l ≤ max l.start (over bands s))
-price_one_step bands h l not = rw not (by_step bands l (bids_on h l.item))
+    → MatchOption (second (bids_on h l.item)) (price_of bands h l ≡ with_reserve l.reserve (top (bids_on h l.item)) l.start) (λ s. price_of bands h l ≤ with_reserve l.reserve (top (bids_on h l.item)) (max l.start (over bands s)))
+price_one_step bands h l not = rw not (by_step bands (listed_opening l) (bids_on h l.item))

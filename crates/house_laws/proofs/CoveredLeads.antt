@@ -219,7 +219,7 @@ led_covered meant settings c place y b xs other valid raises is =
         listed = pass.listed;
         no_more = ap (mine b.member b.item) whole ∙ more;
         leads = is.left.led;
-        covers = subst (λ (l : Listing). Covers (bands_by settings l) None (second (bids_on (history_of settings (map meant xs)) b.item)) b.maximum) same is.left.covers;
+        covers = subst (λ (l : Listing). Covers (bands_by settings l) l.reserve (second (bids_on (history_of settings (map meant xs)) b.item)) b.maximum) same is.left.covers;
         above = is.above;
         fits = is.fits;
       };
@@ -238,9 +238,9 @@ covered_led meant settings c place y b xs other valid raises is =
     ap (λ zs. history_of settings (map meant zs)) changed ∙ run_parts meant settings is.before other is.later in
     let covered : IsCoveredBid settings y b h (history_from settings (next settings h (meant is.here)) (map meant is.later)) = subst (IsCoveredBid settings y b h) whole is.covered in
     let follows = after_bid meant settings y b h is.here other is.later valid is.means raises covered in
-    let near = last_near meant settings (bands_by settings covered.listing) b.member b.item b.maximum y (next settings h (meant is.here)) (next settings h (meant other)) is.later follows.below follows.near follows.none follows.last in
+    let near = last_near meant settings (bands_by settings covered.listing) covered.listing.reserve b.member b.item b.maximum y (next settings h (meant is.here)) (next settings h (meant other)) is.later follows.below follows.near follows.none follows.last in
     let s = near.surplus in
-    let tops = surplus_tops (bands_by settings covered.listing) None b.member b.maximum y _ _ follows.below s in
+    let tops = surplus_tops (bands_by settings covered.listing) covered.listing.reserve b.member b.maximum y _ _ follows.below s in
     record {
       before = is.before;
       here = is.here;

@@ -102,7 +102,7 @@ bid_counts w i h t d (Bid j z) is =
     rw on (by_more w (bids_on h i) (record { member = d; maximum = z; no = length (bids_on h i) + 1 }) who)
 bid_counts w i h t d (Register name) is = absurd (false_true is)
 bid_counts w i h t d (AddCategory name) is = absurd (false_true is)
-bid_counts w i h t d (Listed category lot title text start buy_now end) is = absurd (false_true is)
+bid_counts w i h t d (Listed category lot title text start buy_now end asks) is = absurd (false_true is)
 bid_counts w i h t d (Buy j) is = absurd (false_true is)
 bid_counts w i h t d Close is = absurd (false_true is)
 bid_counts w i h t d (Settle j) is = absurd (false_true is)
@@ -148,19 +148,19 @@ item_easier None f g easier none = none
 item_easier (Some it) f g easier none = easier it none
 
 -- where the bidder's own maximum is lower, its bid is no harder
-verdict_easier : (settings : Settings) (bands : List (ℕ × ℕ)) (w i x y : ℕ) (h k : History) (t z : ℕ) → x ≤ y → Near settings bands w i x y h k → greatest (bids_on h i) w ≤ greatest (bids_on k i) w
+verdict_easier : (settings : Settings) (bands : List (ℕ × ℕ)) (reserve : Option ℕ) (w i x y : ℕ) (h k : History) (t z : ℕ) → x ≤ y → Near settings bands reserve w i x y h k → greatest (bids_on h i) w ≤ greatest (bids_on k i) w
     → verdict settings k t w (Bid i z) ≡ None → verdict settings h t w (Bid i z) ≡ None
 unfolding verdict
-verdict_easier settings bands w i x y h k t z le near lower none =
-    rw (near.clocks, near.people, near_items settings bands w i x y h k le near)
+verdict_easier settings bands reserve w i x y h k t z le near lower none =
+    rw (near.clocks, near.people, near_items settings bands reserve w i x y h k le near)
     (both_easier (common_rules (clock k) (length (members k)) t w false) (of_item (shown_at (items_shown settings k) i) (bid_rules t w z (greatest (bids_on k i) w)))
     (of_item (shown_at (items_shown settings k) i) (bid_rules t w z (greatest (bids_on h i) w)))
     (item_easier (shown_at (items_shown settings k) i) (bid_rules t w z (greatest (bids_on k i) w)) (bid_rules t w z (greatest (bids_on h i) w))
     (λ it. rules_easier t w z (greatest (bids_on h i) w) (greatest (bids_on k i) w) it lower)) none)
 
-lower_own : (settings : Settings) (bands : List (ℕ × ℕ)) (w i x y : ℕ) (h k : History) → x ≤ y → Near settings bands w i x y h k → greatest (bids_on h i) w ≤ greatest (bids_on k i) w
-lower_own settings bands w i x y h k le near =
-    let own = surplus_own bands None w x y (bids_on h i) (bids_on k i) near.surplus in rw (own.0, own.1) le
+lower_own : (settings : Settings) (bands : List (ℕ × ℕ)) (reserve : Option ℕ) (w i x y : ℕ) (h k : History) → x ≤ y → Near settings bands reserve w i x y h k → greatest (bids_on h i) w ≤ greatest (bids_on k i) w
+lower_own settings bands reserve w i x y h k le near =
+    let own = surplus_own bands reserve w x y (bids_on h i) (bids_on k i) near.surplus in rw (own.0, own.1) le
 
 raised_accepted : (settings : Settings) (w i t x y : ℕ) (h : History) → x ≤ y → y ≤ most_cents → verdict settings h t w (Bid i x) ≡ None → verdict settings h t w (Bid i y) ≡ None
 unfolding verdict
@@ -170,23 +170,23 @@ raised_accepted settings w i t x y h le fits none =
     (item_easier (shown_at (items_shown settings h) i) (bid_rules t w x (greatest (bids_on h i) w)) (bid_rules t w y (greatest (bids_on h i) w))
     (λ it. rules_raise t w x y (greatest (bids_on h i) w) it le fits)) none
 
-its_bid_refused : (settings : Settings) (bands : List (ℕ × ℕ)) (w i x y : ℕ) (h k : History) (t d : ℕ) (command : Command) → x ≤ y → Near settings bands w i x y h k → is_bid_by w i d command ≡ true
+its_bid_refused : (settings : Settings) (bands : List (ℕ × ℕ)) (reserve : Option ℕ) (w i x y : ℕ) (h k : History) (t d : ℕ) (command : Command) → x ≤ y → Near settings bands reserve w i x y h k → is_bid_by w i d command ≡ true
     → verdict settings h t d command ≢ None → verdict settings k t d command ≢ None
-its_bid_refused settings bands w i x y h k t d (Bid j z) le near is refused = λ none.
+its_bid_refused settings bands reserve w i x y h k t d (Bid j z) le near is refused = λ none.
     let item_is : j ≡ i = grind (arith, nat_tests) in
     let who : d ≡ w = grind (arith, nat_tests) in
-    refused (rw (item_is, who) (verdict_easier settings bands w i x y h k t z le near (lower_own settings bands w i x y h k le near) (rw (item_is, who) at none)))
-its_bid_refused settings bands w i x y h k t d (Register name) le near is refused = absurd (false_true is)
-its_bid_refused settings bands w i x y h k t d (AddCategory name) le near is refused = absurd (false_true is)
-its_bid_refused settings bands w i x y h k t d (Listed category lot title text start buy_now end) le near is refused = absurd (false_true is)
-its_bid_refused settings bands w i x y h k t d (Buy j) le near is refused = absurd (false_true is)
-its_bid_refused settings bands w i x y h k t d Close le near is refused = absurd (false_true is)
-its_bid_refused settings bands w i x y h k t d (Settle j) le near is refused = absurd (false_true is)
-its_bid_refused settings bands w i x y h k t d (Watch j) le near is refused = absurd (false_true is)
-its_bid_refused settings bands w i x y h k t d (Unwatch j) le near is refused = absurd (false_true is)
-its_bid_refused settings bands w i x y h k t d (Ask j text) le near is refused = absurd (false_true is)
-its_bid_refused settings bands w i x y h k t d (Answer j asker n text) le near is refused = absurd (false_true is)
-its_bid_refused settings bands w i x y h k t d (Feedback j rating text) le near is refused = absurd (false_true is)
+    refused (rw (item_is, who) (verdict_easier settings bands reserve w i x y h k t z le near (lower_own settings bands reserve w i x y h k le near) (rw (item_is, who) at none)))
+its_bid_refused settings bands reserve w i x y h k t d (Register name) le near is refused = absurd (false_true is)
+its_bid_refused settings bands reserve w i x y h k t d (AddCategory name) le near is refused = absurd (false_true is)
+its_bid_refused settings bands reserve w i x y h k t d (Listed category lot title text start buy_now end asks) le near is refused = absurd (false_true is)
+its_bid_refused settings bands reserve w i x y h k t d (Buy j) le near is refused = absurd (false_true is)
+its_bid_refused settings bands reserve w i x y h k t d Close le near is refused = absurd (false_true is)
+its_bid_refused settings bands reserve w i x y h k t d (Settle j) le near is refused = absurd (false_true is)
+its_bid_refused settings bands reserve w i x y h k t d (Watch j) le near is refused = absurd (false_true is)
+its_bid_refused settings bands reserve w i x y h k t d (Unwatch j) le near is refused = absurd (false_true is)
+its_bid_refused settings bands reserve w i x y h k t d (Ask j text) le near is refused = absurd (false_true is)
+its_bid_refused settings bands reserve w i x y h k t d (Answer j asker n text) le near is refused = absurd (false_true is)
+its_bid_refused settings bands reserve w i x y h k t d (Feedback j rating text) le near is refused = absurd (false_true is)
 
 -- an accepted bid of another is among the others' bids in the end
 bid_covered_by : (bands : List (ℕ × ℕ)) (w i x : ℕ) (h : History) (d number : ℕ) (command : Command) → is_bid_by w i d command ≡ false
@@ -200,7 +200,7 @@ bid_covered_by bands w i x h d number (Bid j maximum) differ all = λ me.
     (all_back (λ b. over bands b.maximum ≤ x) (bids_not_by w (bids_on h i)) (b ∷ []) split).0
 bid_covered_by bands w i x h d number (Register name) differ all = tt
 bid_covered_by bands w i x h d number (AddCategory name) differ all = tt
-bid_covered_by bands w i x h d number (Listed category lot title text start buy_now end) differ all = tt
+bid_covered_by bands w i x h d number (Listed category lot title text start buy_now end asks) differ all = tt
 bid_covered_by bands w i x h d number (Buy j) differ all = tt
 bid_covered_by bands w i x h d number Close differ all = tt
 bid_covered_by bands w i x h d number (Settle j) differ all = tt
@@ -211,14 +211,14 @@ bid_covered_by bands w i x h d number (Answer j asker n text) differ all = tt
 bid_covered_by bands w i x h d number (Feedback j rating text) differ all = tt
 
 -- along the rest of the run
-message_covered : {F : Type 0} (settings : Settings) (bands : List (ℕ × ℕ)) (w i x y : ℕ) (h k : History) (m : Message F) (ms : List (Message F)) → x ≤ y → Near settings bands w i x y h k
+message_covered : {F : Type 0} (settings : Settings) (bands : List (ℕ × ℕ)) (reserve : Option ℕ) (w i x y : ℕ) (h k : History) (m : Message F) (ms : List (Message F)) → x ≤ y → Near settings bands reserve w i x y h k
     → mine w i (history_from settings h (m ∷ ms)) ≡ mine w i h → AreCovered bands x (bids_not_by w (bids_on (history_from settings h (m ∷ ms)) i)) → MessageCovered settings bands w i x h k m
-message_covered settings bands w i x y h k (Read d query) ms le near none all = tt
-message_covered settings bands w i x y h k (Broken caller fault) ms le near none all = tt
-message_covered {F = F} settings bands w i x y h k (Order t d command) ms le near none all = (
+message_covered settings bands reserve w i x y h k (Read d query) ms le near none all = tt
+message_covered settings bands reserve w i x y h k (Broken caller fault) ms le near none all = tt
+message_covered {F = F} settings bands reserve w i x y h k (Order t d command) ms le near none all = (
   λ is. (
     none_accepted F settings w i h t d command ms none is,
-    its_bid_refused settings bands w i x y h k t d command le near is (none_accepted F settings w i h t d command ms none is),
+    its_bid_refused settings bands reserve w i x y h k t d command le near is (none_accepted F settings w i h t d command ms none is),
   ),
   λ accepted.
       elim (by_test (is_bid_by w i d command)) [
@@ -228,26 +228,26 @@ message_covered {F = F} settings bands w i x y h k (Order t d command) ms le nea
       ],
 )
 
-near_twins : {A F : Type 0} (meant : A → Message F) (settings : Settings) (bands : List (ℕ × ℕ)) (c w i x y : ℕ) (h k : History) (xs : List A) → x ≤ y → Near settings bands w i x y h k
+near_twins : {A F : Type 0} (meant : A → Message F) (settings : Settings) (bands : List (ℕ × ℕ)) (reserve : Option ℕ) (c w i x y : ℕ) (h k : History) (xs : List A) → x ≤ y → Near settings bands reserve w i x y h k
     → mine w i (history_from settings h (map meant xs)) ≡ mine w i h → AreCovered bands x (bids_not_by w (bids_on (history_from settings h (map meant xs)) i))
     → AreTwinsFrom meant settings c h k xs xs
-near_twins meant settings bands c w i x y h k [] le near none all = tt
-near_twins meant settings bands c w i x y h k (m ∷ ms) le near none all =
-    let covered = message_covered settings bands w i x y h k (meant m) (map meant ms) le near none all in
-    let near' = near_next settings bands w i x y h k (meant m) le covered near in (
+near_twins meant settings bands reserve c w i x y h k [] le near none all = tt
+near_twins meant settings bands reserve c w i x y h k (m ∷ ms) le near none all =
+    let covered = message_covered settings bands reserve w i x y h k (meant m) (map meant ms) le near none all in
+    let near' = near_next settings bands reserve w i x y h k (meant m) le covered near in (
       inl refl,
-      near_agrees settings bands c w i x y (next settings h (meant m)) (next settings k (meant m)) le near',
-      near_twins meant settings bands c w i x y (next settings h (meant m)) (next settings k (meant m)) ms le near' (no_more_next settings w i h (meant m) (map meant ms) none) all,
+      near_agrees settings bands reserve c w i x y (next settings h (meant m)) (next settings k (meant m)) le near',
+      near_twins meant settings bands reserve c w i x y (next settings h (meant m)) (next settings k (meant m)) ms le near' (no_more_next settings w i h (meant m) (map meant ms) none) all,
     )
 
 -- and they stay near
-pub last_near : {A F : Type 0} (meant : A → Message F) (settings : Settings) (bands : List (ℕ × ℕ)) (w i x y : ℕ) (h k : History) (xs : List A) → x ≤ y → Near settings bands w i x y h k
+pub last_near : {A F : Type 0} (meant : A → Message F) (settings : Settings) (bands : List (ℕ × ℕ)) (reserve : Option ℕ) (w i x y : ℕ) (h k : History) (xs : List A) → x ≤ y → Near settings bands reserve w i x y h k
     → mine w i (history_from settings h (map meant xs)) ≡ mine w i h → AreCovered bands x (bids_not_by w (bids_on (history_from settings h (map meant xs)) i))
-    → Near settings bands w i x y (history_from settings h (map meant xs)) (history_from settings k (map meant xs))
-last_near meant settings bands w i x y h k [] le near none all = near
-last_near meant settings bands w i x y h k (m ∷ ms) le near none all =
-    let covered = message_covered settings bands w i x y h k (meant m) (map meant ms) le near none all in
-    last_near meant settings bands w i x y (next settings h (meant m)) (next settings k (meant m)) ms le (near_next settings bands w i x y h k (meant m) le covered near) (no_more_next settings w i h (meant m) (map meant ms) none) all
+    → Near settings bands reserve w i x y (history_from settings h (map meant xs)) (history_from settings k (map meant xs))
+last_near meant settings bands reserve w i x y h k [] le near none all = near
+last_near meant settings bands reserve w i x y h k (m ∷ ms) le near none all =
+    let covered = message_covered settings bands reserve w i x y h k (meant m) (map meant ms) le near none all in
+    last_near meant settings bands reserve w i x y (next settings h (meant m)) (next settings k (meant m)) ms le (near_next settings bands reserve w i x y h k (meant m) le covered near) (no_more_next settings w i h (meant m) (map meant ms) none) all
 
 -- a leader's bid that is accepted is above its own
 own_rises : (settings : Settings) (h : History) (t w i x : ℕ) → verdict settings h t w (Bid i x) ≡ None → leader (bids_on h i) ≡ Some w → greatest (bids_on h i) w < x
@@ -269,8 +269,8 @@ history_append settings h [] later = refl
 history_append settings h (m ∷ before) later = history_append settings (next settings h m) before later
 
 -- what follows from a covered bid, after it: the two histories are near, the bidder bids no more on the item, and all others' are covered
-pub record Behind {A F : Type 0} (meant : A → Message F) (settings : Settings) (bands : List (ℕ × ℕ)) (y : ℕ) (b : Sealed) (h : History) (here other : A) (later : List A) : Type 0 where
-  pub near : Near settings bands b.member b.item b.maximum y (next settings h (meant here)) (next settings h (meant other))
+pub record Behind {A F : Type 0} (meant : A → Message F) (settings : Settings) (bands : List (ℕ × ℕ)) (reserve : Option ℕ) (y : ℕ) (b : Sealed) (h : History) (here other : A) (later : List A) : Type 0 where
+  pub near : Near settings bands reserve b.member b.item b.maximum y (next settings h (meant here)) (next settings h (meant other))
   pub none : mine b.member b.item (history_from settings (next settings h (meant here)) (map meant later)) ≡ mine b.member b.item (next settings h (meant here))
   pub last : AreCovered bands b.maximum (bids_not_by b.member (bids_on (history_from settings (next settings h (meant here)) (map meant later)) b.item))
   pub below : b.maximum ≤ y
@@ -278,7 +278,7 @@ pub record Behind {A F : Type 0} (meant : A → Message F) (settings : Settings)
 pub after_bid : {A F : Type 0} (meant : A → Message F) (settings : Settings) (y : ℕ) (b : Sealed) (h : History) (here other : A) (later : List A) → IsBandTable settings.bands
     → meant here ≡ bid_message b → meant other ≡ bid_message (with_maximum y b)
     → (covered : IsCoveredBid settings y b h (history_from settings h (map meant (here ∷ later))))
-    → Behind meant settings (bands_by settings covered.listing) y b h here other later
+    → Behind meant settings (bands_by settings covered.listing) covered.listing.reserve y b h here other later
 after_bid {F = F} meant settings y b h here other later valid is raises covered =
     let w = b.member in
     let i = b.item in
@@ -286,6 +286,7 @@ after_bid {F = F} meant settings y b h here other later valid is raises covered 
     let t = b.moment in
     let lt = covered.above in
     let bands : List (ℕ × ℕ) = bands_by settings covered.listing in
+    let reserve : Option ℕ = covered.listing.reserve in
     let number : covered.listing.item ≡ i = listing_is h i covered.listing covered.listed in
     let own : listing_at (listings h) covered.listing.item ≡ Some covered.listing =
     subst (λ (j : ℕ). listing_at (listings h) j ≡ Some covered.listing) (sym number) covered.listed in
@@ -296,8 +297,8 @@ after_bid {F = F} meant settings y b h here other later valid is raises covered 
     let all : AreCovered bands x (bids_not_by w (bids_on h i)) = others_before settings bands w i x h (map meant (here ∷ later)) last in
     let raised = raised_accepted settings w i t x y h le covered.fits covered.accepted in
     let leads = first_or_above bands w x (bids_on h i) (leader (bids_on h i)) refl fits (own_rises settings h t w i x covered.accepted) all in
-    let near : Near settings bands w i x y (next {F = F} settings h (Order t w (Bid i x))) (next {F = F} settings h (Order t w (Bid i y))) =
-    near_raised F settings bands w i t x y h covered.listing covered.listed refl le covered.accepted raised leads all in
+    let near : Near settings bands reserve w i x y (next {F = F} settings h (Order t w (Bid i x))) (next {F = F} settings h (Order t w (Bid i y))) =
+    near_raised F settings bands reserve w i t x y h covered.listing covered.listed refl refl covered.covers.1 le covered.accepted raised leads all in
     let one : mine w i (next settings h (meant here)) ≡ mine w i h + 1 =
     rw (is, next_accepted F settings h t w (Bid i x) covered.accepted) (bid_counts w i h t w (Bid i x) (grind (arith, nat_tests))) in
     record {
@@ -317,8 +318,8 @@ from_bid meant settings c y b h here other later valid is raises apart covered =
     let here_not : is_of c (meant here) ≡ false = rw is apart in
     let other_not : is_of c (meant other) ≡ false = rw raises apart in (
       inr (here_not, other_not),
-      near_agrees settings (bands_by settings covered.listing) c b.member b.item b.maximum y (next settings h (meant here)) (next settings h (meant other)) follows.below follows.near,
-      near_twins meant settings (bands_by settings covered.listing) c b.member b.item b.maximum y (next settings h (meant here)) (next settings h (meant other)) later follows.below follows.near follows.none follows.last,
+      near_agrees settings (bands_by settings covered.listing) covered.listing.reserve c b.member b.item b.maximum y (next settings h (meant here)) (next settings h (meant other)) follows.below follows.near,
+      near_twins meant settings (bands_by settings covered.listing) covered.listing.reserve c b.member b.item b.maximum y (next settings h (meant here)) (next settings h (meant other)) later follows.below follows.near follows.none follows.last,
     )
 
 -- and before it

@@ -119,8 +119,8 @@ price_by_deals bands h l = rw (bought_is (purchase_of h l.item), buyer_is h l.it
 leader_by_deals : (h : History) (l : Listing) → leader_of h l ≡ first_of (buyer_of (deals_on h l.item)) (leader (bids_from 0 (deals_on h l.item)))
 leader_by_deals h l = leads_is (purchase_of h l.item) (leader (bids_on h l.item)) ∙ rw (buyer_is h l.item, bids_are h l.item) refl
 
-pub price_follows : (bands : List (ℕ × ℕ)) (h k : History) (l m : Listing) → l.start ≡ m.start → l.buy_now ≡ m.buy_now → deals_on h l.item ≡ deals_on k m.item → price_of bands h l ≡ price_of bands k m
-price_follows bands h k l m start now deals = price_by_deals bands h l ∙ rw (start, now, deals) (sym (price_by_deals bands k m))
+pub price_follows : (bands : List (ℕ × ℕ)) (h k : History) (l m : Listing) → l.start ≡ m.start → l.reserve ≡ m.reserve → l.buy_now ≡ m.buy_now → deals_on h l.item ≡ deals_on k m.item → price_of bands h l ≡ price_of bands k m
+price_follows bands h k l m start reserve now deals = price_by_deals bands h l ∙ rw (start, reserve, now, deals) (sym (price_by_deals bands k m))
 
 pub leader_follows : (h k : History) (l m : Listing) → deals_on h l.item ≡ deals_on k m.item → leader_of h l ≡ leader_of k m
 leader_follows h k l m deals = leader_by_deals h l ∙ rw deals (sym (leader_by_deals k m))

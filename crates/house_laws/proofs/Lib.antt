@@ -18,3 +18,4 @@ pub mod Purchases
 pub mod BidsShown
 pub mod Asking
 pub mod AskedSeen
+pub mod Reserved

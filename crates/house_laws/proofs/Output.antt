@@ -1,4 +1,8 @@
 -- What a member is told depends on what is public, on its own view and on what waits for it.
+use Rattle.house_rows.proofs.Own.{own_step}
+use Rattle.house_rows.proofs.Ranged.{shown_count}
+use Rattle.house_rows.specs.Runs.{entry}
+use Rattle.house_rows.specs.Listings.{listings}
 use Rattle.std.proofs.Common.{◌≡◌, ℕ, ◌+◌, List, [], ◌∷◌, map, filter, length, refl, ◌∙◌, ap, sym, arith}
 use Rattle.std.specs.Prelude.{◌==◌}
 use Rattle.std.proofs.lemmas.Bool.Decides.{nat_tests}
@@ -16,7 +20,7 @@ use Rattle.house_rows.specs.Questions.{published}
 use Rattle.house_rows.specs.Ratings.{feedback}
 use Rattle.house_rows.specs.Told.{told}
 use Rattle.house_rows.specs.Verdict.{verdict}
-use Rattle.house_rows.specs.Views.{Own, OwnMaximum, Public, own_maxima, own_maximum, own_questions, own_view, own_watches, public_view}
+use Rattle.house_rows.specs.Views.{Own, OwnMaximum, Public, own_maxima, own_maximum, own_questions, own_view, own_watches, public_view, own_reserves}
 use Rattle.house_laws.specs.Alike.{AreAlike}
 
 -- the parts of the public view
@@ -45,6 +49,18 @@ watches_same h k c e = ap (λ (o : Own). o.watches) e
 pub questions_same : (h k : History) (c : ℕ) → own_view h c ≡ own_view k c → own_questions h c ≡ own_questions k c
 questions_same h k c e = ap (λ (o : Own). o.questions) e
 
+pub reserves_same : (h k : History) (c : ℕ) → own_view h c ≡ own_view k c → own_reserves h c ≡ own_reserves k c
+reserves_same h k c e = ap (λ (o : Own). o.reserves) e
+
+-- as many items were listed where as many are shown
+listed_same : (settings : Settings) (h k : History) → public_view settings h ≡ public_view settings k → length (listings h) ≡ length (listings k)
+listed_same settings h k e = sym (shown_count settings h) ∙ ap length (items_same settings h k e) ∙ shown_count settings k
+
+-- Step: an entry of a member changes its own view equally where the histories look alike to it
+pub own_steps : (settings : Settings) (c : ℕ) (h k : History) (t : ℕ) (command : Command) → AreAlike settings c h k
+    → own_view (entry t c command ∷ h) c ≡ own_view (entry t c command ∷ k) c
+own_steps settings c h k t command alike = own_step c h k t command (listed_same settings h k alike.public) alike.own
+
 -- a member's maxima on an item are those of its own view
 abbrev maxima_on : ℕ → List OwnMaximum → List ℕ
 maxima_on i own = map (λ b. b.maximum) (filter (λ b. b.item == i) own)
@@ -53,7 +69,7 @@ maxima_one : (i c number caller : ℕ) (command : Command) → maxima (bids_by c
 maxima_one i c number caller (Bid j maximum) = grind (arith, nat_tests)
 maxima_one i c number caller (Register name) = refl
 maxima_one i c number caller (AddCategory name) = refl
-maxima_one i c number caller (Listed category lot title text start buy_now end) = refl
+maxima_one i c number caller (Listed category lot title text start buy_now end reserve) = refl
 maxima_one i c number caller (Buy j) = refl
 maxima_one i c number caller Close = refl
 maxima_one i c number caller (Settle j) = refl
@@ -86,7 +102,7 @@ verdict_same settings c h k t (Register name) alike =
     rw (clocks settings h k alike.public, members_same settings h k alike.public) refl
 verdict_same settings c h k t (AddCategory name) alike =
     rw (clocks settings h k alike.public, members_same settings h k alike.public, categories_same settings h k alike.public) refl
-verdict_same settings c h k t (Listed category lot title text start buy_now end) alike =
+verdict_same settings c h k t (Listed category lot title text start buy_now end reserve) alike =
     rw (clocks settings h k alike.public, members_same settings h k alike.public, items_same settings h k alike.public, categories_same settings h k alike.public) refl
 verdict_same settings c h k t (Bid i maximum) alike =
     rw (clocks settings h k alike.public, members_same settings h k alike.public, items_same settings h k alike.public, greatest_same h k c i alike.own) refl
@@ -113,7 +129,7 @@ pub told_same : (settings : Settings) (c : ℕ) (h k after later : History) (t :
     → told settings after t c command h ≡ told settings later t c command k
 told_same settings c h k after later t (Register name) p q o = rw (members_same settings after later q) refl
 told_same settings c h k after later t (AddCategory name) p q o = rw (categories_same settings after later q) refl
-told_same settings c h k after later t (Listed category lot title text start buy_now end) p q o = rw (items_same settings after later q) refl
+told_same settings c h k after later t (Listed category lot title text start buy_now end reserve) p q o = rw (items_same settings after later q) refl
 told_same settings c h k after later t (Bid i maximum) p q o = rw (items_same settings after later q) refl
 told_same settings c h k after later t (Buy i) p q o = rw (items_same settings after later q) refl
 told_same settings c h k after later t Close p q o = rw (items_same settings h k p) refl

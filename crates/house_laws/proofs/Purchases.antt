@@ -5,7 +5,7 @@ use Rattle.std.proofs.lemmas.Bool.Decides.{nat_tests}
 use Rattle.house_rows.specs.declared.command.Command.TheVariants.{Buy}
 use Rattle.house_rows.specs.declared.settings.Settings.{Settings}
 use Rattle.house_rows.specs.History.{Entry, History}
-use Rattle.house_rows.specs.Items.{Purchase, close_sells, is_bought, is_settled, is_taken, leader_of, price_of, purchase_in, purchase_of, purchases}
+use Rattle.house_rows.specs.Items.{Purchase, close_sells, is_bought, is_settled, is_taken, leader_of, met_of, price_of, purchase_in, purchase_of, purchases}
 use Rattle.house_rows.specs.Listings.{Listing, bands_by, listing_at, listings}
 use Rattle.house_rows.specs.Runs.{entry}
 use Rattle.house_rows.specs.Verdict.{IsHistory, verdict}
@@ -43,7 +43,7 @@ purchase_now : (settings : Settings) (h : History) (t c : ℕ) (l : Listing) →
     → purchase_of (entry t c (Buy l.item) ∷ h) l.item ≡ Some (bought_by t c l.item)
 purchase_now settings h t c l listed none =
     let here : (l.item == l.item) ≡ true = grind (arith, nat_tests) in
-    let parts = open_parts (is_bought h l.item) (is_taken h l) (close_sells (leader_of h l)) (is_settled h l.item) (bought_open settings h t c l.item l listed none here) in
+    let parts = open_parts (is_bought h l.item) (is_taken h l) (close_sells (leader_of h l) (met_of h l)) (is_settled h l.item) (bought_open settings h t c l.item l listed none here) in
     let free : purchase_of h l.item ≡ None = not_bought h l.item (purchase_of h l.item) refl parts.bought_not in
     found_last (λ (p : Purchase). p.item == l.item) (purchases h) (bought_by t c l.item) free here
 

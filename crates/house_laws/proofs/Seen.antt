@@ -1,5 +1,5 @@
 -- Items as everybody sees them, one by one.
-use Rattle.std.proofs.Common.{◌≡◌, map, ◌∙◌, ap, refl, sym}
+use Rattle.std.proofs.Common.{◌≡◌, map, ◌∙◌, ap, refl}
 use Rattle.house_rows.specs.declared.item.ItemShown.{ItemShown}
 use Rattle.house_rows.specs.declared.settings.Settings.{Settings}
 use Rattle.house_rows.specs.History.{History}
@@ -17,8 +17,6 @@ items_seen settings h = refl
 
 -- where each item looks the same, all do
 pub items_same_each : (settings : Settings) (h k : History) → listings h ≡ listings k → ((l : Listing) → seen settings h l ≡ seen settings k l) → items_shown settings h ≡ items_shown settings k
+unfolding items_shown
 items_same_each settings h k lots each =
-    items_seen settings h
-    ∙ map_same (seen settings h) (seen settings k) (listings h) each
-    ∙ ap (map (seen settings k)) lots
-    ∙ sym (items_seen settings k)
+    map_same (seen settings h) (seen settings k) (listings h) each ∙ ap (map (seen settings k)) lots

@@ -14,11 +14,11 @@ use Rattle.house_rows.specs.declared.talk.Question.{Question}
 use Rattle.house_rows.specs.History.{History}
 use Rattle.house_rows.specs.Items.{items_shown}
 use Rattle.house_rows.specs.Questions.{Asked, answer_to, answered, answers, asked, names, published, questions}
-use Rattle.house_rows.specs.Pages.{own_bid, own_bids, page_of}
+use Rattle.house_rows.specs.Pages.{own_bid, own_bids, page_of, reserves_shown, told_reserve}
 use Rattle.house_rows.specs.Views.{own_questions, own_view}
 use Rattle.house_laws.specs.Alike.{AreAlike}
 use Rattle.house_rows.proofs.Put.{by_test}
-use Rattle.house_laws.proofs.Output.{categories_same, clocks, feedback_same, greatest_same, items_same, members_same, mine_same, published_same, questions_same, watches_same}
+use Rattle.house_laws.proofs.Output.{categories_same, clocks, feedback_same, greatest_same, items_same, members_same, mine_same, published_same, questions_same, watches_same, reserves_same}
 
 -- the same item, asker and number
 abbrev is_same : Asked → Asked → Bool
@@ -158,6 +158,10 @@ own_bids_same : (h k : History) (c : ℕ) (its : List ItemShown) → own_view h 
 unfolding own_bids
 own_bids_same h k c its e = ap (filter (λ (b : OwnBid). nat_lt 0 b.mine)) (own_bids_all h k c its e)
 
+reserves_shown_same : (h k : History) (c : ℕ) (its : List ItemShown) → own_view h c ≡ own_view k c → reserves_shown h c its ≡ reserves_shown k c its
+unfolding reserves_shown
+reserves_shown_same h k c its e = ap (map (told_reserve its)) (reserves_same h k c e)
+
 -- Output, for what a member reads
 pub page_same : (settings : Settings) (c : ℕ) (h k : History) (q : Query) → AreAlike settings c h k → page_of settings h c q ≡ page_of settings k c q
 unfolding page_of
@@ -174,6 +178,8 @@ page_same settings c h k (query.Member m) alike = rw (members_same settings h k 
 page_same settings c h k (query.FeedbackTo m from) alike = rw (members_same settings h k alike.public, feedback_same settings h k alike.public) refl
 page_same settings c h k (query.MyBids from) alike =
     rw (members_same settings h k alike.public, items_same settings h k alike.public, own_bids_same h k c (items_shown settings k) alike.own) refl
+page_same settings c h k (query.MyReserves from) alike =
+    rw (members_same settings h k alike.public, items_same settings h k alike.public, reserves_shown_same h k c (items_shown settings k) alike.own) refl
 page_same settings c h k query.MyWatches alike =
     rw (members_same settings h k alike.public, items_same settings h k alike.public, watches_same h k c alike.own) refl
 page_same settings c h k (query.MyQuestions from) alike =

@@ -13,7 +13,7 @@ use Rattle.house_rows.specs.declared.settings.Settings.{Settings}
 use Rattle.house_rows.specs.declared.state.State.{State}
 use Rattle.house_rows.specs.declared.state.State.TheVariants.{Open, Sold, Unsold, Settled}
 use Rattle.house_rows.specs.History.{History}
-use Rattle.house_rows.specs.Items.{Purchase, closings, is_bought, is_open, is_settled, is_taken, leader_of, purchases, settlements, state_from, state_of}
+use Rattle.house_rows.specs.Items.{Purchase, closings, is_bought, is_open, is_settled, is_taken, leader_of, purchases, settlements, state_from, state_of, close_sells, met_of}
 use Rattle.house_rows.specs.Listings.{Listing, listing_at, listings}
 use Rattle.house_rows.specs.Runs.{entry}
 use Rattle.house_rows.specs.Verdict.{by_terms, is_sold, rules, settlement_rules, verdict}
@@ -86,20 +86,20 @@ pub state_moves : (settings : Settings) (h : History) (t c : ℕ) (command : Com
 state_moves settings h t c (Bid j m) l listed none =
     elim (by_test (j == l.item)) [
       | inl here ↦ (let was = bid_led settings h t c j m l listed none here in
-          rw here (simp append-nil (move_led (is_bought h l.item) (is_taken h l) (is_some (leader_of h l)) _ (is_settled h l.item) was)))
+          rw here (simp append-nil (move_led (is_bought h l.item) (is_taken h l) (close_sells (leader_of h l) (met_of h l)) _ (is_settled h l.item) was)))
       | inr other ↦ rw other (simp append-nil (stays (state_of h l)))
     ]
 state_moves settings h t c (Buy j) l listed none =
     elim (by_test (j == l.item)) [
       | inl here ↦ (let was = bought_open settings h t c j l listed none here in
           let p : Purchase = record { item = j; buyer = c; moment = t } in
-          rw (find_here l.item (purchases h) p here) (simp append-nil (move_bought (is_bought h l.item) (is_taken h l) (is_some (leader_of h l)) (is_settled h l.item) false false was)))
+          rw (find_here l.item (purchases h) p here) (simp append-nil (move_bought (is_bought h l.item) (is_taken h l) (close_sells (leader_of h l) (met_of h l)) (is_settled h l.item) false false was)))
       | inr other ↦ (let p : Purchase = record { item = j; buyer = c; moment = t } in
           rw (find_other l.item (purchases h) p other) (simp append-nil (stays (state_of h l))))
     ]
 state_moves settings h t c Close l listed none =
     simp append-nil (rw (list_any-append (λ c. nat_le l.item c.listed && nat_le l.end c.moment) (closings h) _)
-    (move_closed (is_bought h l.item) (list_any (λ c. nat_le l.item c.listed && nat_le l.end c.moment) (closings h)) _ (is_some (leader_of h l)) (is_settled h l.item)))
+    (move_closed (is_bought h l.item) (list_any (λ c. nat_le l.item c.listed && nat_le l.end c.moment) (closings h)) _ (close_sells (leader_of h l) (met_of h l)) (is_settled h l.item)))
 state_moves settings h t c (Settle j) l listed none =
     elim (by_test (j == l.item)) [
       | inl here ↦ (let sold = settled_sold settings h t c j l listed none here in
@@ -108,7 +108,7 @@ state_moves settings h t c (Settle j) l listed none =
     ]
 state_moves settings h t c (Register name) l listed none = simp append-nil (stays (state_of h l))
 state_moves settings h t c (AddCategory name) l listed none = simp append-nil (stays (state_of h l))
-state_moves settings h t c (Listed category lot title text start buy_now end) l listed none = simp append-nil (stays (state_of h l))
+state_moves settings h t c (Listed category lot title text start buy_now end reserve) l listed none = simp append-nil (stays (state_of h l))
 state_moves settings h t c (Watch j) l listed none = simp append-nil (stays (state_of h l))
 state_moves settings h t c (Unwatch j) l listed none = simp append-nil (stays (state_of h l))
 state_moves settings h t c (Ask j text) l listed none = simp append-nil (stays (state_of h l))

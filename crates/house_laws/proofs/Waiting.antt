@@ -93,8 +93,8 @@ listed_other ls given qs l c other =
 pub waiting_local : (settings : Settings) (c : ℕ) (h : History) (t d : ℕ) (command : Command) → (d == c) ≡ false → verdict settings h t d command ≡ None
     → ((i : ℕ) (text : List ℕ) → command ≡ Ask i text → is_seller (listing_at (listings h) i) c ≡ false)
     → waiting (entry t d command ∷ h) c ≡ waiting h c
-waiting_local settings c h t d (Listed category lot title text start buy_now end) other none asks =
-    rw (waiting_is (entry t d (Listed category lot title text start buy_now end) ∷ h) c, waiting_is h c) (simp append-nil (ap (map (answered (answers h))) (listed_other (listings h) (answers h) (asked h) _ c other)))
+waiting_local settings c h t d (Listed category lot title text start buy_now end reserve) other none asks =
+    rw (waiting_is (entry t d (Listed category lot title text start buy_now end reserve) ∷ h) c, waiting_is h c) (simp append-nil (ap (map (answered (answers h))) (listed_other (listings h) (answers h) (asked h) _ c other)))
 waiting_local settings c h t d (Answer i asker number text) other none asks =
     rw (waiting_is (entry t d (Answer i asker number text) ∷ h) c, waiting_is h c) (simp append-nil (filter_answered (listings h) (answers h) _ c (asked h) (answerer_is_seller settings h t d i asker number text c none other)))
 waiting_local settings c h t d (Ask i text) other none asks =

@@ -40,7 +40,7 @@ pub record IsCoveredBid (settings : Settings) (y : ℕ) (b : Sealed) (before las
   pub listing : Listing
   pub listed : listing_at (listings before) b.item ≡ Some listing
   pub leads : leader (bids_on last b.item) ≡ Some b.member
-  pub covers : Covers (bands_by settings listing) None (second (bids_on last b.item)) b.maximum
+  pub covers : Covers (bands_by settings listing) listing.reserve (second (bids_on last b.item)) b.maximum
   pub above : b.maximum < y
   pub fits : y ≤ most_cents
 
@@ -62,7 +62,7 @@ pub record LeadsBy (settings : Settings) (h : History) (i w x : ℕ) : Type 0 wh
   pub listed : listing_at (listings h) i ≡ Some listing
   pub led : leader (bids_on h i) ≡ Some w
   pub by : top (bids_on h i) ≡ x
-  pub covers : Covers (bands_by settings listing) None (second (bids_on h i)) x
+  pub covers : Covers (bands_by settings listing) listing.reserve (second (bids_on h i)) x
 
 -- the element in that place of a run means a bid that isn't the member's, an amount above it fits, and the run in which that amount
 -- stands in its place is a twin for the member; and in the end the bidder leads by its maximum in the one and by that amount in the

@@ -54,7 +54,7 @@ ListingRulesComeInOrder =
 
 -- Ana lists from 5.00 until 5000
 abbrev pub lists_in : ℕ → List ℕ → List ℕ → Command
-lists_in category lot title = Listed category lot title [] 500 None 5000
+lists_in category lot title = Listed category lot title [] 500 None 5000 None
 
 -- the same over the setup: a lot with a space, one that Ana has, no title, and no such category
 abbrev pub ListingsAreRefused : Type 0
@@ -87,6 +87,7 @@ CloseLeavesWhatWasBought =
           price = 2000;
           leader = Some 2;
           count = 0;
+          met = None;
         };
         lot = codes "B2";
         title = codes "Atlas";

@@ -14,7 +14,7 @@ settings = record { bands = example_table; rate = 1000; zone = codes "UTC0" }
 
 -- Ana lists an item
 abbrev pub lists : List ℕ → ℕ → Option ℕ → Command
-lists lot start buy_now = Listed 1 lot (codes "Atlas") [] start buy_now 5000
+lists lot start buy_now = Listed 1 lot (codes "Atlas") [] start buy_now 5000 None
 
 -- Ana, Ben and Cid are members 1 to 3, Books is category 1, and Ana lists item 1 from 5.00 until 5000
 abbrev pub setup : History

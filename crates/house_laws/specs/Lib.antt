@@ -1,6 +1,7 @@
 pub mod Alike
 pub mod Examples
 pub mod WorkedRows
+pub mod ReserveRows
 pub mod WrongReadings
 pub mod Course
 pub mod TwinRuns

@@ -50,6 +50,7 @@ atlas_at price leader count floor = record {
       price = price;
       leader = leader;
       count = count;
+      met = None;
     };
     lot = codes "A1";
     title = codes "Atlas";

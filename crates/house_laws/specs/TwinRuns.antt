@@ -50,6 +50,7 @@ TwinsGetTheseReplies F = replies_to {F = F} settings 2 (run_with 8000) ≡
           price = 1050;
           leader = Some 3;
           count = 2;
+          met = None;
         };
         lot = codes "A1";
         title = codes "Atlas";

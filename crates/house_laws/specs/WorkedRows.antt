@@ -39,6 +39,7 @@ ItemIsShown = page_of settings setup 2 (query.Item 1) ≡ OneItem (record {
       price = 500;
       leader = None;
       count = 0;
+      met = None;
     };
     lot = codes "A1";
     title = codes "Atlas";

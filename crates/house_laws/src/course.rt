@@ -1,5 +1,5 @@
 //! The course of items along a history, in the subject's own words.
-ghost use Rattle.std.specs.Prelude.{◌≡◌, ◌≤◌, ◌+◌, ◌∷◌, ℕ, length, true, Some, None};
+ghost use Rattle.std.specs.Prelude.{◌≡◌, ◌≢◌, ◌≤◌, ◌+◌, ◌∷◌, ℕ, length, true, false, Some, None};
 ghost use Rattle.settle.specs.Balance.{IsBalanced};
 ghost use Rattle.settle.specs.declared.zone.Zone.{Zone};
 ghost use Rattle.house_rows.specs.declared.change.Change.{Change};
@@ -10,11 +10,11 @@ ghost use Rattle.house_rows.specs.declared.refusal.Refusal.{Refusal};
 ghost use Rattle.house_rows.specs.declared.settings.Settings.{Settings};
 ghost use Rattle.house_rows.specs.History.{History};
 ghost use Rattle.house_rows.specs.Bids.{bids_on};
-ghost use Rattle.house_rows.specs.Items.{items_shown, state_of};
+ghost use Rattle.house_rows.specs.Items.{items_shown, met_of, state_of};
 ghost use Rattle.house_rows.specs.Listings.{Listing, listing_at, listings};
 ghost use Rattle.house_rows.specs.Pages.{all_sales};
 ghost use Rattle.house_rows.specs.Runs.{entry, next};
-ghost use Rattle.house_rows.specs.Verdict.{IsHistory, verdict};
+ghost use Rattle.house_rows.specs.Verdict.{IsHistory, verdict, was_sold};
 ghost use Rattle.house_rows.specs.Asks.{ChangeFits};
 ghost use Rattle.house_rows.specs.Changed.{changed};
 ghost use Rattle.house_rows.specs.Keeping.{AreSound};
@@ -28,6 +28,14 @@ pub fn states_only_move_forward()
     ensures { (settings : Settings) (h : History) (moment caller : ℕ) (command : Command) (l : Listing)
         → listing_at (listings h) l.item ≡ Some l → verdict settings h moment caller command ≡ None
         → may_move (state_of h l) (state_of (entry moment caller command ∷ h) l) ≡ true }
+{}
+
+/// What was sold has its reserve met, if it has one.
+#[tactic(auto, using(crate::proofs::Reserved::sold_is_met))]
+pub fn unmet_reserves_are_not_sold()
+    ensures { (settings : Settings) (h : History) (l : Listing) → IsHistory settings h
+        → listing_at (listings h) l.item ≡ Some l → was_sold (state_of h l) ≡ true
+        → met_of h l ≢ Some false }
 {}
 
 /// Every accepted bid, a raise among them, adds one to its item's count.

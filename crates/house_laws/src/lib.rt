@@ -10,6 +10,7 @@ mod course;
 mod edges;
 mod prices;
 mod privacy;
+mod reserves;
 mod secrecy;
 mod statements;
 mod surplus;
@@ -18,13 +19,14 @@ mod worked;
 
 pub use course::{
     accepted_bids_count, changes_keep_tables_sound, refused_commands_change_nothing,
-    rows_of_a_history_fit, sales_balance, states_only_move_forward,
+    rows_of_a_history_fit, sales_balance, states_only_move_forward, unmet_reserves_are_not_sold,
 };
 pub use edges::{edges_of_rules, members_watch_200};
 pub use prices::{
     best_offer_leads, prices_depend_on_deals, prices_never_fall, purchases_cost_the_buy_now_price,
 };
 pub use privacy::{questions_are_private_until_answered, sellers_learn_what_is_shown};
+pub use reserves::{reserves_worked, sealed_reserves_may_differ};
 pub use secrecy::{
     commands_step_equally, isolation, isolation_from_any_point, isolation_over_crashes,
     replies_depend_on_views, views_are_local,

@@ -1,7 +1,7 @@
 //! What the price of an item is by, and what bidders can rely on.
 ghost use Rattle.std.specs.Prelude.{◌≡◌, ◌≤◌, ◌<◌, ◌++◌, ◌∷◌, ℕ, List, length, max, true, false, None, Some, MatchOption};
 ghost use Rattle.steps.specs.Table.{IsBandTable, over};
-ghost use Rattle.proxy.specs.Bids.{greatest, second};
+ghost use Rattle.proxy.specs.Bids.{greatest, second, top, with_reserve};
 ghost use Rattle.house_rows.specs.declared.command.Command.TheVariants.{Buy};
 ghost use Rattle.house_rows.specs.declared.settings.Settings.{Settings};
 ghost use Rattle.house_rows.specs.Bids.{bids_on};
@@ -25,7 +25,8 @@ pub fn prices_never_fall()
 /// Of an item that wasn't bought at once, whoever has offered more than the price leads, and the
 /// leader has offered at least the price: nobody who would have paid more loses, and nobody pays
 /// more than it offered. The price is the start where nobody but the leader has bid, and else at
-/// most the start or one step over the best offer of the others.
+/// most the start or one step over the best offer of the others. Where the leader's offer meets a
+/// reserve above that, the reserve takes its place.
 #[tactic(auto, using(crate::proofs::Bidders::above_price_leads, crate::proofs::Bidders::leader_covers, crate::proofs::Bidders::price_one_step))]
 pub fn best_offer_leads()
     ensures above { (bands : List (ℕ × ℕ)) (h : History) (l : Listing) (member : ℕ)
@@ -37,8 +38,10 @@ pub fn best_offer_leads()
         → price_of (bands_by settings l) h l ≤ greatest (bids_on h l.item) member }
     ensures one_step { (bands : List (ℕ × ℕ)) (h : History) (l : Listing)
         → is_bought h l.item ≡ false
-        → MatchOption (second (bids_on h l.item)) (price_of bands h l ≡ l.start)
-        (λ offer. price_of bands h l ≤ max l.start (over bands offer)) }
+        → MatchOption (second (bids_on h l.item))
+        (price_of bands h l ≡ with_reserve l.reserve (top (bids_on h l.item)) l.start)
+        (λ offer. price_of bands h l
+        ≤ with_reserve l.reserve (top (bids_on h l.item)) (max l.start (over bands offer))) }
 {}
 
 /// An item that was bought at once costs its buy-now price. Who bought it stays its buyer, whatever
@@ -55,12 +58,13 @@ pub fn purchases_cost_the_buy_now_price()
 {}
 
 /// Leader, price and count of bids of an item depend on its bids and its purchase alone, and the
-/// price on the band table, the start and the buy-now price too: on no moment, and on nothing that
-/// is done with other items.
+/// price on the band table, the start, the reserve and the buy-now price too: on no moment, and on
+/// nothing that is done with other items.
 #[tactic(auto, using(crate::proofs::Deals::price_follows, crate::proofs::Deals::leader_follows, crate::proofs::Deals::count_follows))]
 pub fn prices_depend_on_deals()
     ensures price { (bands : List (ℕ × ℕ)) (h k : History) (l m : Listing)
-        → l.start ≡ m.start → l.buy_now ≡ m.buy_now → deals_on h l.item ≡ deals_on k m.item
+        → l.start ≡ m.start → l.reserve ≡ m.reserve → l.buy_now ≡ m.buy_now
+        → deals_on h l.item ≡ deals_on k m.item
         → price_of bands h l ≡ price_of bands k m }
     ensures leader { (h k : History) (l m : Listing) → deals_on h l.item ≡ deals_on k m.item
         → leader_of h l ≡ leader_of k m }

@@ -1,5 +1,5 @@
 //! Isolation, and the three parts that it follows from.
-ghost use Rattle.std.specs.Prelude.{◌≡◌, ◌==◌, ◌∷◌, ℕ, List, map, None, true, false};
+ghost use Rattle.std.specs.Prelude.{◌≡◌, ◌==◌, ◌∷◌, ℕ, List, length, map, None, true, false};
 ghost use Rattle.house_laws.specs.Alike.{AreAlike};
 ghost use Rattle.house_laws.specs.Lives.{AreTwinLives, Life, lives_history, rendered_in_lives};
 ghost use Rattle.house_rows.specs.declared.command.Command.{Command};
@@ -89,10 +89,11 @@ pub fn views_are_local()
 {}
 
 /// Step: an entry of a member changes what it has of its own equally in two histories in which that is
-/// the same.
+/// the same, and in which as many items are listed: a reserve is kept with the number of its item.
 #[tactic(auto, using(house_rows::proofs::Own::own_step))]
 pub fn commands_step_equally()
-    ensures { (c : ℕ) (h k : History) (moment : ℕ) (command : Command) → own_view h c ≡ own_view k c
+    ensures { (c : ℕ) (h k : History) (moment : ℕ) (command : Command)
+        → length (listings h) ≡ length (listings k) → own_view h c ≡ own_view k c
         → own_view (entry moment c command ∷ h) c ≡ own_view (entry moment c command ∷ k) c }
 {}
 

@@ -1,7 +1,7 @@
 //! A surplus is invisible.
 ghost use Rattle.std.specs.Prelude.{◌≡◌, ◌↔◌, ℕ, List};
 ghost use Rattle.steps.specs.Table.{IsBandTable};
-ghost use Rattle.house_laws.specs.SurplusRuns.{BidThatIsNotTheLastMakesNoTwin, LeaderWhoIsOvertakenMakesNoTwin, LessThanAStepMakesNoTwin, SurplusIsCovered};
+ghost use Rattle.house_laws.specs.SurplusRuns.{BidThatIsNotTheLastMakesNoTwin, LeaderWhoIsOvertakenMakesNoTwin, LessThanAStepMakesNoTwin, MaximumUnderTheReserveMakesNoTwin, MetReserveIsCovered, SurplusIsCovered};
 ghost use Rattle.house_laws.specs.Covered.{IsCovered, IsLedByBoth, Sealed, bid_message, raised, with_maximum};
 ghost use Rattle.house_rows.specs.declared.message.Message.{Message};
 ghost use Rattle.house_rows.specs.declared.reply.Reply.{Reply};
@@ -36,12 +36,14 @@ pub fn covers_show_in_the_end<A, F>()
         → (IsCovered meant settings c place y b run ↔ IsLedByBoth meant settings c place y b run other) }
 {}
 
-/// A run of eight messages in which a surplus is covered; and runs in which one premise of that
-/// doesn't hold and which are no twins of theirs with a greater maximum. `specs/SurplusRuns.antt` has
-/// the messages.
+/// Runs of eight messages in which a surplus is covered, one of them with a reserve; and runs in
+/// which one premise of that doesn't hold and which are no twins of theirs with a greater maximum.
+/// `specs/SurplusRuns.antt` has the messages.
 pub fn surplus_needs_its_premises<F>()
     ensures covered { SurplusIsCovered F }
     ensures step { LessThanAStepMakesNoTwin F }
     ensures last { BidThatIsNotTheLastMakesNoTwin F }
     ensures leads { LeaderWhoIsOvertakenMakesNoTwin F }
+    ensures met { MetReserveIsCovered F }
+    ensures reserve { MaximumUnderTheReserveMakesNoTwin F }
 {}

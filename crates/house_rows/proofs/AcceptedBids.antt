@@ -18,7 +18,7 @@ use Rattle.house_rows.specs.declared.refusal.Refusal.TheVariants.{Low, NotHigher
 use Rattle.house_rows.specs.declared.settings.Settings.{Settings}
 use Rattle.house_rows.specs.Bids.{bids_on}
 use Rattle.house_rows.specs.History.{Entry, History}
-use Rattle.house_rows.specs.Items.{Purchase, is_bought, is_open, is_settled, is_taken, leader_of, purchase_in, purchase_of, purchases, shown_now, state_of}
+use Rattle.house_rows.specs.Items.{Purchase, is_bought, is_open, is_settled, is_taken, leader_of, purchase_in, purchase_of, purchases, shown_now, state_of, close_sells, met_of}
 use Rattle.house_rows.specs.Limits.{most_bids, most_cents}
 use Rattle.house_rows.specs.Listings.{Listing, bands_by, listed_opening, listing_at, listings}
 use Rattle.house_rows.specs.Runs.{entry}
@@ -74,7 +74,7 @@ pub bid_accepted : (settings : Settings) (h : History) (t c m : ℕ) (l : Listin
     → refusal (bands_by settings l) (listed_opening l) (bids_on h l.item) c m ≡ None
 bid_accepted settings h t c m l listed none =
     let is : is_open (state_of h l) ≡ true = bid_led settings h t c l.item m l listed none (grind (arith, nat_tests)) in
-    let parts = open_parts (is_bought h l.item) (is_taken h l) (is_some (leader_of h l)) (is_settled h l.item) is in
+    let parts = open_parts (is_bought h l.item) (is_taken h l) (close_sells (leader_of h l) (met_of h l)) (is_settled h l.item) is in
     let unsold : purchase_of h l.item ≡ None = not_bought h l.item (purchase_of h l.item) refl parts.bought_not in
     let own : first_failing (rules settings h t c (Bid l.item m)) ≡ None = own_pass settings h t c (Bid l.item m) none in
     let more : ItemShown → List Rule = bid_rules t c m (greatest (bids_on h l.item) c) in
@@ -156,7 +156,7 @@ no_bid_after settings h t c (Bid j m) p none is =
           let listed : listing_at (listings h) is.listing.item ≡ Some is.listing = subst (λ (i : ℕ). listing_at (listings h) i ≡ Some is.listing) (sym same) is.listed in
           let on : (j == is.listing.item) ≡ true = rw same here in
           let open' = bid_led settings h t c j m is.listing listed none on in
-          let parts = open_parts (is_bought h is.listing.item) (is_taken h is.listing) (is_some (leader_of h is.listing)) (is_settled h is.listing.item) open' in
+          let parts = open_parts (is_bought h is.listing.item) (is_taken h is.listing) (close_sells (leader_of h is.listing) (met_of h is.listing)) (is_settled h is.listing.item) open' in
           let not : is_bought h p.item ≡ false = rw same at parts.bought_not in
           absurd (let e : true ≡ false = sym is.bought ∙ not in cc))
       | inr other ↦ rw (other, is.no_bid) refl

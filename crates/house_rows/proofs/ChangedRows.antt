@@ -1,13 +1,14 @@
 -- The rows of items that fit, after a bid, a purchase, a close or a settlement that fits.
-use Rattle.std.proofs.Common.{◌≡◌, ◌≢◌, ℕ, ◌+◌, ◌≤◌, ◌<◌, ◌⊎◌, List, [], ◌∷◌, ◌++◌, map, length, Bool, true, false, refl, ◌∙◌, ap, sym, subst, arith, inl, inr, Option, Some, None}
-use Rattle.std.specs.Prelude.{◌==◌, ◌&&◌, if◌then◌else◌, find, is_some, nat_le, IfSome}
+use Rattle.house_rows.proofs.RangedTalk.{sells_led}
+use Rattle.std.proofs.Common.{option_map, ◌≡◌, ◌≢◌, ℕ, ◌+◌, ◌≤◌, ◌<◌, ◌⊎◌, List, [], ◌∷◌, ◌++◌, map, length, Bool, true, false, refl, ◌∙◌, ap, sym, subst, arith, inl, inr, Option, Some, None}
+use Rattle.std.specs.Prelude.{◌==◌, ◌&&◌, find, nat_le, IfSome}
 use Rattle.std.specs.List.{AllByRecursion}
 use Rattle.std.proofs.lemmas.Bool.{cases_lt}
 use Rattle.std.proofs.lemmas.Bool.Decides.{nat_tests}
 use Rattle.std.proofs.lemmas.List.{length-append}
 use Rattle.proxy.specs.Opening.{Opening}
 use Rattle.proxy.specs.Accepted.{AreAccepted}
-use Rattle.proxy.specs.Bids.{greatest_if_any, greatest_of, leader, maxima, one_more, refusal, standing_of, top}
+use Rattle.proxy.specs.Bids.{greatest_if_any, greatest_of, leader, maxima, one_more, refusal, standing_of, top, met_by}
 use Rattle.proxy.specs.Kept.{Kept}
 use Rattle.proxy.specs.Rules.{first_failing}
 use Rattle.proxy.specs.declared.bid.Bid as bid
@@ -18,8 +19,8 @@ use Rattle.house_rows.specs.declared.change.NewItem.{NewItem}
 use Rattle.house_rows.specs.declared.item.Terms.{Terms}
 use Rattle.house_rows.specs.declared.state.State.{State}
 use Rattle.house_rows.specs.declared.state.State.TheVariants.{Open, Sold, Unsold, Settled}
-use Rattle.house_rows.specs.Changed.{is_item, new_item, new_opening, with_close, with_purchase, with_settlement, with_standing, with_terms}
-use Rattle.house_rows.specs.Fits.{IsItem, IsMember, IsMoment, IsWithin, TermsFit}
+use Rattle.house_rows.specs.Changed.{is_item, new_item, new_opening, with_close, with_purchase, with_settlement, with_standing, with_terms, kept_met}
+use Rattle.house_rows.specs.Fits.{IsItem, IsMember, IsMoment, IsWithin, TermsFit, ReserveFits}
 use Rattle.house_rows.specs.Found.{row_at}
 use Rattle.house_rows.specs.Items.{close_sells, closed_state, is_due, is_open}
 use Rattle.house_rows.specs.Keeping.{AreInTurn, AreSound, IsBought, IsByBids, ItemRowFits, RowFits}
@@ -141,7 +142,7 @@ room_for bands opening bids m x none = let room = not_full _ _ (nat_le 10000 (le
 
 -- the row of an item that stands as its bids do
 abbrev with_bids : Kept → ItemRow → ItemRow
-with_bids kept row = record (with_terms (record row.item.terms { price = kept.price; leader = kept.leader; count = kept.count }) row) { standing = kept }
+with_bids kept row = record (with_terms (record row.item.terms { price = kept.price; leader = kept.leader; count = kept.count; met = kept_met kept }) row) { standing = kept }
 
 bid_row_fits : (bands : List (ℕ × ℕ)) (row : ItemRow) (bids : List bid.Bid) (m x : ℕ) → ItemRowFits bands row → is_open row.item.terms.state ≡ true → row.standing ≡ standing_of bands (row_opening row) bids
     → IsMember m → m ≢ row.item.terms.seller → x ≤ most_cents → AreAccepted bands (row_opening row) (one_more bids m x)
@@ -183,7 +184,7 @@ bid_row_fits bands row bids m x fits is stands member apart within accepted =
       top = top';
       reserve = fits.reserve;
       count = refl;
-      told = inl (record { price = refl; leader = refl });
+      told = inl (record { price = refl; leader = refl; met = refl });
     }
 
 standing_here : (i : ℕ) (kept : Kept) (row : ItemRow) → is_item i row ≡ true → with_standing i kept row ≡ with_bids kept row
@@ -203,13 +204,27 @@ standing_fits bands i kept row bids m x is fits state stands member apart within
 
 -- the row of an item that was bought at once
 abbrev bought_row : ℕ → ℕ → ℕ → ItemRow → ItemRow
-bought_row buyer price moment row = with_terms (record row.item.terms { state = Sold; closed = Some moment; price = price; leader = Some buyer }) row
+bought_row buyer price moment row = with_terms (record row.item.terms { state = Sold; closed = Some moment; price = price; leader = Some buyer; met = option_map (λ m. true) row.item.terms.met }) row
 
 purchase_here : (i buyer price moment : ℕ) (row : ItemRow) → is_item i row ≡ true → with_purchase i buyer price moment row ≡ bought_row buyer price moment row
 purchase_here i buyer price moment row is = rw is refl
 
 pub purchase_other : (i buyer price moment : ℕ) (row : ItemRow) → is_item i row ≡ false → with_purchase i buyer price moment row ≡ row
 purchase_other i buyer price moment row other = rw other refl
+
+-- a reserve is met where it was bought at once
+pub met_again : (reserve top : Option ℕ) → option_map (λ m. true) (met_by reserve top) ≡ option_map (λ r. true) reserve
+met_again None top = refl
+met_again (Some r) None = refl
+met_again (Some r) (Some t) = refl
+
+met_still : (reserve : Option ℕ) → option_map (λ m. true) (option_map (λ r. true) reserve) ≡ option_map (λ r. true) reserve
+met_still None = refl
+met_still (Some r) = refl
+
+met_now : (row : ItemRow) → IsByBids row ⊎ IsBought row → option_map (λ m. true) row.item.terms.met ≡ option_map (λ r. true) row.standing.reserve
+met_now row (inl by) = rw by.met (met_again row.standing.reserve row.standing.top)
+met_now row (inr bought) = rw bought.met (met_still row.standing.reserve)
 
 bought_fits : (bands : List (ℕ × ℕ)) (buyer price moment : ℕ) (row : ItemRow) → ItemRowFits bands row → IsMember buyer → buyer ≢ row.item.terms.seller → IsMoment moment
     → row.item.terms.count ≡ 0 → row.item.terms.buy_now ≡ Some price → ItemRowFits bands (bought_row buyer price moment row)
@@ -245,7 +260,7 @@ bought_fits bands buyer price moment row fits member apart moment_fits no_bid at
       top = fits.top;
       reserve = fits.reserve;
       count = fits.count;
-      told = inr (record { sold = refl; no_bid = count ∙ sym fits.count ∙ no_bid; price = at_price });
+      told = inr (record { sold = refl; no_bid = count ∙ sym fits.count ∙ no_bid; price = at_price; met = met_now row fits.told });
     }
 
 -- after a purchase the row of its item fits
@@ -256,7 +271,7 @@ purchase_fits bands i buyer price moment row is fits member apart moment_fits no
 
 -- the row of an item that a close took
 abbrev closed_row : ItemRow → ItemRow
-closed_row row = with_terms (record row.item.terms { state = closed_state (close_sells row.item.terms.leader); closed = Some row.item.terms.end }) row
+closed_row row = with_terms (record row.item.terms { state = closed_state (close_sells row.item.terms.leader row.item.terms.met); closed = Some row.item.terms.end }) row
 
 close_here : (moment : ℕ) (row : ItemRow) → is_due moment row.item.terms ≡ true → with_close moment row ≡ closed_row row
 close_here moment row due = rw due refl
@@ -291,7 +306,7 @@ closed_fits bands row is fits =
           leader = old.leader;
           apart = old.apart;
           count = old.count;
-          sold_led = λ sold. led_if (close_sells row.item.terms.leader) sold;
+          sold_led = λ sold. sells_led row.item.terms.leader row.item.terms.met (led_if (close_sells row.item.terms.leader row.item.terms.met) sold);
           sold_closed = λ sold. refl;
         };
         lot = fits.item.lot;
@@ -308,7 +323,7 @@ closed_fits bands row is fits =
       told = by_told fits.told;
     } where
       by_told : IsByBids row ⊎ IsBought row → IsByBids (closed_row row) ⊎ IsBought (closed_row row)
-      by_told (inl by) = inl (record { price = by.price; leader = by.leader })
+      by_told (inl by) = inl (record { price = by.price; leader = by.leader; met = by.met })
       by_told (inr bought) = absurd (open_unsold row.item.terms.state is bought.sold)
 
 -- after a close every row fits
@@ -363,8 +378,8 @@ settled_fits bands row sold fits =
       told = by_told fits.told;
     } where
       by_told : IsByBids row ⊎ IsBought row → IsByBids (settled_row row) ⊎ IsBought (settled_row row)
-      by_told (inl by) = inl (record { price = by.price; leader = by.leader })
-      by_told (inr bought) = inr (record { sold = refl; no_bid = bought.no_bid; price = bought.price })
+      by_told (inl by) = inl (record { price = by.price; leader = by.leader; met = by.met })
+      by_told (inr bought) = inr (record { sold = refl; no_bid = bought.no_bid; price = bought.price; met = bought.met })
 
 -- after a settlement the row of its item fits
 pub settlement_fits : (bands : List (ℕ × ℕ)) (i : ℕ) (row : ItemRow) → is_item i row ≡ true → ItemRowFits bands row → row.item.terms.state ≡ Sold → ItemRowFits bands (with_settlement i row)
@@ -394,12 +409,15 @@ new_price bands opening = sym (ap (λ (k : Kept). k.price) (standing-none bands 
 new_leader : (bands : List (ℕ × ℕ)) (opening : Opening) → None ≡ (standing_of bands opening []).leader
 new_leader bands opening = sym (ap (λ (k : Kept). k.leader) (standing-none bands opening))
 
+new_met : (bands : List (ℕ × ℕ)) (opening : Opening) → met_by opening.reserve None ≡ kept_met (standing_of bands opening [])
+new_met bands opening = refl
+
 -- the row of a new item fits
 pub new_fits : (bands : List (ℕ × ℕ)) (number : ℕ) (item : NewItem) → IsItem number → IsMember item.seller → IsWithin 1 most_categories item.category
     → is_lot item.lot.now ≡ true → is_text 1 80 item.title.now ≡ true → is_text 0 2000 item.text.now ≡ true → IsWithin 1 most_cents item.start
-    → IfSome item.buy_now (λ amount. IsWithin item.start most_cents amount) → IsMoment item.end
+    → IfSome item.buy_now (λ amount. IsWithin item.start most_cents amount) → IsMoment item.end → ReserveFits item.start item.buy_now item.reserve
     → ItemRowFits bands (new_item number item)
-new_fits bands number item number_fits seller_fits category_fits lot_fits title_fits text_fits start_fits buy_now_fits end_fits = record {
+new_fits bands number item number_fits seller_fits category_fits lot_fits title_fits text_fits start_fits buy_now_fits end_fits reserve_fits = record {
   item = record {
     terms = record {
       item = number_fits;
@@ -425,7 +443,7 @@ new_fits bands number item number_fits seller_fits category_fits lot_fits title_
   few = omega arith;
   stands = new_stands [] bands (new_opening item);
   top = tt;
-  reserve = refl;
+  reserve = reserve_fits;
   count = refl;
-  told = inl (record { price = new_price [] (new_opening item); leader = new_leader [] (new_opening item) });
+  told = inl (record { price = new_price [] (new_opening item); leader = new_leader [] (new_opening item); met = new_met [] (new_opening item) });
 }

@@ -1,5 +1,5 @@
 -- An item goes by the band table of its listing.
-use Rattle.std.proofs.Common.{◌≡◌, ℕ, List, [], ◌∷◌, ◌++◌, refl, subst, Option, Some}
+use Rattle.std.proofs.Common.{◌≡◌, ℕ, [], ◌∷◌, refl, subst, Some}
 use Rattle.std.specs.Prelude.{◌==◌}
 use Rattle.std.specs.List.{AllByRecursion}
 use Rattle.steps.specs.Table.{IsBandTable}
@@ -13,7 +13,7 @@ use Rattle.house_rows.proofs.Every.{every_joined, found_has}
 
 -- before no listing a table was set
 none_before : (number caller : ℕ) (command : Command) → AllByRecursion (λ l. l.set ≡ []) (listing_in number caller command)
-none_before number caller (Listed category lot title text start buy_now end) = (refl, tt)
+none_before number caller (Listed category lot title text start buy_now end reserve) = (refl, tt)
 none_before number caller command = tt
 
 none_set : (h : History) → AllByRecursion (λ l. l.set ≡ []) (listings h)

@@ -38,7 +38,7 @@ categories_in_turn [] = tt
 categories_in_turn (e ∷ h) = categories_step (categories h) e.command (categories_in_turn h)
 
 listings_step : (ls : List Listing) (caller : ℕ) (command : Command) → AreInTurn (λ l. l.item) 1 ls → AreInTurn (λ l. l.item) 1 (ls ++ listing_in (length ls + 1) caller command)
-listings_step ls caller (Listed category lot title text start buy_now end) are = turn_more (λ (l : Listing). l.item) 1 ls _ are refl
+listings_step ls caller (Listed category lot title text start buy_now end reserve) are = turn_more (λ (l : Listing). l.item) 1 ls _ are refl
 listings_step ls caller command are = simp append-nil are
 
 pub listings_in_turn : (h : History) → AreInTurn (λ l. l.item) 1 (listings h)

@@ -1,5 +1,5 @@
 -- Lists that are tested, found and made.
-use Rattle.std.proofs.Common.{◌≡◌, List, [], ◌∷◌, map, filter, Bool, true, false, refl, ◌∙◌, ap, inl, inr}
+use Rattle.std.proofs.Common.{◌≡◌, List, [], ◌∷◌, map, filter, Bool, refl, ◌∙◌, ap, inl, inr}
 use Rattle.std.specs.Prelude.{find, is_some, option_map, ◌&&◌}
 use Rattle.std.specs.List.{AllByRecursion, list_any}
 use Rattle.house_rows.proofs.Put.{by_test}

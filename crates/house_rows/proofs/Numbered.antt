@@ -30,7 +30,7 @@ one_more ls l at are = record {
 }
 
 step : (ls : List Listing) (caller : ℕ) (command : Command) → AreNumbered ls → AreNumbered (ls ++ listing_in (length ls + 1) caller command)
-step ls caller (Listed category lot title text start buy_now end) are = one_more ls _ refl are
+step ls caller (Listed category lot title text start buy_now end reserve) are = one_more ls _ refl are
 step ls caller (Register name) are = simp append-nil are
 step ls caller (AddCategory name) are = simp append-nil are
 step ls caller (Bid i m) are = simp append-nil are

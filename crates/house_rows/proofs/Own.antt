@@ -1,5 +1,7 @@
 -- What a member has of its own: no entry of another changes it, and an entry of its own changes it by itself.
-use Rattle.std.proofs.Common.{◌≡◌, ℕ, ◌+◌, List, [], ◌∷◌, filter, true, false, not, refl, ◌∙◌, ap, sym, arith}
+use Rattle.std.proofs.lemmas.List.Elements.{filter-append}
+use Rattle.house_rows.specs.Listings.{Listing, listing_in, listings, reserve_row, reserve_rows}
+use Rattle.std.proofs.Common.{◌≡◌, ℕ, ◌+◌, List, [], ◌∷◌, filter, true, false, not, refl, ◌∙◌, ap, sym, arith, ◌++◌, length, append_assoc}
 use Rattle.std.specs.Prelude.{◌==◌}
 use Rattle.std.proofs.lemmas.Bool.Decides.{nat_tests}
 use Rattle.std.proofs.lemmas.List.{append-nil}
@@ -7,7 +9,7 @@ use Rattle.house_rows.specs.declared.command.Command.{Command}
 use Rattle.house_rows.specs.declared.command.Command.TheVariants.{Register, AddCategory, List as Listed, Bid, Buy, Close, Settle, Watch, Unwatch, Ask, Answer, Feedback}
 use Rattle.house_rows.specs.History.{Entry, History, put_by}
 use Rattle.house_rows.specs.Questions.{Asked, ask_count, asked, asked_key, with_question}
-use Rattle.house_rows.specs.Views.{Own, own_maxima, own_maximum, own_questions, own_view, own_watches}
+use Rattle.house_rows.specs.Views.{Own, own_maxima, own_maximum, own_questions, own_view, own_watches, own_listings, own_reserves}
 use Rattle.house_rows.specs.Watches.{WatchRow, is_watch, unwatched, watch_key, watches, with_watch}
 use Rattle.house_rows.proofs.Put.{IsInOrder, filter_in_order, filter_put, filter_put_other, filter_swap, put_in_order}
 
@@ -16,7 +18,7 @@ questions_step : (qs : List Asked) (caller : ℕ) (command : Command) → IsInOr
 questions_step qs caller (Ask i text) order = put_in_order asked_key _ qs order
 questions_step qs caller (Register name) order = order
 questions_step qs caller (AddCategory name) order = order
-questions_step qs caller (Listed category lot title text start buy_now end) order = order
+questions_step qs caller (Listed category lot title text start buy_now end reserve) order = order
 questions_step qs caller (Bid i maximum) order = order
 questions_step qs caller (Buy i) order = order
 questions_step qs caller Close order = order
@@ -35,7 +37,7 @@ watches_step ws caller (Watch i) order = put_in_order watch_key _ (unwatched cal
 watches_step ws caller (Unwatch i) order = filter_in_order watch_key _ ws order
 watches_step ws caller (Register name) order = order
 watches_step ws caller (AddCategory name) order = order
-watches_step ws caller (Listed category lot title text start buy_now end) order = order
+watches_step ws caller (Listed category lot title text start buy_now end reserve) order = order
 watches_step ws caller (Bid i maximum) order = order
 watches_step ws caller (Buy i) order = order
 watches_step ws caller Close order = order
@@ -53,7 +55,7 @@ maximum_other : (c caller : ℕ) (command : Command) → (caller == c) ≡ false
 maximum_other c caller (Bid i maximum) other = rw other refl
 maximum_other c caller (Register name) other = refl
 maximum_other c caller (AddCategory name) other = refl
-maximum_other c caller (Listed category lot title text start buy_now end) other = refl
+maximum_other c caller (Listed category lot title text start buy_now end reserve) other = refl
 maximum_other c caller (Buy i) other = refl
 maximum_other c caller Close other = refl
 maximum_other c caller (Settle i) other = refl
@@ -74,7 +76,7 @@ watches_other c caller ws (Watch i) other =
 watches_other c caller ws (Unwatch i) other = unwatched_other c caller i ws other
 watches_other c caller ws (Register name) other = refl
 watches_other c caller ws (AddCategory name) other = refl
-watches_other c caller ws (Listed category lot title text start buy_now end) other = refl
+watches_other c caller ws (Listed category lot title text start buy_now end reserve) other = refl
 watches_other c caller ws (Bid i maximum) other = refl
 watches_other c caller ws (Buy i) other = refl
 watches_other c caller ws Close other = refl
@@ -87,7 +89,7 @@ questions_other : (c caller : ℕ) (qs : List Asked) (command : Command) → (ca
 questions_other c caller qs (Ask i text) other = filter_put_other asked_key (λ q. q.asker == c) _ qs other
 questions_other c caller qs (Register name) other = refl
 questions_other c caller qs (AddCategory name) other = refl
-questions_other c caller qs (Listed category lot title text start buy_now end) other = refl
+questions_other c caller qs (Listed category lot title text start buy_now end reserve) other = refl
 questions_other c caller qs (Bid i maximum) other = refl
 questions_other c caller qs (Buy i) other = refl
 questions_other c caller qs Close other = refl
@@ -97,11 +99,36 @@ questions_other c caller qs (Unwatch i) other = refl
 questions_other c caller qs (Answer i asker number text) other = refl
 questions_other c caller qs (Feedback i rating text) other = refl
 
+-- what another lists leaves a member's own listings
+listings_other : (c number caller : ℕ) (command : Command) → (caller == c) ≡ false → filter (λ l. l.seller == c) (listing_in number caller command) ≡ []
+listings_other c number caller (Listed category lot title text start buy_now end reserve) other = rw other refl
+listings_other c number caller (Register name) other = refl
+listings_other c number caller (AddCategory name) other = refl
+listings_other c number caller (Bid i maximum) other = refl
+listings_other c number caller (Buy i) other = refl
+listings_other c number caller Close other = refl
+listings_other c number caller (Settle i) other = refl
+listings_other c number caller (Watch i) other = refl
+listings_other c number caller (Unwatch i) other = refl
+listings_other c number caller (Ask i text) other = refl
+listings_other c number caller (Answer i asker n text) other = refl
+listings_other c number caller (Feedback i rating text) other = refl
+
+reserves_append : (ls ks : List Listing) → reserve_rows (ls ++ ks) ≡ reserve_rows ls ++ reserve_rows ks
+reserves_append [] ks = refl
+reserves_append (l ∷ ls) ks = rw (reserves_append ls ks) (sym (append_assoc (reserve_row l.item l.reserve) (reserve_rows ls) (reserve_rows ks)))
+
+reserves_other : (c : ℕ) (h : History) (e : Entry) → (e.caller == c) ≡ false → own_reserves (e ∷ h) c ≡ own_reserves h c
+unfolding own_reserves
+reserves_other c h e other =
+    rw (filter-append (λ (l : Listing). l.seller == c) (listings h) (listing_in (length (listings h) + 1) e.caller e.command), listings_other c (length (listings h) + 1) e.caller e.command other)
+    (simp append-nil)
+
 -- Local, for what is a member's own
 pub own_local : (c : ℕ) (h : History) (e : Entry) → (e.caller == c) ≡ false → own_view (e ∷ h) c ≡ own_view h c
 unfolding own_maxima own_watches own_questions
 own_local c h e other =
-    rw (maximum_other c e.caller e.command other, watches_other c e.caller (watches h) e.command other, questions_other c e.caller (asked h) e.command other) (simp append-nil)
+    rw (maximum_other c e.caller e.command other, reserves_other c h e other, watches_other c e.caller (watches h) e.command other, questions_other c e.caller (asked h) e.command other) (simp append-nil)
 
 -- an asker's count on an item is that of its own questions
 pub count_own : (c i : ℕ) (qs : List Asked) → ask_count qs c i ≡ ask_count (filter (λ q. q.asker == c) qs) c i
@@ -120,7 +147,7 @@ watches_mine c ws vs (Unwatch i) order order' same =
     filter_swap (λ w. w.member == c) (λ w. not (is_watch c i w)) ws ∙ ap (filter (λ w. not (is_watch c i w))) same ∙ sym (filter_swap (λ w. w.member == c) (λ w. not (is_watch c i w)) vs)
 watches_mine c ws vs (Register name) order order' same = same
 watches_mine c ws vs (AddCategory name) order order' same = same
-watches_mine c ws vs (Listed category lot title text start buy_now end) order order' same = same
+watches_mine c ws vs (Listed category lot title text start buy_now end reserve) order order' same = same
 watches_mine c ws vs (Bid i maximum) order order' same = same
 watches_mine c ws vs (Buy i) order order' same = same
 watches_mine c ws vs Close order order' same = same
@@ -138,7 +165,7 @@ questions_mine c qs rs (Ask i text) order order' same =
     rw count (filter_put asked_key (λ q. q.asker == c) q qs here order ∙ ap (put_by asked_key q) same ∙ sym (filter_put asked_key (λ q. q.asker == c) q rs here order'))
 questions_mine c qs rs (Register name) order order' same = same
 questions_mine c qs rs (AddCategory name) order order' same = same
-questions_mine c qs rs (Listed category lot title text start buy_now end) order order' same = same
+questions_mine c qs rs (Listed category lot title text start buy_now end reserve) order order' same = same
 questions_mine c qs rs (Bid i maximum) order order' same = same
 questions_mine c qs rs (Buy i) order order' same = same
 questions_mine c qs rs Close order order' same = same
@@ -148,16 +175,33 @@ questions_mine c qs rs (Unwatch i) order order' same = same
 questions_mine c qs rs (Answer i asker number text) order order' same = same
 questions_mine c qs rs (Feedback i rating text) order order' same = same
 
--- Step: an entry of the member changes its own view equally
-pub own_step : (c : ℕ) (h k : History) (moment : ℕ) (command : Command) → own_view h c ≡ own_view k c
+-- a listing of its own adds the same reserve where there are as many items
+reserves_mine : (c : ℕ) (h k : History) (moment : ℕ) (command : Command) → length (listings h) ≡ length (listings k) → own_reserves h c ≡ own_reserves k c
+    → own_reserves (record { moment = moment; caller = c; command = command } ∷ h) c ≡ own_reserves (record { moment = moment; caller = c; command = command } ∷ k) c
+unfolding own_reserves
+reserves_mine c h k moment command many same =
+    let more : List Listing = listing_in (length (listings k) + 1) c command in
+    rw (
+      many,
+      filter-append (λ (l : Listing). l.seller == c) (listings h) more,
+      filter-append (λ (l : Listing). l.seller == c) (listings k) more,
+      reserves_append (own_listings h c) (filter (λ l. l.seller == c) more),
+      reserves_append (own_listings k c) (filter (λ l. l.seller == c) more),
+      same,
+    ) refl
+
+-- Step: an entry of the member changes its own view equally, where there are as many items
+pub own_step : (c : ℕ) (h k : History) (moment : ℕ) (command : Command) → length (listings h) ≡ length (listings k) → own_view h c ≡ own_view k c
     → own_view (record { moment = moment; caller = c; command = command } ∷ h) c ≡ own_view (record { moment = moment; caller = c; command = command } ∷ k) c
 unfolding own_maxima own_watches own_questions
-own_step c h k moment command same =
+own_step c h k moment command many same =
     let bs : own_maxima h c ≡ own_maxima k c = ap (λ (o : Own). o.maxima) same in
+    let rs : own_reserves h c ≡ own_reserves k c = ap (λ (o : Own). o.reserves) same in
     let ws : own_watches h c ≡ own_watches k c = ap (λ (o : Own). o.watches) same in
     let qs : own_questions h c ≡ own_questions k c = ap (λ (o : Own). o.questions) same in
     rw (
       bs,
+      reserves_mine c h k moment command many rs,
       watches_mine c (watches h) (watches k) command (watches_in_order h) (watches_in_order k) ws,
       questions_mine c (asked h) (asked k) command (asked_in_order h) (asked_in_order k) qs,
     ) refl

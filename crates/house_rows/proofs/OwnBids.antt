@@ -1,20 +1,19 @@
 -- What a member has bid, by the table of bids and by the history.
-use Rattle.std.proofs.Common.{◌≡◌, ℕ, ◌+◌, ◌≤◌, List, [], ◌∷◌, ◌++◌, map, filter, length, Bool, true, false, refl, ◌∙◌, ap, sym, arith, inl, inr, ◌⊎◌}
+use Rattle.std.proofs.Common.{◌≡◌, ℕ, ◌+◌, ◌≤◌, List, [], ◌∷◌, ◌++◌, map, filter, length, Bool, true, false, refl, ◌∙◌, ap, sym, arith}
 use Rattle.std.specs.Prelude.{◌==◌, ◌&&◌}
 use Rattle.std.specs.List.{AllByRecursion}
 use Rattle.std.proofs.lemmas.Bool.Decides.{nat_tests}
 use Rattle.std.proofs.lemmas.List.{append-nil, length-append, length-map}
-use Rattle.proxy.specs.Bids.{bids_by, greatest, greatest_of}
+use Rattle.proxy.specs.Bids.{bids_by, greatest}
 use Rattle.proxy.specs.declared.bid.Bid as bid
 use Rattle.house_rows.specs.declared.command.Command.{Command}
 use Rattle.house_rows.specs.declared.command.Command.TheVariants.{Register, AddCategory, List as Listed, Bid, Buy, Close, Settle, Watch, Unwatch, Ask, Answer, Feedback}
-use Rattle.house_rows.specs.declared.item.OwnBest.{OwnBest}
 use Rattle.house_rows.specs.declared.settings.Settings.{Settings}
 use Rattle.house_rows.specs.Bids.{BidRow, bid_in, bid_key, bid_rows, bids_on, with_bid}
 use Rattle.house_rows.specs.Found.{best_of}
-use Rattle.house_rows.specs.History.{Entry, History, Key, is_less, put_by}
+use Rattle.house_rows.specs.History.{History, Key, is_less, put_by}
 use Rattle.house_rows.specs.Tables.{tables_of}
-use Rattle.house_rows.proofs.Every.{every_as, every_map, every_more}
+use Rattle.house_rows.proofs.Every.{every_as, every_more}
 use Rattle.house_rows.proofs.Put.{IsInOrder, filter_alike, filter_put, filter_put_other, put_in_order}
 use Rattle.house_rows.proofs.Lists.{filter_made, filter_twice, map_twice}
 
@@ -66,7 +65,7 @@ one_more : (i : ℕ) (h : History) (caller : ℕ) (command : Command) → IsInOr
 one_more i h caller (Bid j maximum) order are = bid_more i j caller maximum h (j == i) refl order are
 one_more i h caller (Register name) order are = rw (append-nil (bids_on h i)) are
 one_more i h caller (AddCategory name) order are = rw (append-nil (bids_on h i)) are
-one_more i h caller (Listed category lot title text start buy_now end) order are = rw (append-nil (bids_on h i)) are
+one_more i h caller (Listed category lot title text start buy_now end reserve) order are = rw (append-nil (bids_on h i)) are
 one_more i h caller (Buy j) order are = rw (append-nil (bids_on h i)) are
 one_more i h caller Close order are = rw (append-nil (bids_on h i)) are
 one_more i h caller (Settle j) order are = rw (append-nil (bids_on h i)) are
@@ -80,7 +79,7 @@ order_step : (h : History) (caller : ℕ) (command : Command) → IsInOrder bid_
 order_step h caller (Bid j maximum) order = put_in_order bid_key _ (bid_rows h) order
 order_step h caller (Register name) order = order
 order_step h caller (AddCategory name) order = order
-order_step h caller (Listed category lot title text start buy_now end) order = order
+order_step h caller (Listed category lot title text start buy_now end reserve) order = order
 order_step h caller (Buy j) order = order
 order_step h caller Close order = order
 order_step h caller (Settle j) order = order

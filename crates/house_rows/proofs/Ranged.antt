@@ -11,14 +11,14 @@ use Rattle.house_rows.specs.declared.people.Category.{Category}
 use Rattle.house_rows.specs.declared.people.Member.{Member}
 use Rattle.house_rows.specs.declared.refusal.Refusal.TheVariants.{Range, NameTaken, Limit, LotExists, Unknown}
 use Rattle.house_rows.specs.declared.settings.Settings.{Settings}
-use Rattle.house_rows.specs.Fits.{CategoryFits, IsItem, IsMember, IsMoment, IsWithin, MemberFits}
+use Rattle.house_rows.specs.Fits.{CategoryFits, IsItem, IsMember, IsMoment, IsWithin, MemberFits, ReserveFits}
 use Rattle.house_rows.specs.History.{History}
-use Rattle.house_rows.specs.Items.{items, items_shown}
+use Rattle.house_rows.specs.Items.{items_shown}
 use Rattle.house_rows.specs.Limits.{last_moment, most_categories, most_cents, most_items, most_members}
 use Rattle.house_rows.specs.Listings.{Listing, listings}
 use Rattle.house_rows.specs.People.{categories, members}
 use Rattle.house_rows.specs.Text.{is_lot, is_text}
-use Rattle.house_rows.specs.Verdict.{IsHistory, are_terms, is_buy_now, verdict}
+use Rattle.house_rows.specs.Verdict.{IsHistory, are_terms, is_buy_now, verdict, is_at_most, is_reserve}
 use Rattle.house_rows.proofs.Every.{every_more, some_has}
 use Rattle.house_rows.proofs.Passed.{Common, common_pass, own_pass}
 
@@ -50,7 +50,7 @@ members_step settings h t c (Register name) none fits =
       room = simp length-append (omega arith);
     }
 members_step settings h t c (AddCategory name) none fits = simp append-nil fits
-members_step settings h t c (Listed category lot title text start buy_now end) none fits = simp append-nil fits
+members_step settings h t c (Listed category lot title text start buy_now end reserve) none fits = simp append-nil fits
 members_step settings h t c (Bid i m) none fits = simp append-nil fits
 members_step settings h t c (Buy i) none fits = simp append-nil fits
 members_step settings h t c Close none fits = simp append-nil fits
@@ -85,7 +85,7 @@ categories_step settings h t c (AddCategory name) none fits =
       room = simp length-append (omega arith);
     }
 categories_step settings h t c (Register name) none fits = simp append-nil fits
-categories_step settings h t c (Listed category lot title text start buy_now end) none fits = simp append-nil fits
+categories_step settings h t c (Listed category lot title text start buy_now end reserve) none fits = simp append-nil fits
 categories_step settings h t c (Bid i m) none fits = simp append-nil fits
 categories_step settings h t c (Buy i) none fits = simp append-nil fits
 categories_step settings h t c Close none fits = simp append-nil fits
@@ -111,6 +111,7 @@ pub record ListingRanges (l : Listing) : Type 0 where
   pub start : IsWithin 1 most_cents l.start
   pub buy_now : IfSome l.buy_now (λ amount. IsWithin l.start most_cents amount)
   pub end : IsMoment l.end
+  pub reserve : ReserveFits l.start l.buy_now l.reserve
 
 and_left : (a b : Bool) → (a && b) ≡ true → a ≡ true
 and_left true b e = refl
@@ -133,30 +134,41 @@ buy_now_within : (start : ℕ) (buy_now : Option ℕ) → is_buy_now start buy_n
 buy_now_within start None is = tt
 buy_now_within start (Some amount) is = (grind (arith, nat_tests, is), grind (arith, nat_tests, is))
 
+at_most_within : (buy_now : Option ℕ) (amount : ℕ) → is_at_most buy_now amount ≡ true → IfSome buy_now (λ most. amount ≤ most)
+at_most_within None amount is = tt
+at_most_within (Some most) amount is = grind (arith, nat_tests, is)
+
+pub reserve_within : (start : ℕ) (buy_now reserve : Option ℕ) → is_reserve start buy_now reserve ≡ true → ReserveFits start buy_now reserve
+reserve_within start buy_now None is = tt
+reserve_within start buy_now (Some amount) is =
+    let above = and_left (nat_lt start amount) _ is in let rest = and_right (nat_lt start amount) _ is in
+    let most = and_left (nat_le amount most_cents) _ rest in
+    (grind (arith, nat_tests, above), grind (arith, nat_tests, most), at_most_within buy_now amount (and_right (nat_le amount most_cents) _ rest))
+
 pub record ListingsFit (ls : List Listing) : Type 0 where
   pub all : AllByRecursion ListingRanges ls
   pub room : length ls ≤ most_items
 
-shown_count : (settings : Settings) (h : History) → length (items_shown settings h) ≡ length (listings h)
+pub shown_count : (settings : Settings) (h : History) → length (items_shown settings h) ≡ length (listings h)
 unfolding items_shown
 shown_count settings h = simp length-map
 
 listings_step : (settings : Settings) (h : History) (t c : ℕ) (command : Command) → IsHistory settings h → verdict settings h t c command ≡ None → ListingsFit (listings h) → ListingsFit (listings (record { moment = t; caller = c; command = command } ∷ h))
-listings_step settings h t c (Listed category lot title text start buy_now end) is none fits =
-    let own = own_pass settings h t c (Listed category lot title text start buy_now end) none in
-    let pass = listing_pass (is_lot lot) _ (are_terms t title text start buy_now end) (list_any (λ k. k.category == category) (categories h)) (length (items_shown settings h)) own in
+listings_step settings h t c (Listed category lot title text start buy_now end reserve) is none fits =
+    let own = own_pass settings h t c (Listed category lot title text start buy_now end reserve) none in
+    let pass = listing_pass (is_lot lot) _ (are_terms t title text start buy_now end reserve) (list_any (λ k. k.category == category) (categories h)) (length (items_shown settings h)) own in
     let count : length (items_shown settings h) ≡ length (listings h) = shown_count settings h in
     let lt = pass.3 in let n = fits.room in
     let one = pass.1 in
     let two = and_right _ _ one in let three = and_right _ _ two in let four = and_right _ _ three in let five = and_right _ _ four in let six = and_right _ _ five in
-    let least = and_left (nat_le 1 start) _ three in let most = and_left (nat_le start most_cents) _ four in let last = and_right (nat_lt t end) (nat_le end last_moment) six in
+    let least = and_left (nat_le 1 start) _ three in let most = and_left (nat_le start most_cents) _ four in let seven = and_right (nat_lt t end) _ six in let last = and_left (nat_le end last_moment) _ seven in
     let known = some_has CategoryFits (λ k. k.category == category) (categories h) (categories_fit settings h is).all pass.2 in
     let known_fits = known.1.category in let known_is = known.2 in
     let at : known.0.category ≡ category = grind (arith, nat_tests, known_is) in
     let fits_category : IsWithin 1 most_categories category = rw at at known_fits in
-    let caller_fits : IsMember c = caller_is settings h t c false is (common_pass settings h t c (Listed category lot title text start buy_now end) none) refl in
+    let caller_fits : IsMember c = caller_is settings h t c false is (common_pass settings h t c (Listed category lot title text start buy_now end reserve) none) refl in
     record {
-      all = every_more ListingRanges (listings h) (record { item = length (listings h) + 1; seller = c; category = category; lot = lot; title = title; text = text; start = start; buy_now = buy_now; end = end; set = [] }) fits.all (record {
+      all = every_more ListingRanges (listings h) (record { item = length (listings h) + 1; seller = c; category = category; lot = lot; title = title; text = text; start = start; buy_now = buy_now; end = end; set = []; reserve = reserve }) fits.all (record {
         item = (omega arith, omega arith);
         seller = caller_fits;
         category = fits_category;
@@ -166,6 +178,7 @@ listings_step settings h t c (Listed category lot title text start buy_now end) 
         start = (grind (arith, nat_tests, least), grind (arith, nat_tests, most));
         buy_now = buy_now_within start buy_now (and_left (is_buy_now start buy_now) _ five);
         end = grind (arith, nat_tests, last);
+        reserve = reserve_within start buy_now reserve (and_right (nat_le end last_moment) _ seven);
       });
       room = simp length-append (omega arith);
     }

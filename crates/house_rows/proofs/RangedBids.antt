@@ -93,7 +93,7 @@ bids_step settings h t c i (Bid j m) is none fits =
     ]
 bids_step settings h t c i (Register name) is none fits = simp append-nil (bids_more h (entry t c (Register name)) i (bids_on h i) fits)
 bids_step settings h t c i (AddCategory name) is none fits = simp append-nil (bids_more h (entry t c (AddCategory name)) i (bids_on h i) fits)
-bids_step settings h t c i (Listed category lot title text start buy_now end) is none fits = simp append-nil (bids_more h (entry t c (Listed category lot title text start buy_now end)) i (bids_on h i) fits)
+bids_step settings h t c i (Listed category lot title text start buy_now end reserve) is none fits = simp append-nil (bids_more h (entry t c (Listed category lot title text start buy_now end reserve)) i (bids_on h i) fits)
 bids_step settings h t c i (Buy j) is none fits = simp append-nil (bids_more h (entry t c (Buy j)) i (bids_on h i) fits)
 bids_step settings h t c i Close is none fits = simp append-nil (bids_more h (entry t c Close) i (bids_on h i) fits)
 bids_step settings h t c i (Settle j) is none fits = simp append-nil (bids_more h (entry t c (Settle j)) i (bids_on h i) fits)
@@ -141,7 +141,7 @@ purchases_step settings h t c (Buy i) is none all =
     })
 purchases_step settings h t c (Register name) is none all = simp append-nil (all_more h (entry t c (Register name)) (purchases h) all)
 purchases_step settings h t c (AddCategory name) is none all = simp append-nil (all_more h (entry t c (AddCategory name)) (purchases h) all)
-purchases_step settings h t c (Listed category lot title text start buy_now end) is none all = simp append-nil (all_more h (entry t c (Listed category lot title text start buy_now end)) (purchases h) all)
+purchases_step settings h t c (Listed category lot title text start buy_now end reserve) is none all = simp append-nil (all_more h (entry t c (Listed category lot title text start buy_now end reserve)) (purchases h) all)
 purchases_step settings h t c (Bid i m) is none all = simp append-nil (all_more h (entry t c (Bid i m)) (purchases h) all)
 purchases_step settings h t c Close is none all = simp append-nil (all_more h (entry t c Close) (purchases h) all)
 purchases_step settings h t c (Settle i) is none all = simp append-nil (all_more h (entry t c (Settle i)) (purchases h) all)

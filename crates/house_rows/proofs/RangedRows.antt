@@ -7,11 +7,11 @@ use Rattle.house_rows.specs.declared.settings.Settings.{Settings}
 use Rattle.house_rows.specs.Fits.{TermsFit}
 use Rattle.house_rows.specs.History.{History}
 use Rattle.house_rows.specs.Bids.{bids_on}
-use Rattle.house_rows.specs.Items.{is_bought, is_settled, is_taken, leader_of, purchase_of, state_from, terms_now}
+use Rattle.house_rows.specs.Items.{is_bought, is_settled, is_taken, leader_of, purchase_of, state_from, terms_now, close_sells, met_of}
 use Rattle.house_rows.specs.Keeping.{IsBought, IsByBids, ItemRowFits, RowFits}
 use Rattle.house_rows.specs.Limits.{most_cents}
 use Rattle.house_rows.specs.Listings.{Listing, bands_by, listed_opening, listing_at, listings}
-use Rattle.house_rows.specs.Tables.{bands_for, row_now, tables_of}
+use Rattle.house_rows.specs.Tables.{row_now, tables_of}
 use Rattle.house_rows.specs.Verdict.{IsHistory, was_sold}
 use Rattle.house_rows.proofs.AcceptedBids.{bids_are_accepted, bought_known}
 use Rattle.house_rows.proofs.GoesBy.{bands_kept}
@@ -58,13 +58,14 @@ told_by : (settings : Settings) (h : History) (l : Listing) → IsHistory settin
     → IsByBids (row_now settings h l) ⊎ IsBought (row_now settings h l)
 told_by settings h l is listed false by_bids =
     let none : purchase_of h l.item ≡ None = not_bought h l.item (purchase_of h l.item) refl by_bids in
-    inl (record { price = rw by_bids refl; leader = rw none refl })
+    inl (record { price = rw by_bids refl; leader = rw none refl; met = rw by_bids refl })
 told_by settings h l is listed true bought =
     let known = bought_known settings h l is listed bought in
     inr (record {
-      sold = bought_sold (is_bought h l.item) (is_taken h l) (is_some (leader_of h l)) (is_settled h l.item) bought;
+      sold = bought_sold (is_bought h l.item) (is_taken h l) (close_sells (leader_of h l) (met_of h l)) (is_settled h l.item) bought;
       no_bid = rw known.0 refl;
       price = rw bought (bought_price l.buy_now known.1);
+      met = rw bought refl;
     })
 
 row_fits : (settings : Settings) (h : History) (l : Listing) → IsHistory settings h → ListingRanges l → listing_at (listings h) l.item ≡ Some l → ItemRowFits (bands_by settings l) (row_now settings h l)
@@ -77,7 +78,7 @@ row_fits settings h l is ranges listed =
       few = fits.room;
       stands = refl;
       top = top_within most_cents (bids_on h l.item) (every_as (BidIn h l.item) (λ (b : bid.Bid). b.maximum ≤ most_cents) (bids_on h l.item) (λ b in'. in'.maximum) fits.all);
-      reserve = refl;
+      reserve = ranges.reserve;
       count = refl;
       told = told_by settings h l is listed (is_bought h l.item) refl;
     }

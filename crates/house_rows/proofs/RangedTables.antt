@@ -58,7 +58,7 @@ bids_step : (settings : Settings) (h : History) (t c : ℕ) (command : Command) 
 bids_step settings h t c (Bid i m) is all = every_put bid_key BidRowFits _ (bid_rows h) all (bid_fits settings h t c i m is)
 bids_step settings h t c (Register name) is all = all
 bids_step settings h t c (AddCategory name) is all = all
-bids_step settings h t c (Listed category lot title text start buy_now end) is all = all
+bids_step settings h t c (Listed category lot title text start buy_now end reserve) is all = all
 bids_step settings h t c (Buy i) is all = all
 bids_step settings h t c Close is all = all
 bids_step settings h t c (Settle i) is all = all
@@ -82,7 +82,7 @@ watches_step settings h t c (Watch i) is none all = every_put watch_key WatchRow
 watches_step settings h t c (Unwatch i) is none all = every_filter WatchRowFits _ (watches h) all
 watches_step settings h t c (Register name) is none all = all
 watches_step settings h t c (AddCategory name) is none all = all
-watches_step settings h t c (Listed category lot title text start buy_now end) is none all = all
+watches_step settings h t c (Listed category lot title text start buy_now end reserve) is none all = all
 watches_step settings h t c (Bid i m) is none all = all
 watches_step settings h t c (Buy i) is none all = all
 watches_step settings h t c Close is none all = all
@@ -138,7 +138,7 @@ few_of settings h t c m (Unwatch i) none few =
     ]
 few_of settings h t c m (Register name) none few = few
 few_of settings h t c m (AddCategory name) none few = few
-few_of settings h t c m (Listed category lot title text start buy_now end) none few = few
+few_of settings h t c m (Listed category lot title text start buy_now end reserve) none few = few
 few_of settings h t c m (Bid i x) none few = few
 few_of settings h t c m (Buy i) none few = few
 few_of settings h t c m Close none few = few

@@ -18,7 +18,7 @@ use Rattle.house_rows.specs.declared.state.State.TheVariants.{Open, Sold, Unsold
 use Rattle.house_rows.specs.Fits.{FeedbackFits, IsItem, IsMember, IsWithin, QuestionFits}
 use Rattle.house_rows.specs.History.{Entry, History}
 use Rattle.house_rows.specs.Bids.{bid_in, bids_on}
-use Rattle.house_rows.specs.Items.{Purchase, closed_at, closed_from, closing_in, closings, is_bought, is_open, is_settled, is_taken, leader_from, leader_of, purchase_in, purchase_of, purchases, settlements, state_from, state_of}
+use Rattle.house_rows.specs.Items.{Purchase, closed_at, closed_from, closing_in, closings, is_bought, is_open, is_settled, is_taken, leader_from, leader_of, purchase_in, purchase_of, purchases, settlements, state_from, state_of, close_sells, met_of}
 use Rattle.house_rows.specs.Limits.{most_questions}
 use Rattle.house_rows.specs.Listings.{Listing, listing_at, listings}
 use Rattle.house_rows.specs.Questions.{Asked, answer_to, answered, answers, ask_count, asked, asked_key, is_question, names, published, questions, waiting}
@@ -78,7 +78,7 @@ asked_step settings h t c (Ask i text) is none all =
     })
 asked_step settings h t c (Register name) is none all = all
 asked_step settings h t c (AddCategory name) is none all = all
-asked_step settings h t c (Listed category lot title text start buy_now end) is none all = all
+asked_step settings h t c (Listed category lot title text start buy_now end reserve) is none all = all
 asked_step settings h t c (Bid i m) is none all = all
 asked_step settings h t c (Buy i) is none all = all
 asked_step settings h t c Close is none all = all
@@ -113,7 +113,7 @@ answers_step settings h t c (Answer i asker number text) none all =
     (answer_pass (not (l.seller == c)) (not (waits || public)) public (is_text 1 500 text) pass.pass)
 answers_step settings h t c (Register name) none all = simp append-nil all
 answers_step settings h t c (AddCategory name) none all = simp append-nil all
-answers_step settings h t c (Listed category lot title text start buy_now end) none all = simp append-nil all
+answers_step settings h t c (Listed category lot title text start buy_now end reserve) none all = simp append-nil all
 answers_step settings h t c (Bid i m) none all = simp append-nil all
 answers_step settings h t c (Buy i) none all = simp append-nil all
 answers_step settings h t c Close none all = simp append-nil all
@@ -184,12 +184,17 @@ was_closed (Some p) taken led false end by_settled sold = refl
 was_closed None true led false end by_settled sold = refl
 was_closed None false led false end by_settled sold = cc
 
-was_led : (bought taken led settled : Bool) → (settled ≡ true → led ≡ true) → (bought ≡ true → led ≡ true) → was_sold (state_from bought taken led settled) ≡ true → led ≡ true
-was_led bought taken led true by_settled by_bought sold = by_settled refl
-was_led true taken led false by_settled by_bought sold = by_bought refl
-was_led false true true false by_settled by_bought sold = refl
-was_led false true false false by_settled by_bought sold = cc
-was_led false false led false by_settled by_bought sold = cc
+was_led : (bought taken led sells settled : Bool) → (settled ≡ true → led ≡ true) → (bought ≡ true → led ≡ true) → (sells ≡ true → led ≡ true) → was_sold (state_from bought taken sells settled) ≡ true → led ≡ true
+was_led bought taken led sells true by_settled by_bought by_sale sold = by_settled refl
+was_led true taken led sells false by_settled by_bought by_sale sold = by_bought refl
+was_led false true led true false by_settled by_bought by_sale sold = by_sale refl
+was_led false true led false false by_settled by_bought by_sale sold = cc
+was_led false false led sells false by_settled by_bought by_sale sold = cc
+
+-- a close sells only what somebody leads
+pub sells_led : (leader : Option ℕ) (met : Option Bool) → close_sells leader met ≡ true → is_some leader ≡ true
+sells_led None met sells = sells
+sells_led (Some l) met sells = refl
 
 bought_leads : (o : Option Purchase) (by_bids : Option ℕ) → is_some o ≡ true → is_some (leader_from o by_bids) ≡ true
 bought_leads None by_bids is = cc
@@ -225,12 +230,12 @@ settled_known h l all listed is =
 
 was_sold_led : (h : History) (l : Listing) → AllByRecursion (SettledIn h) (settlements h) → listing_at (listings h) l.item ≡ Some l → was_sold (state_of h l) ≡ true → is_some (leader_of h l) ≡ true
 was_sold_led h l all listed sold =
-    was_led (is_bought h l.item) (is_taken h l) (is_some (leader_of h l)) (is_settled h l.item) (λ is. led_as h _ l (settled_known h l all listed is).1 (settled_known h l all listed is).0.led)
-    (bought_leads (purchase_of h l.item) (leader (bids_on h l.item))) sold
+    was_led (is_bought h l.item) (is_taken h l) (is_some (leader_of h l)) (close_sells (leader_of h l) (met_of h l)) (is_settled h l.item) (λ is. led_as h _ l (settled_known h l all listed is).1 (settled_known h l all listed is).0.led)
+    (bought_leads (purchase_of h l.item) (leader (bids_on h l.item))) (sells_led (leader_of h l) (met_of h l)) sold
 
 was_sold_closed : (h : History) (l : Listing) → AllByRecursion (SettledIn h) (settlements h) → listing_at (listings h) l.item ≡ Some l → was_sold (state_of h l) ≡ true → is_some (closed_at h l) ≡ true
 was_sold_closed h l all listed sold =
-    was_closed (purchase_of h l.item) (is_taken h l) (is_some (leader_of h l)) (is_settled h l.item) l.end
+    was_closed (purchase_of h l.item) (is_taken h l) (close_sells (leader_of h l) (met_of h l)) (is_settled h l.item) l.end
     (λ is. closed_as h _ l (settled_known h l all listed is).1 (settled_known h l all listed is).0.closed) sold
 
 sold_was : (s : State) → is_sold s ≡ true → was_sold s ≡ true
@@ -257,7 +262,7 @@ settlements_step settings h t c (Settle i) none all =
     (settled_more h (entry t c (Settle i)) i (record { listing = l; listed = pass.listed; led = led; closed = closed }))
 settlements_step settings h t c (Register name) none all = simp append-nil (all_settled h (entry t c (Register name)) (settlements h) all)
 settlements_step settings h t c (AddCategory name) none all = simp append-nil (all_settled h (entry t c (AddCategory name)) (settlements h) all)
-settlements_step settings h t c (Listed category lot title text start buy_now end) none all = simp append-nil (all_settled h (entry t c (Listed category lot title text start buy_now end)) (settlements h) all)
+settlements_step settings h t c (Listed category lot title text start buy_now end reserve) none all = simp append-nil (all_settled h (entry t c (Listed category lot title text start buy_now end reserve)) (settlements h) all)
 settlements_step settings h t c (Bid i m) none all = simp append-nil (all_settled h (entry t c (Bid i m)) (settlements h) all)
 settlements_step settings h t c (Buy i) none all = simp append-nil (all_settled h (entry t c (Buy i)) (settlements h) all)
 settlements_step settings h t c Close none all = simp append-nil (all_settled h (entry t c Close) (settlements h) all)
@@ -316,7 +321,7 @@ feedback_step settings h t c (Feedback i (Some rating) text) is none all =
 feedback_step settings h t c (Feedback i None text) is none all = all
 feedback_step settings h t c (Register name) is none all = all
 feedback_step settings h t c (AddCategory name) is none all = all
-feedback_step settings h t c (Listed category lot title text start buy_now end) is none all = all
+feedback_step settings h t c (Listed category lot title text start buy_now end reserve) is none all = all
 feedback_step settings h t c (Bid i m) is none all = all
 feedback_step settings h t c (Buy i) is none all = all
 feedback_step settings h t c Close is none all = all

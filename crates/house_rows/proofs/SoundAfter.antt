@@ -1,5 +1,5 @@
 -- A change that fits sound tables leaves them sound.
-use Rattle.std.proofs.Common.{◌≡◌, ℕ, ◌+◌, ◌≤◌, ◌<◌, List, [], ◌∷◌, ◌++◌, filter, map, length, Bool, true, false, not, refl, ◌∙◌, subst, sym, arith, inl, inr, Option, Some, None}
+use Rattle.std.proofs.Common.{◌≡◌, ℕ, ◌+◌, ◌≤◌, ◌<◌, List, [], ◌∷◌, ◌++◌, filter, map, length, Bool, true, false, not, refl, ◌∙◌, subst, sym, arith, inl, inr, Some, None}
 use Rattle.std.specs.Prelude.{◌==◌, ◌&&◌, find, is_some}
 use Rattle.std.specs.List.{AllByRecursion}
 use Rattle.std.proofs.lemmas.Bool.Decides.{nat_tests}
@@ -20,7 +20,7 @@ use Rattle.house_rows.specs.Changed.{changed, new_item, question_key, with_answe
 use Rattle.house_rows.specs.Fits.{BidRowFits, CategoryFits, FeedbackFits, IsItem, IsMember, IsMoment, IsWithin, MemberFits, QuestionFits, WatchRowFits}
 use Rattle.house_rows.specs.Found.{ask_count}
 use Rattle.house_rows.specs.History.{Key, counted, is_less, put_by}
-use Rattle.house_rows.specs.Keeping.{AreInTurn, AreSound, ItemRowFits, RowFits}
+use Rattle.house_rows.specs.Keeping.{AreInTurn, AreSound, RowFits}
 use Rattle.house_rows.specs.Limits.{most_bids, most_categories, most_items, most_members, most_questions, most_watches}
 use Rattle.house_rows.specs.Questions.{is_question}
 use Rattle.house_rows.specs.Ratings.{feedback_key, other_party}
@@ -240,7 +240,7 @@ listing_after t moment item sound fits =
     items_after (record t { clock = moment }) (t.items ++ row ∷ []) (clock_after t moment sound fits.moment_fits)
     (every_more (RowFits t) t.items row sound.items
     (new_fits (bands_for t (length t.items + 1)) (length t.items + 1) item (omega arith, omega arith) (member_there t item.seller sound fits.seller_there)
-    (category_there t.categories item.category sound.categories fits.category_there) fits.lot_fits fits.title_fits fits.text_fits fits.start_fits fits.buy_now_fits fits.end_fits))
+    (category_there t.categories item.category sound.categories fits.category_there) fits.lot_fits fits.title_fits fits.text_fits fits.start_fits fits.buy_now_fits fits.end_fits fits.reserve_fits))
     (turn_more (λ (row : ItemRow). row.item.terms.item) 1 t.items row sound.items_in_turn refl)
     (simp length-append (omega arith))
 

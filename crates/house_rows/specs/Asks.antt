@@ -1,5 +1,5 @@
 -- What a keep may ask of a change: that it fits the tables, each row of which fits. That its new key is free the keep finds out.
-use Rattle.std.specs.Prelude.{◌≡◌, ◌≢◌, ◌<◌, ◌≤◌, ◌+◌, ◌⊎◌, ◌==◌, ◌&&◌, not, ℕ, List, length, true, false, IfSome, is_some, Option, Some, None}
+use Rattle.std.specs.Prelude.{◌≡◌, ◌≢◌, ◌<◌, ◌≤◌, ◌+◌, ◌⊎◌, ◌==◌, ◌&&◌, not, ℕ, List, length, true, false, IfSome, is_some, Some, None}
 use Rattle.std.specs.List.{list_any}
 use Rattle.proxy.specs.declared.bid.Bid as bid
 use Rattle.proxy.specs.Accepted.{AreAccepted}
@@ -10,7 +10,7 @@ use Rattle.house_rows.specs.declared.change.NewItem.{NewItem}
 use Rattle.house_rows.specs.declared.change.Change.TheVariants.{Register, AddCategory, List as Listed, Bid, Buy, Close, Settle, Watch, Unwatch, Ask, Answer, Feedback}
 use Rattle.house_rows.specs.declared.state.State.TheVariants.{Open, Sold}
 use Rattle.house_rows.specs.declared.talk.Question.{Question}
-use Rattle.house_rows.specs.Fits.{IsMoment, IsWithin}
+use Rattle.house_rows.specs.Fits.{IsMoment, IsWithin, ReserveFits}
 use Rattle.house_rows.specs.Found.{ask_count, category_at, category_named, is_given, item_with_lot, member_named, question_at, row_at}
 use Rattle.house_rows.specs.History.{counted}
 use Rattle.house_rows.specs.Limits.{most_cents, most_categories, most_items, most_members, most_questions, most_watches}
@@ -44,6 +44,7 @@ pub record ListingFits (t : Tables) (moment : ℕ) (item : NewItem) : Type 0 whe
   pub start_fits : IsWithin 1 most_cents item.start
   pub buy_now_fits : IfSome item.buy_now (λ amount. IsWithin item.start most_cents amount)
   pub end_fits : IsMoment item.end
+  pub reserve_fits : ReserveFits item.start item.buy_now item.reserve
   pub room : length t.items < most_items
 
 -- a bid on another member's open item, one that is accepted over the item's standing, with the standing after it

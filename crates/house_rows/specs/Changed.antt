@@ -1,7 +1,7 @@
 -- The tables after a change.
-use Rattle.std.specs.Prelude.{if◌then◌else◌, ℕ, ◌+◌, List, [], ◌∷◌, ◌++◌, Bool, ◌==◌, length, map, Option, Some, None}
+use Rattle.std.specs.Prelude.{if◌then◌else◌, ℕ, ◌+◌, List, [], ◌∷◌, ◌++◌, Bool, ◌==◌, length, map, Option, Some, None, option_map, true}
 use Rattle.proxy.specs.Opening.{Opening}
-use Rattle.proxy.specs.Bids.{standing_of}
+use Rattle.proxy.specs.Bids.{standing_of, met_by}
 use Rattle.proxy.specs.Kept.{Kept}
 use Rattle.house_rows.specs.declared.change.Change.{Change}
 use Rattle.house_rows.specs.declared.change.NewItem.{NewItem}
@@ -25,25 +25,29 @@ with_terms terms row = record row { item = record row.item { terms = terms } }
 abbrev pub is_item : ℕ → ItemRow → Bool
 is_item i row = row.item.terms.item == i
 
+-- whether the reserve is met, as bids are kept
+abbrev pub kept_met : Kept → Option Bool
+kept_met kept = met_by kept.reserve kept.top
+
 -- the item of that number stands as its bids now do
 abbrev pub with_standing : ℕ → Kept → ItemRow → ItemRow
 with_standing i kept row =
     if is_item i row
-    then record (with_terms (record row.item.terms { price = kept.price; leader = kept.leader; count = kept.count }) row) { standing = kept }
+    then record (with_terms (record row.item.terms { price = kept.price; leader = kept.leader; count = kept.count; met = kept_met kept }) row) { standing = kept }
     else row
 
 -- the item of that number is sold at once
 abbrev pub with_purchase : ℕ → ℕ → ℕ → ℕ → ItemRow → ItemRow
 with_purchase i buyer price moment row =
     if is_item i row
-    then with_terms (record row.item.terms { state = Sold; closed = Some moment; price = price; leader = Some buyer }) row
+    then with_terms (record row.item.terms { state = Sold; closed = Some moment; price = price; leader = Some buyer; met = option_map (λ m. true) row.item.terms.met }) row
     else row
 
 -- an item that is due is closed at its end, sold or unsold
 abbrev pub with_close : ℕ → ItemRow → ItemRow
 with_close moment row =
     if is_due moment row.item.terms
-    then with_terms (record row.item.terms { state = closed_state (close_sells row.item.terms.leader); closed = Some row.item.terms.end }) row
+    then with_terms (record row.item.terms { state = closed_state (close_sells row.item.terms.leader row.item.terms.met); closed = Some row.item.terms.end }) row
     else row
 
 -- the item of that number is settled
@@ -60,7 +64,7 @@ with_answer i asker number text q = if is_question i asker number q then record 
 
 -- what bidding on a new item opens with
 abbrev pub new_opening : NewItem → Opening
-new_opening new = record { start = new.start; reserve = None }
+new_opening new = record { start = new.start; reserve = new.reserve }
 
 -- the row of a new item. Where nobody has bid no band table matters
 abbrev pub new_item : ℕ → NewItem → ItemRow
@@ -78,6 +82,7 @@ new_item number new = record {
       price = new.start;
       leader = None;
       count = 0;
+      met = met_by new.reserve None;
     };
     lot = new.lot.now;
     title = new.title.now;

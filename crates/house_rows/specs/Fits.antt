@@ -1,8 +1,9 @@
 -- Which rows fit: every number in its range, every text as its field takes it.
-use Rattle.std.specs.Prelude.{◌≡◌, ◌≢◌, ◌≤◌, ℕ, true, IfSome, is_some, Some}
+use Rattle.std.specs.Prelude.{◌≡◌, ◌≢◌, ◌≤◌, ◌<◌, ℕ, Option, true, IfSome, is_some, Some}
 use Rattle.proxy.specs.Kept.{Kept}
 use Rattle.house_rows.specs.declared.item.Item.{Item}
 use Rattle.house_rows.specs.declared.item.OwnBid.{OwnBid}
+use Rattle.house_rows.specs.declared.item.OwnReserve.{OwnReserve}
 use Rattle.house_rows.specs.declared.item.Terms.{Terms}
 use Rattle.house_rows.specs.declared.people.Category.{Category}
 use Rattle.house_rows.specs.declared.people.Member.{Member}
@@ -29,6 +30,10 @@ IsItem n = IsWithin 1 most_items n
 -- a moment
 abbrev pub IsMoment : ℕ → Type 0
 IsMoment n = n ≤ last_moment
+
+-- a reserve is greater than the start, and at most the buy-now price
+abbrev pub ReserveFits : ℕ → Option ℕ → Option ℕ → Type 0
+ReserveFits start buy_now reserve = IfSome reserve (λ amount. (start < amount) × (amount ≤ most_cents) × IfSome buy_now (λ most. amount ≤ most))
 
 -- a row of the members fits
 pub record MemberFits (m : Member) : Type 0 where
@@ -74,6 +79,10 @@ pub record OwnBidFits (b : OwnBid) : Type 0 where
   pub item : IsItem b.item
   -- how many bids are its own
   pub mine : 1 ≤ b.mine
+
+-- a reserve of a member
+pub record OwnReserveFits (r : OwnReserve) : Type 0 where
+  pub item : IsItem r.item
 
 -- a question fits, and its answer where it has one
 pub record QuestionFits (q : Question) : Type 0 where

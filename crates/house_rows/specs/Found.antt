@@ -1,5 +1,5 @@
 -- What look-ups and lists find in the tables.
-use Rattle.std.specs.Prelude.{ℕ, List, [], ◌∷◌, ◌++◌, Bool, false, not, ◌==◌, ◌&&◌, nat_le, nat_lt, filter, find, length, map, option_map, take, Option, Some, None, is_some}
+use Rattle.std.specs.Prelude.{ℕ, List, [], ◌∷◌, ◌++◌, Bool, false, not, ◌==◌, ◌&&◌, nat_le, nat_lt, filter, find, length, map, option_map, option_and_then, take, Option, Some, None, is_some}
 use Rattle.std.specs.List.{list_any}
 use Rattle.proxy.specs.Bids.{greatest_of, is_leader}
 use Rattle.proxy.specs.Kept.{Kept}
@@ -9,6 +9,7 @@ use Rattle.house_rows.specs.declared.item.Due.{Due}
 use Rattle.house_rows.specs.declared.item.Item.{Item}
 use Rattle.house_rows.specs.declared.item.OwnBest.{OwnBest}
 use Rattle.house_rows.specs.declared.item.OwnBid.{OwnBid}
+use Rattle.house_rows.specs.declared.item.OwnReserve.{OwnReserve}
 use Rattle.house_rows.specs.declared.item.Terms.{Terms}
 use Rattle.house_rows.specs.declared.people.Category.{Category}
 use Rattle.house_rows.specs.declared.people.Counts.{Counts}
@@ -21,7 +22,7 @@ use Rattle.house_rows.specs.History.{counted}
 use Rattle.house_rows.specs.Bids.{BidRow}
 use Rattle.house_rows.specs.Changed.{is_item}
 use Rattle.house_rows.specs.Items.{close_sells, is_due}
-use Rattle.house_rows.specs.Pages.{sale_of}
+use Rattle.house_rows.specs.Pages.{reserve_told, sale_of}
 use Rattle.house_rows.specs.Questions.{is_question}
 use Rattle.house_rows.specs.Tables.{ItemRow, Tables}
 use Rattle.house_rows.specs.Watches.{is_watch}
@@ -97,8 +98,8 @@ is_given t item giver = list_any (λ f. (f.item == item) && (f.from == giver)) t
 -- how many items a close at a moment would leave sold, and how many unsold
 abbrev pub due_at : Tables → ℕ → Due
 due_at t moment = record {
-  sold = counted (λ row. is_due moment row.item.terms && close_sells row.item.terms.leader) t.items;
-  unsold = counted (λ row. is_due moment row.item.terms && not (close_sells row.item.terms.leader)) t.items;
+  sold = counted (λ row. is_due moment row.item.terms && close_sells row.item.terms.leader row.item.terms.met) t.items;
+  unsold = counted (λ row. is_due moment row.item.terms && not (close_sells row.item.terms.leader row.item.terms.met)) t.items;
 }
 
 -- every item, by number
@@ -123,6 +124,24 @@ own_bid t member it = record {
 -- the items on which a member has bid, from a number on; at most fifty
 abbrev pub own_bids : Tables → ℕ → ℕ → List OwnBid
 own_bids t member from = take most_shown (filter (λ b. nat_lt 0 b.mine && nat_le from b.item) (map (own_bid t member) (all_items t)))
+
+-- the reserve of the item of that number, if it has one
+abbrev pub reserve_at : Tables → ℕ → Option ℕ
+reserve_at t i = option_and_then (λ (row : ItemRow). row.standing.reserve) (row_at t i)
+
+-- the reserve on an item, with whether it is met, if there is one
+abbrev pub own_reserve : ItemRow → List OwnReserve
+own_reserve row = reserve_told row.item.terms row.standing.reserve
+
+-- the reserves on items, by number
+abbrev pub reserves_in : List ItemRow → List OwnReserve
+reserves_in [] = []
+reserves_in (row ∷ rows) = own_reserve row ++ reserves_in rows
+
+-- a member's reserves on what it sells, from an item on; at most fifty
+abbrev pub own_reserves : Tables → ℕ → ℕ → List OwnReserve
+own_reserves t member from =
+    take most_shown (filter (λ r. nat_le from r.item) (reserves_in (filter (λ row. row.item.terms.seller == member) t.items)))
 
 -- the published questions: those that were answered
 abbrev pub all_published : Tables → List Question

@@ -1,8 +1,8 @@
 -- What became of items, and items as everybody sees them.
-use Rattle.std.specs.Prelude.{if◌then◌else◌, ℕ, List, [], ◌∷◌, ◌++◌, Bool, true, false, not, ◌==◌, ◌&&◌, nat_le, map, find, Option, Some, None, is_some, unwrap_or, length}
+use Rattle.std.specs.Prelude.{if◌then◌else◌, ℕ, List, [], ◌∷◌, ◌++◌, Bool, true, false, not, ◌==◌, ◌&&◌, nat_le, map, find, Option, Some, None, is_some, option_map, unwrap_or, length}
 use Rattle.std.specs.List.{list_any}
 use Rattle.steps.specs.Table.{over}
-use Rattle.proxy.specs.Bids.{leader, price}
+use Rattle.proxy.specs.Bids.{leader, met, price}
 use Rattle.house_rows.specs.declared.command.Command.{Command}
 use Rattle.house_rows.specs.declared.command.Command.TheVariants.{Buy, Close, Settle}
 use Rattle.house_rows.specs.declared.item.Item.{Item}
@@ -85,9 +85,17 @@ leader_of h l = leader_from (purchase_of h l.item) (leader (bids_on h l.item))
 abbrev pub price_of : List (ℕ × ℕ) → History → Listing → ℕ
 price_of bands h l = if is_bought h l.item then unwrap_or l.buy_now 0 else price bands (listed_opening l) (bids_on h l.item)
 
--- whether a close sells an item, by its leader: somebody leads
-abbrev pub close_sells : Option ℕ → Bool
-close_sells leader = is_some leader
+-- whether the reserve is met, if there is one: what was bought at once meets it
+abbrev pub met_from : Bool → Option ℕ → Option Bool → Option Bool
+met_from bought reserve by_bids = if bought then option_map (λ r. true) reserve else by_bids
+
+-- whether the reserve of a listed item is met after a history
+abbrev pub met_of : History → Listing → Option Bool
+met_of h l = met_from (is_bought h l.item) l.reserve (met (listed_opening l) (bids_on h l.item))
+
+-- whether a close sells an item, by its leader and its reserve: somebody leads, and the reserve isn't unmet
+abbrev pub close_sells : Option ℕ → Option Bool → Bool
+close_sells leader met = is_some leader && unwrap_or met true
 
 -- what a close leaves an item
 abbrev pub closed_state : Bool → State
@@ -100,7 +108,7 @@ state_from bought taken sells settled =
 
 -- the state of a listed item after a history
 abbrev pub state_of : History → Listing → State
-state_of h l = state_from (is_bought h l.item) (is_taken h l) (close_sells (leader_of h l)) (is_settled h l.item)
+state_of h l = state_from (is_bought h l.item) (is_taken h l) (close_sells (leader_of h l) (met_of h l)) (is_settled h l.item)
 
 -- the closing moment: that of the purchase, or the end of what was taken
 abbrev pub closed_from : Option Purchase → Bool → ℕ → Option ℕ
@@ -125,6 +133,7 @@ terms_now settings h l = record {
   price = price_of (bands_by settings l) h l;
   leader = leader_of h l;
   count = length (bids_on h l.item);
+  met = met_of h l;
 }
 
 -- a listed item after a history, with its texts as they were listed

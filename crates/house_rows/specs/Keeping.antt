@@ -1,9 +1,9 @@
 -- What every call of a keep promises beside its answer. A keep that rests on a disk promises of its rows only while the disk
 -- has returned what was written: while it is honest.
-use Rattle.std.specs.Prelude.{◌≡◌, ◌≤◌, ◌+◌, ◌⊎◌, length, ◌↔◌, ℕ, List, [], ◌∷◌, Bool, true, false, Option, Some, None, IfSome, Result, OnOk, IsErrOf, ◌==◌, filter}
+use Rattle.std.specs.Prelude.{◌≡◌, ◌≤◌, ◌+◌, ◌⊎◌, length, ◌↔◌, ℕ, List, [], ◌∷◌, Bool, true, false, Option, Some, IfSome, Result, OnOk, IsErrOf, ◌==◌, filter, ◌≢◌, option_map}
 use Rattle.std.specs.List.{AllByRecursion}
 use Rattle.proxy.specs.Accepted.{AreAccepted}
-use Rattle.proxy.specs.Bids.{standing_of}
+use Rattle.proxy.specs.Bids.{met_by, standing_of}
 use Rattle.proxy.specs.declared.bid.Bid.{Bid}
 use Rattle.proxy.specs.Rows.{is_shape}
 use Rattle.house_rows.specs.declared.change.Change.{Change}
@@ -11,8 +11,9 @@ use Rattle.house_rows.specs.declared.item.Terms.{Terms}
 use Rattle.house_rows.specs.declared.fault.KeepFault.{KeepFault}
 use Rattle.house_rows.specs.declared.fault.KeepFault.TheVariants.{Store, Damaged}
 use Rattle.house_rows.specs.Asks.{IsFree}
-use Rattle.house_rows.specs.Fits.{BidRowFits, CategoryFits, FeedbackFits, IsMoment, ItemFits, MemberFits, QuestionFits, WatchRowFits}
+use Rattle.house_rows.specs.Fits.{BidRowFits, CategoryFits, FeedbackFits, IsMoment, ItemFits, MemberFits, QuestionFits, WatchRowFits, ReserveFits}
 use Rattle.house_rows.specs.Editions.{BandTables, bands_in}
+use Rattle.house_rows.specs.Changed.{kept_met}
 use Rattle.house_rows.specs.Found.{terms_at}
 use Rattle.house_rows.specs.History.{counted}
 use Rattle.house_rows.specs.Limits.{most_bids, most_categories, most_cents, most_items, most_members, most_watches}
@@ -23,25 +24,30 @@ use Rattle.house_rows.specs.Verdict.{was_sold}
 pub record IsByBids (row : ItemRow) : Type 0 where
   pub price : row.item.terms.price ≡ row.standing.price
   pub leader : row.item.terms.leader ≡ row.standing.leader
+  pub met : row.item.terms.met ≡ kept_met row.standing
 
 -- or the item was bought at once: then nobody has bid, and the price is the buy-now price
 pub record IsBought (row : ItemRow) : Type 0 where
   pub sold : was_sold row.item.terms.state ≡ true
   pub no_bid : row.standing.count ≡ 0
   pub price : row.item.terms.buy_now ≡ Some row.item.terms.price
+  pub met : row.item.terms.met ≡ option_map (λ r. true) row.standing.reserve
 
 -- what an item's row shows of its bids is what a standing shows by these bands, whatever is sealed of it
 pub record IsByStanding (bands : List (ℕ × ℕ)) (t : Terms) : Type 0 where
-  -- the sealed maxima: the greatest, and the second
+  -- what is sealed: the reserve, and the maxima, the greatest and the second
+  pub reserve : Option ℕ
   pub top : Option ℕ
   pub second : Option ℕ
-  pub shape : is_shape bands (record { start = t.start; reserve = None }) t.price t.count t.leader top second ≡ true
+  pub shape : is_shape bands (record { start = t.start; reserve = reserve }) t.price t.count t.leader top second ≡ true
+  pub met : t.met ≡ met_by reserve top
 
 -- or it was bought at once: nobody has bid, and the price is the buy-now price
 pub record IsPurchase (t : Terms) : Type 0 where
   pub sold : was_sold t.state ≡ true
   pub no_bid : t.count ≡ 0
   pub price : t.buy_now ≡ Some t.price
+  pub met : t.met ≢ Some false
 
 -- an item's row shows the standing of some bids, or that it was bought at once
 abbrev pub Stands : List (ℕ × ℕ) → Terms → Type 0
@@ -71,8 +77,7 @@ pub record ItemRowFits (bands : List (ℕ × ℕ)) (row : ItemRow) : Type 0 wher
   pub few : length bids ≤ most_bids
   pub stands : row.standing ≡ standing_of bands (row_opening row) bids
   pub top : IfSome row.standing.top (λ amount. amount ≤ most_cents)
-  -- no seller has a reserve
-  pub reserve : row.standing.reserve ≡ None
+  pub reserve : ReserveFits row.item.terms.start row.item.terms.buy_now row.standing.reserve
   pub count : row.item.terms.count ≡ length bids
   -- what everybody sees of the row
   pub told : IsByBids row ⊎ IsBought row

@@ -23,14 +23,16 @@ pub record Listing : Type 0 where
   pub buy_now : Option ℕ
   pub end : ℕ
   pub set : List (List (ℕ × ℕ))
+  -- the least for which the seller sells, which is sealed
+  pub reserve : Option ℕ
 
 -- what bidding on it opens with
 abbrev pub listed_opening : Listing → Opening
-listed_opening l = record { start = l.start; reserve = None }
+listed_opening l = record { start = l.start; reserve = l.reserve }
 
 -- the listing that a command makes, if it is one
 abbrev pub listing_in : ℕ → ℕ → Command → List Listing
-listing_in number caller (Listed category lot title text start buy_now end) = record {
+listing_in number caller (Listed category lot title text start buy_now end reserve) = record {
   item = number;
   seller = caller;
   category = category;
@@ -41,6 +43,7 @@ listing_in number caller (Listed category lot title text start buy_now end) = re
   buy_now = buy_now;
   end = end;
   set = [];
+  reserve = reserve;
 } ∷ []
 listing_in number caller _ = []
 
@@ -61,3 +64,18 @@ listing_at ls i = find (λ l. l.item == i) ls
 abbrev pub is_seller : Option Listing → ℕ → Bool
 is_seller None c = false
 is_seller (Some l) c = l.seller == c
+
+-- a reserve and its item
+pub record ReserveRow : Type 0 where
+  pub item : ℕ
+  pub amount : ℕ
+
+-- the row of a reserve, if there is one
+abbrev pub reserve_row : ℕ → Option ℕ → List ReserveRow
+reserve_row item None = []
+reserve_row item (Some amount) = record { item = item; amount = amount } ∷ []
+
+-- the reserves of what was listed, by item
+abbrev pub reserve_rows : List Listing → List ReserveRow
+reserve_rows [] = []
+reserve_rows (l ∷ ls) = reserve_row l.item l.reserve ++ reserve_rows ls

@@ -1,25 +1,22 @@
 -- What every read shows.
-use Rattle.std.specs.Prelude.{if◌then◌else◌, ℕ, List, [], ◌∷◌, ◌++◌, Bool, ◌==◌, ◌&&◌, nat_le, nat_lt, filter, find, length, map, take, Option, Some, None, is_some, unwrap_or}
+use Rattle.std.specs.Prelude.{if◌then◌else◌, ℕ, List, [], ◌∷◌, ◌++◌, Bool, ◌==◌, ◌&&◌, nat_le, nat_lt, filter, find, length, map, take, Option, Some, None, false, is_some, unwrap_or}
 use Rattle.std.specs.List.{list_any}
 use Rattle.proxy.specs.Bids.{bids_by, greatest, is_leader}
 use Rattle.settle.specs.Statement.{is_party}
 use Rattle.settle.specs.declared.sale.Sold.{Sold}
 use Rattle.house_rows.specs.declared.item.ItemShown.{ItemShown}
 use Rattle.house_rows.specs.declared.item.OwnBid.{OwnBid}
+use Rattle.house_rows.specs.declared.item.OwnReserve.{OwnReserve}
 use Rattle.house_rows.specs.declared.item.Terms.{Terms}
 use Rattle.house_rows.specs.declared.page.Page.{Page}
-use Rattle.house_rows.specs.declared.page.Page.TheVariants.{Refused, House, Bands, Categories, Items, OneItem, Questions, OneMember, Feedbacks, Bids, Statement}
-use Rattle.house_rows.specs.declared.people.Category.{Category}
-use Rattle.house_rows.specs.declared.people.Counts.{Counts}
+use Rattle.house_rows.specs.declared.page.Page.TheVariants.{Refused, House, Bands, Categories, Items, OneItem, Questions, OneMember, Feedbacks, Bids, Reserves, Statement}
 use Rattle.house_rows.specs.declared.people.Member.{Member}
 use Rattle.house_rows.specs.declared.people.Ratings.{Ratings}
 use Rattle.house_rows.specs.declared.query.Query.{Query}
 use Rattle.house_rows.specs.declared.query.Query.TheVariants as query
-use Rattle.house_rows.specs.declared.refusal.Refusal.{Refusal}
 use Rattle.house_rows.specs.declared.refusal.Refusal.TheVariants.{NoCaller, Unknown}
 use Rattle.house_rows.specs.declared.settings.Settings.{Settings}
 use Rattle.house_rows.specs.declared.talk.Feedback.{Feedback}
-use Rattle.house_rows.specs.declared.talk.Question.{Question}
 use Rattle.house_rows.specs.Limits.{most_shown}
 use Rattle.house_rows.specs.History.{History, clock, counted}
 use Rattle.house_rows.specs.People.{categories, members}
@@ -28,7 +25,8 @@ use Rattle.house_rows.specs.Items.{items_shown, shown_at}
 use Rattle.house_rows.specs.Questions.{published, questions, waiting}
 use Rattle.house_rows.specs.Ratings.{feedback, is_minus, is_plus, is_zero}
 use Rattle.house_rows.specs.Verdict.{was_sold}
-use Rattle.house_rows.specs.Views.{own_watches}
+use Rattle.house_rows.specs.Listings.{ReserveRow}
+use Rattle.house_rows.specs.Views.{own_reserves, own_watches}
 
 -- how often a member was rated with each rating
 abbrev pub ratings_of : List Feedback → ℕ → Ratings
@@ -37,6 +35,20 @@ ratings_of feedback c = record {
   zero = counted (λ f. (f.to == c) && is_zero f.rating) feedback;
   minus = counted (λ f. (f.to == c) && is_minus f.rating) feedback;
 }
+
+-- whether the reserve of terms is met
+abbrev pub met_in : Terms → Bool
+met_in terms = unwrap_or terms.met false
+
+-- whether the reserve of an item is met
+abbrev pub is_met : Option ItemShown → Bool
+is_met None = false
+is_met (Some it) = met_in it.item.terms
+
+-- the reserve of an item, if it has one, with whether it is met
+abbrev pub reserve_told : Terms → Option ℕ → List OwnReserve
+reserve_told terms None = []
+reserve_told terms (Some amount) = record { item = terms.item; met = met_in terms; reserve = amount } ∷ []
 
 -- what a member has bid on an item
 abbrev pub own_bid : History → ℕ → Terms → OwnBid
@@ -52,6 +64,14 @@ own_bid h c terms = record {
 -- the items on which a member has bid, by number
 unfoldable pub own_bids : History → ℕ → List ItemShown → List OwnBid
 own_bids h c its = filter (λ b. nat_lt 0 b.mine) (map (λ it. own_bid h c it.item.terms) its)
+
+-- a reserve with whether it is met, as everybody sees of the item
+abbrev pub told_reserve : List ItemShown → ReserveRow → OwnReserve
+told_reserve its r = record { item = r.item; met = is_met (shown_at its r.item); reserve = r.amount }
+
+-- a member's reserves, each with whether it is met, by item
+unfoldable pub reserves_shown : History → ℕ → List ItemShown → List OwnReserve
+reserves_shown h c its = map (told_reserve its) (own_reserves h c)
 
 -- the sale of an item, if it was sold
 abbrev pub sale_of : Terms → List Sold
@@ -115,6 +135,8 @@ page_of settings h c (query.FeedbackTo m from) = for_all (members h) c (
     (Feedbacks (take most_shown (filter (λ f. (f.to == m) && nat_le from f.item) (feedback h)))))
 page_of settings h c (query.MyBids from) = for_member (members h) c (
     Bids (take most_shown (filter (λ b. nat_le from b.item) (own_bids h c (items_shown settings h)))))
+page_of settings h c (query.MyReserves from) = for_member (members h) c (
+    Reserves (take most_shown (filter (λ r. nat_le from r.item) (reserves_shown h c (items_shown settings h)))))
 page_of settings h c query.MyWatches = for_member (members h) c (
     Items (filter (λ it. list_any (λ w. w.item == it.item.terms.item) (own_watches h c)) (items_shown settings h)))
 page_of settings h c (query.MyQuestions from) = for_member (members h) c (

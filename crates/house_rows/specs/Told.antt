@@ -1,5 +1,5 @@
 -- What an accepted command is told.
-use Rattle.std.specs.Prelude.{ℕ, ◌-◌, List, Bool, true, false, not, ◌&&◌, length, Option, Some, None, unwrap_or}
+use Rattle.std.specs.Prelude.{ℕ, ◌-◌, true, false, not, ◌&&◌, length, Option, Some, None, unwrap_or}
 use Rattle.settle.specs.Fee.{fee_of}
 use Rattle.house_rows.specs.declared.command.Command.{Command}
 use Rattle.house_rows.specs.declared.command.Command.TheVariants.{Register, AddCategory, List as Listed, Bid, Buy, Close, Settle, Watch, Unwatch, Ask, Answer, Feedback}
@@ -40,12 +40,12 @@ told_rated c _ _ = Nothing
 abbrev pub told : Settings → History → ℕ → ℕ → Command → History → Told
 told settings after moment caller (Register name) before = Registered (length (members after))
 told settings after moment caller (AddCategory name) before = Added (length (categories after))
-told settings after moment caller (Listed category lot title text start buy_now end) before = Listing (length (items_shown settings after))
+told settings after moment caller (Listed category lot title text start buy_now end reserve) before = Listing (length (items_shown settings after))
 told settings after moment caller (Bid i maximum) before = told_placed (shown_at (items_shown settings after) i)
 told settings after moment caller (Buy i) before = told_bought (shown_at (items_shown settings after) i)
 told settings after moment caller Close before = Closed
-    (counted (λ it. is_due moment it.item.terms && close_sells it.item.terms.leader) (items_shown settings before))
-    (counted (λ it. is_due moment it.item.terms && not (close_sells it.item.terms.leader)) (items_shown settings before))
+    (counted (λ it. is_due moment it.item.terms && close_sells it.item.terms.leader it.item.terms.met) (items_shown settings before))
+    (counted (λ it. is_due moment it.item.terms && not (close_sells it.item.terms.leader it.item.terms.met)) (items_shown settings before))
 told settings after moment caller (Settle i) before = told_settled settings.rate (shown_at (items_shown settings after) i)
 told settings after moment caller (Watch i) before = Watched i true
 told settings after moment caller (Unwatch i) before = Watched i false

@@ -65,11 +65,21 @@ abbrev pub is_buy_now : ℕ → Option ℕ → Bool
 is_buy_now start None = true
 is_buy_now start (Some amount) = nat_le start amount && nat_le amount most_cents
 
--- whether title, text, start, buy-now price and end of a listing are in range
-abbrev pub are_terms : ℕ → List ℕ → List ℕ → ℕ → Option ℕ → ℕ → Bool
-are_terms moment title text start buy_now end =
+-- whether an amount is at most the one for which the item may be bought at once, if it may
+abbrev pub is_at_most : Option ℕ → ℕ → Bool
+is_at_most None amount = true
+is_at_most (Some most) amount = nat_le amount most
+
+-- whether the reserve is none, or greater than the start, and at most the buy-now price
+abbrev pub is_reserve : ℕ → Option ℕ → Option ℕ → Bool
+is_reserve start buy_now None = true
+is_reserve start buy_now (Some amount) = nat_lt start amount && (nat_le amount most_cents && is_at_most buy_now amount)
+
+-- whether title, text, start, buy-now price, end and reserve of a listing are in range
+abbrev pub are_terms : ℕ → List ℕ → List ℕ → ℕ → Option ℕ → ℕ → Option ℕ → Bool
+are_terms moment title text start buy_now end reserve =
     is_text 1 80 title && (is_text 0 2000 text && (nat_le 1 start && (nat_le start most_cents
-    && (is_buy_now start buy_now && (nat_lt moment end && nat_le end last_moment)))))
+    && (is_buy_now start buy_now && (nat_lt moment end && (nat_le end last_moment && is_reserve start buy_now reserve))))))
 
 -- of a listing, by whether the seller has the lot, whether there is the category, and how many items there are
 abbrev pub listing_rules : List ℕ → Bool → Bool → Bool → ℕ → List Rule
@@ -154,9 +164,9 @@ feedback_rules caller rating text is_given terms =
 abbrev pub rules : Settings → History → ℕ → ℕ → Command → List Rule
 rules settings h moment caller (Register name) = register_rules name (members h)
 rules settings h moment caller (AddCategory name) = category_rules name (categories h)
-rules settings h moment caller (Listed category lot title text start buy_now end) = listing_rules lot
+rules settings h moment caller (Listed category lot title text start buy_now end reserve) = listing_rules lot
     (list_any (λ it. (it.item.terms.seller == caller) && same_text it.item.lot lot) (items_shown settings h))
-    (are_terms moment title text start buy_now end)
+    (are_terms moment title text start buy_now end reserve)
     (list_any (λ k. k.category == category) (categories h))
     (length (items_shown settings h))
 rules settings h moment caller (Bid i maximum) =

@@ -10,6 +10,7 @@ use Rattle.house_rows.specs.declared.talk.Feedback.{Feedback}
 use Rattle.house_rows.specs.declared.talk.Question.{Question}
 use Rattle.house_rows.specs.History.{History, clock}
 use Rattle.house_rows.specs.People.{categories, members}
+use Rattle.house_rows.specs.Listings.{Listing, ReserveRow, listings, reserve_rows}
 use Rattle.house_rows.specs.Items.{items_shown}
 use Rattle.house_rows.specs.Questions.{Asked, asked, published}
 use Rattle.house_rows.specs.Ratings.{feedback}
@@ -60,12 +61,21 @@ own_watches h c = filter (λ w. w.member == c) (watches h)
 unfoldable pub own_questions : History → ℕ → List Asked
 own_questions h c = filter (λ q. q.asker == c) (asked h)
 
--- the own view: what a member has bid, watches and has asked
+-- a member's own listings, in order
+abbrev pub own_listings : History → ℕ → List Listing
+own_listings h c = filter (λ l. l.seller == c) (listings h)
+
+-- a member's reserves, by item
+unfoldable pub own_reserves : History → ℕ → List ReserveRow
+own_reserves h c = reserve_rows (own_listings h c)
+
+-- the own view: what a member has bid, its reserves, what it watches and what it has asked
 pub record Own : Type 0 where
   pub maxima : List OwnMaximum
+  pub reserves : List ReserveRow
   pub watches : List WatchRow
   pub questions : List Asked
 
 -- the own view of a member
 abbrev pub own_view : History → ℕ → Own
-own_view h c = record { maxima = own_maxima h c; watches = own_watches h c; questions = own_questions h c }
+own_view h c = record { maxima = own_maxima h c; reserves = own_reserves h c; watches = own_watches h c; questions = own_questions h c }

@@ -22,6 +22,8 @@ pub struct NewItem<'c> {
     pub buy_now: Option<Cents>,
     /// When it ends.
     pub end: u64,
+    /// The least for which it is sold, which is sealed.
+    pub reserve: Option<Cents>,
 }
 
 /// What an accepted command changes, whole. Texts are those of the command. Moments are in whole

@@ -32,6 +32,8 @@ pub enum Command {
         buy_now: Option<u64>,
         /// When it ends.
         end: u64,
+        /// The least for which the caller sells, which is sealed.
+        reserve: Option<u64>,
     },
     /// The caller bids.
     Bid {

@@ -29,6 +29,8 @@ pub struct Terms {
     pub leader: Option<u32>,
     /// How many bids were accepted, at most 10000.
     pub count: u32,
+    /// Whether its reserve is met; none where it has none.
+    pub met: Option<bool>,
 }
 
 /// An item.
@@ -77,6 +79,17 @@ pub struct OwnBid {
     pub price: Cents,
     /// The item's state.
     pub state: State,
+}
+
+/// A reserve of a member on an item that it sells.
+#[derive(Clone, Copy, Debug, PartialEq, Eq)]
+pub struct OwnReserve {
+    /// The number of the item.
+    pub item: u32,
+    /// Whether the reserve is met.
+    pub met: bool,
+    /// The reserve.
+    pub reserve: Cents,
 }
 
 /// How many items a close takes.

@@ -4,8 +4,8 @@ ghost use Rattle.settle.specs.Statement.{IsSale, is_party};
 ghost use Rattle.std.specs.List.{AllByRecursion, list_any};
 ghost use Rattle.house_rows.specs.Asks.{ChangeFits};
 ghost use Rattle.house_rows.specs.Changed.{changed, is_item};
-ghost use Rattle.house_rows.specs.Fits.{BidRowFits, CategoryFits, FeedbackFits, IsItem, IsMember, IsMoment, IsWithin, ItemFits, MemberFits, OwnBidFits, QuestionFits, StandingFits, TermsFit, WatchRowFits};
-ghost use Rattle.house_rows.specs.Found.{all_items, all_published, ask_count, best_of, category_at, category_named, counts_of, due_at, feedback_to, first_waiting, is_given, is_watched, item_at, item_with_lot, items_in, items_watched, member_named, own_bids, published_on, question_at, questions_of, row_at, sales_to, sells, standing_at, terms_at, waiting_for, watch_count};
+ghost use Rattle.house_rows.specs.Fits.{BidRowFits, CategoryFits, FeedbackFits, IsItem, IsMember, IsMoment, IsWithin, ItemFits, MemberFits, OwnBidFits, OwnReserveFits, QuestionFits, StandingFits, TermsFit, WatchRowFits};
+ghost use Rattle.house_rows.specs.Found.{all_items, all_published, ask_count, best_of, category_at, category_named, counts_of, due_at, feedback_to, first_waiting, is_given, is_watched, item_at, item_with_lot, items_in, items_watched, member_named, own_bids, own_reserves, published_on, question_at, questions_of, reserve_at, row_at, sales_to, sells, standing_at, terms_at, waiting_for, watch_count};
 ghost use Rattle.house_rows.specs.Items.{is_due};
 ghost use Rattle.house_rows.specs.Keeping.{AllStand, AreSound, ChangeFaults, Faults, IsRead, RowFits, StandsAt, StandsIn};
 ghost use Rattle.house_rows.specs.Taken.{FirstFit, FitWhere, IsUndamaged, ItemsFitWhere, may_be_party, start_of};
@@ -17,10 +17,11 @@ ghost use Rattle.house_rows.specs.Tables.{Tables, band_tables};
 use crate::change::Change;
 use crate::editions::Editions;
 use crate::fault::KeepFault;
-use crate::item::{Due, Item, OwnBest, OwnBid, Terms};
+use crate::item::{Due, Item, OwnBest, OwnBid, OwnReserve, Terms};
 use crate::people::{Category, Counts, Member, Ratings};
 use crate::settings::Settings;
 use crate::talk::{Feedback, Question};
+use cents::Cents;
 use proxy::Standing;
 use settle::Sold;
 
@@ -262,6 +263,24 @@ pub trait Keep {
         ensures faults { Faults result (is_honest self.new) (is_failed self.new) (content self.old) }
         ensures damaged { is_honest self.new
             → FitsSoFar (band_tables (content self.old)) (content self.old) member from
+            → IsUndamaged result }
+        ensures read { IsRead content is_failed is_honest may_leave self.old self.new };
+
+    /// The reserve of an item, which is sealed.
+    fn reserve(&mut self, item: u64) -> Result<Option<Cents>, KeepFault>
+        ensures value { is_honest self.new → IfOk result (λ v. v ≡ reserve_at (content self.old) item) }
+        ensures faults { Faults result (is_honest self.new) (is_failed self.new) (content self.old) }
+        ensures damaged { is_honest self.new
+            → ItemsFitWhere (is_item item) (content self.old) → IsUndamaged result }
+        ensures read { IsRead content is_failed is_honest may_leave self.old self.new };
+
+    /// A member's reserves on what it sells, from an item on; at most fifty.
+    fn reserves_of(&mut self, member: u64, from: u64) -> Result<Vec<OwnReserve>, KeepFault>
+        ensures value { is_honest self.new → IfOk result (λ v. v.items ≡ own_reserves (content self.old) member from) }
+        ensures fits { IfOk result (λ v. AllByRecursion OwnReserveFits v.items) }
+        ensures faults { Faults result (is_honest self.new) (is_failed self.new) (content self.old) }
+        ensures damaged { is_honest self.new
+            → ItemsFitWhere (λ row. row.item.terms.seller == member) (content self.old)
             → IsUndamaged result }
         ensures read { IsRead content is_failed is_honest may_leave self.old self.new };
 

@@ -35,7 +35,7 @@ pub use edition::Edition;
 pub use editions::Editions;
 pub use ends::Ends;
 pub use fault::KeepFault;
-pub use item::{Due, Item, ItemShown, OwnBest, OwnBid, Terms};
+pub use item::{Due, Item, ItemShown, OwnBest, OwnBid, OwnReserve, Terms};
 pub use keep::Keep;
 pub use limits::{
     MOST_CATEGORIES, MOST_ITEMS, MOST_MEMBERS, MOST_QUESTIONS, MOST_SHOWN, MOST_WATCHES,

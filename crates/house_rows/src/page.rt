@@ -1,5 +1,5 @@
 //! What a read shows.
-use crate::item::{ItemShown, OwnBid};
+use crate::item::{ItemShown, OwnBid, OwnReserve};
 use crate::people::{Category, Counts, Member, Ratings};
 use crate::refusal::Refusal;
 use crate::rows::Rows;
@@ -46,6 +46,8 @@ pub enum Page {
     Feedbacks(Rows<Feedback>),
     /// The items on which the caller has bid, by number.
     Bids(Rows<OwnBid>),
+    /// The caller's reserves, by item.
+    Reserves(Rows<OwnReserve>),
     /// The caller's statement of a period.
     Statement {
         /// The number of the caller.

@@ -46,6 +46,11 @@ pub enum Query {
         /// The least number of an item.
         from: u64,
     },
+    /// The caller's reserves, from an item on.
+    MyReserves {
+        /// The least number of an item.
+        from: u64,
+    },
     /// The items that the caller watches.
     MyWatches,
     /// The caller's own questions, from an item on.

@@ -7,9 +7,9 @@ ghost use Rattle.house_rows.specs.Names.{state_name};
 pub enum State {
     /// It takes bids, or a purchase, until its end.
     Open,
-    /// It was bought, or closed with a leader.
+    /// It was bought, or closed with a leader and no reserve that isn't met.
     Sold,
-    /// It was closed with no leader.
+    /// It was closed with no leader, or with a reserve that isn't met.
     Unsold,
     /// It was sold, and the house has settled the sale.
     Settled,

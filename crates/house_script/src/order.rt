@@ -113,5 +113,6 @@ fn listing(words: &mut Words<'_>) -> Result<Command, Fault> {
         start: words.number()?,
         buy_now: words.number_or_none()?,
         end: words.number()?,
+        reserve: words.number_if_any()?,
     })
 }

@@ -68,6 +68,8 @@ fn on_items<K: Keep>(
         "state" => line(alloc, keep.terms(first)),
         "standing" => line(alloc, standing(keep, first)),
         "due" => line(alloc, keep.due(first)),
+        "reserve" => line(alloc, keep.reserve(first)),
+        "reserves" => line(alloc, keep.reserves_of(first, second)),
         "sales" => line(alloc, keep.sold_of(first)),
         _ => on_bids_and_watches(alloc, keep, name, numbers),
     }

@@ -2,8 +2,8 @@
 use crate::fault::Fault;
 use cents::Cents;
 use house_rows::{
-    Category, Counts, Due, Feedback, Item, KeepFault, Member, OwnBest, OwnBid, Question, Rating,
-    Ratings, Terms, Text,
+    Category, Counts, Due, Feedback, Item, KeepFault, Member, OwnBest, OwnBid, OwnReserve,
+    Question, Rating, Ratings, Terms, Text,
 };
 use proxy::Standing;
 use settle::Sold;
@@ -158,7 +158,11 @@ impl Shown for Terms {
         write!(
             line,
             "{state}, price {price}, leader {leader}, count {count}, closed {closed}"
-        )
+        )?;
+        match self.met {
+            Some(met) => write!(line, ", met {met}"),
+            None => Ok(()),
+        }
     }
 }
 
@@ -179,6 +183,19 @@ impl Shown for StandingRow {
             line,
             "price {price}, leader {leader}, top {top}, second {second}, count {count}, floor {floor}"
         )
+    }
+}
+
+impl Shown for Cents {
+    fn show(&self, line: &mut String) -> Result<(), AllocError> {
+        self.value().show(line)
+    }
+}
+
+impl Shown for OwnReserve {
+    fn show(&self, line: &mut String) -> Result<(), AllocError> {
+        let (item, reserve, met) = (self.item, self.reserve.value(), self.met);
+        write!(line, "item {item}, reserve {reserve}, met {met}")
     }
 }
 

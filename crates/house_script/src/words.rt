@@ -56,6 +56,14 @@ impl<'l> Words<'l> {
         }
     }
 
+    /// The number that the next word spells, if there is one.
+    pub(crate) fn number_if_any(&mut self) -> Result<Option<u64>, Fault> {
+        match self.next() {
+            None => Ok(None),
+            Some(word) => Ok(Some(word.parse()?)),
+        }
+    }
+
     /// The rating that the next word spells, or none where it spells no rating.
     pub(crate) fn rating(&mut self) -> Result<Option<Rating>, Fault> {
         Ok(match self.word()? {

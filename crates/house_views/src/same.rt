@@ -1,7 +1,7 @@
 //! Whether two rows are the same, and two lists of them.
 ghost use Rattle.std.specs.Prelude.{◌≡◌, ◌↔◌, true};
 
-use house_rows::{Category, Feedback, Item, Member, Question, Text};
+use house_rows::{Category, Feedback, Item, Member, Question, Terms, Text};
 
 /// Values that can be compared as clauses see them.
 pub trait Same {
@@ -34,9 +34,53 @@ impl Same for Category {
     }
 }
 
+// Whether two items are offered alike. The fields are parted, since the prover looks at an option on
+// both sides.
+fn are_offered_alike(left: &Terms, right: &Terms) -> bool
+    ensures { (result ≡ true) ↔ ((left.now.item ≡ right.now.item)
+        × (left.now.seller ≡ right.now.seller)
+        × (left.now.category ≡ right.now.category)
+        × (left.now.start ≡ right.now.start)
+        × (left.now.buy_now ≡ right.now.buy_now)
+        × (left.now.end ≡ right.now.end)) }
+{
+    left.item == right.item
+        && left.seller == right.seller
+        && left.category == right.category
+        && left.start == right.start
+        && left.buy_now == right.buy_now
+        && left.end == right.end
+}
+
+// Whether they are open or closed alike.
+fn are_closed_alike(left: &Terms, right: &Terms) -> bool
+    ensures { (result ≡ true) ↔ ((left.now.state ≡ right.now.state)
+        × (left.now.closed ≡ right.now.closed)
+        × (left.now.price ≡ right.now.price)) }
+{
+    left.state == right.state && left.closed == right.closed && left.price == right.price
+}
+
+// Whether their bids stand alike.
+fn are_led_alike(left: &Terms, right: &Terms) -> bool
+    ensures { (result ≡ true) ↔ ((left.now.leader ≡ right.now.leader)
+        × (left.now.count ≡ right.now.count)
+        × (left.now.met ≡ right.now.met)) }
+{
+    left.leader == right.leader && left.count == right.count && left.met == right.met
+}
+
+impl Same for Terms {
+    fn is_same(&self, other: &Terms) -> bool {
+        are_offered_alike(self, other)
+            && are_closed_alike(self, other)
+            && are_led_alike(self, other)
+    }
+}
+
 impl Same for Item {
     fn is_same(&self, other: &Item) -> bool {
-        self.terms == other.terms
+        self.terms.is_same(&other.terms)
             && self.lot.is_same(&other.lot)
             && self.title.is_same(&other.title)
             && self.text.is_same(&other.text)

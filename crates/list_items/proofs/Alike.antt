@@ -1,10 +1,10 @@
 -- Changes of a row that keep what the indexes know of it.
 use Rattle.std.proofs.Common.{◌≡◌, ◌≢◌, ℕ, List, [], ◌∷◌, ◌++◌, Bool, true, false, refl, inl, inr}
-use Rattle.std.specs.Prelude.{if◌then◌else◌, ◌==◌, ◌||◌, is_some}
+use Rattle.std.specs.Prelude.{if◌then◌else◌, ◌==◌, ◌||◌}
 use Rattle.proxy.specs.Bids.{is_leader}
 use Rattle.proxy.specs.Kept.{Kept}
 use Rattle.house_rows.specs.Changed.{is_item, with_close, with_purchase, with_settlement, with_standing}
-use Rattle.house_rows.specs.Items.{is_due, is_open}
+use Rattle.house_rows.specs.Items.{is_due, is_open, close_sells}
 use Rattle.house_rows.specs.Tables.{ItemRow}
 use Rattle.house_rows.proofs.Put.{by_test}
 use Rattle.list_items.specs.Indexed.{IsNoted, number_of}
@@ -44,7 +44,7 @@ like_settlement i row = elim (by_test (is_item i row)) [
 
 pub like_close : (moment : ℕ) (row : ItemRow) → IsLike row (with_close moment row)
 like_close moment row = elim (by_test (is_due moment row.item.terms)) [
-  | inl due ↦ elim (by_test (is_some row.item.terms.leader)) [
+  | inl due ↦ elim (by_test (close_sells row.item.terms.leader row.item.terms.met)) [
     | inl led ↦ rw (due, led) (record { number = refl; seller = refl; lot = refl; category = refl; ends = refl; opened = λ o. absurd (both_ways false o refl) })
     | inr none ↦ rw (due, none) (record { number = refl; seller = refl; lot = refl; category = refl; ends = refl; opened = λ o. absurd (both_ways false o refl) })
   ]

@@ -1,6 +1,6 @@
 -- A close, item by item, is a close of all.
 use Rattle.std.proofs.Common.{◌≡◌, ◌≢◌, ℕ, ◌≤◌, ◌<◌, List, [], ◌∷◌, map, Bool, true, false, refl, ◌∙◌, ap, sym, arith, inl, inr, ◌⊎◌, Option, Some, None}
-use Rattle.std.specs.Prelude.{◌&&◌, ◌||◌, is_some, nat_le, slice_get, IfSome, IsSome}
+use Rattle.std.specs.Prelude.{◌&&◌, ◌||◌, nat_le, slice_get, IfSome, IsSome}
 use Rattle.std.proofs.lemmas.Option.{same_Some, slice_get_within}
 use Rattle.std.specs.List.{AllByRecursion}
 use Rattle.std.specs.BTreeSet.{BTreeSet, btree_set_len}
@@ -8,7 +8,7 @@ use Rattle.std.specs.BTreeSet as set
 use Rattle.std.specs.Ordering.{is_eq, is_gt, nat_cmp, ordering_then}
 use Rattle.std.proofs.lemmas.Bool.Decides.{nat_tests}
 use Rattle.house_rows.specs.Changed.{is_item, with_close}
-use Rattle.house_rows.specs.Items.{is_due, is_open}
+use Rattle.house_rows.specs.Items.{is_due, is_open, close_sells}
 use Rattle.house_rows.specs.Tables.{ItemRow}
 use Rattle.house_rows.proofs.Every.{every_as, every_map}
 use Rattle.house_rows.proofs.Put.{by_test}
@@ -34,7 +34,7 @@ close_at_apart i moment row apart = rw (other_number (number_of row) i apart) re
 
 -- what is closed is open no longer
 closed_unopened : (moment : ℕ) (row : ItemRow) → is_due moment row.item.terms ≡ true → is_open (with_close moment row).item.terms.state ≡ false
-closed_unopened moment row due = elim (by_test (is_some row.item.terms.leader)) [ inl led ↦ rw (due, led) refl | inr none ↦ rw (due, none) refl ]
+closed_unopened moment row due = elim (by_test (close_sells row.item.terms.leader row.item.terms.met)) [ inl led ↦ rw (due, led) refl | inr none ↦ rw (due, none) refl ]
 
 both_true : (a b : Bool) → a ≡ true → b ≡ true → (a && b) ≡ true
 both_true a b is also = rw (is, also) refl

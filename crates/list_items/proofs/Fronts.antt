@@ -19,12 +19,12 @@ use Rattle.list_items.specs.Rising.{HasAll, IsRisingFrom, is_among, rows_at}
 use Rattle.list_items.specs.Sales.{is_sold_with, sale_if_sold, sale_of_row, sale_with}
 use Rattle.list_items.proofs.Joined.{both_ways, joined, rising_as, same_number}
 
-rows_more : {A : Type 0} (number : A → ℕ) (ks : List ℕ) (i k : ℕ) (rows : List A) (x : A) → i < length ks → k ≡ get_or ks i 0 → find (λ row. number row == k) rows ≡ Some x
+pub rows_more : {A : Type 0} (number : A → ℕ) (ks : List ℕ) (i k : ℕ) (rows : List A) (x : A) → i < length ks → k ≡ get_or ks i 0 → find (λ row. number row == k) rows ≡ Some x
     → rows_at number (take (i + 1) ks) rows ≡ rows_at number (take i ks) rows ++ x ∷ []
 rows_more number ks i k rows x lt at' found =
     ap (λ js. rows_at number js rows) (take_more ks i 0 lt ∙ ap (λ j. take i ks ++ j ∷ []) (sym at')) ∙ filter_map-append (λ j. find (λ row. number row == j) rows) (take i ks) (k ∷ []) ∙ rw found refl
 
-rows_less : {A : Type 0} (number : A → ℕ) (ks : List ℕ) (i k : ℕ) (rows : List A) → i < length ks → k ≡ get_or ks i 0 → find (λ row. number row == k) rows ≡ None
+pub rows_less : {A : Type 0} (number : A → ℕ) (ks : List ℕ) (i k : ℕ) (rows : List A) → i < length ks → k ≡ get_or ks i 0 → find (λ row. number row == k) rows ≡ None
     → rows_at number (take (i + 1) ks) rows ≡ rows_at number (take i ks) rows
 rows_less number ks i k rows lt at' none =
     ap (λ js. rows_at number js rows) (take_more ks i 0 lt ∙ ap (λ j. take i ks ++ j ∷ []) (sym at')) ∙ filter_map-append (λ j. find (λ row. number row == j) rows) (take i ks) (k ∷ []) ∙ rw none (append-nil (rows_at number (take i ks) rows))
@@ -206,7 +206,7 @@ rising_filter p least (k ∷ ks) rising =
       | inr not ↦ rw not (rising_as least (k + 1) (filter p ks) (let le : least ≤ k = rising.0 in omega arith) (rising_filter p (k + 1) ks rising.1))
     ]
 
-among_filter : (p : ℕ → Bool) (ks : List ℕ) (n : ℕ) → is_among ks n ≡ true → p n ≡ true → is_among (filter p ks) n ≡ true
+pub among_filter : (p : ℕ → Bool) (ks : List ℕ) (n : ℕ) → is_among ks n ≡ true → p n ≡ true → is_among (filter p ks) n ≡ true
 among_filter p [] n among passes = among
 among_filter p (k ∷ ks) n among passes =
     elim (by_test (k == n)) [

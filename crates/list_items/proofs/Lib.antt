@@ -6,6 +6,7 @@ mod Alike
 mod Known
 mod ByLot
 pub mod Fronts
+pub mod Reserves
 mod Closed
 mod Listed
 mod Due

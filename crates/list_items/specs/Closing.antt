@@ -24,4 +24,4 @@ AllAfter ends moment = (e n : ℕ) → has_end ends e n ≡ true → moment < e
 -- whether an item is due at the moment, and the close sells it or doesn't
 abbrev pub is_due_with : ℕ → Bool → ItemRow → Bool
 is_due_with moment sells row =
-    is_due moment row.item.terms && (if sells then close_sells row.item.terms.leader else not (close_sells row.item.terms.leader))
+    is_due moment row.item.terms && (if sells then close_sells row.item.terms.leader row.item.terms.met else not (close_sells row.item.terms.leader row.item.terms.met))

@@ -2,4 +2,5 @@ pub mod Groups
 pub mod Rising
 pub mod Indexed
 pub mod Sales
+pub mod Reserves
 pub mod Closing

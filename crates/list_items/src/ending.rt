@@ -2,7 +2,7 @@
 ghost use Rattle.std.specs.Prelude.{◌≡◌, ◌≤◌, ℕ, true, map, nat_le, take_while, IfSome, IfOk, IfErr, None};
 ghost use Rattle.std.specs.BTreeSet.{IsOrdered};
 ghost use Rattle.std.specs.Ordering.{nat_cmp, ordering_then};
-ghost use Rattle.house_rows.specs.Items.{is_due};
+ghost use Rattle.house_rows.specs.Items.{close_sells, is_due};
 ghost use Rattle.house_rows.specs.declared.fault.KeepFault.TheVariants as fault;
 ghost use Rattle.list_items.specs.Closing.{AllAfter, TakesEnd};
 ghost use Rattle.list_items.specs.Groups.{has_end};
@@ -30,6 +30,13 @@ pub(crate) fn is_due(terms: &Terms, moment: u64) -> bool
     ensures { result ≡ is_due moment terms.now }
 {
     terms.state == State::Open && terms.end <= moment
+}
+
+/// Whether a close sells an item: somebody leads, and its reserve isn't unmet.
+pub(crate) fn close_sells(terms: &Terms) -> bool
+    ensures { result ≡ close_sells terms.now.leader terms.now.met }
+{
+    terms.leader.is_some() && terms.met.unwrap_or(true)
 }
 
 /// The numbers that stand with the ends up to the moment.

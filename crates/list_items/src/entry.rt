@@ -3,9 +3,11 @@ ghost use Rattle.std.specs.Prelude.{◌≡◌, ◌==◌, ◌&&◌};
 ghost use Rattle.house_rows.specs.Changed.{with_close, with_purchase, with_settlement, with_standing};
 ghost use Rattle.house_rows.specs.Text.{same_text};
 ghost use Rattle.list_items.specs.Closing.{close_at};
+ghost use Rattle.list_items.specs.Reserves.{reserve_with};
 
+use crate::ending::close_sells;
 use cents::Cents;
-use house_rows::{Item, State};
+use house_rows::{Item, OwnReserve, State};
 use proxy::Standing;
 use std::marker::Model;
 
@@ -39,6 +41,22 @@ impl ItemEntry {
         u64::from(self.item.terms.seller) == seller && self.item.lot.as_str() == lot
     }
 
+    /// The reserve on it, where the member sells it and its number is not below another.
+    pub(crate) fn reserve_with(&self, member: u64, from: u64) -> Option<OwnReserve>
+        ensures { result ≡ reserve_with member from self.now }
+    {
+        let terms = &self.item.terms;
+        if u64::from(terms.seller) != member || u64::from(terms.item) < from {
+            return None;
+        }
+        let reserve = self.standing.reserve()?;
+        Some(OwnReserve {
+            item: terms.item,
+            met: terms.met.unwrap_or(false),
+            reserve,
+        })
+    }
+
     /// The item of that number stands as its bids now do.
     pub(crate) fn stand(&mut self, item: u32, standing: Standing)
         ensures { self.new ≡ with_standing item standing self.old }
@@ -47,6 +65,7 @@ impl ItemEntry {
             self.item.terms.price = standing.price();
             self.item.terms.leader = standing.leader();
             self.item.terms.count = standing.count();
+            self.item.terms.met = standing.met();
             self.standing = standing;
         }
     }
@@ -60,6 +79,7 @@ impl ItemEntry {
             self.item.terms.closed = Some(moment);
             self.item.terms.price = price;
             self.item.terms.leader = Some(buyer);
+            self.item.terms.met = self.item.terms.met.map(|_| true);
         }
     }
 
@@ -69,7 +89,7 @@ impl ItemEntry {
     {
         let terms = self.item.terms;
         if terms.state == State::Open && terms.end <= moment {
-            self.item.terms.state = if terms.leader.is_some() {
+            self.item.terms.state = if close_sells(&terms) {
                 State::Sold
             } else {
                 State::Unsold

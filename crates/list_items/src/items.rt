@@ -1,9 +1,9 @@
 //! The table of items, and the calls that read and change it.
-ghost use Rattle.std.specs.Prelude.{◌≡◌, ◌<◌, ◌+◌, ◌++◌, ◌∷◌, [], ◌==◌, ◌&&◌, Bool, true, ⊤, ℕ, List, nat_le, filter, find, map, option_map, take, length, Some, None, false, is_some, IfOk, IfErr, OnOk, OnErr, IfSome, ◌⊎◌};
+ghost use Rattle.std.specs.Prelude.{◌≡◌, ◌<◌, ◌+◌, ◌++◌, ◌∷◌, [], ◌==◌, ◌&&◌, Bool, true, ⊤, ℕ, List, nat_le, filter, find, map, option_and_then, option_map, take, length, Some, None, false, is_some, IfOk, IfErr, OnOk, OnErr, IfSome, ◌⊎◌};
 ghost use Rattle.std.specs.List.{AllByRecursion};
 ghost use Rattle.std.specs.Option.{option_copied, option_map_or};
 ghost use Rattle.house_rows.specs.Changed.{is_item, new_item, with_close, with_purchase, with_settlement, with_standing};
-ghost use Rattle.house_rows.specs.Found.{due_at, sales_to, sells};
+ghost use Rattle.house_rows.specs.Found.{due_at, own_reserves, sales_to, sells};
 ghost use Rattle.house_rows.specs.History.{counted};
 ghost use Rattle.house_rows.specs.Limits.{most_items, most_shown};
 ghost use Rattle.house_rows.specs.Tables.{ItemRow, Tables};
@@ -17,8 +17,9 @@ ghost use Rattle.list_items.specs.Closing.{close_at, is_due_with};
 ghost use Rattle.list_items.specs.Indexed.{number_of};
 ghost use Rattle.list_items.specs.Rising.{HasAll, IsRising, is_among};
 ghost use Rattle.list_items.specs.Sales.{is_sold_with, sale_of_row};
+ghost use Rattle.list_items.specs.Reserves.{reserve_with};
 
-use crate::ending::{ended_by, is_due, next_due};
+use crate::ending::{close_sells, ended_by, is_due, next_due};
 use crate::entry::ItemEntry;
 use crate::groups::{add, numbers_of, reserve};
 use crate::listing::new_entry;
@@ -26,7 +27,7 @@ use crate::lots::{add_lot, number_at};
 use crate::numbers::{make_rising, merged, numbers_from};
 use crate::sale::sale;
 use cents::Cents;
-use house_rows::{Due, Item, KeepFault, MOST_SHOWN, NewItem, Terms};
+use house_rows::{Due, Item, KeepFault, MOST_SHOWN, NewItem, OwnReserve, Terms};
 use list_rows::{push, push_copy};
 use proxy::Standing;
 use settle::Sold;
@@ -232,6 +233,46 @@ impl Items {
         })
     }
 
+    /// The reserve of the item of a number, which is sealed.
+    pub fn reserve(&self, number: u64) -> Option<Cents>
+        ensures { result ≡ option_and_then (λ (row : ItemRow). row.standing.reserve) (find (is_item number) self.now) }
+    {
+        match self.entry(number) {
+            Some(row) => row.standing.reserve(),
+            None => None,
+        }
+    }
+
+    /// A member's reserves on what it sells, from a number on, by item; at most fifty.
+    pub fn reserves_of(
+        &self,
+        alloc: Global,
+        member: u64,
+        from: u64,
+    ) -> Result<Vec<OwnReserve>, KeepFault>
+        ensures value { (t : Tables) → t.items ≡ self.now → IfOk result (λ v. v.items ≡ own_reserves t member from) }
+        ensures memory { IfErr result (λ e. e ≡ fault.Memory) }
+    {
+        let numbers = numbers_from(numbers_of(&self.sellers, member), from);
+        let mut found = Vec::new(alloc);
+        for number in numbers {
+            if found.len() >= MOST_SHOWN {
+                return Ok(found);
+            }
+            if let Some(reserve) = self.reserve_with(*number, member, from) {
+                push(&mut found, reserve)?;
+            }
+        }
+        Ok(found)
+    }
+
+    // The reserve on an item, where the member sells it and its number is not below another.
+    fn reserve_with(&self, number: u32, member: u64, from: u64) -> Option<OwnReserve>
+        ensures { result ≡ option_and_then (reserve_with member from) (find (is_item number) self.now) }
+    {
+        self.entry(u64::from(number))?.reserve_with(member, from)
+    }
+
     /// The sales to which a member is a party, by item. What the member leads by its bids has to
     /// be among the numbers that it has bid on.
     pub fn sales_of(
@@ -354,24 +395,24 @@ impl Items {
         Ok(())
     }
 
-    // How many items of these numbers are due with a leader, or with none.
-    fn due_count(&self, numbers: &[u32], moment: u64, led: bool) -> u64
-        ensures { result ≡ counted (λ k. option_map_or (is_due_with moment led) (find (is_item k) self.now) false) numbers.now }
+    // How many items of these numbers are due and sold by the close, or not.
+    fn due_count(&self, numbers: &[u32], moment: u64, sells: bool) -> u64
+        ensures { result ≡ counted (λ k. option_map_or (is_due_with moment sells) (find (is_item k) self.now) false) numbers.now }
     {
         numbers
             .iter()
-            .filter(|number| self.is_due_with(**number, moment, led))
+            .filter(|number| self.is_due_with(**number, moment, sells))
             .count() as u64
     }
 
-    // Whether the item of a number is due with a leader, or with none.
-    fn is_due_with(&self, number: u32, moment: u64, led: bool) -> bool
-        ensures { result ≡ option_map_or (is_due_with moment led) (find (is_item number) self.now) false }
+    // Whether the item of a number is due and sold by the close, or not.
+    fn is_due_with(&self, number: u32, moment: u64, sells: bool) -> bool
+        ensures { result ≡ option_map_or (is_due_with moment sells) (find (is_item number) self.now) false }
     {
         match self.entry(u64::from(number)) {
             Some(row) => {
                 let terms = row.item.terms;
-                is_due(&terms, moment) && terms.leader.is_some() == led
+                is_due(&terms, moment) && close_sells(&terms) == sells
             }
             None => false,
         }

@@ -19,6 +19,7 @@ pub(crate) fn new_entry(
     ensures memory { IfErr result (λ e. e ≡ fault.Memory) }
 {
     let start = item.start;
+    let standing = Standing::open(start, item.reserve);
     let terms = Terms {
         item: number,
         seller: item.seller,
@@ -31,6 +32,7 @@ pub(crate) fn new_entry(
         price: start,
         leader: None,
         count: 0,
+        met: standing.met(),
     };
     let lot = text_of(alloc, item.lot)?;
     let title = text_of(alloc, item.title)?;
@@ -42,6 +44,6 @@ pub(crate) fn new_entry(
             title,
             text,
         },
-        standing: Standing::open(start, None),
+        standing,
     })
 }

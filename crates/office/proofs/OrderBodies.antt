@@ -169,7 +169,7 @@ in_order (Some n) category lot title text start end = refl
 
 listing_is : (buy_now : Option ℕ) (category : ℕ) (lot title text : List ℕ) (start end : ℕ)
     → listing_in (keyed (members_with buy_now category lot title text start end))
-    ≡ Ok (command.List category lot title text start buy_now end)
+    ≡ Ok (command.List category lot title text start buy_now end None)
 unfolding listing_in number_at optional_at text_at whole_at maybe_whole_at body_text_at
 listing_is None category lot title text start end = refl
 listing_is (Some n) category lot title text start end = refl
@@ -178,7 +178,7 @@ pub listing_read : (buy_now : Option ℕ) (category : ℕ) (lot title text : Lis
     → IfSome buy_now (λ n. n < 2 ^ 64) → category < 2 ^ 64 → IsUtf8 lot → IsUtf8 title
     → IsUtf8 text → start < 2 ^ 64 → end < 2 ^ 64
     → command_of order.List (text_of (object_of (members_with buy_now category lot title text start end)))
-    ≡ Ok (command.List category lot title text start buy_now end)
+    ≡ Ok (command.List category lot title text start buy_now end None)
 unfolding command_of object_at fields_in
 listing_read buy_now category lot title text start end fb fc ul ut ux fs fe =
     let ms = members_with buy_now category lot title text start end in

@@ -1,5 +1,5 @@
 -- What the order of a lot asks for.
-use Rattle.std.specs.Prelude.{◌≡◌, ◌<◌, ◌≤◌, ◌^◌, false, IfSome}
+use Rattle.std.specs.Prelude.{◌≡◌, ◌<◌, ◌≤◌, ◌^◌, false, IfSome, None}
 use Rattle.std.specs.Str.{IsUtf8}
 use Rattle.house_rows.specs.Limits.{last_moment}
 use Rattle.house_rows.specs.declared.command.Command.{Command}
@@ -30,7 +30,7 @@ pub record IsListable (lot : Lot) : Type 0 where
 -- the listing of a lot
 abbrev pub listing_of : Lot → Command
 listing_of lot =
-    command.List lot.category lot.lot.now lot.title.now lot.text.now lot.start lot.buy_now lot.end
+    command.List lot.category lot.lot.now lot.title.now lot.text.now lot.start lot.buy_now lot.end None
 
 -- that a member lists a lot at a moment, and goes on with the connection
 abbrev pub listing_by : Lister → Lot → Asked

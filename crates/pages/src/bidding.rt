@@ -20,6 +20,18 @@ pub(crate) fn bids<K: Keep>(keep: &mut K, caller: u64, from: u64) -> Result<Page
     Ok(Page::Bids(Rows::new(keep.bids_of(caller, from)?)))
 }
 
+// The caller's reserves on what it sells.
+#[tactic(auto, unfolding(pages_laws::specs::ByTables::shown_by))]
+pub(crate) fn reserves<K: Keep>(keep: &mut K, caller: u64, from: u64) -> Result<Page, KeepFault>
+    ensures page { K.is_honest keep.new → IfOk result (λ page.
+        page ≡ shown_by (K.content keep.old) caller (query.MyReserves from)) }
+    ensures fits { IfOk result PageFits }
+    ensures faults { Faults result (K.is_honest keep.new) (K.is_failed keep.new) (K.content keep.old) }
+    ensures read { IsRead K.content K.is_failed K.is_honest K.may_leave keep.old keep.new }
+{
+    Ok(Page::Reserves(Rows::new(keep.reserves_of(caller, from)?)))
+}
+
 // The statement of the caller, whose number is one of 32 bits.
 #[tactic(auto, unfolding(pages_laws::specs::ByTables::shown_by))]
 pub(crate) fn statement<K: Keep>(

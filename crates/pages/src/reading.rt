@@ -8,7 +8,7 @@ ghost use Rattle.house_rows.specs.Tables.{tables_of};
 ghost use Rattle.pages_laws.specs.ByTables.{is_own, may_read, page_by, shown_by};
 ghost use Rattle.pages_text.specs.Fits.{PageFits};
 
-use crate::bidding::{bids, statement};
+use crate::bidding::{bids, reserves, statement};
 use crate::items::{item, items_in, watches};
 use crate::people::{categories, feedback_to, member};
 use crate::settings::{bands, house};
@@ -83,6 +83,7 @@ fn admitted<K: Keep>(
         Query::Member { member: number } => member(keep, number),
         Query::FeedbackTo { member, from } => feedback_to(keep, member, from),
         Query::MyBids { from } => bids(keep, caller, from),
+        Query::MyReserves { from } => reserves(keep, caller, from),
         Query::MyWatches => watches(alloc, keep, caller),
         Query::MyQuestions { from } => questions(keep, caller, from),
         Query::MyWaiting => waiting(keep, caller),
@@ -97,6 +98,7 @@ fn is_own(query: &Query) -> bool
     matches!(
         query,
         Query::MyBids { .. }
+            | Query::MyReserves { .. }
             | Query::MyWatches
             | Query::MyQuestions { .. }
             | Query::MyWaiting

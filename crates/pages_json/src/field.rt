@@ -26,6 +26,8 @@ pub enum Field<'a> {
     Integer(i64),
     /// Whether something holds.
     Flag(bool),
+    /// Whether something holds, or null.
+    MaybeFlag(Option<bool>),
 }
 
 // Appends the digits of a number.
@@ -80,9 +82,11 @@ pub(crate) fn put_value(
     match field {
         Field::Number(n) | Field::Maybe(Some(n)) => put_digits(out, *n),
         Field::Text(text) | Field::MaybeText(Some(text)) => put_text(alloc, out, text),
-        Field::Maybe(None) | Field::MaybeText(None) => out.extend_from_slice(b"null"),
+        Field::Maybe(None) | Field::MaybeText(None) | Field::MaybeFlag(None) => {
+            out.extend_from_slice(b"null")
+        }
         Field::Integer(z) => put_digits(out, *z),
-        Field::Flag(true) => out.extend_from_slice(b"true"),
-        Field::Flag(false) => out.extend_from_slice(b"false"),
+        Field::Flag(true) | Field::MaybeFlag(Some(true)) => out.extend_from_slice(b"true"),
+        Field::Flag(false) | Field::MaybeFlag(Some(false)) => out.extend_from_slice(b"false"),
     }
 }

@@ -24,10 +24,10 @@ fn grow_value(alloc: Global, field: &Field<'_>) -> Result<Value, AllocError>
 {
     Ok(match field {
         Field::Number(n) | Field::Maybe(Some(n)) => Value::from(*n),
-        Field::Maybe(None) | Field::MaybeText(None) => Value::Null,
+        Field::Maybe(None) | Field::MaybeText(None) | Field::MaybeFlag(None) => Value::Null,
         Field::Text(text) | Field::MaybeText(Some(text)) => Value::try_from_str(alloc, text)?,
         Field::Integer(z) => Value::from(*z),
-        Field::Flag(holds) => Value::from(*holds),
+        Field::Flag(holds) | Field::MaybeFlag(Some(holds)) => Value::from(*holds),
     })
 }
 

@@ -1,7 +1,11 @@
 -- The page of a read by the tables of a history is the page of the history.
-use Rattle.std.proofs.Common.{◌≡◌, ℕ, List, [], ◌∷◌, map, filter, take, length, Bool, true, false, refl, ◌∙◌, ap, sym, Option, Some, None}
-use Rattle.std.specs.Prelude.{find, is_some, option_map, ◌==◌, ◌&&◌, not, nat_le, nat_lt}
-use Rattle.std.specs.List.{list_any}
+use Rattle.house_rows.proofs.Numbered.{numbered}
+use Rattle.house_rows.proofs.RangedTables.{every_filter}
+use Rattle.house_rows.proofs.Every.{every_as}
+use Rattle.house_rows.specs.declared.item.OwnReserve.{OwnReserve}
+use Rattle.std.proofs.Common.{◌≡◌, ℕ, List, [], ◌∷◌, map, filter, take, length, Bool, refl, ◌∙◌, ap, sym, Option, Some, None, ◌++◌}
+use Rattle.std.specs.Prelude.{is_some, option_map, ◌==◌, ◌&&◌, not, nat_le, nat_lt}
+use Rattle.std.specs.List.{list_any, AllByRecursion}
 use Rattle.std.proofs.lemmas.List.{length-map, take-map}
 use Rattle.house_rows.specs.declared.item.Item.{Item}
 use Rattle.proxy.specs.Bids.{is_leader}
@@ -14,25 +18,24 @@ use Rattle.house_rows.specs.declared.query.Query.{Query}
 use Rattle.house_rows.specs.declared.query.Query.TheVariants as query
 use Rattle.house_rows.specs.declared.settings.Settings.{Settings}
 use Rattle.house_rows.specs.declared.talk.Question.{Question}
-use Rattle.house_rows.specs.Changed.{is_item}
-use Rattle.house_rows.specs.Found.{all_items, items_watched, own_bid, row_at, sales_in, sells}
+use Rattle.house_rows.specs.Found.{all_items, own_bid, row_at, sales_in, sells, reserves_in}
 use Rattle.house_rows.specs.History.{History, clock}
 use Rattle.house_rows.specs.declared.item.ItemShown.{ItemShown}
-use Rattle.house_rows.specs.Items.{item_now, items, items_shown, shown_at, shown_now}
+use Rattle.house_rows.specs.Items.{items, items_shown, shown_at, shown_now, terms_now}
 use Rattle.house_rows.specs.Limits.{most_shown}
-use Rattle.house_rows.specs.Listings.{Listing, is_seller, listing_at, listings}
+use Rattle.house_rows.specs.Listings.{Listing, is_seller, listing_at, listings, ReserveRow, reserve_row, reserve_rows}
 use Rattle.house_rows.specs.Pages as pages
-use Rattle.house_rows.specs.declared.page.Page.{Page}
 use Rattle.house_rows.specs.declared.page.Page.TheVariants as page
-use Rattle.house_rows.specs.Pages.{all_sales, for_all, for_member, if_known, item_page, page_of}
+use Rattle.house_rows.specs.Pages.{all_sales, for_all, for_member, if_known, item_page, page_of, reserve_told, told_reserve}
 use Rattle.house_rows.specs.People.{categories, members}
 use Rattle.house_rows.specs.Questions.{published, questions, waiting}
 use Rattle.house_rows.specs.Tables.{ItemRow, Tables, row_now, tables_of}
-use Rattle.house_rows.specs.Views.{own_watches}
+use Rattle.house_rows.specs.Views.{own_watches, own_reserves}
 use Rattle.house_rows.specs.Watches.{WatchRow, is_watch, watches}
 use Rattle.house_rows.proofs.ItemRows.{shown_are}
+use Rattle.house_rows.proofs.Passed.{item_from, shown_is}
 use Rattle.house_rows.proofs.Shown.{row_found, shown_by_row, shown_row}
-use Rattle.house_rows.proofs.Lists.{any_of_filtered, filter_made, filter_twice, find_made, map_each, map_same, map_twice, some_found}
+use Rattle.house_rows.proofs.Lists.{any_of_filtered, filter_made, filter_twice, map_same, map_twice, some_found}
 use Rattle.house_rows.proofs.OwnBids.{best_is}
 use Rattle.house_rows.proofs.Put.{filter_alike}
 use Rattle.pages_laws.specs.ByTables.{page_by, shown_by, shown_in}
@@ -122,6 +125,30 @@ bids_same settings h c from =
     ∙ ap (λ (bs : List OwnBid). page.Bids (take most_shown bs))
     (sym (filter_twice (λ (b : OwnBid). nat_lt 0 b.mine) (λ (b : OwnBid). nat_le from b.item) (map (λ (it : ItemShown). pages.own_bid h c it.item.terms) (items_shown settings h))))
 
+reserve_one : (settings : Settings) (h : History) (l : Listing) (o : Option ℕ) (rest : List OwnReserve) (rows : List ReserveRow)
+    → shown_at (items_shown settings h) l.item ≡ Some (shown_now settings h l) → rest ≡ map (told_reserve (items_shown settings h)) rows
+    → reserve_told (terms_now settings h l) o ++ rest ≡ map (told_reserve (items_shown settings h)) (reserve_row l.item o ++ rows)
+reserve_one settings h l None rest rows here same = same
+reserve_one settings h l (Some r) rest rows here same = rw (here, same) refl
+
+reserves_told : (settings : Settings) (h : History) (ls : List Listing) → AllByRecursion (λ l. shown_at (items_shown settings h) l.item ≡ Some (shown_now settings h l)) ls
+    → reserves_in (map (row_now settings h) ls) ≡ map (told_reserve (items_shown settings h)) (reserve_rows ls)
+reserves_told settings h [] all = refl
+reserves_told settings h (l ∷ ls) all = reserve_one settings h l l.reserve _ _ all.0 (reserves_told settings h ls all.1)
+
+each_shown : (settings : Settings) (h : History) → AllByRecursion (λ l. shown_at (items_shown settings h) l.item ≡ Some (shown_now settings h l)) (listings h)
+each_shown settings h =
+    every_as (λ l. listing_at (listings h) l.item ≡ Some l) (λ l. shown_at (items_shown settings h) l.item ≡ Some (shown_now settings h l)) (listings h)
+    (λ l own. shown_is settings h l.item ∙ ap (item_from settings h) own) (numbered h).own
+
+reserves_same : (settings : Settings) (h : History) (c from : ℕ) → shown_by (tables_of settings h) c (query.MyReserves from)
+    ≡ page.Reserves (take most_shown (filter (λ (r : OwnReserve). nat_le from r.item) (pages.reserves_shown h c (items_shown settings h))))
+unfolding shown_by tables_of pages.reserves_shown own_reserves
+reserves_same settings h c from =
+    ap (λ (rs : List OwnReserve). page.Reserves (take most_shown (filter (λ (r : OwnReserve). nat_le from r.item) rs)))
+    (ap reserves_in (filter_made (λ (row : ItemRow). row.item.terms.seller == c) (row_now settings h) (listings h))
+    ∙ reserves_told settings h (filter (λ (l : Listing). l.seller == c) (listings h)) (every_filter _ (λ (l : Listing). l.seller == c) (listings h) (each_shown settings h)))
+
 watches_same : (settings : Settings) (h : History) (c : ℕ) → shown_by (tables_of settings h) c query.MyWatches
     ≡ page.Items (filter (λ (it : ItemShown). list_any (λ (w : WatchRow). w.item == it.item.terms.item) (own_watches h c)) (items_shown settings h))
 unfolding shown_by tables_of
@@ -153,6 +180,7 @@ page_same settings h c (query.Questions i from) = ap (for_all (members h) c) (qu
 page_same settings h c (query.Member m) = refl
 page_same settings h c (query.FeedbackTo m from) = refl
 page_same settings h c (query.MyBids from) = ap (for_member (members h) c) (bids_same settings h c from)
+page_same settings h c (query.MyReserves from) = ap (for_member (members h) c) (reserves_same settings h c from)
 page_same settings h c query.MyWatches = ap (for_member (members h) c) (watches_same settings h c)
 page_same settings h c (query.MyQuestions from) = refl
 page_same settings h c query.MyWaiting = ap (for_member (members h) c) (waiting_same settings h c)

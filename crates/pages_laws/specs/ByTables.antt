@@ -3,14 +3,14 @@ use Rattle.std.specs.Prelude.{if◌then◌else◌, ◌≡◌, ℕ, List, map, op
 use Rattle.house_rows.specs.declared.item.Item.{Item}
 use Rattle.house_rows.specs.declared.item.ItemShown.{ItemShown}
 use Rattle.house_rows.specs.declared.page.Page.{Page}
-use Rattle.house_rows.specs.declared.page.Page.TheVariants.{Refused, House, Bands, Categories, Items, OneItem, Questions, OneMember, Feedbacks, Bids, Statement}
+use Rattle.house_rows.specs.declared.page.Page.TheVariants.{Refused, House, Bands, Categories, Items, OneItem, Questions, OneMember, Feedbacks, Bids, Reserves, Statement}
 use Rattle.house_rows.specs.declared.people.Member.{Member}
 use Rattle.house_rows.specs.declared.query.Query.{Query}
 use Rattle.house_rows.specs.declared.query.Query.TheVariants as query
 use Rattle.house_rows.specs.declared.refusal.Refusal.{Refusal}
 use Rattle.house_rows.specs.declared.refusal.Refusal.TheVariants.{NoCaller, Unknown}
 use Rattle.house_rows.specs.Editions.{BandTables, bands_in}
-use Rattle.house_rows.specs.Found.{category_at, counts_of, feedback_to, item_at, items_in, items_watched, own_bids, published_on, questions_of, sales_to, terms_at, waiting_for}
+use Rattle.house_rows.specs.Found.{category_at, counts_of, feedback_to, item_at, items_in, items_watched, own_bids, published_on, questions_of, sales_to, terms_at, waiting_for, own_reserves}
 use Rattle.house_rows.specs.Items.{shown}
 use Rattle.house_rows.specs.Limits.{most_shown}
 use Rattle.house_rows.specs.Pages.{if_known, item_page, member_at, member_page, ratings_of}
@@ -19,6 +19,7 @@ use Rattle.house_rows.specs.Tables.{Tables, band_tables}
 -- a page of the caller's own, which the house has none of
 abbrev pub is_own : Query → Bool
 is_own (query.MyBids from) = true
+is_own (query.MyReserves from) = true
 is_own query.MyWatches = true
 is_own (query.MyQuestions from) = true
 is_own query.MyWaiting = true
@@ -47,6 +48,7 @@ shown_by t c (query.Questions i from) = if_known (is_some (terms_at t i)) (Quest
 shown_by t c (query.Member m) = member_page (member_at t.members m) (ratings_of t.feedback m)
 shown_by t c (query.FeedbackTo m from) = if_known (is_some (member_at t.members m)) (Feedbacks (feedback_to t m from))
 shown_by t c (query.MyBids from) = Bids (own_bids t c from)
+shown_by t c (query.MyReserves from) = Reserves (own_reserves t c from)
 shown_by t c query.MyWatches = Items (map (shown_in t) (items_watched t c))
 shown_by t c (query.MyQuestions from) = Questions (questions_of t c from)
 shown_by t c query.MyWaiting = Questions (take most_shown (waiting_for t c))

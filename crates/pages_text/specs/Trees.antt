@@ -10,6 +10,7 @@ use Rattle.house_rows.specs.declared.fault.KeepFault.{KeepFault}
 use Rattle.house_rows.specs.declared.fault.KeepFault.TheVariants.{Memory, Store, Damaged}
 use Rattle.house_rows.specs.declared.item.ItemShown.{ItemShown}
 use Rattle.house_rows.specs.declared.item.OwnBid.{OwnBid}
+use Rattle.house_rows.specs.declared.item.OwnReserve.{OwnReserve}
 use Rattle.house_rows.specs.declared.page.Page.{Page}
 use Rattle.house_rows.specs.declared.page.Page.TheVariants as page
 use Rattle.house_rows.specs.declared.people.Category.{Category}
@@ -25,7 +26,7 @@ use Rattle.house_rows.specs.declared.talk.Question.{Question}
 use Rattle.house_rows.specs.declared.told.Told.{Told}
 use Rattle.house_rows.specs.declared.told.Told.TheVariants as told
 use Rattle.house_rows.specs.Names.{refusal_name, refusal_number, state_name}
-use Rattle.pages_json.specs.Words.{array_of, integer, object_of, text_or_null, whole, whole_or_null}
+use Rattle.pages_json.specs.Words.{array_of, boolean_or_null, integer, object_of, text_or_null, whole, whole_or_null}
 
 -- ---- entries
 
@@ -40,6 +41,7 @@ item_tree it = object_of (
     ∷ (codes "item", whole it.item.terms.item)
     ∷ (codes "leader", whole_or_null it.item.terms.leader)
     ∷ (codes "lot", string it.item.lot)
+    ∷ (codes "met", boolean_or_null it.item.terms.met)
     ∷ (codes "price", whole it.item.terms.price)
     ∷ (codes "seller", whole it.item.terms.seller)
     ∷ (codes "start", whole it.item.terms.start)
@@ -81,6 +83,14 @@ own_bid_tree b = object_of (
     ∷ (codes "mine", whole b.mine)
     ∷ (codes "price", whole b.price)
     ∷ (codes "state", string (state_name b.state)) ∷ []
+    )
+
+-- a member's reserve on an item
+abbrev pub own_reserve_tree : OwnReserve → Data
+own_reserve_tree r = object_of (
+    (codes "item", whole r.item)
+    ∷ (codes "met", boolean r.met)
+    ∷ (codes "reserve", whole r.reserve) ∷ []
     )
 
 abbrev pub band_tree : ℕ × ℕ → Data
@@ -197,6 +207,7 @@ page_tree zone rate (page.Questions qs) = list_tree (codes "questions") question
 page_tree zone rate (page.OneMember m ratings) = rated_tree m ratings
 page_tree zone rate (page.Feedbacks fs) = list_tree (codes "feedback") feedback_tree fs
 page_tree zone rate (page.Bids bs) = list_tree (codes "bids") own_bid_tree bs
+page_tree zone rate (page.Reserves rs) = list_tree (codes "reserves") own_reserve_tree rs
 page_tree zone rate (page.Statement member from to sales) =
     statement_tree (statement_of sales member from to zone rate)
 

@@ -2,9 +2,9 @@
 ghost use Rattle.std.specs.Prelude.{◌≡◌, IsTrue, map};
 ghost use Rattle.pages_json.specs.Fields.{are_keys, member_of};
 ghost use Rattle.pages_json.specs.Words.{AreInOrder, object_of};
-ghost use Rattle.pages_text.specs.Trees.{band_tree, category_tree, feedback_tree, member_tree, own_bid_tree, question_tree, rating_value};
+ghost use Rattle.pages_text.specs.Trees.{band_tree, category_tree, feedback_tree, member_tree, own_bid_tree, own_reserve_tree, question_tree, rating_value};
 
-use house_rows::{Category, Feedback, Member, OwnBid, Question, Rating, Text};
+use house_rows::{Category, Feedback, Member, OwnBid, OwnReserve, Question, Rating, Text};
 use pages_json::{Field, Grows, Shows, grow_object, key, put_object};
 use serde_json::Value;
 use std::alloc::{AllocError, Global};
@@ -141,6 +141,44 @@ impl Shows<OwnBid> for AsOwnBids {
 impl Grows<OwnBid> for AsOwnBids {
     fn grow(&self, alloc: Global, bid: &OwnBid) -> Result<Value, AllocError> {
         grow_object(alloc, &own_bid_fields(bid))
+    }
+}
+
+// The keys of a member's reserve on an item, and what they have.
+fn own_reserve_fields(reserve: &OwnReserve) -> [(&'static str, Field<'_>); 3]
+    ensures tree { object_of (map member_of result) ≡ own_reserve_tree reserve.now }
+    ensures order { AreInOrder (map member_of result) }
+    ensures keys { IsTrue (are_keys result) }
+{
+    [
+        (key!("item"), Field::Number(u64::from(reserve.item))),
+        (key!("met"), Field::Flag(reserve.met)),
+        (key!("reserve"), Field::Number(reserve.reserve.value())),
+    ]
+}
+
+/// A member's reserves, an item each.
+#[derive(Clone, Copy)]
+pub struct AsOwnReserves;
+
+impl Shows<OwnReserve> for AsOwnReserves {
+    ghost use Rattle.pages_text.specs.Trees.{own_reserve_tree};
+
+    ghost tree = { λ _ r. own_reserve_tree r };
+
+    fn put(
+        &self,
+        alloc: Global,
+        out: &mut Vec<u8>,
+        reserve: &OwnReserve,
+    ) -> Result<(), AllocError> {
+        put_object(alloc, out, &own_reserve_fields(reserve))
+    }
+}
+
+impl Grows<OwnReserve> for AsOwnReserves {
+    fn grow(&self, alloc: Global, reserve: &OwnReserve) -> Result<Value, AllocError> {
+        grow_object(alloc, &own_reserve_fields(reserve))
     }
 }
 

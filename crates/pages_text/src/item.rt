@@ -27,7 +27,7 @@ pub fn floor(bands: &Bands, terms: &Terms) -> Option<u64>
 }
 
 // The keys of an item with the floor that is shown of it, and what they have.
-fn item_fields(item: &Item, floor: Option<u64>) -> [(&'static str, Field<'_>); 15]
+fn item_fields(item: &Item, floor: Option<u64>) -> [(&'static str, Field<'_>); 16]
     ensures tree { object_of (map member_of result)
         ≡ item_tree (record { item = item.now; floor = floor }) }
     ensures order { AreInOrder (map member_of result) }
@@ -47,6 +47,7 @@ fn item_fields(item: &Item, floor: Option<u64>) -> [(&'static str, Field<'_>); 1
         (key!("item"), Field::Number(u64::from(terms.item))),
         (key!("leader"), Field::Maybe(terms.leader.map(u64::from))),
         (key!("lot"), Field::Text(item.lot.as_str())),
+        (key!("met"), Field::MaybeFlag(terms.met)),
         (key!("price"), Field::Number(terms.price.value())),
         (key!("seller"), Field::Number(u64::from(terms.seller))),
         (key!("start"), Field::Number(terms.start.value())),

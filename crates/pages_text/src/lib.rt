@@ -13,7 +13,9 @@ mod refused;
 mod statement;
 mod told;
 
-pub use entries::{AsBands, AsCategories, AsFeedback, AsMembers, AsOwnBids, AsQuestions};
+pub use entries::{
+    AsBands, AsCategories, AsFeedback, AsMembers, AsOwnBids, AsOwnReserves, AsQuestions,
+};
 pub use fault::PageFault;
 pub use item::{AsItems, ByEditions, floor};
 pub use page::{append_page, grow_page};

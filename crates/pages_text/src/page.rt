@@ -7,7 +7,7 @@ ghost use Rattle.pages_json.specs.Words.{AreInOrder, object_of, text_of};
 ghost use Rattle.pages_text.specs.Fits.{PageFits};
 ghost use Rattle.pages_text.specs.Trees.{house_tree, page_tree, rated_tree};
 
-use crate::entries::{AsBands, AsCategories, AsFeedback, AsOwnBids, AsQuestions};
+use crate::entries::{AsBands, AsCategories, AsFeedback, AsOwnBids, AsOwnReserves, AsQuestions};
 use crate::item::AsItems;
 use crate::refused::AsRefusals;
 use crate::statement::{grow_statement, put_statement};
@@ -113,6 +113,13 @@ fn put_page(
             rows.as_slice(),
         ),
         Page::Bids(bids) => put_list(alloc, out, key!("bids"), &AsOwnBids, bids.as_slice()),
+        Page::Reserves(rows) => put_list(
+            alloc,
+            out,
+            key!("reserves"),
+            &AsOwnReserves,
+            rows.as_slice(),
+        ),
         Page::Statement {
             member,
             from,
@@ -174,6 +181,7 @@ pub fn grow_page(alloc: Global, zone: &Zone, rate: Rate, page: &Page) -> Result<
         Page::OneMember { member, ratings } => grow_object(alloc, &rated_fields(member, ratings)),
         Page::Feedbacks(rows) => grow_list(alloc, "feedback", &AsFeedback, rows.as_slice()),
         Page::Bids(bids) => grow_list(alloc, "bids", &AsOwnBids, bids.as_slice()),
+        Page::Reserves(rows) => grow_list(alloc, "reserves", &AsOwnReserves, rows.as_slice()),
         Page::Statement {
             member,
             from,

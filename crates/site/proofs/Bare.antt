@@ -47,9 +47,9 @@ adds_nothing settings h moment caller (Register name) accepted none quiet =
     absurd (not_empty _ _ quiet)
 adds_nothing settings h moment caller (AddCategory name) accepted none quiet =
     record { listings = λ n. refl; bids = refl; watches = refl; asked = refl; feedback = refl }
-adds_nothing settings h moment caller (Listed category lot title text start buy_now end) accepted
+adds_nothing settings h moment caller (Listed category lot title text start buy_now end reserve) accepted
     none quiet =
-    absurd (no_member settings h moment caller (Listed category lot title text start buy_now end)
+    absurd (no_member settings h moment caller (Listed category lot title text start buy_now end reserve)
     accepted none refl)
 adds_nothing settings h moment caller (Bid i maximum) accepted none quiet =
     absurd (no_member settings h moment caller (Bid i maximum) accepted none refl)

@@ -28,6 +28,7 @@ wanted_of (route.Questions item from) = Read (query.Questions item from)
 wanted_of (route.Member member) = Read (query.Member member)
 wanted_of (route.FeedbackTo member from) = Read (query.FeedbackTo member from)
 wanted_of (route.MyBids from) = Read (query.MyBids from)
+wanted_of (route.MyReserves from) = Read (query.MyReserves from)
 wanted_of route.MyWatches = Read query.MyWatches
 wanted_of (route.MyQuestions from) = Read (query.MyQuestions from)
 wanted_of route.MyWaiting = Read query.MyWaiting

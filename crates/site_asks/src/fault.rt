@@ -112,6 +112,7 @@ fn field_body(field: Field) -> &'static str
         Field::Start => "{\"error\":\"field\",\"field\":\"start\"}",
         Field::BuyNow => "{\"error\":\"field\",\"field\":\"buy_now\"}",
         Field::End => "{\"error\":\"field\",\"field\":\"end\"}",
+        Field::Reserve => "{\"error\":\"field\",\"field\":\"reserve\"}",
         Field::Maximum => "{\"error\":\"field\",\"field\":\"maximum\"}",
         Field::Rating => "{\"error\":\"field\",\"field\":\"rating\"}",
     }

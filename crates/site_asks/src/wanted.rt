@@ -56,6 +56,7 @@ pub(crate) fn wanted_by(route: Route<'_>) -> Wanted<'_>
         Route::Member { member } => Wanted::Read(Query::Member { member }),
         Route::FeedbackTo { member, from } => Wanted::Read(Query::FeedbackTo { member, from }),
         Route::MyBids { from } => Wanted::Read(Query::MyBids { from }),
+        Route::MyReserves { from } => Wanted::Read(Query::MyReserves { from }),
         Route::MyWatches => Wanted::Read(Query::MyWatches),
         Route::MyQuestions { from } => Wanted::Read(Query::MyQuestions { from }),
         Route::MyWaiting => Wanted::Read(Query::MyWaiting),

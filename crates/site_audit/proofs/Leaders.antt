@@ -43,7 +43,7 @@ led_kept : (settings : Settings) (h : History) (l : Listing) (i w x : ℕ) → l
 led_kept settings h l i w x listed is =
     let both : Some is.listing ≡ Some l = sym is.listed ∙ listed in
     let same : is.listing ≡ l = cc in
-    (is.led, led_top (bids_on h i) w is.led ∙ ap Some is.by, subst (λ (m : Listing). Covers (bands_by settings m) None (second (bids_on h i)) x) same is.covers)
+    (is.led, led_top (bids_on h i) w is.led ∙ ap Some is.by, subst (λ (m : Listing). Covers (bands_by settings m) m.reserve (second (bids_on h i)) x) same is.covers)
 
 standing_by : (settings : Settings) (h : History) (i : ℕ) → standing_at (tables_of settings h) i ≡ option_map (λ (row : ItemRow). row.standing) (option_map (row_now settings h) (listing_at (listings h) i))
 standing_by settings h i = ap (option_map (λ (row : ItemRow). row.standing)) (row_found settings h i)

@@ -22,7 +22,7 @@ sealed_is : {F : Type 0} (m : Message F) (b : Sealed) → Some b ≡ sealed_in m
 sealed_is (Order t d (Bid i x)) b e = let same : b ≡ record { moment = t; member = d; item = i; maximum = x } = cc in rw same refl
 sealed_is (Order t d (Register name)) b e = cc
 sealed_is (Order t d (AddCategory name)) b e = cc
-sealed_is (Order t d (Listed category lot title text start buy_now end)) b e = cc
+sealed_is (Order t d (Listed category lot title text start buy_now end reserve)) b e = cc
 sealed_is (Order t d (Buy j)) b e = cc
 sealed_is (Order t d Close) b e = cc
 sealed_is (Order t d (Settle j)) b e = cc

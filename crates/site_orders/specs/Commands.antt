@@ -30,7 +30,8 @@ listing_in ms = do
   start ← number_at field.Start ms
   buy_now ← optional_at field.BuyNow ms
   end ← number_at field.End ms
-  Ok (command.List category lot title text start buy_now end)
+  reserve ← optional_at field.Reserve ms
+  Ok (command.List category lot title text start buy_now end reserve)
 
 unfoldable pub bid_in : ℕ → Members → Result Command Wrong
 bid_in item ms = do

@@ -21,6 +21,7 @@ name_of field.Text = codes "text"
 name_of field.Start = codes "start"
 name_of field.BuyNow = codes "buy_now"
 name_of field.End = codes "end"
+name_of field.Reserve = codes "reserve"
 name_of field.Maximum = codes "maximum"
 name_of field.Rating = codes "rating"
 

@@ -41,6 +41,7 @@ fn list(alloc: Global, body: &Body<'_>) -> Result<Command, Unread>
     let start = number(body, Field::Start)?;
     let buy_now = optional(body, Field::BuyNow)?;
     let end = number(body, Field::End)?;
+    let reserve = optional(body, Field::Reserve)?;
     Ok(Command::List {
         category,
         lot,
@@ -49,6 +50,7 @@ fn list(alloc: Global, body: &Body<'_>) -> Result<Command, Unread>
         start,
         buy_now,
         end,
+        reserve,
     })
 }
 

@@ -21,6 +21,8 @@ pub enum Field {
     BuyNow,
     /// When an item ends.
     End,
+    /// The least for which an item is sold, which is sealed.
+    Reserve,
     /// The sealed maximum of a bid.
     Maximum,
     /// The rating of feedback.
@@ -41,6 +43,7 @@ impl Field {
             Field::Start => "start",
             Field::BuyNow => "buy_now",
             Field::End => "end",
+            Field::Reserve => "reserve",
             Field::Maximum => "maximum",
             Field::Rating => "rating",
         }

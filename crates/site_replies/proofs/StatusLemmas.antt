@@ -133,6 +133,7 @@ pages (page.Questions rows) = (refl, refl)
 pages (page.OneMember m ratings) = (refl, refl)
 pages (page.Feedbacks rows) = (refl, refl)
 pages (page.Bids rows) = (refl, refl)
+pages (page.Reserves rows) = (refl, refl)
 pages (page.Statement member from to sales) = (refl, refl)
 
 replies : (r : Reply Fault) → Serves (reply_status r)

@@ -70,6 +70,9 @@ read_in read.FeedbackTo target = do
 read_in read.MyBids target = do
   from ← number_at 3 target
   Some (route.MyBids from)
+read_in read.MyReserves target = do
+  from ← number_at 3 target
+  Some (route.MyReserves from)
 read_in read.MyWatches target = Some route.MyWatches
 read_in read.MyQuestions target = do
   from ← number_at 3 target

@@ -34,6 +34,7 @@ table =
     ∷ (codes "/members/{member}", Get read.Member)
     ∷ (codes "/members/{member}/feedback/{from}", Get read.FeedbackTo)
     ∷ (codes "/me/bids/{from}", Get read.MyBids)
+    ∷ (codes "/me/reserves/{from}", Get read.MyReserves)
     ∷ (codes "/me/watches", Get read.MyWatches)
     ∷ (codes "/me/questions/{from}", Get read.MyQuestions)
     ∷ (codes "/me/waiting", Get read.MyWaiting)

@@ -73,6 +73,9 @@ pub(crate) fn read_in(read: Read, target: &[u8]) -> Option<Route<'_>>
         Read::MyBids => Route::MyBids {
             from: number_at(target, 3)?,
         },
+        Read::MyReserves => Route::MyReserves {
+            from: number_at(target, 3)?,
+        },
         Read::MyWatches => Route::MyWatches,
         Read::MyQuestions => Route::MyQuestions {
             from: number_at(target, 3)?,

@@ -19,6 +19,7 @@ pub(crate) enum Read {
     Member,
     FeedbackTo,
     MyBids,
+    MyReserves,
     MyWatches,
     MyQuestions,
     MyWaiting,

@@ -99,6 +99,11 @@ pub enum Route<'t> {
         /// The least number of an item.
         from: u64,
     },
+    /// GET `/me/reserves/F`: the caller's reserves, from an item on.
+    MyReserves {
+        /// The least number of an item.
+        from: u64,
+    },
     /// GET `/me/watches`: the items that the caller watches.
     MyWatches,
     /// GET `/me/questions/F`: the caller's own questions, from an item on.

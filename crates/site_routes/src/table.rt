@@ -6,7 +6,7 @@ use crate::path::{Command, Path, Read};
 use matchit::{InsertError, Router};
 use std::alloc::Global;
 
-static TABLE: [(&str, Path); 24] = [
+static TABLE: [(&str, Path); 25] = [
     ("/members", Path::Post(Command::Register)),
     ("/categories", Path::Categories),
     ("/items", Path::Post(Command::List)),
@@ -36,6 +36,7 @@ static TABLE: [(&str, Path); 24] = [
         Path::Get(Read::FeedbackTo),
     ),
     ("/me/bids/{from}", Path::Get(Read::MyBids)),
+    ("/me/reserves/{from}", Path::Get(Read::MyReserves)),
     ("/me/watches", Path::Get(Read::MyWatches)),
     ("/me/questions/{from}", Path::Get(Read::MyQuestions)),
     ("/me/waiting", Path::Get(Read::MyWaiting)),

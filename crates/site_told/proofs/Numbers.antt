@@ -54,13 +54,13 @@ seen_count : (settings : Settings) (h : History) → length (items_shown setting
 unfolding items_shown
 seen_count settings h = length-map (listings h) (shown_now settings h)
 
-item_told : (settings : Settings) (h : History) (moment caller category : ℕ) (lot title text : List ℕ) (start : ℕ) (buy_now : Option ℕ) (end' : ℕ) (r : Told)
-    → r ≡ Listing (length (tables_of settings h).items + 1) → IsTold settings h moment caller (command.List category lot title text start buy_now end') r
+item_told : (settings : Settings) (h : History) (moment caller category : ℕ) (lot title text : List ℕ) (start : ℕ) (buy_now : Option ℕ) (end' : ℕ) (reserve : Option ℕ) (r : Told)
+    → r ≡ Listing (length (tables_of settings h).items + 1) → IsTold settings h moment caller (command.List category lot title text start buy_now end' reserve) r
 unfolding tables_of
-item_told settings h moment caller category lot title text start buy_now end' r is =
+item_told settings h moment caller category lot title text start buy_now end' reserve r is =
     let before : length (map (row_now settings h) (listings h)) ≡ length (listings h) = length-map (listings h) (row_now settings h) in
-    rw (seen_count settings (entry moment caller (command.List category lot title text start buy_now end') ∷ h)) (
-    rw (length-append (listings h) (record { item = length (listings h) + 1; seller = caller; category = category; lot = lot; title = title; text = text; start = start; buy_now = buy_now; end = end'; set = [] } ∷ []))
+    rw (seen_count settings (entry moment caller (command.List category lot title text start buy_now end' reserve) ∷ h)) (
+    rw (length-append (listings h) (record { item = length (listings h) + 1; seller = caller; category = category; lot = lot; title = title; text = text; start = start; buy_now = buy_now; end = end'; set = []; reserve = reserve } ∷ []))
     (rw before at is))
 
 pub list_told : (t : Tables) (settings : Settings) (h : History) (moment caller : ℕ) (k : Command) (result : Result Told KeepFault) (at' : ℕ) (item : NewItem) → t ≡ tables_of settings h
@@ -68,6 +68,6 @@ pub list_told : (t : Tables) (settings : Settings) (h : History) (moment caller 
     → (length t.items < most_items → IfOk result (λ r. r ≡ Listing (length t.items + 1))) → IfOk result (IsTold settings h moment caller k)
 list_told t settings h moment caller k result at' item e is own value =
     ok_as (λ r. r ≡ Listing (length (tables_of settings h).items + 1)) (IsTold settings h moment caller k) result
-    (λ r v. told_as settings h moment caller (command.List item.category item.lot.now item.title.now item.text.now item.start item.buy_now item.end) k r own.same_command
-    (item_told settings h moment caller item.category item.lot.now item.title.now item.text.now item.start item.buy_now item.end r v))
+    (λ r v. told_as settings h moment caller (command.List item.category item.lot.now item.title.now item.text.now item.start item.buy_now item.end item.reserve) k r own.same_command
+    (item_told settings h moment caller item.category item.lot.now item.title.now item.text.now item.start item.buy_now item.end item.reserve r v))
     ((rw e at value) is.fits.room)

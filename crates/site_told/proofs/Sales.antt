@@ -69,8 +69,8 @@ due_told : (settings : Settings) (h : History) (moment caller : ℕ)
 unfolding items_shown tables_of
 due_told settings h moment caller =
     rw (
-      counted_seen settings h (λ terms. is_due moment terms && close_sells terms.leader) (listings h),
-      counted_seen settings h (λ terms. is_due moment terms && not (close_sells terms.leader)) (listings h),
+      counted_seen settings h (λ terms. is_due moment terms && close_sells terms.leader terms.met) (listings h),
+      counted_seen settings h (λ terms. is_due moment terms && not (close_sells terms.leader terms.met)) (listings h),
     ) refl
 
 pub close_told : (t : Tables) (settings : Settings) (h : History) (moment caller : ℕ) (k : Command) (result : Result Told KeepFault) (at' : ℕ) → t ≡ tables_of settings h

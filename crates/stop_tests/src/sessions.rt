@@ -21,10 +21,12 @@ const SHOWN: [&str; 6] = [
     "all_feedback",
 ];
 
-const SHOWN_BY_NUMBER: [&str; 8] = [
+const SHOWN_BY_NUMBER: [&str; 10] = [
     "item",
     "state",
     "standing",
+    "reserve",
+    "reserves",
     "bids",
     "watches",
     "questions",

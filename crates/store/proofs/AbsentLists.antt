@@ -7,7 +7,7 @@ use Rattle.sqlite_trees.specs.Tree.{Trees}
 use Rattle.settle.specs.Statement.{is_party}
 use Rattle.proxy.specs.Bids.{is_leader}
 use Rattle.house_rows.specs.Changed.{is_item}
-use Rattle.house_rows.specs.Found.{feedback_to, first_waiting, is_watched, items_in, items_watched, own_bid, own_bids, published_on, questions_of, sales_in, sales_to, sells, waiting_for}
+use Rattle.house_rows.specs.Found.{feedback_to, first_waiting, is_watched, items_in, items_watched, own_bid, own_bids, own_reserves, published_on, questions_of, reserves_in, sales_in, sales_to, sells, waiting_for}
 use Rattle.house_rows.specs.Keeping.{AllStand, StandsIn}
 use Rattle.house_rows.specs.Limits.{most_shown}
 use Rattle.house_rows.specs.Pages.{sale_of}
@@ -92,6 +92,10 @@ module _ (db : Trees) (n : ℕ) (high : 2 ^ 32 ≤ n) (low : n < 2 ^ 64) where
 
   pub no_own_bids : (from : ℕ) → own_bids (tables_in db) n from ≡ []
   no_own_bids from = ap (take most_shown) (none_bid from (map (λ (row : ItemRow). row.item) (tables_in db).items))
+
+  pub no_reserves : (from : ℕ) → own_reserves (tables_in db) n from ≡ []
+  unfolding tables_in
+  no_reserves from = ap (λ (rows : List ItemRow). take most_shown (filter (λ r. nat_le from r.item) (reserves_in rows))) (no_items_of db n high low)
 
   pub no_published : (from : ℕ) → published_on (tables_in db) n from ≡ []
   unfolding tables_in

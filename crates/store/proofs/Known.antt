@@ -1,13 +1,15 @@
 -- What a keep knows of its house: its band tables are those of the tables. And what it tells of a call that failed.
-use Rattle.std.proofs.Common.{◌≡◌, ◌∙◌, ℕ, List, Bool, true, false, ap, refl, subst, sym, arith, Option}
-use Rattle.std.specs.Prelude.{◌==◌, ◌&&◌, ◌↔◌, Err, IfSome, IsErrOf}
+use Rattle.std.proofs.Common.{◌≡◌, ◌∙◌, ℕ, List, Bool, true, false, ap, refl, subst, sym, arith, Option, Some, None, option_map}
+use Rattle.std.specs.Prelude.{◌==◌, ◌&&◌, ◌↔◌, Err, IfSome, IsErrOf, option_and_then}
 use Rattle.std.proofs.lemmas.Bool.Decides.{nat_tests}
 use Rattle.std.specs.List.{AllByRecursion}
 use Rattle.sqlite_trees.specs.Tree.{Trees}
 use Rattle.house_rows.specs.Keeping.{AllStand, AreSound, AreSoundBy, Faults, FitsBy, RowFits, StandsAt, StandsBy, StandsIn}
 use Rattle.house_rows.specs.Taken.{FitWhere}
 use Rattle.house_rows.specs.Editions.{BandTables}
+use Rattle.proxy.specs.Kept.{Kept}
 use Rattle.house_rows.specs.Bids.{BidRow}
+use Rattle.house_rows.specs.Found.{reserve_at, row_at, standing_at}
 use Rattle.house_rows.specs.Changed.{is_item}
 use Rattle.house_rows.specs.Fits.{BidRowFits}
 use Rattle.house_rows.specs.Reached.{FitsSoFar}
@@ -22,9 +24,13 @@ use Rattle.store_rows.specs.ItemRows.{items_in}
 use Rattle.store_rows.specs.Tables.{tables_in}
 use Rattle.store_items.specs.RowsStanding.{ItemStands, RowFitsAt, RowsStand}
 use Rattle.store_rows.proofs.Sound.{rows_fit}
-use Rattle.store.specs.Kept.{House, IsKnown, is_failed}
+use Rattle.sqlite_trees.specs.declared.store.Store.{Ghosts}
+use Rattle.sqlite.specs.Held.{state}
+use Rattle.store_rows.specs.House.{ServesBy}
+use Rattle.store_rows.specs.declared.reserve.ReserveRow.{ReserveRow}
+use Rattle.store.specs.Kept.{House, IsKept, IsKnown, is_failed}
 
-module _ (db : Trees) (editions : BandTables) (counts : Counts) (clock : ℕ) (known : IsKnown editions counts clock db) where
+module _ (db : Trees) (editions : BandTables) (reserves : List ReserveRow) (counts : Counts) (clock : ℕ) (known : IsKnown editions reserves counts clock db) where
   pub known_sound : AreSound (tables_in db) → AreSoundBy editions (tables_in db)
   known_sound sound = record { sound = sound; same = sym known.editions_are }
 
@@ -82,6 +88,10 @@ told_sound fault told failed honest t same store none = record {
   damaged = λ h sound is. no_damage fault told failed same store (none h sound) (the_fault is);
 }
 
+-- a keep that has not failed serves by the reserves that it knows
+pub known_serves : {S : Type 0} (g : Ghosts S) (k : House S) → IsKept g k → k.failed ≡ false → ServesBy k.reserves (state g k.conn)
+known_serves g k kept going clean = let rest = kept.rests going clean in (rest.is_open, rest.house, (kept.known going clean).reserves_are)
+
 -- a keep that is seen not to have failed has not failed inside
 pub works : {S : Type 0} (inside seen : House S) → inside ≡ seen → is_failed seen ≡ false → inside.failed ≡ false
 works inside seen same going = ap is_failed same ∙ going
@@ -95,3 +105,18 @@ pub own_fit : (t : Tables) (member item : ℕ) → FitWhere (λ b. (b.bid.member
 own_fit t member item fits =
     every_as (λ (b : BidRow). ((b.bid.member == member) && (b.item == item)) ≡ true → BidRowFits b) (λ (b : BidRow). b.bid.member ≡ member → b.item ≡ item → BidRowFits b) t.bids
     (λ b fit mine on. fit (grind (arith, nat_tests, mine, on))) fits
+
+-- the reserve of an item is that of its standing
+pub reserve_some : (t : Tables) (item : ℕ) (s : Kept) → Some s ≡ standing_at t item → s.reserve ≡ reserve_at t item
+reserve_some t item s told = one (row_at t item) told
+  where
+    one : (row : Option ItemRow) → Some s ≡ option_map (λ (r : ItemRow). r.standing) row → s.reserve ≡ option_and_then (λ (r : ItemRow). r.standing.reserve) row
+    one None told = absurd cc
+    one (Some row) told = (let same : s ≡ row.standing = cc in ap (λ (k : Kept). k.reserve) same)
+
+pub reserve_none : (t : Tables) (item : ℕ) → None ≡ standing_at t item → None ≡ reserve_at t item
+reserve_none t item told = none (row_at t item) told
+  where
+    none : (row : Option ItemRow) → None ≡ option_map (λ (r : ItemRow). r.standing) row → None ≡ option_and_then (λ (r : ItemRow). r.standing.reserve) row
+    none None told = refl
+    none (Some row) told = absurd cc

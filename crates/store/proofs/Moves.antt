@@ -1,6 +1,6 @@
 -- What a keep knows of the tables after a change.
-use Rattle.std.proofs.Common.{◌≡◌, ◌⊎◌, ℕ, Bool, true, false, refl, ap, sym, subst, ◌∙◌, inl, inr}
-use Rattle.std.specs.Prelude.{IsTrue}
+use Rattle.std.proofs.Common.{◌≡◌, ◌⊎◌, ◌+◌, ℕ, List, length, Bool, true, false, true≢false, Result, Ok, Err, refl, ap, sym, subst, ◌∙◌, inl, inr}
+use Rattle.std.specs.Prelude.{IsTrue, OnOk, is_err}
 use Rattle.std.proofs.lemmas.List.{length-append, length-map}
 use Rattle.sqlite_trees.specs.Tree.{Trees}
 use Rattle.sqlite.specs.Effect.{Database}
@@ -14,7 +14,10 @@ use Rattle.house_rows.specs.declared.change.Change.{Change}
 use Rattle.house_rows.specs.declared.change.Change.TheVariants.{Register, AddCategory, List as Listed, Bid, Buy, Close, Settle, Watch, Unwatch, Ask, Answer, Feedback}
 use Rattle.house_rows.specs.declared.people.Counts.{Counts}
 use Rattle.house_rows.specs.Editions.{BandTables}
-use Rattle.store_rows.specs.Tables.{Changes, tables_in}
+use Rattle.store_rows.specs.ItemRows.{items_in}
+use Rattle.store_rows.specs.Rows.{reserves_in}
+use Rattle.store_rows.specs.Tables.{Changes, reserves_after, tables_in}
+use Rattle.store_rows.specs.declared.reserve.ReserveRow.{ReserveRow}
 use Rattle.store.specs.After.{clock_after, counts_after}
 use Rattle.store.specs.Kept.{IsKnown}
 
@@ -63,13 +66,36 @@ counts_move t (Ask item asker number text) = refl
 counts_move t (Answer moment item asker number text) = refl
 counts_move t (Feedback moment item from to rating text) = refl
 
+so_many : (db : Trees) → (counts_of (tables_in db)).items ≡ length (items_in db)
+unfolding tables_in
+so_many db = refl
+
+-- a listing has the number that the counts after it tell
+next_number : (change : Change) (reserves : List ReserveRow) (counts : Counts) (many : ℕ) → counts.items ≡ many
+    → reserves_after reserves (counts_after counts change).items change ≡ reserves_after reserves (many + 1) change
+next_number (Register moment name) reserves counts many same = refl
+next_number (AddCategory moment name) reserves counts many same = refl
+next_number (Listed moment item) reserves counts many same = ap (λ (n : ℕ). reserves_after reserves (n + 1) (Listed moment item)) same
+next_number (Bid moment item placed standing) reserves counts many same = refl
+next_number (Buy moment item buyer price) reserves counts many same = refl
+next_number (Close moment) reserves counts many same = refl
+next_number (Settle moment item) reserves counts many same = refl
+next_number (Watch member item) reserves counts many same = refl
+next_number (Unwatch member item) reserves counts many same = refl
+next_number (Ask item asker number text) reserves counts many same = refl
+next_number (Answer moment item asker number text) reserves counts many same = refl
+next_number (Feedback moment item from to rating text) reserves counts many same = refl
+
 -- what was known is known of the tables after the change
-pub known_after : (editions : BandTables) (counts : Counts) (clock : ℕ) (change : Change) (old new : Trees)
-    → IsKnown editions counts clock old → tables_in new ≡ changed (tables_in old) change → IsKnown editions (counts_after counts change) (clock_after clock change) new
-known_after editions counts clock change old new known is = record {
-  editions_are = ap band_tables is ∙ (editions_stay (tables_in old) change ∙ known.editions_are);
-  counts_are = ap counts_of is ∙ (counts_move (tables_in old) change ∙ ap (λ c. counts_after c change) known.counts_are);
-  clock_is = ap (λ t. t.clock) is ∙ (clock_moves (tables_in old) change ∙ ap (λ c. clock_after c change) known.clock_is);
+pub known_after : (editions : BandTables) (reserves : List ReserveRow) (counts : Counts) (clock : ℕ) (change : Change) (old new : Database)
+    → IsKnown editions reserves counts clock old.trees → Changes change old new → IsKnown editions (reserves_after reserves (counts_after counts change).items change) (counts_after counts change) (clock_after clock change) new.trees
+known_after editions reserves counts clock change old new known made = let is = made.tables in record {
+  editions_are = ap band_tables is ∙ (editions_stay (tables_in old.trees) change ∙ known.editions_are);
+  reserves_are = ap (λ (l : List ReserveRow). reserves_after l (counts_after counts change).items change) known.reserves_are
+      ∙ next_number change (reserves_in old.trees) counts (length (items_in old.trees)) (sym (ap (λ (c : Counts). c.items) known.counts_are) ∙ so_many old.trees)
+      ∙ sym made.reserves;
+  counts_are = ap counts_of is ∙ (counts_move (tables_in old.trees) change ∙ ap (λ c. counts_after c change) known.counts_are);
+  clock_is = ap (λ t. t.clock) is ∙ (clock_moves (tables_in old.trees) change ∙ ap (λ c. clock_after c change) known.clock_is);
 }
 
 -- the moment of a change that fits is one
@@ -95,3 +121,8 @@ left_after old mid change failed db stays settled told (inl may) = inl may
 left_after old mid change true db stays settled told (inr made) = inr (refl, ap tables_in made.2 ∙ made.1.tables)
 left_after old mid change false db stays settled told (inr made) =
     let is_open = told refl in inl (subst old.may_leave (sym (settled is_open.0 ∙ ap (λ (d : Database). d.trees) is_open.1)) stays)
+
+-- what is so after Ok
+pub not_err : {A E : Type 0} {P : Type 0} (r : Result A E) → is_err r ≡ false → OnOk r P → P
+not_err (Ok a) none so = so
+not_err (Err e) none so = absurd (true≢false none)

@@ -12,6 +12,8 @@ use Rattle.house_rows.specs.Tables.{Tables, band_tables}
 use Rattle.house_rows.specs.declared.people.Counts.{Counts}
 use Rattle.house_rows.specs.declared.edition.Edition.{Edition}
 use Rattle.house_rows.specs.declared.settings.Settings.{Settings}
+use Rattle.store_rows.specs.declared.reserve.ReserveRow.{ReserveRow}
+use Rattle.store_rows.specs.Rows.{reserves_in}
 use Rattle.store_rows.specs.Tables.{IsAtRest, tables_in}
 
 -- the connection, and what is known of its tables without asking it
@@ -19,12 +21,13 @@ pub record House (S : Type 0) : Type 0 where
   pub conn : Held S
   -- the settings, and all band tables
   pub editions : BandTables
+  pub reserves : List ReserveRow
   pub counts : Counts
   pub clock : ℕ
   -- a call has answered `Store`
   pub failed : Bool
 
--- settings, editions, counts and a house are stored as the tuples of their fields
+-- settings, editions, reserves, counts and a house are stored as the tuples of their fields
 abbrev pub settings_code : Coded Settings
 settings_code =
     code_by (List (ℕ × ℕ) × (ℕ × List ℕ)) (coded× (coded_list (coded× coded_ℕ coded_ℕ)) (coded× coded_ℕ (coded_list coded_ℕ)))
@@ -46,6 +49,13 @@ editions_code =
     (λ p. record { settings = p.0; later = p.1 })
     (λ _. refl)
 
+abbrev pub reserve_code : Coded ReserveRow
+reserve_code =
+    code_by (ℕ × ℕ) (coded× coded_ℕ coded_ℕ)
+    (λ r. (r.item, r.amount))
+    (λ p. record { item = p.0; amount = p.1 })
+    (λ _. refl)
+
 abbrev pub counts_code : Coded Counts
 counts_code =
     code_by (ℕ × (ℕ × ℕ)) (coded× coded_ℕ (coded× coded_ℕ coded_ℕ))
@@ -55,15 +65,16 @@ counts_code =
 
 abbrev pub house_code : {S : Type 0} → Coded S → Coded (House S)
 house_code {S} store =
-    code_by (Held S × (BandTables × (Counts × (ℕ × Bool))))
-    (coded× (held_code store) (coded× editions_code (coded× counts_code (coded× coded_ℕ coded_bool))))
-    (λ k. (k.conn, (k.editions, (k.counts, (k.clock, k.failed)))))
-    (λ p. record { conn = p.0; editions = p.1.0; counts = p.1.1.0; clock = p.1.1.1.0; failed = p.1.1.1.1 })
+    code_by (Held S × (BandTables × (List ReserveRow × (Counts × (ℕ × Bool)))))
+    (coded× (held_code store) (coded× editions_code (coded× (coded_list reserve_code) (coded× counts_code (coded× coded_ℕ coded_bool)))))
+    (λ k. (k.conn, (k.editions, (k.reserves, (k.counts, (k.clock, k.failed))))))
+    (λ p. record { conn = p.0; editions = p.1.0; reserves = p.1.1.0; counts = p.1.1.1.0; clock = p.1.1.1.1.0; failed = p.1.1.1.1.1 })
     (λ _. refl)
 
 -- what is known of the tables is so
-pub record IsKnown (editions : BandTables) (counts : Counts) (clock : ℕ) (db : Trees) : Type 0 where
+pub record IsKnown (editions : BandTables) (reserves : List ReserveRow) (counts : Counts) (clock : ℕ) (db : Trees) : Type 0 where
   pub editions_are : band_tables (tables_in db) ≡ editions
+  pub reserves_are : reserves ≡ reserves_in db
   pub counts_are : counts_of (tables_in db) ≡ counts
   pub clock_is : (tables_in db).clock ≡ clock
 
@@ -72,7 +83,7 @@ pub record IsKept {S : Type 0} (g : Ghosts S) (k : House S) : Type 0 where
   pub idle : k.conn.in_transaction ≡ false
   pub moment : IsMoment k.clock
   pub rests : k.failed ≡ false → HasCleanDisk (state g k.conn) → IsAtRest (state g k.conn)
-  pub known : k.failed ≡ false → HasCleanDisk (state g k.conn) → IsKnown k.editions k.counts k.clock (state g k.conn).now.trees
+  pub known : k.failed ≡ false → HasCleanDisk (state g k.conn) → IsKnown k.editions k.reserves k.counts k.clock (state g k.conn).now.trees
 
 -- ---- what the clauses of a keep speak of
 

@@ -1,13 +1,15 @@
 //! What a keep knows of its tables after a change.
-ghost use Rattle.std.specs.Prelude.{◌≡◌, ◌+◌, ◌<◌, ◌≤◌, true, IfSome, is_some};
+ghost use Rattle.std.specs.Prelude.{◌≡◌, ◌+◌, ◌<◌, ◌≤◌, true, IfSome, OnOk, is_some};
 ghost use Rattle.house_rows.specs.Asks.{ChangeFits};
 ghost use Rattle.house_rows.specs.Fits.{IsMoment};
 ghost use Rattle.house_rows.specs.Found.{counts_of};
 ghost use Rattle.house_rows.specs.Tables.{Tables};
+ghost use Rattle.store_rows.specs.Tables.{reserves_after};
 ghost use Rattle.store.specs.After.{clock_after, counts_after};
 
-use house_rows::{Change, Counts, MOST_CATEGORIES, MOST_ITEMS, MOST_MEMBERS};
+use house_rows::{Change, Counts, KeepFault, MOST_CATEGORIES, MOST_ITEMS, MOST_MEMBERS};
 use settle::LAST_MOMENT;
+use store_reserves::Reserves;
 
 // One more, if there is room.
 fn one_more(count: u32, most: u32) -> Option<u32>
@@ -79,5 +81,23 @@ pub(crate) fn counts_after(counts: Counts, change: &Change<'_>) -> Option<Counts
             ..counts
         }),
         _ => Some(counts),
+    }
+}
+
+/// Adds the reserve of a listing, if it has one. The counts are those after the change.
+pub(crate) fn add_reserve(
+    reserves: &mut Reserves,
+    after: Counts,
+    change: &Change<'_>,
+) -> Result<(), KeepFault>
+    ensures value { OnOk result (reserves.new
+        ≡ reserves_after reserves.old after.items change.now) }
+{
+    match *change {
+        Change::List { ref item, .. } => match item.reserve {
+            Some(amount) => reserves.add(after.items, amount),
+            None => Ok(()),
+        },
+        _ => Ok(()),
     }
 }

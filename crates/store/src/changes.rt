@@ -6,7 +6,7 @@ ghost use Rattle.house_rows.specs.Keeping.{AreSound, ChangeFaults};
 ghost use Rattle.house_rows.specs.Tables.{Tables};
 ghost use Rattle.store.specs.Kept.{IsHonest, MayLeave, content, is_failed};
 
-use crate::after::{clock_after, counts_after};
+use crate::after::{add_reserve, clock_after, counts_after};
 use crate::keep::SqlKeep;
 use crate::making::make_change;
 use crate::settled::told_fault;
@@ -46,10 +46,19 @@ impl<S: Alter> SqlKeep<S> {
         let Some(counts) = counts_after(self.counts, change) else {
             return Err(KeepFault::Damaged);
         };
-        match make_change(self.alloc, &mut self.conn, &self.editions, counts, change) {
+        if self.rules.reserves.make_room().is_err() {
+            return Err(KeepFault::Memory);
+        }
+        match make_change(self.alloc, &mut self.conn, &self.rules, counts, change) {
             Ok(()) => {
                 self.counts = counts;
                 self.clock = clock;
+                // There is room, so it doesn't fail: had it, the keep would know less than its
+                // tables.
+                if add_reserve(&mut self.rules.reserves, counts, change).is_err() {
+                    self.failed = true;
+                    return Err(KeepFault::Store);
+                }
                 Ok(())
             }
             Err(fault) => Err(told_fault(&mut self.conn, &mut self.failed, fault)),

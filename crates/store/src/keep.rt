@@ -12,7 +12,7 @@ use crate::settled::told_fault;
 use cents::Cents;
 use house_rows::{
     Category, Change, Counts, Due, Editions, Feedback, Item, Keep, KeepFault, Member, OwnBest,
-    OwnBid, Question, Ratings, Settings, Terms,
+    OwnBid, OwnReserve, Question, Ratings, Settings, Terms,
 };
 use proxy::Standing;
 use settle::Sold;
@@ -21,12 +21,13 @@ use std::alloc::Global;
 use std::marker::Model;
 use store_bids::{own_best, own_bids};
 use store_items::{
-    all_items, due, item_at, item_with_lot, items_in, sales_to, standing_at, terms_at,
+    all_items, due, item_at, item_with_lot, items_in, reserves_of, sales_to, standing_at, terms_at,
 };
 use store_people::{
     all_categories, all_members, category_at, category_named, has_category, has_member, member_at,
     member_named,
 };
+use store_reserves::Rules;
 use store_talk::{
     all_feedback, all_published, ask_count, feedback_to, first_waiting, is_given, published_on,
     question_at, questions_of, ratings, waiting_for,
@@ -50,7 +51,7 @@ pub struct SqlKeep<S: Alter> {
     pub(crate) alloc: Global,
     pub(crate) conn: Connection<S>,
     // Kept, so that no call asks for them.
-    pub(crate) editions: Editions,
+    pub(crate) rules: Rules,
     pub(crate) counts: Counts,
     pub(crate) clock: u64,
     pub(crate) failed: bool,
@@ -65,7 +66,8 @@ impl<S: Alter> Model for SqlKeep<S> {
 
     ghost view = { λ k. record {
       conn = k.conn;
-      editions = k.editions;
+      editions = k.rules.editions;
+      reserves = k.rules.reserves;
       counts = k.counts;
       clock = k.clock;
       failed = k.failed;
@@ -73,7 +75,8 @@ impl<S: Alter> Model for SqlKeep<S> {
 
     ghost invariant = { λ k. IsKept S.Store (record {
       conn = k.conn;
-      editions = k.editions;
+      editions = k.rules.editions;
+      reserves = k.rules.reserves;
       counts = k.counts;
       clock = k.clock;
       failed = k.failed;
@@ -105,12 +108,12 @@ impl<S: Alter> Keep for SqlKeep<S> {
 
     fn settings(&self) -> Result<&Settings, KeepFault> {
         self.serves()?;
-        Ok(self.editions.settings())
+        Ok(self.rules.editions.settings())
     }
 
     fn editions(&self) -> Result<&Editions, KeepFault> {
         self.serves()?;
-        Ok(&self.editions)
+        Ok(&self.rules.editions)
     }
 
     fn clock(&mut self) -> Result<u64, KeepFault> {
@@ -177,7 +180,7 @@ impl<S: Alter> Keep for SqlKeep<S> {
         let Ok(item) = u32::try_from(item) else {
             return Ok(None);
         };
-        told!(self, item_at(&mut self.conn, &self.editions, item))
+        told!(self, item_at(&mut self.conn, &self.rules, item))
     }
 
     #[tactic(auto, using(store_items::proofs::Small::no_item), unfolding(store_rows::specs::Tables::tables_in))]
@@ -186,7 +189,7 @@ impl<S: Alter> Keep for SqlKeep<S> {
         let Ok(item) = u32::try_from(item) else {
             return Ok(None);
         };
-        told!(self, terms_at(&mut self.conn, &self.editions, item))
+        told!(self, terms_at(&mut self.conn, &self.rules, item))
     }
 
     #[tactic(auto, using(crate::proofs::Sound::sound_number, store_rows::proofs::Sound::items_fit, crate::proofs::Absent::no_lot), unfolding(store_rows::specs::Tables::tables_in))]
@@ -212,7 +215,7 @@ impl<S: Alter> Keep for SqlKeep<S> {
         let Ok(item) = u32::try_from(item) else {
             return Ok(None);
         };
-        told!(self, standing_at(&mut self.conn, &self.editions, item))
+        told!(self, standing_at(&mut self.conn, &self.rules, item))
     }
 
     #[tactic(auto, using(crate::proofs::Absent::no_best_of, crate::proofs::Absent::no_best_at))]
@@ -307,10 +310,7 @@ impl<S: Alter> Keep for SqlKeep<S> {
 
     fn due(&mut self, moment: u64) -> Result<Due, KeepFault> {
         self.serves()?;
-        told!(
-            self,
-            due(self.alloc, &mut self.conn, &self.editions, moment)
-        )
+        told!(self, due(self.alloc, &mut self.conn, &self.rules, moment))
     }
 
     #[tactic(auto, using(crate::proofs::AbsentLists::no_items))]
@@ -319,10 +319,10 @@ impl<S: Alter> Keep for SqlKeep<S> {
         let Ok(category) = u32::try_from(category) else {
             return Ok(Vec::new(self.alloc));
         };
-        let editions = &self.editions;
+        let rules = &self.rules;
         told!(
             self,
-            items_in(self.alloc, &mut self.conn, editions, category, from)
+            items_in(self.alloc, &mut self.conn, rules, category, from)
         )
     }
 
@@ -332,10 +332,31 @@ impl<S: Alter> Keep for SqlKeep<S> {
         let Ok(member) = u32::try_from(member) else {
             return Ok(Vec::new(self.alloc));
         };
-        let editions = &self.editions;
+        let rules = &self.rules;
         told!(
             self,
-            own_bids(self.alloc, &mut self.conn, editions, member, from)
+            own_bids(self.alloc, &mut self.conn, rules, member, from)
+        )
+    }
+
+    #[tactic(auto, using(crate::proofs::Known::reserve_some, crate::proofs::Known::reserve_none))]
+    fn reserve(&mut self, item: u64) -> Result<Option<Cents>, KeepFault> {
+        match self.standing(item)? {
+            Some(standing) => Ok(standing.reserve()),
+            None => Ok(None),
+        }
+    }
+
+    #[tactic(auto, using(crate::proofs::AbsentLists::no_reserves))]
+    fn reserves_of(&mut self, member: u64, from: u64) -> Result<Vec<OwnReserve>, KeepFault> {
+        self.serves()?;
+        let Ok(member) = u32::try_from(member) else {
+            return Ok(Vec::new(self.alloc));
+        };
+        let rules = &self.rules;
+        told!(
+            self,
+            reserves_of(self.alloc, &mut self.conn, rules, member, from)
         )
     }
 
@@ -381,7 +402,7 @@ impl<S: Alter> Keep for SqlKeep<S> {
     #[tactic(auto, unfolding(store_rows::specs::Tables::tables_in))]
     fn items(&mut self) -> Result<Vec<Item>, KeepFault> {
         self.serves()?;
-        told!(self, all_items(self.alloc, &mut self.conn, &self.editions))
+        told!(self, all_items(self.alloc, &mut self.conn, &self.rules))
     }
 
     #[tactic(auto, using(store_rows::proofs::Sound::questions_fit), unfolding(store_rows::specs::Tables::tables_in))]
@@ -402,10 +423,10 @@ impl<S: Alter> Keep for SqlKeep<S> {
         let Ok(member) = u32::try_from(member) else {
             return Ok(Vec::new(self.alloc));
         };
-        let editions = &self.editions;
+        let rules = &self.rules;
         told!(
             self,
-            items_watched(self.alloc, &mut self.conn, editions, member)
+            items_watched(self.alloc, &mut self.conn, rules, member)
         )
     }
 
@@ -415,11 +436,8 @@ impl<S: Alter> Keep for SqlKeep<S> {
         let Ok(member) = u32::try_from(member) else {
             return Ok(Vec::new(self.alloc));
         };
-        let editions = &self.editions;
-        told!(
-            self,
-            waiting_for(self.alloc, &mut self.conn, editions, member)
-        )
+        let rules = &self.rules;
+        told!(self, waiting_for(self.alloc, &mut self.conn, rules, member))
     }
 
     #[tactic(auto, using(crate::proofs::AbsentLists::no_first_waiting))]
@@ -428,10 +446,10 @@ impl<S: Alter> Keep for SqlKeep<S> {
         let Ok(member) = u32::try_from(member) else {
             return Ok(Vec::new(self.alloc));
         };
-        let editions = &self.editions;
+        let rules = &self.rules;
         told!(
             self,
-            first_waiting(self.alloc, &mut self.conn, editions, member)
+            first_waiting(self.alloc, &mut self.conn, rules, member)
         )
     }
 
@@ -441,8 +459,8 @@ impl<S: Alter> Keep for SqlKeep<S> {
         let Ok(member) = u32::try_from(member) else {
             return Ok(Vec::new(self.alloc));
         };
-        let editions = &self.editions;
-        told!(self, sales_to(self.alloc, &mut self.conn, editions, member))
+        let rules = &self.rules;
+        told!(self, sales_to(self.alloc, &mut self.conn, rules, member))
     }
 
     fn apply(&mut self, change: &Change<'_>) -> Result<(), KeepFault> {

@@ -7,16 +7,18 @@ ghost use Rattle.house_rows.specs.Found.{counts_of};
 ghost use Rattle.house_rows.specs.Keeping.{AreSound};
 ghost use Rattle.house_rows.specs.Tables.{band_tables};
 ghost use Rattle.house_rows.specs.declared.fault.KeepFault.TheVariants.{Damaged};
+ghost use Rattle.store_rows.specs.Rows.{reserves_in};
 ghost use Rattle.store_rows.specs.Tables.{Rests, tables_in};
 ghost use Rattle.store_rows.specs.Commits.{Commits};
 ghost use Rattle.store.specs.After.{counts_after};
 
-use house_rows::{Change, Counts, Editions, KeepFault};
+use house_rows::{Change, Counts, KeepFault};
 use sqlite::{Alter, Connection};
 use std::alloc::Global;
 use store_bids::bid;
 use store_items::{buy, close, list, settle};
 use store_people::{add_category, register};
+use store_reserves::Rules;
 use store_talk::{answer, ask, give_feedback};
 use store_watches::{unwatch, watch};
 
@@ -24,14 +26,16 @@ use store_watches::{unwatch, watch};
 pub(crate) fn make_change<S: Alter>(
     alloc: Global,
     conn: &mut Connection<S>,
-    editions: &Editions,
+    rules: &Rules,
     after: Counts,
     change: &Change<'_>,
 ) -> Result<(), KeepFault>
     requires rests { Rests (state S.Store conn.old) }
     requires mode { conn.old.in_transaction ≡ false }
     requires editions { HasCleanDisk (state S.Store conn.old)
-        → editions.now ≡ band_tables (tables_in (state S.Store conn.old).now.trees) }
+        → rules.now.editions ≡ band_tables (tables_in (state S.Store conn.old).now.trees) }
+    requires reserves { HasCleanDisk (state S.Store conn.old)
+        → rules.now.reserves ≡ reserves_in (state S.Store conn.old).now.trees }
     requires counted { HasCleanDisk (state S.Store conn.old)
         → after ≡ counts_after (counts_of (tables_in
         (state S.Store conn.old).now.trees)) change.now }
@@ -55,14 +59,14 @@ pub(crate) fn make_change<S: Alter>(
             item,
             placed,
             standing,
-        } => bid(conn, editions, moment, item, placed, &standing),
+        } => bid(conn, rules, moment, item, placed, &standing),
         Change::Buy {
             moment,
             item,
             buyer,
             price,
-        } => buy(conn, editions, moment, item, buyer, price),
-        Change::Settle { moment, item } => settle(conn, editions, moment, item),
+        } => buy(conn, rules, moment, item, buyer, price),
+        Change::Settle { moment, item } => settle(conn, rules, moment, item),
         Change::Watch { member, item } => watch(conn, member, item),
         Change::Unwatch { member, item } => unwatch(conn, member, item),
         Change::Ask {
@@ -86,6 +90,6 @@ pub(crate) fn make_change<S: Alter>(
             rating,
             text,
         } => give_feedback(conn, moment, item, from, to, rating, text),
-        Change::Close { moment } => close(conn, editions, alloc, moment),
+        Change::Close { moment } => close(conn, rules, alloc, moment),
     }
 }

@@ -10,8 +10,9 @@ ghost use Rattle.house_rows.specs.Fits.{IsMoment};
 ghost use Rattle.house_rows.specs.Found.{counts_of};
 ghost use Rattle.store_rows.specs.Fitting.{HouseRowFits};
 ghost use Rattle.store_rows.specs.Schema.{no_schema};
+ghost use Rattle.store_rows.specs.Rows.{reserves_in};
 ghost use Rattle.store_rows.specs.Tables.{IsAtRest, house_row_in, settings_in, tables_in};
-ghost use Rattle.store_open.specs.Opening.{AreNumbered, Follows, FollowsOrGrows, IsBackOrNew, IsSoundFirst, IsSoundHouse, Upgrades};
+ghost use Rattle.store_open.specs.Opening.{AreNumbered, Follows, FollowsOrGrows, IsBackOrNew, IsSoundFirst, IsSoundHouse, Upgrades, first_tables_in};
 ghost use Rattle.store.specs.Kept.{IsHonest, MayLeave, content};
 ghost use Rattle.store.specs.Opening.{Leaves, LeavesMade, LeavesStore, LeavesUpgraded};
 
@@ -20,6 +21,7 @@ use house_rows::{Counts, Editions, KeepFault, Settings};
 use sqlite::{Alter, Connection};
 use std::alloc::Global;
 use store_open::{Opened, make_house, open_house, upgrade_house};
+use store_reserves::{Reserves, Rules};
 
 // The version of the tables.
 const VERSION: u32 = 2;
@@ -53,7 +55,10 @@ impl<S: Alter + Drop> SqlKeep<S> {
             Ok(()) => Ok(SqlKeep {
                 alloc,
                 conn,
-                editions: Editions::new(alloc, settings),
+                rules: Rules {
+                    editions: Editions::new(alloc, settings),
+                    reserves: Reserves::new(alloc),
+                },
                 counts: Counts {
                     members: 0,
                     categories: 0,
@@ -92,7 +97,7 @@ impl<S: Alter + Drop> SqlKeep<S> {
 
     /// The keep of the house that a connection holds. What the connection has not committed is undone.
     ///
-    /// `Damaged` where it holds no house of this version, or one whose settings or numbers don't fit.
+    /// `Damaged` where it holds no house of this version, or one whose settings, numbers or reserves don't fit.
     /// After an error the store is given back as it was: a crash finds what it could find before.
     pub fn open_or_return(alloc: Global, conn: Connection<S>) -> Result<SqlKeep<S>, (KeepFault, S)>
         ensures same { IfOk result (λ k. IsHonest S.Store k
@@ -139,15 +144,15 @@ impl<S: Alter + Drop> SqlKeep<S> {
     /// and whether it was. What the connection has not committed is undone. A house of this version is
     /// not changed.
     ///
-    /// `Damaged` where it holds no house of either version, or one whose settings or numbers don't fit.
+    /// `Damaged` where it holds no house of either version, or one whose settings, numbers or reserves don't fit.
     /// After an error the store is given back. After `Memory` and `Damaged` it is as it was, and a crash
     /// finds what it could find before. After `Store` a crash may find the house upgraded.
     pub fn upgrade_or_return(
         alloc: Global,
         conn: Connection<S>,
     ) -> Result<(SqlKeep<S>, bool), (KeepFault, S)>
-        ensures same { IfOk result (λ r. IsHonest S.Store r.0
-            → content S.Store r.0 ≡ tables_in (state S.Store conn).committed.trees) }
+        ensures same { IfOk result (λ r. IsHonest S.Store r.0 → r.1 ≡ true
+            → content S.Store r.0 ≡ first_tables_in (state S.Store conn).committed.trees) }
         ensures upgraded { IfOk result (λ r. IsHonest S.Store r.0 → r.1 ≡ true
             → Upgrades (state S.Store conn).committed.trees (state S.Store r.0.conn).now) }
         ensures kept { IfOk result (λ r. IsHonest S.Store r.0 → r.1 ≡ false
@@ -173,8 +178,8 @@ impl<S: Alter + Drop> SqlKeep<S> {
     /// As `upgrade_or_return`, and after an error the store is dropped. So a clause says that there is
     /// such a store then, and none says which.
     pub fn upgrade(alloc: Global, conn: Connection<S>) -> Result<(SqlKeep<S>, bool), KeepFault>
-        ensures same { IfOk result (λ r. IsHonest S.Store r.0
-            → content S.Store r.0 ≡ tables_in (state S.Store conn).committed.trees) }
+        ensures same { IfOk result (λ r. IsHonest S.Store r.0 → r.1 ≡ true
+            → content S.Store r.0 ≡ first_tables_in (state S.Store conn).committed.trees) }
         ensures upgraded { IfOk result (λ r. IsHonest S.Store r.0 → r.1 ≡ true
             → Upgrades (state S.Store conn).committed.trees (state S.Store r.0.conn).now) }
         ensures kept { IfOk result (λ r. IsHonest S.Store r.0 → r.1 ≡ false
@@ -205,6 +210,8 @@ impl<S: Alter + Drop> SqlKeep<S> {
             → IsAtRest (state S.Store house.conn) }
         requires settings { HasCleanDisk (state S.Store house.conn)
             → settings_in (state S.Store house.conn).now.trees ≡ house.settings }
+        requires reserves { HasCleanDisk (state S.Store house.conn)
+            → house.reserves ≡ reserves_in (state S.Store house.conn).now.trees }
         requires counts { HasCleanDisk (state S.Store house.conn)
             → counts_of (tables_in (state S.Store house.conn).now.trees) ≡ house.counts }
         requires clock { HasCleanDisk (state S.Store house.conn)
@@ -215,7 +222,10 @@ impl<S: Alter + Drop> SqlKeep<S> {
         SqlKeep {
             alloc,
             conn: house.conn,
-            editions: Editions::new(alloc, house.settings),
+            rules: Rules {
+                editions: Editions::new(alloc, house.settings),
+                reserves: house.reserves,
+            },
             counts: house.counts,
             clock: house.clock,
             failed: false,

@@ -1,6 +1,6 @@
 -- What look-ups tell of an item that is bid on.
 use Rattle.proxy.specs.Opening.{Opening}
-use Rattle.std.proofs.Common.{◌≡◌, ◌≤◌, ◌+◌, ℕ, true, ◌&&◌, List, [], find, length, option_map, Option, Some, None, refl, sym, ap, ◌∙◌, arith}
+use Rattle.std.proofs.Common.{◌≡◌, ◌≤◌, ◌+◌, ℕ, true, ◌&&◌, List, [], find, length, option_map, Option, Some, refl, sym, ap, ◌∙◌, arith}
 use Rattle.std.specs.Prelude.{◌==◌}
 use Rattle.std.specs.List.{list_any}
 use Rattle.std.proofs.lemmas.List.{length-append}
@@ -16,10 +16,11 @@ use Rattle.house_rows.specs.declared.item.Terms.{Terms}
 use Rattle.house_rows.specs.Editions.{BandTables, bands_in}
 use Rattle.house_rows.specs.Tables.{ItemRow, band_tables, bands_for, row_opening}
 use Rattle.house_rows.proofs.ChangedRows.{room_for}
-use Rattle.store_rows.specs.ItemRows.{items_in}
+use Rattle.store_rows.specs.ItemRows.{amount_of, items_in}
+use Rattle.store_rows.specs.Rows.{reserves_in}
 use Rattle.store_rows.specs.Sorted.{sorted_bids}
 use Rattle.store_rows.specs.Tables.{tables_in}
-use Rattle.store_items.proofs.Rows.{item_there, unreserved}
+use Rattle.store_items.proofs.Rows.{item_there, reserved}
 
 -- a standing after an accepted bid is one, from the start on
 pub bid_stands : (db : Trees) (editions : BandTables) (moment item : ℕ) (placed : Bid) (kept : Kept) → editions ≡ band_tables (tables_in db) → BidFits (tables_in db) moment item placed kept
@@ -33,13 +34,13 @@ bid_stands db editions moment item placed kept same b =
     rw (same, b.stands_after) (accepted_shape bands opening (one_more b.bids placed.member placed.maximum) b.accepted few)
 
 pub bid_begins : (db : Trees) (moment item : ℕ) (placed : Bid) (kept : Kept) (t : Terms) → BidFits (tables_in db) moment item placed kept → option_map (λ (row : ItemRow). row.item.terms) (find (is_item item) (items_in db)) ≡ Some t
-    → opening_of kept ≡ record { start = t.start; reserve = None }
+    → opening_of kept ≡ record { start = t.start; reserve = amount_of (reserves_in db) t.item }
 bid_begins db moment item placed kept t b found =
     let there = item_there db item b.row b.row_there in
     let terms : Some b.row.item.terms ≡ Some t = ap (option_map (λ (row : ItemRow). row.item.terms)) (sym there) ∙ found in
     let same : b.row.item.terms ≡ t = cc in
-    let none : b.row.standing.reserve ≡ None = unreserved db item b.row there in
-    ap opening_of b.stands_after ∙ ap (λ (r : Option ℕ). record { start = b.row.item.terms.start; reserve = r }) none ∙ ap (λ (x : Terms). record { start = x.start; reserve = None }) same
+    let sealed : b.row.standing.reserve ≡ amount_of (reserves_in db) b.row.item.terms.item = reserved db item b.row there in
+    ap opening_of b.stands_after ∙ ap (λ (r : Option ℕ). record { start = b.row.item.terms.start; reserve = r }) sealed ∙ ap (λ (x : Terms). record { start = x.start; reserve = amount_of (reserves_in db) x.item }) same
 
 pub bids_sorted : (db : Trees) (item number : ℕ) → list_any (λ b. (b.item == item) && (b.bid.no == number)) (sorted_bids db) ≡ list_any (λ b. (b.item == item) && (b.bid.no == number)) (tables_in db).bids
 unfolding tables_in

@@ -1,5 +1,5 @@
 -- What the query of the items of a member's bids means and shows.
-use Rattle.std.proofs.Common.{◌≡◌, ◌==◌, ◌≤◌, ◌<◌, ◌^◌, ◌&&◌, ◌||◌, ℕ, suc, pos, negsuc, Bool, true, false, not, cond, List, [], ◌∷◌, map, filter, length, take, codes, eqb, refl, sym, ap, subst, subst₂, ◌∙◌, arith, add-one, inl, inr, IsPermutation, IsSorted, Less, is_lt, is_le, is_gt, int_cmp, true≢false}
+use Rattle.std.proofs.Common.{◌≡◌, ◌==◌, ◌≤◌, ◌<◌, ◌^◌, ◌&&◌, ◌||◌, ℕ, suc, pos, negsuc, Bool, true, false, not, cond, List, [], ◌∷◌, map, filter, take, codes, eqb, refl, sym, ap, subst, subst₂, ◌∙◌, arith, add-one, inl, inr, IsPermutation, IsSorted, Less, is_lt, is_le, is_gt, int_cmp, true≢false}
 use Rattle.std.specs.Prelude.{nat_le, nat_lt}
 use Rattle.std.specs.List.{AllByRecursion}
 use Rattle.std.specs.Ordering.{ordering_reverse}
@@ -31,7 +31,7 @@ use Rattle.house_rows.proofs.Put.{by_test}
 use Rattle.store_rows.specs.House.{IsHouse}
 use Rattle.store_rows.specs.ItemRows.{item_row_in, items_in}
 use Rattle.store_rows.specs.Plain.{plain_query, passes}
-use Rattle.store_rows.specs.Rows.{bid_in, bids_in, number_in}
+use Rattle.store_rows.specs.Rows.{bid_in, bids_in, number_in, reserves_in}
 use Rattle.store_rows.specs.Schema.{house_schema}
 use Rattle.store_rows.specs.Sorted.{sorted_bids}
 use Rattle.store_rows.specs.First.{IsFinite, ShowsFirst, ShowsSome}
@@ -313,8 +313,8 @@ module _ (old new : State) (house : IsHouse old.now) where
   pub items_up : Shown low_items_text [] old new [] → IsAscending (λ a b. number_of a ≤ number_of b) (items_in old.now.trees)
   items_up none =
       let ours = all_both IsRow (λ r. is_negative (rowid r) ≡ false) (λ r. IsCounted (rowid r)) (λ r is p. (is.number, p)) items (are_rows old.now house) (none_low none) in
-      ascending-map (λ a b. number_of a ≤ number_of b) item_row_in items
-      (ascending_on (λ r. IsCounted (rowid r)) (λ r s. value_cmp (rowid r) (rowid s) ≡ Less) (λ r s. number_of (item_row_in r) ≤ number_of (item_row_in s))
+      ascending-map (λ a b. number_of a ≤ number_of b) (item_row_in (reserves_in old.now.trees)) items
+      (ascending_on (λ r. IsCounted (rowid r)) (λ r s. value_cmp (rowid r) (rowid s) ≡ Less) (λ r s. number_of (item_row_in (reserves_in old.now.trees) r) ≤ number_of (item_row_in (reserves_in old.now.trees) s))
       (λ r s p q less. numbers_rise (rowid r) (rowid s) p q (ap is_lt (value_cmp_total.antisymm (rowid s) (rowid r) ∙ ap ordering_reverse less))) items ours house.shaped.1.1.1.1.0.0)
 
   never_low : (r : Row) → IsRow r → number_in (rowid r) < 2 ^ 32 → passes (under_zero 0 ∷ []) [] r ≡ false
@@ -328,14 +328,14 @@ module _ (old new : State) (house : IsHouse old.now) where
   pub no_low_item : ShowsSome low_items_text [] old new → AllByRecursion (λ row. number_of row < 2 ^ 32) (items_in old.now.trees) → ⊥
   no_low_item some low =
       some_passes (under_zero 0 ∷ []) (col 1 0 ∷ []) by_rowid [] items (some.first ∷ some.others) (lists low_items_text 6 (under_zero 0 ∷ []) (col 1 0 ∷ []) by_rowid _ low_items_is (λ db. refl) old new [] _ house some.shown) some.first some.others refl
-      (all_both IsRow (λ r. number_in (rowid r) < 2 ^ 32) (λ r. passes (under_zero 0 ∷ []) [] r ≡ false) never_low items (are_rows old.now house) (all_unmap (λ row. number_of row < 2 ^ 32) item_row_in items low))
+      (all_both IsRow (λ r. number_in (rowid r) < 2 ^ 32) (λ r. passes (under_zero 0 ∷ []) [] r ≡ false) never_low items (are_rows old.now house) (all_unmap (λ row. number_of row < 2 ^ 32) (item_row_in (reserves_in old.now.trees)) items low))
 
   pub no_far_item : ShowsSome far_items_text [] old new → AllByRecursion (λ row. number_of row < 2 ^ 32) (items_in old.now.trees) → ⊥
   no_far_item some low =
       some_passes (over_last 0 ∷ []) (col 1 0 ∷ []) by_rowid [] items (some.first ∷ some.others) (lists far_items_text 6 (over_last 0 ∷ []) (col 1 0 ∷ []) by_rowid _ far_items_is (λ db. refl) old new [] _ house some.shown) some.first some.others refl
-      (all_both IsRow (λ r. number_in (rowid r) < 2 ^ 32) (λ r. passes (over_last 0 ∷ []) [] r ≡ false) never_far items (are_rows old.now house) (all_unmap (λ row. number_of row < 2 ^ 32) item_row_in items low))
+      (all_both IsRow (λ r. number_in (rowid r) < 2 ^ 32) (λ r. passes (over_last 0 ∷ []) [] r ≡ false) never_far items (are_rows old.now house) (all_unmap (λ row. number_of row < 2 ^ 32) (item_row_in (reserves_in old.now.trees)) items low))
 
 pub all_ours : (old first new : State) → IsHouse old.now → Shown low_items_text [] old first [] → Shown far_items_text [] old new [] → AllByRecursion (λ row. number_of row < 2 ^ 32) (items_in old.now.trees)
 all_ours old first new house low far =
-    all_map (λ row. number_of row < 2 ^ 32) item_row_in (old.now.trees 6)
+    all_map (λ row. number_of row < 2 ^ 32) (item_row_in (reserves_in old.now.trees)) (old.now.trees 6)
     (all_both (λ r. is_negative (rowid r) ≡ false) (λ r. (not (is_negative (rowid r)) && not (nat_lt (number_in (rowid r)) (2 ^ 32))) ≡ false) (λ r. number_in (rowid r) < 2 ^ 32) (λ r. is_ours (rowid r)) (old.now.trees 6) (none_low old first house low) (none_far old new house far))

@@ -1,5 +1,5 @@
 -- The writes of a bid, put together.
-use Rattle.std.proofs.Common.{◌≡◌, ℕ, List, map, ap, sym, subst, ◌∙◌, arith}
+use Rattle.std.proofs.Common.{◌≡◌, ℕ, List, map, ap, sym, subst₂, ◌∙◌, arith}
 use Rattle.std.specs.Prelude.{All, is_some, true}
 use Rattle.sqlite_value.specs.Order.{Row}
 use Rattle.sqlite.specs.Effect.{Database}
@@ -11,21 +11,23 @@ use Rattle.house_rows.specs.Tables.{ItemRow, Tables}
 use Rattle.house_rows.proofs.ChangedRows.{standing_number}
 use Rattle.store_rows.specs.House.{AddsBid, SetsClock}
 use Rattle.store_rows.specs.ItemRows.{item_row_in}
+use Rattle.store_rows.specs.Rows.{reserve_in}
 use Rattle.store_items.specs.Items.{OfItem, SetsStanding}
 use Rattle.store_rows.specs.Tables.{Changes, IsNumbered}
 use Rattle.store_items.specs.Sales.{StartsAt}
+use Rattle.store_rows.proofs.Made.{same_reserves}
 use Rattle.store_bids.proofs.Added.{bid_added}
 use Rattle.store_items.proofs.Sold.{items_then_clock}
 
--- a bid leaves the items
-still_of_item : (item : ℕ) (P : ItemRow → Type 0) (old new : Database) → new.trees 6 ≡ old.trees 6 → OfItem item P old → OfItem item P new
-still_of_item item P old new same all = subst (λ (rows : List Row). All (λ row. is_item item row ≡ true → P row) (map item_row_in rows)) (sym same) all
+-- a bid leaves the items and the reserves
+still_of_item : (item : ℕ) (P : ItemRow → Type 0) (old new : Database) → new.trees 6 ≡ old.trees 6 → new.trees 23 ≡ old.trees 23 → OfItem item P old → OfItem item P new
+still_of_item item P old new same sealed all = subst₂ (λ (rows sealed : List Row). All (λ row. is_item item row ≡ true → P row) (map (item_row_in (map reserve_in sealed)) rows)) (sym same) (sym sealed) all
 
 pub bids : (moment item : ℕ) (placed : Bid) (kept : Kept) (old mid last new : Database) → IsNumbered old.trees → is_some kept.top ≡ is_some kept.leader → OfItem item (StartsAt (opening_of kept)) old
     → AddsBid (record { item = item; bid = placed }) old mid → SetsStanding item kept mid last → SetsClock moment last new → Changes (change.Bid moment item placed kept) old new
 unfolding changed
 bids moment item placed kept old mid last new numbered led starts adds sets clock =
-    let begin = still_of_item item (StartsAt (opening_of kept)) old mid (adds.others.1.1.1.1.0 (λ e. omega (arith, e))) starts in
+    let begin = still_of_item item (StartsAt (opening_of kept)) old mid (adds.others.1.1.1.1.0 (λ e. omega (arith, e))) (adds.others.1.1.1.1.1.1.1.1.1.0 (λ e. omega (arith, e))) starts in
     let one = bid_added (record { item = item; bid = placed }) old mid numbered adds in
     let two = items_then_clock (with_standing item kept) moment mid last new (standing_number item kept) one.numbered (record { house = sets.house; others = sets.others; items = sets.items led begin }) clock in
-    record { house = clock.house; numbered = two.numbered; tables = two.tables ∙ ap (λ (t : Tables). record t { clock = moment; items = map (with_standing item kept) t.items }) one.tables }
+    record { house = clock.house; numbered = two.numbered; tables = two.tables ∙ ap (λ (t : Tables). record t { clock = moment; items = map (with_standing item kept) t.items }) one.tables; reserves = same_reserves 0 last new (omega arith) clock.others ∙ same_reserves 6 mid last (omega arith) sets.others ∙ same_reserves 8 old mid (omega arith) adds.others }

@@ -6,7 +6,7 @@ ghost use Rattle.sqlite.specs.Held.{state};
 ghost use Rattle.house_rows.specs.Fits.{OwnBidFits, TermsFit};
 ghost use Rattle.house_rows.specs.Limits.{most_shown};
 ghost use Rattle.house_rows.specs.declared.fault.KeepFault.TheVariants.{Damaged};
-ghost use Rattle.store_rows.specs.House.{Serves};
+ghost use Rattle.store_rows.specs.House.{ServesBy};
 ghost use Rattle.store_rows.specs.Tables.{tables_in};
 ghost use Rattle.store_rows.specs.Joined.{found_of};
 ghost use Rattle.store_bids.specs.OwnBids.{bid_told, own_found};
@@ -16,11 +16,12 @@ ghost use Rattle.store_items.specs.RowsStanding.{ItemStands};
 ghost use Rattle.store_rows.specs.Frames.{OnlyReads};
 
 use crate::own::own_best;
-use house_rows::{Editions, KeepFault, MOST_SHOWN, OwnBest, OwnBid, Terms};
+use house_rows::{KeepFault, MOST_SHOWN, OwnBest, OwnBid, Terms};
 use list_rows::push;
 use sqlite::{Alter, Connection};
 use std::alloc::Global;
 use store_items::terms_at;
+use store_reserves::Rules;
 
 // What a member has bid on the item of these terms, if it is there and the member has bid on it.
 fn own_bid(terms: Option<Terms>, best: OwnBest, member: u32) -> Option<OwnBid>
@@ -46,24 +47,24 @@ fn own_bid(terms: Option<Terms>, best: OwnBest, member: u32) -> Option<OwnBid>
 fn own_bid_at<S: Alter>(
     alloc: Global,
     conn: &mut Connection<S>,
-    editions: &Editions,
+    rules: &Rules,
     item: u32,
     member: u32,
 ) -> Result<Option<OwnBid>, KeepFault>
-    requires { Serves (state S.Store conn.old) }
+    requires { ServesBy rules.now.reserves (state S.Store conn.old) }
     ensures value { HasCleanDisk (state S.Store conn.new)
         → IfOk result (λ bid. found_of bid ≡ own_found
         (tables_in (state S.Store conn.old).now.trees) member item) }
     ensures fits { IfOk result (λ bid. IfSome bid OwnBidFits) }
     ensures stands { HasCleanDisk (state S.Store conn.new)
         → IfOk result (λ bid. IfSome bid
-        (λ b. ItemStands editions.now (state S.Store conn.old).now.trees b.item)) }
+        (λ b. ItemStands rules.now.editions (state S.Store conn.old).now.trees b.item)) }
     ensures here { HasCleanDisk (state S.Store conn.new)
-        → FitsAt editions.now (tables_in (state S.Store conn.old).now.trees) member item
+        → FitsAt rules.now.editions (tables_in (state S.Store conn.old).now.trees) member item
         → ¬ (IsErrOf result Damaged) }
     ensures read { OnlyReads (state S.Store conn.old) (state S.Store conn.new) result }
 {
-    let terms = terms_at(conn, editions, item)?;
+    let terms = terms_at(conn, rules, item)?;
     let best = own_best(alloc, conn, item, member)?;
     Ok(own_bid(terms, best, member))
 }
@@ -72,12 +73,12 @@ fn own_bid_at<S: Alter>(
 fn add_own_bid<S: Alter>(
     alloc: Global,
     conn: &mut Connection<S>,
-    editions: &Editions,
+    rules: &Rules,
     item: u32,
     member: u32,
     found: &mut Vec<OwnBid>,
 ) -> Result<(), KeepFault>
-    requires { Serves (state S.Store conn.old) }
+    requires { ServesBy rules.now.reserves (state S.Store conn.old) }
     ensures value { HasCleanDisk (state S.Store conn.new)
         → OnOk result (found.new.items ≡ found.old.items
         ++ own_found (tables_in (state S.Store conn.old).now.trees) member item) }
@@ -85,16 +86,18 @@ fn add_own_bid<S: Alter>(
     ensures fits { AllByRecursion OwnBidFits found.old.items
         → OnOk result (AllByRecursion OwnBidFits found.new.items) }
     ensures stands { HasCleanDisk (state S.Store conn.new)
-        → AllByRecursion (λ b. ItemStands editions.now (state S.Store conn.old).now.trees b.item)
+        → AllByRecursion (λ b. ItemStands rules.now.editions
+        (state S.Store conn.old).now.trees b.item)
         found.old.items
         → OnOk result (AllByRecursion
-        (λ b. ItemStands editions.now (state S.Store conn.old).now.trees b.item) found.new.items) }
+        (λ b. ItemStands rules.now.editions (state S.Store conn.old).now.trees b.item)
+        found.new.items) }
     ensures here { HasCleanDisk (state S.Store conn.new)
-        → FitsAt editions.now (tables_in (state S.Store conn.old).now.trees) member item
+        → FitsAt rules.now.editions (tables_in (state S.Store conn.old).now.trees) member item
         → ¬ (IsErrOf result Damaged) }
     ensures read { OnlyReads (state S.Store conn.old) (state S.Store conn.new) result }
 {
-    match own_bid_at(alloc, conn, editions, item, member)? {
+    match own_bid_at(alloc, conn, rules, item, member)? {
         Some(bid) => push(found, bid),
         None => Ok(()),
     }
@@ -104,12 +107,12 @@ fn add_own_bid<S: Alter>(
 pub(crate) fn add_own_bids<S: Alter>(
     alloc: Global,
     conn: &mut Connection<S>,
-    editions: &Editions,
+    rules: &Rules,
     numbers: &[u32],
     member: u32,
     found: &mut Vec<OwnBid>,
 ) -> Result<(), KeepFault>
-    requires serves { Serves (state S.Store conn.old) }
+    requires serves { ServesBy rules.now.reserves (state S.Store conn.old) }
     requires few { length found.old.items ≤ most_shown }
     ensures value { HasCleanDisk (state S.Store conn.new)
         → OnOk result (found.new.items ≡ take most_shown (found.old.items ++ flat_map
@@ -118,12 +121,14 @@ pub(crate) fn add_own_bids<S: Alter>(
     ensures fits { AllByRecursion OwnBidFits found.old.items
         → OnOk result (AllByRecursion OwnBidFits found.new.items) }
     ensures stands { HasCleanDisk (state S.Store conn.new)
-        → AllByRecursion (λ b. ItemStands editions.now (state S.Store conn.old).now.trees b.item)
+        → AllByRecursion (λ b. ItemStands rules.now.editions
+        (state S.Store conn.old).now.trees b.item)
         found.old.items
         → OnOk result (AllByRecursion
-        (λ b. ItemStands editions.now (state S.Store conn.old).now.trees b.item) found.new.items) }
+        (λ b. ItemStands rules.now.editions (state S.Store conn.old).now.trees b.item)
+        found.new.items) }
     ensures reached { HasCleanDisk (state S.Store conn.new)
-        → FitInTurn editions.now (tables_in (state S.Store conn.old).now.trees) member
+        → FitInTurn rules.now.editions (tables_in (state S.Store conn.old).now.trees) member
         (length found.old.items) numbers.now
         → ¬ (IsErrOf result Damaged) }
     ensures read { OnlyReads (state S.Store conn.old) (state S.Store conn.new) result }
@@ -132,7 +137,7 @@ pub(crate) fn add_own_bids<S: Alter>(
         if found.len() >= MOST_SHOWN {
             return Ok(());
         }
-        add_own_bid(alloc, conn, editions, *number, member, found)?;
+        add_own_bid(alloc, conn, rules, *number, member, found)?;
     }
     Ok(())
 }

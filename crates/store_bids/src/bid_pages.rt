@@ -9,7 +9,7 @@ ghost use Rattle.house_rows.specs.Found.{own_bids};
 ghost use Rattle.house_rows.specs.Keeping.{AreSoundBy};
 ghost use Rattle.house_rows.specs.Limits.{most_shown};
 ghost use Rattle.house_rows.specs.declared.fault.KeepFault.TheVariants.{Damaged};
-ghost use Rattle.store_rows.specs.House.{Serves};
+ghost use Rattle.store_rows.specs.House.{ServesBy};
 ghost use Rattle.store_rows.specs.Tables.{tables_in};
 ghost use Rattle.store_bids.specs.OwnBids.{behind, found_from, numbers_from};
 ghost use Rattle.house_rows.specs.Reached.{FitsSoFar};
@@ -19,10 +19,11 @@ ghost use Rattle.store_rows.specs.Frames.{OnlyReads};
 
 use crate::bid_lists::add_own_bids;
 use crate::look_ups::{items_bid_on, no_item};
-use house_rows::{Editions, KeepFault, MOST_SHOWN, OwnBid};
+use house_rows::{KeepFault, MOST_SHOWN, OwnBid};
 use list_rows::push;
 use sqlite::{Alter, Connection};
 use std::alloc::Global;
+use store_reserves::Rules;
 
 // One more than the last number of 32 bits.
 const BEHIND_ALL: u64 = 4_294_967_296;
@@ -64,12 +65,12 @@ fn next_behind(numbers: &[u32], bids: usize) -> u64
 fn add_next_bids<S: Alter>(
     alloc: Global,
     conn: &mut Connection<S>,
-    editions: &Editions,
+    rules: &Rules,
     member: u32,
     from: u32,
     found: &mut Vec<OwnBid>,
 ) -> Result<u64, KeepFault>
-    requires serves { Serves (state S.Store conn.old) }
+    requires serves { ServesBy rules.now.reserves (state S.Store conn.old) }
     requires few { length found.old.items ≤ most_shown }
     ensures value { HasCleanDisk (state S.Store conn.new)
         → IfOk result (λ next. take most_shown
@@ -82,24 +83,26 @@ fn add_next_bids<S: Alter>(
     ensures fits { AllByRecursion OwnBidFits found.old.items
         → OnOk result (AllByRecursion OwnBidFits found.new.items) }
     ensures stands { HasCleanDisk (state S.Store conn.new)
-        → AllByRecursion (λ b. ItemStands editions.now (state S.Store conn.old).now.trees b.item)
+        → AllByRecursion (λ b. ItemStands rules.now.editions
+        (state S.Store conn.old).now.trees b.item)
         found.old.items
         → OnOk result (AllByRecursion
-        (λ b. ItemStands editions.now (state S.Store conn.old).now.trees b.item) found.new.items) }
+        (λ b. ItemStands rules.now.editions (state S.Store conn.old).now.trees b.item)
+        found.new.items) }
     ensures reached { HasCleanDisk (state S.Store conn.new)
-        → FitFrom editions.now (state S.Store conn.old).now.trees member
+        → FitFrom rules.now.editions (state S.Store conn.old).now.trees member
         (length found.old.items) from
         → ¬ (IsErrOf result Damaged) }
     ensures later { HasCleanDisk (state S.Store conn.new)
-        → FitFrom editions.now (state S.Store conn.old).now.trees member
+        → FitFrom rules.now.editions (state S.Store conn.old).now.trees member
         (length found.old.items) from
-        → IfOk result (λ next. FitFrom editions.now (state S.Store conn.old).now.trees member
+        → IfOk result (λ next. FitFrom rules.now.editions (state S.Store conn.old).now.trees member
         (length found.new.items) next) }
     ensures read { OnlyReads (state S.Store conn.old) (state S.Store conn.new) result }
 {
     let items = items_bid_on(alloc, conn, member, from)?;
     let numbers = numbers_from(alloc, &items, u64::from(from))?;
-    add_own_bids(alloc, conn, editions, &numbers, member, found)?;
+    add_own_bids(alloc, conn, rules, &numbers, member, found)?;
     Ok(next_behind(&numbers, items.len()))
 }
 
@@ -107,27 +110,27 @@ fn add_next_bids<S: Alter>(
 fn own_bids_from<S: Alter>(
     alloc: Global,
     conn: &mut Connection<S>,
-    editions: &Editions,
+    rules: &Rules,
     member: u32,
     from: u64,
 ) -> Result<Vec<OwnBid>, KeepFault>
-    requires { Serves (state S.Store conn.old) }
+    requires { ServesBy rules.now.reserves (state S.Store conn.old) }
     ensures value { HasCleanDisk (state S.Store conn.new)
         → IfOk result (λ found. found.items ≡ take most_shown
         (found_from (state S.Store conn.old).now.trees member from)) }
     ensures fits { IfOk result (λ found. AllByRecursion OwnBidFits found.items) }
     ensures stands { HasCleanDisk (state S.Store conn.new)
         → IfOk result (λ found. AllByRecursion
-        (λ b. ItemStands editions.now (state S.Store conn.old).now.trees b.item) found.items) }
+        (λ b. ItemStands rules.now.editions (state S.Store conn.old).now.trees b.item) found.items) }
     ensures reached { HasCleanDisk (state S.Store conn.new)
-        → FitFrom editions.now (state S.Store conn.old).now.trees member 0 from
+        → FitFrom rules.now.editions (state S.Store conn.old).now.trees member 0 from
         → ¬ (IsErrOf result Damaged) }
     ensures read { OnlyReads (state S.Store conn.old) (state S.Store conn.new) result }
 {
     let mut found = Vec::new(alloc);
     let mut next = from;
     'bids: while found.len() < MOST_SHOWN && next < BEHIND_ALL {
-        next = add_next_bids(alloc, conn, editions, member, next as u32, &mut found)?;
+        next = add_next_bids(alloc, conn, rules, member, next as u32, &mut found)?;
     }
     Ok(found)
 }
@@ -138,28 +141,28 @@ fn own_bids_from<S: Alter>(
 pub fn own_bids<S: Alter>(
     alloc: Global,
     conn: &mut Connection<S>,
-    editions: &Editions,
+    rules: &Rules,
     member: u32,
     from: u64,
 ) -> Result<Vec<OwnBid>, KeepFault>
-    requires { Serves (state S.Store conn.old) }
+    requires { ServesBy rules.now.reserves (state S.Store conn.old) }
     ensures value { HasCleanDisk (state S.Store conn.new)
         → IfOk result (λ found. found.items ≡ own_bids
         (tables_in (state S.Store conn.old).now.trees) member from) }
     ensures fits { IfOk result (λ found. AllByRecursion OwnBidFits found.items) }
     ensures stands { HasCleanDisk (state S.Store conn.new)
         → IfOk result (λ found. AllByRecursion
-        (λ b. ItemStands editions.now (state S.Store conn.old).now.trees b.item) found.items) }
+        (λ b. ItemStands rules.now.editions (state S.Store conn.old).now.trees b.item) found.items) }
     ensures damaged { HasCleanDisk (state S.Store conn.new)
-        → AreSoundBy editions.now (tables_in (state S.Store conn.old).now.trees)
+        → AreSoundBy rules.now.editions (tables_in (state S.Store conn.old).now.trees)
         → ¬ (IsErrOf result Damaged) }
     ensures reached { HasCleanDisk (state S.Store conn.new)
-        → FitsSoFar editions.now (tables_in (state S.Store conn.old).now.trees) member from
+        → FitsSoFar rules.now.editions (tables_in (state S.Store conn.old).now.trees) member from
         → ¬ (IsErrOf result Damaged) }
     ensures read { OnlyReads (state S.Store conn.old) (state S.Store conn.new) result }
 {
     no_item(alloc, conn, "SELECT id FROM item WHERE id < 0 ORDER BY id")?;
-    let found = own_bids_from(alloc, conn, editions, member, from)?;
+    let found = own_bids_from(alloc, conn, rules, member, from)?;
     if found.len() >= MOST_SHOWN {
         return Ok(found);
     }

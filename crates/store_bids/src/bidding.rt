@@ -12,8 +12,9 @@ ghost use Rattle.house_rows.specs.Asks.{BidFits, ChangeFits, IsFree};
 ghost use Rattle.house_rows.specs.Keeping.{AreSound};
 ghost use Rattle.house_rows.specs.declared.change.Change.TheVariants as change;
 ghost use Rattle.house_rows.specs.declared.fault.KeepFault.TheVariants.{Damaged};
-ghost use Rattle.store_rows.specs.House.{IsBegun, Serves};
+ghost use Rattle.store_rows.specs.House.{IsBegun, Serves, ServesBy};
 ghost use Rattle.store_items.specs.Items.{OfItem};
+ghost use Rattle.store_rows.specs.Rows.{reserves_in};
 ghost use Rattle.store_rows.specs.Tables.{Changes, IsNumbered, Rests, tables_in};
 ghost use Rattle.store_items.specs.RowsStanding.{HasStandingItem};
 ghost use Rattle.store_items.specs.Sales.{StartsAt};
@@ -23,25 +24,27 @@ ghost use Rattle.store_rows.specs.Commits.{Commits};
 use crate::look_ups::has_bid;
 use crate::rows::put_bid;
 use cents::Cents;
-use house_rows::{Editions, KeepFault};
+use house_rows::KeepFault;
 use proxy::{Bid, Standing};
 use sqlite::{Alter, Connection, Transaction};
 use steps::Bands;
 use store_items::{set_standing, terms_there};
+use store_reserves::Rules;
 use store_rows::{commit, set_clock, stored_moment};
 
-// Whether a standing's values fit together, from that start on.
-fn begins_at(standing: &Standing, bands: &Bands, start: Cents) -> bool
-    ensures begins { IsTrue result → opening_of standing.now ≡ record { start = start; reserve = None } }
+// Whether a standing's values fit together, from that start and that reserve on.
+fn begins_at(standing: &Standing, bands: &Bands, start: Cents, reserve: Option<Cents>) -> bool
+    ensures begins { IsTrue result
+        → opening_of standing.now ≡ record { start = start; reserve = reserve } }
     ensures led { IsTrue result → is_some standing.now.top ≡ is_some standing.now.leader }
     ensures stands { IsTrue result → is_standing bands.now standing.now ≡ true }
-    ensures all { opening_of standing.now ≡ record { start = start; reserve = None }
+    ensures all { opening_of standing.now ≡ record { start = start; reserve = reserve }
         → is_standing bands.now standing.now ≡ true
         → IsTrue result }
 {
     let told = Standing::of_row(
         start,
-        None,
+        reserve,
         bands,
         standing.price(),
         standing.leader(),
@@ -56,28 +59,31 @@ fn begins_at(standing: &Standing, bands: &Bands, start: Cents) -> bool
 // Whether a standing begins where the item's bids do; Damaged where it doesn't.
 fn check_standing<S: Alter>(
     conn: &mut Connection<S>,
-    editions: &Editions,
+    rules: &Rules,
     item: u32,
     standing: &Standing,
 ) -> Result<(), KeepFault>
-    requires { Serves (state S.Store conn.old) }
+    requires { ServesBy rules.now.reserves (state S.Store conn.old) }
     ensures there { HasCleanDisk (state S.Store conn.new)
-        → OnOk result (HasStandingItem editions.now (state S.Store conn.old).now.trees item) }
+        → OnOk result (HasStandingItem rules.now.editions (state S.Store conn.old).now.trees item) }
     ensures start { HasCleanDisk (state S.Store conn.new)
-        → OnOk result (OfItem item (StartsAt (opening_of standing.now)) (state S.Store conn.old).now) }
+        → OnOk result (OfItem item (StartsAt (opening_of standing.now))
+        (state S.Store conn.old).now) }
     ensures led { OnOk result (is_some standing.now.top ≡ is_some standing.now.leader) }
-    ensures stands { OnOk result (is_standing (bands_in editions.now item) standing.now ≡ true) }
+    ensures stands { OnOk result (is_standing (bands_in rules.now.editions item) standing.now
+        ≡ true) }
     ensures damaged { HasCleanDisk (state S.Store conn.new)
         → AreSound (tables_in (state S.Store conn.old).now.trees)
-        → editions.now ≡ band_tables (tables_in (state S.Store conn.old).now.trees)
+        → rules.now.editions ≡ band_tables (tables_in (state S.Store conn.old).now.trees)
         → (moment : ℕ) (placed : TheBid)
         → BidFits (tables_in (state S.Store conn.old).now.trees) moment item placed standing.now
         → ¬ (IsErrOf result Damaged) }
     ensures read { OnlyReads (state S.Store conn.old) (state S.Store conn.new) result }
 {
-    let terms = terms_there(conn, editions, item)?;
-    let bands = editions.bands_for(u64::from(item));
-    if begins_at(standing, bands, terms.start) {
+    let terms = terms_there(conn, rules, item)?;
+    let bands = rules.editions.bands_for(u64::from(item));
+    let reserve = rules.reserves.amount(u64::from(terms.item));
+    if begins_at(standing, bands, terms.start, reserve) {
         Ok(())
     } else {
         Err(KeepFault::Damaged)
@@ -106,24 +112,26 @@ fn check_free<S: Alter>(conn: &mut Connection<S>, item: u32, number: u32) -> Res
 // Whether a bid's number is free and its standing begins where the item's bids do.
 fn check_bid<S: Alter>(
     conn: &mut Connection<S>,
-    editions: &Editions,
+    rules: &Rules,
     item: u32,
     number: u32,
     standing: &Standing,
 ) -> Result<(), KeepFault>
-    requires { Serves (state S.Store conn.old) }
+    requires { ServesBy rules.now.reserves (state S.Store conn.old) }
     ensures there { HasCleanDisk (state S.Store conn.new)
-        → OnOk result (HasStandingItem editions.now (state S.Store conn.old).now.trees item) }
+        → OnOk result (HasStandingItem rules.now.editions (state S.Store conn.old).now.trees item) }
     ensures start { HasCleanDisk (state S.Store conn.new)
-        → OnOk result (OfItem item (StartsAt (opening_of standing.now)) (state S.Store conn.old).now) }
+        → OnOk result (OfItem item (StartsAt (opening_of standing.now))
+        (state S.Store conn.old).now) }
     ensures led { OnOk result (is_some standing.now.top ≡ is_some standing.now.leader) }
-    ensures stands { OnOk result (is_standing (bands_in editions.now item) standing.now ≡ true) }
+    ensures stands { OnOk result (is_standing (bands_in rules.now.editions item) standing.now
+        ≡ true) }
     ensures free { HasCleanDisk (state S.Store conn.new)
         → OnOk result (list_any (λ b. (b.item == item) && (b.bid.no == number))
         (tables_in (state S.Store conn.old).now.trees).bids ≡ false) }
     ensures damaged { HasCleanDisk (state S.Store conn.new)
         → AreSound (tables_in (state S.Store conn.old).now.trees)
-        → editions.now ≡ band_tables (tables_in (state S.Store conn.old).now.trees)
+        → rules.now.editions ≡ band_tables (tables_in (state S.Store conn.old).now.trees)
         → (moment : ℕ) (placed : TheBid)
         → BidFits (tables_in (state S.Store conn.old).now.trees) moment item placed standing.now
         → list_any (λ b. (b.item == item) && (b.bid.no == number))
@@ -131,7 +139,7 @@ fn check_bid<S: Alter>(
         → ¬ (IsErrOf result Damaged) }
     ensures read { OnlyReads (state S.Store conn.old) (state S.Store conn.new) result }
 {
-    check_standing(conn, editions, item, standing)?;
+    check_standing(conn, rules, item, standing)?;
     check_free(conn, item, number)
 }
 
@@ -168,7 +176,7 @@ fn write_bid<S: Alter>(
 /// moment has more than 32 bits.
 pub fn bid<S: Alter>(
     conn: &mut Connection<S>,
-    editions: &Editions,
+    rules: &Rules,
     moment: u64,
     item: u32,
     placed: Bid,
@@ -177,14 +185,18 @@ pub fn bid<S: Alter>(
     requires rests { Rests (state S.Store conn.old) }
     requires mode { conn.old.in_transaction ≡ false }
     requires editions { HasCleanDisk (state S.Store conn.old)
-        → editions.now ≡ band_tables (tables_in (state S.Store conn.old).now.trees) }
+        → rules.now.editions ≡ band_tables (tables_in (state S.Store conn.old).now.trees) }
+    requires reserves { HasCleanDisk (state S.Store conn.old)
+        → rules.now.reserves ≡ reserves_in (state S.Store conn.old).now.trees }
     ensures commit { Commits (change.Bid moment item placed standing.now) (state S.Store conn.old)
         (state S.Store conn.new) result }
     ensures there { HasCleanDisk (state S.Store conn.new)
-        → OnOk result (HasStandingItem editions.now (state S.Store conn.old).now.trees item) }
+        → OnOk result (HasStandingItem rules.now.editions (state S.Store conn.old).now.trees item) }
     ensures start { HasCleanDisk (state S.Store conn.new)
-        → OnOk result (OfItem item (StartsAt (opening_of standing.now)) (state S.Store conn.old).now) }
-    ensures stands { OnOk result (is_standing (bands_in editions.now item) standing.now ≡ true) }
+        → OnOk result (OfItem item (StartsAt (opening_of standing.now))
+        (state S.Store conn.old).now) }
+    ensures stands { OnOk result (is_standing (bands_in rules.now.editions item) standing.now
+        ≡ true) }
     ensures moment { OnOk result (moment < 2 ^ 32) }
     ensures taken { HasCleanDisk (state S.Store conn.new)
         → OnOk result (IsFree (tables_in (state S.Store conn.old).now.trees)
@@ -198,7 +210,7 @@ pub fn bid<S: Alter>(
         → ¬ (IsErrOf result Damaged) }
 {
     let moment = stored_moment(moment)?;
-    check_bid(conn, editions, item, placed.no, standing)?;
+    check_bid(conn, rules, item, placed.no, standing)?;
     let mut tx = conn.transaction();
     write_bid(&mut tx, moment, item, placed, standing)?;
     commit(tx)

@@ -55,20 +55,20 @@ end_start item is_sold row = elim (by_test (is_item item row)) [ inl is ↦ rw i
 
 -- an item closed at its end
 abbrev ended : ItemRow → ItemRow
-ended row = with_terms (record row.item.terms { state = closed_state (close_sells row.item.terms.leader); closed = Some row.item.terms.end }) row
+ended row = with_terms (record row.item.terms { state = closed_state (close_sells row.item.terms.leader row.item.terms.met); closed = Some row.item.terms.end }) row
 
 -- terms with the row's number are the row's own
 abbrev Knows : ItemRow → List Terms → Type 0
 Knows row ts = AllByRecursion (λ (t : Terms). is_item t.item row ≡ true → t ≡ row.item.terms) ts
 
-end_other : (t : Terms) (row : ItemRow) → is_item t.item row ≡ false → with_end t.item (close_sells t.leader) row ≡ row
+end_other : (t : Terms) (row : ItemRow) → is_item t.item row ≡ false → with_end t.item (close_sells t.leader t.met) row ≡ row
 end_other t row other = rw other refl
 
-end_here : (t : Terms) (row : ItemRow) → is_item t.item row ≡ true → t ≡ row.item.terms → with_end t.item (close_sells t.leader) row ≡ ended row
-end_here t row is same = rw is (ap (λ (x : Terms). with_terms (record row.item.terms { state = closed_state (close_sells x.leader); closed = Some row.item.terms.end }) row) same)
+end_here : (t : Terms) (row : ItemRow) → is_item t.item row ≡ true → t ≡ row.item.terms → with_end t.item (close_sells t.leader t.met) row ≡ ended row
+end_here t row is same = rw is (ap (λ (x : Terms). with_terms (record row.item.terms { state = closed_state (close_sells x.leader x.met); closed = Some row.item.terms.end }) row) same)
 
-end_again : (t : Terms) (row : ItemRow) → is_item t.item row ≡ true → t ≡ row.item.terms → with_end t.item (close_sells t.leader) (ended row) ≡ ended row
-end_again t row is same = rw is (ap (λ (x : Terms). with_terms (record row.item.terms { state = closed_state (close_sells x.leader); closed = Some row.item.terms.end }) row) same)
+end_again : (t : Terms) (row : ItemRow) → is_item t.item row ≡ true → t ≡ row.item.terms → with_end t.item (close_sells t.leader t.met) (ended row) ≡ ended row
+end_again t row is same = rw is (ap (λ (x : Terms). with_terms (record row.item.terms { state = closed_state (close_sells x.leader x.met); closed = Some row.item.terms.end }) row) same)
 
 ends_again : (ts : List Terms) (row : ItemRow) → Knows row ts → with_ends ts (ended row) ≡ ended row
 ends_again [] row known = refl
@@ -161,21 +161,21 @@ pub record IsClosing (due rest : List Terms) (old now : Database) : Type 0 where
   pub starts : StartsFit due now
   pub items : map (with_ends rest) (items_in now.trees) ≡ map (with_ends due) (items_in old.trees)
 
-pub closing_goes_on : (due rest : List Terms) (t : Terms) (old now next : Database) → IsClosing due (t ∷ rest) old now → OfItem t.item StartFits now → SetsClosed t.item (close_sells t.leader) now next → IsClosing due rest old next
+pub closing_goes_on : (due rest : List Terms) (t : Terms) (old now next : Database) → IsClosing due (t ∷ rest) old now → OfItem t.item StartFits now → SetsClosed t.item (close_sells t.leader t.met) now next → IsClosing due rest old next
 closing_goes_on due rest t old now next so fits sets = record {
   house = sets.house;
   others = all_both (λ (x : Table). x.tree ≢ 6 → now.trees x.tree ≡ old.trees x.tree) (λ (x : Table). x.tree ≢ 6 → next.trees x.tree ≡ now.trees x.tree) (λ (x : Table). x.tree ≢ 6 → next.trees x.tree ≡ old.trees x.tree)
       (λ x before after other. after other ∙ before other) house_schema.tables so.others sets.others;
   starts = still due so.starts;
-  items = ap (map (with_ends rest)) (sets.items fits) ∙ map-map (with_ends rest) (with_end t.item (close_sells t.leader)) (items_in now.trees) ∙ so.items;
+  items = ap (map (with_ends rest)) (sets.items fits) ∙ map-map (with_ends rest) (with_end t.item (close_sells t.leader t.met)) (items_in now.trees) ∙ so.items;
 }
   where
     one : (item : ℕ) → OfItem item StartFits now → OfItem item StartFits next
     one item all =
         subst (λ (rows : List ItemRow). All (λ row. is_item item row ≡ true → StartFits row) rows) (sym (sets.items fits))
-        (All-map (λ row. is_item item row ≡ true → StartFits row) (with_end t.item (close_sells t.leader)) (items_in now.trees)
-        (All-weaker (λ row. is_item item row ≡ true → StartFits row) (λ row. is_item item (with_end t.item (close_sells t.leader) row) ≡ true → StartFits (with_end t.item (close_sells t.leader) row))
-        (λ row fit here. rw (end_start t.item (close_sells t.leader) row) (fit (rw (end_number t.item (close_sells t.leader) row) at here))) (items_in now.trees) all))
+        (All-map (λ row. is_item item row ≡ true → StartFits row) (with_end t.item (close_sells t.leader t.met)) (items_in now.trees)
+        (All-weaker (λ row. is_item item row ≡ true → StartFits row) (λ row. is_item item (with_end t.item (close_sells t.leader t.met) row) ≡ true → StartFits (with_end t.item (close_sells t.leader t.met) row))
+        (λ row fit here. rw (end_start t.item (close_sells t.leader t.met) row) (fit (rw (end_number t.item (close_sells t.leader t.met) row) at here))) (items_in now.trees) all))
 
     still : (ts : List Terms) → StartsFit ts now → StartsFit ts next
     still [] all = tt
@@ -189,7 +189,7 @@ pub closing_ends : (due : List Terms) (old now : Database) → IsClosing due [] 
 closing_ends due old now so = record { house = so.house; others = so.others; items = sym (every_same (with_ends []) (λ row. refl) (items_in now.trees)) ∙ so.items }
 
 -- the item at a place is closed
-pub closing_steps : (due : List Terms) (i : ℕ) (t : Terms) (is_sold : Bool) (old now next : Database) → i < length due → t ≡ get_or due i t → is_sold ≡ close_sells t.leader → IsClosing due (drop i due) old now → SetsClosed t.item is_sold now next
+pub closing_steps : (due : List Terms) (i : ℕ) (t : Terms) (is_sold : Bool) (old now next : Database) → i < length due → t ≡ get_or due i t → is_sold ≡ close_sells t.leader t.met → IsClosing due (drop i due) old now → SetsClosed t.item is_sold now next
     → IsClosing due (drop (i + 1) due) old next
 closing_steps due i t is_sold old now next within is sold so sets =
     let next_place : suc i ≡ i + 1 = omega arith in

@@ -14,7 +14,7 @@ use Rattle.store_rows.specs.Tables.{tables_in}
 use Rattle.store_rows.proofs.Tested.{filter_both}
 
 pub due_terms_are : (db : Trees) (moment : ℕ) (due : List Terms) → due ≡ map (λ (row : ItemRow). row.item.terms) (filter (λ row. is_due moment row.item.terms) (items_in db))
-    → (counts : Due) → counts.sold ≡ counted (λ t. close_sells t.leader) due → counts.unsold ≡ counted (λ t. not (close_sells t.leader)) due → counts ≡ due_at (tables_in db) moment
+    → (counts : Due) → counts.sold ≡ counted (λ t. close_sells t.leader t.met) due → counts.unsold ≡ counted (λ t. not (close_sells t.leader t.met)) due → counts ≡ due_at (tables_in db) moment
 unfolding tables_in
 due_terms_are db moment due are counts sold unsold =
     let part = λ (row : ItemRow). row.item.terms in
@@ -22,6 +22,6 @@ due_terms_are db moment due are counts sold unsold =
     let rows : List ItemRow = items_in db in
     let one = λ (p : Terms → Bool).
     ap (counted p) are ∙ ap length (filter-map p part (filter ended rows)) ∙ length-map (filter (λ row. p (part row)) (filter ended rows)) part ∙ ap length (filter_both ended (λ row. p (part row)) rows) in
-    let s = sold ∙ one (λ t. close_sells t.leader) in
-    let u = unsold ∙ one (λ t. not (close_sells t.leader)) in
+    let s = sold ∙ one (λ t. close_sells t.leader t.met) in
+    let u = unsold ∙ one (λ t. not (close_sells t.leader t.met)) in
     λ i. record { sold = s i; unsold = u i }

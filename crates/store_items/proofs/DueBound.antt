@@ -13,8 +13,9 @@ use Rattle.house_rows.specs.declared.item.Due.{Due}
 use Rattle.house_rows.specs.Taken.{FitWhere}
 use Rattle.house_rows.specs.Tables.{ItemRow}
 use Rattle.house_rows.proofs.Put.{by_test}
+use Rattle.store_rows.specs.declared.reserve.ReserveRow.{ReserveRow}
 use Rattle.store_rows.specs.ItemRows.{item_row_in, items_in}
-use Rattle.store_rows.specs.Rows.{number_in}
+use Rattle.store_rows.specs.Rows.{number_in, reserves_in}
 use Rattle.store_rows.specs.Tables.{tables_in}
 use Rattle.store_rows.proofs.Bounds.{bound_of}
 
@@ -42,32 +43,38 @@ end_bound moment low (Real r) = after_all moment low
 end_bound moment low (Text t) = after_all moment low
 end_bound moment low (Blob b) = after_all moment low
 
-module _ (moment : ℕ) (low : moment < 2 ^ 64) where
-  due_bound : (r : Row) → is_due (bound_of moment) (item_row_in r).item.terms ≡ is_due moment (item_row_in r).item.terms
-  due_bound r = ap (λ (b : Bool). is_open (item_row_in r).item.terms.state && b) (end_bound moment low (column r 9))
+module _ (reserves : List ReserveRow) (moment : ℕ) (low : moment < 2 ^ 64) where
+  abbrev make : Row → ItemRow
+  make r = item_row_in reserves r
 
-  filter_with : (q : ItemRow → Bool) (rows : List Row) → filter (λ row. is_due (bound_of moment) row.item.terms && q row) (map item_row_in rows) ≡ filter (λ row. is_due moment row.item.terms && q row) (map item_row_in rows)
+  due_bound : (r : Row) → is_due (bound_of moment) (make r).item.terms ≡ is_due moment (make r).item.terms
+  due_bound r = ap (λ (b : Bool). is_open (make r).item.terms.state && b) (end_bound moment low (column r 9))
+
+  filter_with : (q : ItemRow → Bool) (rows : List Row) → filter (λ row. is_due (bound_of moment) row.item.terms && q row) (map make rows) ≡ filter (λ row. is_due moment row.item.terms && q row) (map make rows)
   filter_with q [] = refl
   filter_with q (r ∷ rows) = rw (due_bound r, filter_with q rows) refl
 
-  counted_bound : (q : ItemRow → Bool) (rows : List Row) → counted (λ row. is_due (bound_of moment) row.item.terms && q row) (map item_row_in rows) ≡ counted (λ row. is_due moment row.item.terms && q row) (map item_row_in rows)
+  counted_bound : (q : ItemRow → Bool) (rows : List Row) → counted (λ row. is_due (bound_of moment) row.item.terms && q row) (map make rows) ≡ counted (λ row. is_due moment row.item.terms && q row) (map make rows)
   counted_bound q rows = ap length (filter_with q rows)
 
-  filter_bound : (rows : List Row) → filter (λ row. is_due (bound_of moment) row.item.terms) (map item_row_in rows) ≡ filter (λ row. is_due moment row.item.terms) (map item_row_in rows)
+  filter_bound : (rows : List Row) → filter (λ row. is_due (bound_of moment) row.item.terms) (map make rows) ≡ filter (λ row. is_due moment row.item.terms) (map make rows)
   filter_bound [] = refl
   filter_bound (r ∷ rows) = rw (due_bound r, filter_bound rows) refl
 
+module _ (moment : ℕ) (low : moment < 2 ^ 64) where
   pub due_found : (db : Trees) → due_at (tables_in db) (bound_of moment) ≡ due_at (tables_in db) moment
   unfolding tables_in
   due_found db =
       let both : ℕ → ℕ → Due = λ sold unsold. record { sold = sold; unsold = unsold } in
-      ap₂ both (counted_bound (λ row. close_sells row.item.terms.leader) (db 6)) (counted_bound (λ row. not (close_sells row.item.terms.leader)) (db 6))
+      ap₂ both (counted_bound (reserves_in db) moment low (λ row. close_sells row.item.terms.leader row.item.terms.met) (db 6))
+      (counted_bound (reserves_in db) moment low (λ row. not (close_sells row.item.terms.leader row.item.terms.met)) (db 6))
 
   pub due_rows : (db : Trees) → filter (λ row. is_due (bound_of moment) row.item.terms) (items_in db) ≡ filter (λ row. is_due moment row.item.terms) (items_in db)
-  due_rows db = filter_bound (db 6)
+  due_rows db = filter_bound (reserves_in db) moment low (db 6)
 
   pub due_where : (db : Trees) (Fits : ItemRow → Type 0) → FitWhere (λ row. is_due moment row.item.terms) Fits (items_in db) → FitWhere (λ row. is_due (bound_of moment) row.item.terms) Fits (items_in db)
   due_where db Fits fits =
       let now = λ (row : ItemRow). is_due moment row.item.terms ≡ true → Fits row in
       let then' = λ (row : ItemRow). is_due (bound_of moment) row.item.terms ≡ true → Fits row in
-      all_map then' item_row_in (db 6) (all_weaker (λ r. now (item_row_in r)) (λ r. then' (item_row_in r)) (λ r fit is. fit (sym (due_bound r) ∙ is)) (db 6) (all_unmap now item_row_in (db 6) fits))
+      let make : Row → ItemRow = item_row_in (reserves_in db) in
+      all_map then' make (db 6) (all_weaker (λ r. now (make r)) (λ r. then' (make r)) (λ r fit is. fit (sym (due_bound (reserves_in db) moment low r) ∙ is)) (db 6) (all_unmap now make (db 6) fits))

@@ -20,7 +20,8 @@ use Rattle.sqlite_keyed.proofs.RuleLemmas.{first_of_both}
 use Rattle.sqlite.specs.Effect.{Database}
 use Rattle.sqlite.specs.State.{State, Shown, Executes}
 use Rattle.sqlite.proofs.Callers.{reads_as}
-use Rattle.proxy.specs.Bids.{standing_of, price, leader, second}
+use Rattle.proxy.specs.Bids.{met_by, standing_of}
+use Rattle.proxy.proofs.Placed.{standing-none}
 use Rattle.proxy.specs.Kept.{Kept, opening_of}
 use Rattle.house_rows.specs.declared.change.NewItem.{NewItem}
 use Rattle.house_rows.specs.Changed.{is_item, new_item, with_standing, with_purchase, with_settlement}
@@ -28,13 +29,14 @@ use Rattle.house_rows.specs.Limits.{most_cents}
 use Rattle.house_rows.specs.Tables.{ItemRow}
 use Rattle.house_rows.specs.Text.{same_text}
 use Rattle.store_rows.specs.Schema.{house_schema, item_table, item_layout}
-use Rattle.store_rows.specs.Rows.{number_in, maybe_number_in}
-use Rattle.store_rows.specs.ItemRows.{is_state, item_of, terms_of, kept_of, kept_from, item_row_in, items_in}
+use Rattle.store_rows.specs.Rows.{number_in, maybe_number_in, reserves_in}
+use Rattle.store_rows.specs.ItemRows.{amount_of, is_state, item_by, terms_by, kept_by, kept_from, item_row_in, items_in, met_with}
 use Rattle.store_rows.specs.House.{IsHouse}
 use Rattle.store_items.specs.Items.{AddsItem, OfItem, SetsStanding, SetsBought, SetsClosed, SetsSettled, with_end}
 use Rattle.store_rows.proofs.RowLemmas.{is_text, int_if, text_if, equals_number, equals_text, first_part, alone, row_key, small, two}
 use Rattle.store_rows.proofs.TextLemmas.{text_back}
 use Rattle.store_rows.proofs.ColumnLemmas.{Holds, holds_all}
+use Rattle.store_items.proofs.Reserves.{kept_reserves, no_amount}
 use Rattle.store_items.proofs.MaybeLemmas.{IsSmall, stored_maybe, cast_maybe, maybe_back, present_number}
 use Rattle.store_rows.proofs.Select.{listed, in_order, typed_part, by_rowid, equals}
 use Rattle.store_rows.proofs.Wrote.{still_house, map_more}
@@ -103,33 +105,37 @@ are_rows db house =
 
 -- ---- what is found
 
+-- a row of the table, by the reserves that were committed with it
+abbrev pub row_of : State → Row → ItemRow
+row_of s r = item_row_in (reserves_in s.now.trees) r
+
 module _ (old new : State) (answer : List Row) (house : IsHouse old.now) where
   abbrev rows : List Row
   rows = old.now.trees 6
 
-  pub first_item : (n : ℕ) → n < 2 ^ 32 → Shown item_at_text (Int (pos n) ∷ []) old new answer → option_map item_of (slice_get answer 0) ≡ option_map (λ (row : ItemRow). row.item) (find (is_item n) (items_in old.now.trees))
+  pub first_item : (n : ℕ) → n < 2 ^ 32 → Shown item_at_text (Int (pos n) ∷ []) old new answer → option_map (item_by (reserves_in old.now.trees)) (slice_get answer 0) ≡ option_map (λ (row : ItemRow). row.item) (find (is_item n) (items_in old.now.trees))
   first_item n low h =
       let params = Int (pos n) ∷ [] in
       let read = reads_as item_at_text params old new house_schema house.schema _ item_at_is.0 item_at_is.2 item_at_is.1 answer h in
       let order = in_order (equals 0 ∷ []) item_shown params rows answer house.shaped.1.1.1.1.0.0 (listed 6 (equals 0 ∷ []) item_shown by_rowid (overlay old.now.trees []) params answer (read.answer Null)) in
-      first_part item_of (λ (row : ItemRow). row.item) (is_item n) answer (items_in old.now.trees)
-      (typed_part item_of item_row_in (λ (row : ItemRow). row.item) (is_item n) IsRow (equals 0 ∷ []) item_shown params rows answer (λ r. refl) (λ r is. rw (equals_number (rowid r) n is.number low) (alone _)) (are_rows old.now house) order)
+      first_part (item_by (reserves_in old.now.trees)) (λ (row : ItemRow). row.item) (is_item n) answer (items_in old.now.trees)
+      (typed_part (item_by (reserves_in old.now.trees)) (row_of old) (λ (row : ItemRow). row.item) (is_item n) IsRow (equals 0 ∷ []) item_shown params rows answer (λ r. refl) (λ r is. rw (equals_number (rowid r) n is.number low) (alone _)) (are_rows old.now house) order)
 
-  pub first_terms : (n : ℕ) → n < 2 ^ 32 → Shown terms_at_text (Int (pos n) ∷ []) old new answer → option_map terms_of (slice_get answer 0) ≡ option_map (λ (row : ItemRow). row.item.terms) (find (is_item n) (items_in old.now.trees))
+  pub first_terms : (n : ℕ) → n < 2 ^ 32 → Shown terms_at_text (Int (pos n) ∷ []) old new answer → option_map (terms_by (reserves_in old.now.trees)) (slice_get answer 0) ≡ option_map (λ (row : ItemRow). row.item.terms) (find (is_item n) (items_in old.now.trees))
   first_terms n low h =
       let params = Int (pos n) ∷ [] in
       let read = reads_as terms_at_text params old new house_schema house.schema _ terms_at_is.0 terms_at_is.2 terms_at_is.1 answer h in
       let order = in_order (equals 0 ∷ []) terms_shown params rows answer house.shaped.1.1.1.1.0.0 (listed 6 (equals 0 ∷ []) terms_shown by_rowid (overlay old.now.trees []) params answer (read.answer Null)) in
-      first_part terms_of (λ (row : ItemRow). row.item.terms) (is_item n) answer (items_in old.now.trees)
-      (typed_part terms_of item_row_in (λ (row : ItemRow). row.item.terms) (is_item n) IsRow (equals 0 ∷ []) terms_shown params rows answer (λ r. refl) (λ r is. rw (equals_number (rowid r) n is.number low) (alone _)) (are_rows old.now house) order)
+      first_part (terms_by (reserves_in old.now.trees)) (λ (row : ItemRow). row.item.terms) (is_item n) answer (items_in old.now.trees)
+      (typed_part (terms_by (reserves_in old.now.trees)) (row_of old) (λ (row : ItemRow). row.item.terms) (is_item n) IsRow (equals 0 ∷ []) terms_shown params rows answer (λ r. refl) (λ r is. rw (equals_number (rowid r) n is.number low) (alone _)) (are_rows old.now house) order)
 
-  pub first_standing : (n : ℕ) → n < 2 ^ 32 → Shown standing_at_text (Int (pos n) ∷ []) old new answer → option_map kept_of (slice_get answer 0) ≡ option_map (λ (row : ItemRow). row.standing) (find (is_item n) (items_in old.now.trees))
+  pub first_standing : (n : ℕ) → n < 2 ^ 32 → Shown standing_at_text (Int (pos n) ∷ []) old new answer → option_map (kept_by (reserves_in old.now.trees)) (slice_get answer 0) ≡ option_map (λ (row : ItemRow). row.standing) (find (is_item n) (items_in old.now.trees))
   first_standing n low h =
       let params = Int (pos n) ∷ [] in
       let read = reads_as standing_at_text params old new house_schema house.schema _ standing_at_is.0 standing_at_is.2 standing_at_is.1 answer h in
       let order = in_order (equals 0 ∷ []) standing_shown params rows answer house.shaped.1.1.1.1.0.0 (listed 6 (equals 0 ∷ []) standing_shown by_rowid (overlay old.now.trees []) params answer (read.answer Null)) in
-      first_part kept_of (λ (row : ItemRow). row.standing) (is_item n) answer (items_in old.now.trees)
-      (typed_part kept_of item_row_in (λ (row : ItemRow). row.standing) (is_item n) IsRow (equals 0 ∷ []) standing_shown params rows answer (λ r. refl) (λ r is. rw (equals_number (rowid r) n is.number low) (alone _)) (are_rows old.now house) order)
+      first_part (kept_by (reserves_in old.now.trees)) (λ (row : ItemRow). row.standing) (is_item n) answer (items_in old.now.trees)
+      (typed_part (kept_by (reserves_in old.now.trees)) (row_of old) (λ (row : ItemRow). row.standing) (is_item n) IsRow (equals 0 ∷ []) standing_shown params rows answer (λ r. refl) (λ r is. rw (equals_number (rowid r) n is.number low) (alone _)) (are_rows old.now house) order)
 
   pub first_with_lot : (seller : ℕ) (lot : List ℕ) → IsUtf8 lot → seller < 2 ^ 32 → Shown with_lot_text (Int (pos seller) ∷ Text lot ∷ []) old new answer
       → option_map (λ r. number_in (column r 0)) (slice_get answer 0) ≡ option_map (λ (row : ItemRow). row.item.terms.item) (find (λ row. (row.item.terms.seller == seller) && same_text row.item.lot lot) (items_in old.now.trees))
@@ -139,14 +145,14 @@ module _ (old new : State) (answer : List Row) (house : IsHouse old.now) where
       let read = reads_as with_lot_text params old new house_schema house.schema _ with_lot_is.0 with_lot_is.2 with_lot_is.1 answer h in
       let order = in_order by_lot (Rattle.sqlite.specs.Term.col 1 0 ∷ []) params rows answer house.shaped.1.1.1.1.0.0 (listed 6 by_lot (Rattle.sqlite.specs.Term.col 1 0 ∷ []) by_rowid (overlay old.now.trees []) params answer (read.answer Null)) in
       first_part (λ r. number_in (column r 0)) (λ (row : ItemRow). row.item.terms.item) keep answer (items_in old.now.trees)
-      (typed_part (λ r. number_in (column r 0)) item_row_in (λ (row : ItemRow). row.item.terms.item) keep IsRow by_lot (Rattle.sqlite.specs.Term.col 1 0 ∷ []) params rows answer (λ r. refl)
+      (typed_part (λ r. number_in (column r 0)) (row_of old) (λ (row : ItemRow). row.item.terms.item) keep IsRow by_lot (Rattle.sqlite.specs.Term.col 1 0 ∷ []) params rows answer (λ r. refl)
       (λ r is. rw (equals_number (column r 2) seller is.seller low, equals_text (column r 4) lot u is.lot) (two _ _)) (are_rows old.now house) order)
 
-  pub items_answer : Shown all_items_text [] old new answer → map item_of answer ≡ map (λ (row : ItemRow). row.item) (items_in old.now.trees)
+  pub items_answer : Shown all_items_text [] old new answer → map (item_by (reserves_in old.now.trees)) answer ≡ map (λ (row : ItemRow). row.item) (items_in old.now.trees)
   items_answer h =
       let read = reads_as all_items_text [] old new house_schema house.schema _ all_items_is.0 all_items_is.2 all_items_is.1 answer h in
       let order = in_order [] item_shown [] rows answer house.shaped.1.1.1.1.0.0 (listed 6 [] item_shown by_rowid (overlay old.now.trees []) [] answer (read.answer Null)) in
-      typed_part item_of item_row_in (λ (row : ItemRow). row.item) (λ _. true) IsRow [] item_shown [] rows answer (λ r. refl) (λ r is. refl) (are_rows old.now house) order
+      typed_part (item_by (reserves_in old.now.trees)) (row_of old) (λ (row : ItemRow). row.item) (λ _. true) IsRow [] item_shown [] rows answer (λ r. refl) (λ r is. refl) (are_rows old.now house) order
       ∙ ap (map (λ (row : ItemRow). row.item)) (every (items_in old.now.trees))
     where
       every : {X : Type 0} (xs : List X) → filter (λ _. true) xs ≡ xs
@@ -156,9 +162,8 @@ module _ (old new : State) (answer : List Row) (house : IsHouse old.now) where
 -- ---- a new item
 
 -- the standing of no bids
-pub no_bids : (bands : List (ℕ × ℕ)) (start : ℕ) → record { start = start; reserve = None; price = start; leader = None; top = None; second = None; count = 0 } ≡ standing_of bands (record { start = start; reserve = None }) []
-unfolding price leader second
-no_bids bands start = refl
+pub no_bids : (bands : List (ℕ × ℕ)) (start : ℕ) (reserve : Option ℕ) → record { start = start; reserve = reserve; price = start; leader = None; top = None; second = None; count = 0 } ≡ standing_of bands (record { start = start; reserve = reserve }) []
+no_bids bands start reserve = sym (standing-none bands (record { start = start; reserve = reserve }))
 
 -- each number of a new item has 32 bits
 pub record IsStorable (number : ℕ) (item : NewItem) : Type 0 where
@@ -171,7 +176,7 @@ pub record IsStorable (number : ℕ) (item : NewItem) : Type 0 where
 
 pub adds_item : (old new : State) (number : ℕ) (item : NewItem) (count : ℕ) → IsStorable number item → IsUtf8 item.lot.now → IsUtf8 item.title.now → IsUtf8 item.text.now → IsHouse old.now
     → Executes put_item_text (Int (pos number) ∷ Int (pos item.seller) ∷ Int (pos item.category) ∷ Text item.lot.now ∷ Text item.title.now ∷ Text item.text.now ∷ Int (pos item.start) ∷ stored_maybe item.buy_now ∷ Int (pos item.end) ∷ []) old new (Ok count)
-    → AddsItem (new_item number item) old.now new.now
+    → AddsItem (new_item number (record item { reserve = None })) old.now new.now
 adds_item old new number item count low lot_utf8 title_utf8 text_utf8 house h =
     let params = Int (pos number) ∷ Int (pos item.seller) ∷ Int (pos item.category) ∷ Text item.lot.now ∷ Text item.title.now ∷ Text item.text.now ∷ Int (pos item.start) ∷ stored_maybe item.buy_now ∷ Int (pos item.end) ∷ [] in
     let rows = old.now.trees 6 in
@@ -181,19 +186,22 @@ adds_item old new number item count low lot_utf8 title_utf8 text_utf8 house h =
     let shaped = house.shaped.1.1.1.1.0 in
     let w = rw (cast_int (pos number), cast_null, cast_int (pos item.seller), cast_int (pos item.category), cast_int (pos item.start), cast_maybe item.buy_now, cast_int (pos item.end), cast_int (pos 0)) at
     (puts put_item_text 4 item_layout put_terms 17 params given refl put_item_is.0 put_item_is.1 refl old new count house.schema h) in
-    let back : item_row_in given ≡ new_item number item = rw (small number low.number_low, small item.seller low.seller_low, small item.category low.category_low, small item.start low.start_low, small item.end low.end_low, maybe_back item.buy_now low.buy_now_low, sym (no_bids [] item.start), text_back item.lot.now lot_utf8, text_back item.title.now title_utf8, text_back item.text.now text_utf8) refl in
+    let reserves = reserves_in old.now.trees in
+    let make = item_row_in reserves in
+    let same : reserves_in new.now.trees ≡ reserves = kept_reserves old.now new.now w.others in
+    let back : amount_of reserves number ≡ None → make given ≡ new_item number (record item { reserve = None }) = λ none. rw (small number low.number_low, none, small item.seller low.seller_low, small item.category low.category_low, small item.start low.start_low, small item.end low.end_low, maybe_back item.buy_now low.buy_now_low, sym (no_bids [] item.start None), text_back item.lot.now lot_utf8, text_back item.title.now title_utf8, text_back item.text.now text_utf8) refl in
     record {
       house = still_house 6 _ old.now new.now house w (IsShaped-put_row given rows refl shaped);
       others = w.others;
-      items = λ over. ap (map item_row_in) (w.rows_are ∙ put_over item_row_in (λ (r : ItemRow). r.item.terms.item) (λ r. refl) given number rows shaped refl low.number_low over) ∙ map_more item_row_in rows given
-          ∙ ap (λ x. map item_row_in rows ++ x ∷ []) back;
+      items = λ over free. ap (λ rs. map (item_row_in rs) (new.now.trees 6)) same ∙ ap (map make) (w.rows_are ∙ put_over make (λ (r : ItemRow). r.item.terms.item) (λ r. refl) given number rows shaped refl low.number_low over) ∙ map_more make rows given
+          ∙ ap (λ x. map make rows ++ x ∷ []) (back (no_amount reserves number free));
     }
 
 -- ---- a row that is set
 
 -- each row with the number has the fact
-of_item : (item : ℕ) (P : ItemRow → Type 0) (db : Database) → OfItem item P db → AllByRecursion (λ r. is_item item (item_row_in r) ≡ true → P (item_row_in r)) (db.trees 6)
-of_item item P db all = all_unmap (λ row. is_item item row ≡ true → P row) item_row_in (db.trees 6) (recursion_from_All (λ row. is_item item row ≡ true → P row) (items_in db.trees) all)
+of_item : (item : ℕ) (P : ItemRow → Type 0) (db : Database) → OfItem item P db → AllByRecursion (λ r. is_item item (item_row_in (reserves_in db.trees) r) ≡ true → P (item_row_in (reserves_in db.trees) r)) (db.trees 6)
+of_item item P db all = all_unmap (λ row. is_item item row ≡ true → P row) (item_row_in (reserves_in db.trees)) (db.trees 6) (recursion_from_All (λ row. is_item item row ≡ true → P row) (items_in db.trees) all)
 
 -- the columns that a cast leaves alone
 pub record Leaves (r : Row) : Type 0 where
@@ -236,23 +244,36 @@ leaves r typed int =
       count = kept.1.1.1.1.1.1.1.1.1.1.1.1.1.1.1.0;
     }
 
--- the start of a standing is the one that is stored
-pub kept_start : (start at : ℕ) (led top next : Option ℕ) (count : ℕ) → (kept_from start at led top next count).start ≡ start
-kept_start start at None top next count = refl
-kept_start start at (Some l) None next count = refl
-kept_start start at (Some l) (Some t) next count = refl
+-- what a standing opens with is stored, the start in its row and the reserve in its own table
+pub kept_opening : (start : ℕ) (reserve : Option ℕ) (at : ℕ) (led top next : Option ℕ) (count : ℕ) → opening_of (kept_from start reserve at led top next count) ≡ record { start = start; reserve = reserve }
+kept_opening start reserve at None top next count = refl
+kept_opening start reserve at (Some l) None next count = refl
+kept_opening start reserve at (Some l) (Some t) next count = refl
 
--- and no reserve is stored
-pub kept_opening : (start at : ℕ) (led top next : Option ℕ) (count : ℕ) → opening_of (kept_from start at led top next count) ≡ record { start = start; reserve = None }
-kept_opening start at None top next count = refl
-kept_opening start at (Some l) None next count = refl
-kept_opening start at (Some l) (Some t) next count = refl
+pub kept_start : (start : ℕ) (reserve : Option ℕ) (at : ℕ) (led top next : Option ℕ) (count : ℕ) → (kept_from start reserve at led top next count).start ≡ start
+kept_start start reserve at led top next count = ap (λ (o : Opening). o.start) (kept_opening start reserve at led top next count)
 
 -- a standing whose leader has a top is stored as it is
-told : (start at : ℕ) (led top next : Option ℕ) (count : ℕ) → is_some top ≡ is_some led → kept_from start at led top next count ≡ record { start = start; reserve = None; price = at; leader = led; top = top; second = next; count = count }
-told start at None top next count h = refl
-told start at (Some l) None next count h = absurd (true≢false (sym h))
-told start at (Some l) (Some t) next count h = refl
+told : (start : ℕ) (reserve : Option ℕ) (at : ℕ) (led top next : Option ℕ) (count : ℕ) → is_some top ≡ is_some led → kept_from start reserve at led top next count ≡ record { start = start; reserve = reserve; price = at; leader = led; top = top; second = next; count = count }
+told start reserve at None top next count h = refl
+told start reserve at (Some l) None next count h = absurd (true≢false (sym h))
+told start reserve at (Some l) (Some t) next count h = refl
+
+-- and its reserve is met as its bids meet it
+met_told : (reserve led top : Option ℕ) → is_some top ≡ is_some led → met_with reserve led top ≡ met_by reserve top
+met_told reserve None top h = refl
+met_told reserve (Some l) None h = absurd (true≢false (sym h))
+met_told reserve (Some l) (Some t) h = refl
+
+-- a purchase meets the reserve, whatever was so before
+met_bought : (reserve led top : Option ℕ) (buyer : ℕ) → top ≡ None → met_with reserve (Some buyer) top ≡ option_map (λ m. true) (met_with reserve led top)
+met_bought None led None buyer none = all_none led where
+  all_none : (led : Option ℕ) → None ≡ option_map (λ m. true) (met_with None led None)
+  all_none None = refl
+  all_none (Some l) = refl
+met_bought (Some r) None None buyer none = refl
+met_bought (Some r) (Some l) None buyer none = refl
+met_bought reserve led (Some t) buyer none = absurd cc
 
 -- the state of a row that fits is one
 pub fits_state : (b : Bool) (start : ℕ) → cond b start (2 ^ 64) ≤ most_cents → b ≡ true
@@ -260,12 +281,18 @@ fits_state true start h = refl
 fits_state false start h = absurd (omega (arith, h))
 
 -- a purchase leaves the standing of no bids
-bought : (start at : ℕ) (led top next : Option ℕ) (count at_now buyer : ℕ) → (kept_from start at led top next count).price ≡ (kept_from start at led top next count).start
-    → (kept_from start at led top next count).leader ≡ None → (kept_from start at led top next count).top ≡ None → kept_from start at_now (Some buyer) top next count ≡ kept_from start at led top next count
-bought start at None None next count at_now buyer same none no_top = rw same refl
-bought start at None (Some t) next count at_now buyer same none no_top = absurd (let e = no_top in cc)
-bought start at (Some l) None next count at_now buyer same none no_top = refl
-bought start at (Some l) (Some t) next count at_now buyer same none no_top = absurd (let e = none in cc)
+bought : (start : ℕ) (reserve : Option ℕ) (at : ℕ) (led top next : Option ℕ) (count at_now buyer : ℕ) → (kept_from start reserve at led top next count).price ≡ (kept_from start reserve at led top next count).start
+    → (kept_from start reserve at led top next count).leader ≡ None → (kept_from start reserve at led top next count).top ≡ None → kept_from start reserve at_now (Some buyer) top next count ≡ kept_from start reserve at led top next count
+bought start reserve at None None next count at_now buyer same none no_top = rw same refl
+bought start reserve at None (Some t) next count at_now buyer same none no_top = absurd (let e = no_top in cc)
+bought start reserve at (Some l) None next count at_now buyer same none no_top = refl
+bought start reserve at (Some l) (Some t) next count at_now buyer same none no_top = absurd (let e = none in cc)
+
+-- the top of such a row is none
+no_top_stored : (start : ℕ) (reserve : Option ℕ) (at : ℕ) (led top next : Option ℕ) (count : ℕ) → (kept_from start reserve at led top next count).leader ≡ None → (kept_from start reserve at led top next count).top ≡ None → top ≡ None
+no_top_stored start reserve at None top next count none no_top = no_top
+no_top_stored start reserve at (Some l) None next count none no_top = refl
+no_top_stored start reserve at (Some l) (Some t) next count none no_top = absurd (let e = none in cc)
 
 -- ---- the standing
 
@@ -296,15 +323,17 @@ sets_standing old new item k count house low kept_low h =
     record {
       house = still_house 6 _ old.now new.now house w.0 w.1;
       others = w.0.others;
-      items = λ led start. ap (map item_row_in) w.0.rows_are ∙ typed_set_on item_row_in (with_standing item k) item (stood k) (λ r. is_item item (item_row_in r) ≡ true → opening_of (item_row_in r).standing ≡ opening_of k) rows house.shaped.1.1.1.1.0.1
+      items = λ led start. ap (λ rs. map (item_row_in rs) (new.now.trees 6)) (kept_reserves old.now new.now w.0.others) ∙ ap (map (row_of old)) w.0.rows_are ∙ typed_set_on (row_of old) (with_standing item k) item (stood k) (λ r. is_item item (row_of old r) ≡ true → opening_of (row_of old r).standing ≡ opening_of k) rows house.shaped.1.1.1.1.0.1
           (of_item item (λ row. opening_of row.standing ≡ opening_of k) old.now start) (here led) (λ r e. rw e refl);
     }
   where
-    here : is_some k.top ≡ is_some k.leader → (r : Row) → (is_item item (item_row_in r) ≡ true → opening_of (item_row_in r).standing ≡ opening_of k) → eqb (number_in (rowid r)) item ≡ true → item_row_in (stood k r) ≡ with_standing item k (item_row_in r)
+    here : is_some k.top ≡ is_some k.leader → (r : Row) → (is_item item (row_of old r) ≡ true → opening_of (row_of old r).standing ≡ opening_of k) → eqb (number_in (rowid r)) item ≡ true → row_of old (stood k r) ≡ with_standing item k (row_of old r)
     here led r start e =
-        let same : record { start = number_in (column r 7); reserve = None } ≡ opening_of k = sym (kept_opening (number_in (column r 7)) (number_in (column r 12)) (maybe_number_in (column r 13)) (maybe_number_in (column r 14)) (maybe_number_in (column r 15)) (number_in (column r 16))) ∙ start e in
-        let standing : kept_from (number_in (column r 7)) k.price k.leader k.top k.second k.count ≡ k = told (number_in (column r 7)) k.price k.leader k.top k.second k.count led ∙ ap (λ (o : Opening). record k { start = o.start; reserve = o.reserve }) same in
-        rw (e, small k.price kept_low.price_low, small k.count kept_low.count_low, maybe_back k.leader kept_low.leader_low, maybe_back k.top kept_low.top_low, maybe_back k.second kept_low.second_low, standing) refl
+        let reserve = amount_of (reserves_in old.now.trees) (number_in (column r 0)) in
+        let same : record { start = number_in (column r 7); reserve = reserve } ≡ opening_of k = sym (kept_opening (number_in (column r 7)) reserve (number_in (column r 12)) (maybe_number_in (column r 13)) (maybe_number_in (column r 14)) (maybe_number_in (column r 15)) (number_in (column r 16))) ∙ start e in
+        let standing : kept_from (number_in (column r 7)) reserve k.price k.leader k.top k.second k.count ≡ k = told (number_in (column r 7)) reserve k.price k.leader k.top k.second k.count led ∙ ap (λ (o : Opening). record k { start = o.start; reserve = o.reserve }) same in
+        let met : met_with reserve k.leader k.top ≡ met_by k.reserve k.top = met_told reserve k.leader k.top led ∙ ap (λ (o : Opening). met_by o.reserve k.top) same in
+        rw (e, small k.price kept_low.price_low, small k.count kept_low.count_low, maybe_back k.leader kept_low.leader_low, maybe_back k.top kept_low.top_low, maybe_back k.second kept_low.second_low, standing, met) refl
 
 -- ---- the purchase
 
@@ -330,16 +359,20 @@ sets_bought old new item buyer at moment count house low buyer_low at_low moment
     record {
       house = still_house 6 _ old.now new.now house w.0 w.1;
       others = w.0.others;
-      items = λ fits. ap (map item_row_in) w.0.rows_are ∙ typed_set_on item_row_in (with_purchase item buyer at moment) item (sold_at_once buyer at moment) (λ r. is_item item (item_row_in r) ≡ true → IsUnsold (item_row_in r)) rows house.shaped.1.1.1.1.0.1
+      items = λ fits. ap (λ rs. map (item_row_in rs) (new.now.trees 6)) (kept_reserves old.now new.now w.0.others) ∙ ap (map (row_of old)) w.0.rows_are ∙ typed_set_on (row_of old) (with_purchase item buyer at moment) item (sold_at_once buyer at moment) (λ r. is_item item (row_of old r) ≡ true → IsUnsold (row_of old r)) rows house.shaped.1.1.1.1.0.1
           (of_item item IsUnsold old.now fits) here (λ r e. rw e refl);
     }
   where
-    here : (r : Row) → (is_item item (item_row_in r) ≡ true → IsUnsold (item_row_in r)) → eqb (number_in (rowid r)) item ≡ true → item_row_in (sold_at_once buyer at moment r) ≡ with_purchase item buyer at moment (item_row_in r)
+    here : (r : Row) → (is_item item (row_of old r) ≡ true → IsUnsold (row_of old r)) → eqb (number_in (rowid r)) item ≡ true → row_of old (sold_at_once buyer at moment r) ≡ with_purchase item buyer at moment (row_of old r)
     here r fits e =
         let fit = fits e in
         let state = fits_state (is_state (column r 10)) (number_in (column r 7)) fit.0 in
-        let standing = bought (number_in (column r 7)) (number_in (column r 12)) (maybe_number_in (column r 13)) (maybe_number_in (column r 14)) (maybe_number_in (column r 15)) (number_in (column r 16)) at buyer fit.1 fit.2 fit.3 in
-        rw (e, small buyer buyer_low, small at at_low, small moment moment_low, state, standing) refl
+        let reserve = amount_of (reserves_in old.now.trees) (number_in (column r 0)) in
+        let led = maybe_number_in (column r 13) in
+        let top = maybe_number_in (column r 14) in
+        let standing = bought (number_in (column r 7)) reserve (number_in (column r 12)) led top (maybe_number_in (column r 15)) (number_in (column r 16)) at buyer fit.1 fit.2 fit.3 in
+        let met = met_bought reserve led top buyer (no_top_stored (number_in (column r 7)) reserve (number_in (column r 12)) led top (maybe_number_in (column r 15)) (number_in (column r 16)) fit.2 fit.3) in
+        rw (e, small buyer buyer_low, small at at_low, small moment moment_low, state, standing, met) refl
 
 -- ---- the close
 
@@ -369,15 +402,15 @@ sets_closed old new item is_sold count house low h =
     record {
       house = still_house 6 _ old.now new.now house w.0 w.1;
       others = w.0.others;
-      items = λ fits. ap (map item_row_in) w.0.rows_are ∙ typed_set_on item_row_in (with_end item is_sold) item (ended (closed_state is_sold)) Both rows house.shaped.1.1.1.1.0.1
-          (all_both (λ r. is_item item (item_row_in r) ≡ true → IsOurs (item_row_in r)) IsRow Both (λ r ours is. (ours, is.ending)) rows (of_item item IsOurs old.now fits) (are_rows old.now house)) (here is_sold) (λ r e. rw e refl);
+      items = λ fits. ap (λ rs. map (item_row_in rs) (new.now.trees 6)) (kept_reserves old.now new.now w.0.others) ∙ ap (map (row_of old)) w.0.rows_are ∙ typed_set_on (row_of old) (with_end item is_sold) item (ended (closed_state is_sold)) Both rows house.shaped.1.1.1.1.0.1
+          (all_both (λ r. is_item item (row_of old r) ≡ true → IsOurs (row_of old r)) IsRow Both (λ r ours is. (ours, is.ending)) rows (of_item item IsOurs old.now fits) (are_rows old.now house)) (here is_sold) (λ r e. rw e refl);
     }
   where
     Both : Row → Type 0
-    Both r = (is_item item (item_row_in r) ≡ true → IsOurs (item_row_in r)) × (is_int (column r 9) ≡ true)
+    Both r = (is_item item (row_of old r) ≡ true → IsOurs (row_of old r)) × (is_int (column r 9) ≡ true)
 
-    here : (is_sold : Bool) (r : Row) → (is_item item (item_row_in r) ≡ true → IsOurs (item_row_in r)) × (is_int (column r 9) ≡ true) → eqb (number_in (rowid r)) item ≡ true
-        → item_row_in (ended (closed_state is_sold) r) ≡ with_end item is_sold (item_row_in r)
+    here : (is_sold : Bool) (r : Row) → (is_item item (row_of old r) ≡ true → IsOurs (row_of old r)) × (is_int (column r 9) ≡ true) → eqb (number_in (rowid r)) item ≡ true
+        → row_of old (ended (closed_state is_sold) r) ≡ with_end item is_sold (row_of old r)
     here true r both e = rw (e, fits_state (is_state (column r 10)) (number_in (column r 7)) (both.0 e), present_number (column r 9) both.1) refl
     here false r both e = rw (e, fits_state (is_state (column r 10)) (number_in (column r 7)) (both.0 e), present_number (column r 9) both.1) refl
 
@@ -401,6 +434,6 @@ sets_settled old new item count house low h =
     record {
       house = still_house 6 _ old.now new.now house w.0 w.1;
       others = w.0.others;
-      items = λ fits. ap (map item_row_in) w.0.rows_are ∙ typed_set_on item_row_in (with_settlement item) item settled (λ r. is_item item (item_row_in r) ≡ true → IsOurs (item_row_in r)) rows house.shaped.1.1.1.1.0.1
+      items = λ fits. ap (λ rs. map (item_row_in rs) (new.now.trees 6)) (kept_reserves old.now new.now w.0.others) ∙ ap (map (row_of old)) w.0.rows_are ∙ typed_set_on (row_of old) (with_settlement item) item settled (λ r. is_item item (row_of old r) ≡ true → IsOurs (row_of old r)) rows house.shaped.1.1.1.1.0.1
           (of_item item IsOurs old.now fits) (λ r fits e. rw (e, fits_state (is_state (column r 10)) (number_in (column r 7)) (fits e)) refl) (λ r e. rw e refl);
     }

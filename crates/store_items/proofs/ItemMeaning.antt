@@ -23,7 +23,7 @@ abbrev pub terms_at_text : List ℕ
 terms_at_text = codes "SELECT id, seller, category, start, buy_now, ending, state, closed, price, leader, count, top, second FROM item WHERE id = ?1 ORDER BY id"
 
 abbrev pub standing_at_text : List ℕ
-standing_at_text = codes "SELECT start, price, leader, top, second, count FROM item WHERE id = ?1 ORDER BY id"
+standing_at_text = codes "SELECT start, price, leader, top, second, count, id FROM item WHERE id = ?1 ORDER BY id"
 
 abbrev pub with_lot_text : List ℕ
 with_lot_text = codes "SELECT id FROM item WHERE seller = ?1 AND lot = ?2 ORDER BY id"
@@ -39,7 +39,7 @@ abbrev pub terms_shown : List Term
 terms_shown = col 1 0 ∷ col 1 2 ∷ col 1 3 ∷ col 1 7 ∷ col 1 8 ∷ col 1 9 ∷ col 1 10 ∷ col 1 11 ∷ col 1 12 ∷ col 1 13 ∷ col 1 16 ∷ col 1 14 ∷ col 1 15 ∷ []
 
 abbrev pub standing_shown : List Term
-standing_shown = col 1 7 ∷ col 1 12 ∷ col 1 13 ∷ col 1 14 ∷ col 1 15 ∷ col 1 16 ∷ []
+standing_shown = col 1 7 ∷ col 1 12 ∷ col 1 13 ∷ col 1 14 ∷ col 1 15 ∷ col 1 16 ∷ col 1 0 ∷ []
 
 -- of this seller and with this lot
 abbrev pub by_lot : List Term
@@ -66,7 +66,7 @@ unfolding understood everything
 terms_at_is = (refl, refl, (refl, refl))
 
 pub standing_at_is : (command_of (understood house_schema standing_at_text)
-    ≡ Select (record { lets = []; body = plain_query 6 (equals 0 ∷ []) standing_shown by_rowid }) (codes "start" ∷ codes "price" ∷ codes "leader" ∷ codes "top" ∷ codes "second" ∷ codes "count" ∷ []))
+    ≡ Select (record { lets = []; body = plain_query 6 (equals 0 ∷ []) standing_shown by_rowid }) (codes "start" ∷ codes "price" ∷ codes "leader" ∷ codes "top" ∷ codes "second" ∷ codes "count" ∷ codes "id" ∷ []))
     × (reads_listing house_schema standing_at_text ≡ false) × IsPlain (understood house_schema standing_at_text)
 unfolding understood everything
 standing_at_is = (refl, refl, (refl, refl))

@@ -25,9 +25,10 @@ use Rattle.house_rows.specs.declared.item.Item.{Item}
 use Rattle.house_rows.specs.Editions.{BandTables}
 use Rattle.house_rows.proofs.Put.{by_test}
 use Rattle.store_rows.specs.House.{IsHouse}
-use Rattle.store_rows.specs.ItemRows.{item_of, item_row_in, items_in}
+use Rattle.store_rows.specs.declared.reserve.ReserveRow.{ReserveRow}
+use Rattle.store_rows.specs.ItemRows.{item_by, item_row_in, items_in}
 use Rattle.store_rows.specs.Plain.{passes, shown_by}
-use Rattle.store_rows.specs.Rows.{number_in}
+use Rattle.store_rows.specs.Rows.{number_in, reserves_in}
 use Rattle.store_rows.specs.Schema.{house_schema}
 use Rattle.store_rows.proofs.RowLemmas.{filter_same_on}
 use Rattle.store_rows.proofs.Select.{in_order, typed_part, by_rowid, equals}
@@ -102,6 +103,12 @@ not_kept true false over is none = refl
 not_kept false negative over is none = refl
 
 module _ (category from : ℕ) (category_low : category < 2 ^ 32) (from_low : from < 2 ^ 32) (old new : State) (house : IsHouse old.now) where
+  abbrev R : List ReserveRow
+  R = reserves_in old.now.trees
+
+  abbrev make : Row → ItemRow
+  make r = item_row_in R r
+
   abbrev table : List Row
   table = old.now.trees 6
 
@@ -117,56 +124,56 @@ module _ (category from : ℕ) (category_low : category < 2 ^ 32) (from_low : fr
   abbrev test : List Term
   test = equals 3 ∷ from_second 0 ∷ []
 
-  passing : (r : Row) → IsRow r → passes stray_test here r ≡ false → passes test params r ≡ keeps_item category from (item_row_in r).item
+  passing : (r : Row) → IsRow r → passes stray_test here r ≡ false → passes test params r ≡ keeps_item category from (make r).item
   passing r is none = page_passes 3 0 category category_low r is.category is.number from from_low none
 
   -- all that is shown, where there is no stray
   all_shown : (all : List Row) → Shown stray_items_text here old new [] → Shown items_text params old new all
-      → map item_of all ≡ filter (keeps_item category from) (map (λ (row : ItemRow). row.item) (items_in old.now.trees))
+      → map (item_by R) all ≡ filter (keeps_item category from) (map (λ (row : ItemRow). row.item) (items_in old.now.trees))
   all_shown all none h =
       let no_stray = none_passes stray_test (col 1 0 ∷ []) by_rowid here table [] (lists stray_items_text 6 stray_test (col 1 0 ∷ []) by_rowid _ stray_items_is (λ db. refl) old new here [] house none) refl in
       let order = in_order test item_shown params table all house.shaped.1.1.1.1.0.0 (lists items_text 6 test item_shown by_rowid _ items_is (λ db. refl) old new params all house h) in
       let are = all_both IsRow (λ r. passes stray_test here r ≡ false) (λ r. IsRow r × (passes stray_test here r ≡ false)) (λ r is no. (is, no)) table (are_rows old.now house) no_stray in
-      typed_part item_of item_row_in (λ (row : ItemRow). row.item) (λ row. keeps_item category from row.item) (λ r. IsRow r × (passes stray_test here r ≡ false)) test item_shown params table all (λ r. refl) (λ r is. passing r is.0 is.1) are order
+      typed_part (item_by R) make (λ (row : ItemRow). row.item) (λ row. keeps_item category from row.item) (λ r. IsRow r × (passes stray_test here r ≡ false)) test item_shown params table all (λ r. refl) (λ r is. passing r is.0 is.1) are order
       ∙ sym (filter-map (keeps_item category from) (λ (row : ItemRow). row.item) (items_in old.now.trees))
 
   pub items_shown : (rows : List Row) → Shown stray_items_text here old new [] → ShowsFirst 50 items_text params old new rows
-      → map item_of rows ≡ take 50 (filter (keeps_item category from) (map (λ (row : ItemRow). row.item) (items_in old.now.trees)))
-  items_shown rows none first = ap (map item_of) first.are ∙ sym (take-map item_of 50 first.all) ∙ ap (take 50) (all_shown first.all none first.shown)
+      → map (item_by R) rows ≡ take 50 (filter (keeps_item category from) (map (λ (row : ItemRow). row.item) (items_in old.now.trees)))
+  items_shown rows none first = ap (map (item_by R)) first.are ∙ sym (take-map (item_by R) 50 first.all) ∙ ap (take 50) (all_shown first.all none first.shown)
 
-  pub items_held : (rows : List Row) → ShowsFirst 50 items_text params old new rows → (editions : BandTables) → AllByRecursion (FitsBy editions) (items_in old.now.trees) → AllByRecursion (ItemHolds editions) rows
+  pub items_held : (rows : List Row) → ShowsFirst 50 items_text params old new rows → (editions : BandTables) → AllByRecursion (FitsBy editions) (items_in old.now.trees) → AllByRecursion (ItemHolds editions R) rows
   items_held rows first editions fit =
       let order = in_order test item_shown params table first.all house.shaped.1.1.1.1.0.0 (lists items_text 6 test item_shown by_rowid _ items_is (λ db. refl) old new params first.all house first.shown) in
-      subst (AllByRecursion (ItemHolds editions)) (sym first.are) (all-take (ItemHolds editions) 50 first.all (rows_hold editions (ItemHolds editions) item_shown test params table first.all (item_row editions params) order fit))
+      subst (AllByRecursion (ItemHolds editions R)) (sym first.are) (all-take (ItemHolds editions R) 50 first.all (rows_hold editions R (ItemHolds editions R) item_shown test params table first.all (item_row editions R params) order fit))
 
   abbrev keeps_row : ItemRow → Bool
   keeps_row row = keeps_item category from row.item
 
   -- the rows that are shown, where these fit
   pub shown_held : (rows : List Row) → Shown stray_items_text here old new [] → ShowsFirst 50 items_text params old new rows → (editions : BandTables)
-      → AllByRecursion (FitsBy editions) (take 50 (filter keeps_row (items_in old.now.trees))) → AllByRecursion (ItemHolds editions) rows
+      → AllByRecursion (FitsBy editions) (take 50 (filter keeps_row (items_in old.now.trees))) → AllByRecursion (ItemHolds editions R) rows
   shown_held rows none first editions fit =
       let kept = filter (passes test params) table in
       let show = shown_by item_shown params in
       let no_stray = none_passes stray_test (col 1 0 ∷ []) by_rowid here table [] (lists stray_items_text 6 stray_test (col 1 0 ∷ []) by_rowid _ stray_items_is (λ db. refl) old new here [] house none) refl in
       let are = all_both IsRow (λ r. passes stray_test here r ≡ false) (λ r. IsRow r × (passes stray_test here r ≡ false)) (λ r is no. (is, no)) table (are_rows old.now house) no_stray in
       let order = in_order test item_shown params table first.all house.shaped.1.1.1.1.0.0 (lists items_text 6 test item_shown by_rowid _ items_is (λ db. refl) old new params first.all house first.shown) in
-      let typed : filter keeps_row (map item_row_in table) ≡ map item_row_in kept =
-      filter-map keeps_row item_row_in table
-      ∙ ap (map item_row_in) (sym (filter_same_on (λ r. IsRow r × (passes stray_test here r ≡ false)) (passes test params) (λ r. keeps_row (item_row_in r)) (λ r is. passing r is.0 is.1) table are)) in
-      let front = all_unmap (FitsBy editions) item_row_in (take 50 kept) (subst (AllByRecursion (FitsBy editions)) (ap (take 50) typed ∙ take-map item_row_in 50 kept) fit) in
-      let held = all_map (ItemHolds editions) show (take 50 kept) (all_weaker (λ r. FitsBy editions (item_row_in r)) (λ r. ItemHolds editions (show r)) (item_row editions params) (take 50 kept) front) in
-      subst (AllByRecursion (ItemHolds editions)) (sym (first.are ∙ ap (take 50) order ∙ take-map show 50 kept)) held
+      let typed : filter keeps_row (map make table) ≡ map make kept =
+      filter-map keeps_row make table
+      ∙ ap (map make) (sym (filter_same_on (λ r. IsRow r × (passes stray_test here r ≡ false)) (passes test params) (λ r. keeps_row (make r)) (λ r is. passing r is.0 is.1) table are)) in
+      let front = all_unmap (FitsBy editions) make (take 50 kept) (subst (AllByRecursion (FitsBy editions)) (ap (take 50) typed ∙ take-map make 50 kept) fit) in
+      let held = all_map (ItemHolds editions R) show (take 50 kept) (all_weaker (λ r. FitsBy editions (make r)) (λ r. ItemHolds editions R (show r)) (item_row editions R params) (take 50 kept) front) in
+      subst (AllByRecursion (ItemHolds editions R)) (sym (first.are ∙ ap (take 50) order ∙ take-map show 50 kept)) held
 
   not_stray : (r : Row) → IsRow r → is_negative (rowid r) ≡ false → passes stray_test here r ≡ false
   not_stray r is none = stray_passes 3 0 category category_low r is.category is.number ∙ never (eqb (number_in (column r 3)) category) (is_negative (rowid r)) none
 
   -- a stray would be the first that is shown
-  no_stray_first : (editions : BandTables) (n : ℕ) (rows : List Row) → IsTable rows → AllByRecursion IsRow rows → AllByRecursion (FitsBy editions) (take (suc n) (filter keeps_row (map item_row_in rows)))
+  no_stray_first : (editions : BandTables) (n : ℕ) (rows : List Row) → IsTable rows → AllByRecursion IsRow rows → AllByRecursion (FitsBy editions) (take (suc n) (filter keeps_row (map make rows)))
       → AllByRecursion (λ r. passes stray_test here r ≡ false) rows
   no_stray_first editions n [] up are fit = tt
   no_stray_first editions n (r ∷ rows) up are fit =
-      elim (by_test (keeps_row (item_row_in r))) [
+      elim (by_test (keeps_row (make r))) [
         | inl kept ↦ (let fits = (rw kept at fit).0 in
             let low : number_in (rowid r) < 2 ^ 32 = omega (arith, fits.item.terms.item.1) in
             let none = fits_not_negative (rowid r) low in (
@@ -190,9 +197,9 @@ module _ (category from : ℕ) (category_low : category < 2 ^ 32) (from_low : fr
   pub no_stray_item : ShowsSome stray_items_text here old new → AllByRecursion (λ (row : ItemRow). ItemFits row.item) (items_in old.now.trees) → ⊥
   no_stray_item some fits =
       some_passes stray_test (col 1 0 ∷ []) by_rowid here table (some.first ∷ some.others) (lists stray_items_text 6 stray_test (col 1 0 ∷ []) by_rowid _ stray_items_is (λ db. refl) old new here _ house some.shown) some.first some.others refl
-      (all_both IsRow (λ r. ItemFits (item_row_in r).item) (λ r. passes stray_test here r ≡ false) fitting table (are_rows old.now house) (all_unmap (λ (row : ItemRow). ItemFits row.item) item_row_in table fits))
+      (all_both IsRow (λ r. ItemFits (make r).item) (λ r. passes stray_test here r ≡ false) fitting table (are_rows old.now house) (all_unmap (λ (row : ItemRow). ItemFits row.item) make table fits))
     where
-      fitting : (r : Row) → IsRow r → ItemFits (item_row_in r).item → passes stray_test here r ≡ false
+      fitting : (r : Row) → IsRow r → ItemFits (make r).item → passes stray_test here r ≡ false
       fitting r is fit =
           let low : number_in (rowid r) < 2 ^ 32 = omega (arith, fit.terms.item.1) in
           stray_passes 3 0 category category_low r is.category is.number ∙ never (eqb (number_in (column r 3)) category) (is_negative (rowid r)) (fits_not_negative (rowid r) low)

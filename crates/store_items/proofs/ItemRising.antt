@@ -14,7 +14,7 @@ use Rattle.sqlite.specs.Effect.{Database}
 use Rattle.house_rows.specs.Tables.{ItemRow}
 use Rattle.store_rows.specs.House.{IsHouse}
 use Rattle.store_rows.specs.ItemRows.{item_row_in, items_in}
-use Rattle.store_rows.specs.Rows.{number_in}
+use Rattle.store_rows.specs.Rows.{number_in, reserves_in}
 use Rattle.store_rows.proofs.Apart.{ascending_on}
 use Rattle.store_rows.proofs.Joined.{IsBelow, IsRisingBy}
 
@@ -43,6 +43,7 @@ below (Int (pos a)) (Int (pos b)) p q less low = go (nat_lt a (2 ^ 32)) (nat_lt 
 pub items_rise : (db : Database) → IsHouse db → IsRisingBy number_of (items_in db.trees)
 items_rise db house =
     let rows = db.trees 6 in
+    let make = item_row_in (reserves_in db.trees) in
     let shaped = house.shaped.1.1.1.1.0 in
-    ascending-map (IsBelow number_of) item_row_in rows
-    (ascending_on (λ r. IsTrue (is_int (rowid r))) (λ r s. value_cmp (rowid r) (rowid s) ≡ Less) (λ r s. IsBelow number_of (item_row_in r) (item_row_in s)) (λ r s p q less. below (column r 0) (column s 0) p q less) rows shaped.1 shaped.0)
+    ascending-map (IsBelow number_of) make rows
+    (ascending_on (λ r. IsTrue (is_int (rowid r))) (λ r s. value_cmp (rowid r) (rowid s) ≡ Less) (λ r s. IsBelow number_of (make r) (make s)) (λ r s p q less. below (column r 0) (column s 0) p q less) rows shaped.1 shaped.0)

@@ -3,9 +3,12 @@ use Rattle.std.proofs.Common.{◌≡◌, ◌≤◌, ℕ, List, map, length, refl
 use Rattle.std.specs.Prelude.{All}
 use Rattle.std.proofs.lemmas.List.{length-map}
 use Rattle.std.proofs.lemmas.List.Elements.{All-map, All-weaker}
+use Rattle.sqlite_value.specs.Order.{Row}
 use Rattle.sqlite.specs.Effect.{Database}
 use Rattle.house_rows.specs.Tables.{ItemRow}
+use Rattle.store_rows.specs.declared.reserve.ReserveRow.{ReserveRow}
 use Rattle.store_rows.specs.ItemRows.{items_in}
+use Rattle.store_rows.specs.Rows.{reserve_in, reserves_in}
 use Rattle.store_rows.specs.Tables.{IsNumbered, house_row_in, settings_in, tables_in}
 use Rattle.store_rows.proofs.Clock.{Holds}
 use Rattle.store_items.specs.Sales.{SetsItems}
@@ -23,10 +26,14 @@ items_set f old new same numbered w =
     let watches : new.trees 10 ≡ old.trees 10 = w.others.1.1.1.1.1.1.0 (λ e. omega (arith, e)) in
     let questions : new.trees 12 ≡ old.trees 12 = w.others.1.1.1.1.1.1.1.0 (λ e. omega (arith, e)) in
     let feedback : new.trees 14 ≡ old.trees 14 = w.others.1.1.1.1.1.1.1.1.0 (λ e. omega (arith, e)) in
+    let reserves : new.trees 23 ≡ old.trees 23 = w.others.1.1.1.1.1.1.1.1.1.0 (λ e. omega (arith, e)) in
     let were = All-weaker (λ (row : ItemRow). row.item.terms.item ≤ length (items_in old.trees)) (λ (row : ItemRow). (f row).item.terms.item ≤ length (items_in old.trees)) (λ row le. rw (same row) le) (items_in old.trees) numbered.items in
     let numbers : All (λ (row : ItemRow). row.item.terms.item ≤ length (map f (items_in old.trees))) (map f (items_in old.trees)) =
     subst (λ (n : ℕ). All (λ (row : ItemRow). row.item.terms.item ≤ n) (map f (items_in old.trees))) (sym (length-map (items_in old.trees) f))
     (All-map (λ (row : ItemRow). row.item.terms.item ≤ length (items_in old.trees)) f (items_in old.trees) were) in
+    let sealed : All (λ (r : ReserveRow). r.item ≤ length (map f (items_in old.trees))) (reserves_in new.trees) =
+    subst (λ (n : ℕ). All (λ (r : ReserveRow). r.item ≤ n) (reserves_in new.trees)) (sym (length-map (items_in old.trees) f))
+    (subst (λ (rows : List Row). All (λ (r : ReserveRow). r.item ≤ length (items_in old.trees)) (map reserve_in rows)) (sym reserves) numbered.reserves) in
     record {
       tables = rw (house, bands, members, categories, w.items, bids, watches, questions, feedback) refl;
       numbered = record {
@@ -34,5 +41,6 @@ items_set f old new same numbered w =
         members = rw members numbered.members;
         categories = rw categories numbered.categories;
         items = subst (λ (l : List ItemRow). All (λ (row : ItemRow). row.item.terms.item ≤ length l) l) (sym w.items) numbers;
+        reserves = subst (λ (l : List ItemRow). All (λ (r : ReserveRow). r.item ≤ length l) (reserves_in new.trees)) (sym w.items) sealed;
       };
     }

@@ -1,5 +1,6 @@
 pub mod ItemMeaning
 pub mod MaybeLemmas
+pub mod Reserves
 pub mod ItemLemmas
 pub mod Rows
 pub mod Behind
@@ -12,6 +13,7 @@ pub mod ItemPages
 pub mod ItemRising
 pub mod ItemsSet
 pub mod Listed
+pub mod OwnReserves
 pub mod PartySales
 pub mod RowsStanding
 pub mod Small
@@ -19,4 +21,5 @@ pub mod Sold
 pub mod Stands
 pub mod TermMeaning
 pub mod TermFinds
+pub mod Undone
 pub mod DueBound

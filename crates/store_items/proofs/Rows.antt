@@ -28,8 +28,9 @@ use Rattle.house_rows.specs.Tables.{ItemRow, band_tables, bands_for, row_opening
 use Rattle.house_rows.proofs.ChangedRows.{there_fits}
 use Rattle.house_rows.proofs.Every.{found_has}
 use Rattle.store_rows.specs.House.{IsHouse}
-use Rattle.store_rows.specs.ItemRows.{is_state, item_row_in, items_in}
-use Rattle.store_rows.specs.Rows.{maybe_number_in, number_in}
+use Rattle.store_rows.specs.declared.reserve.ReserveRow.{ReserveRow}
+use Rattle.store_rows.specs.ItemRows.{amount_of, is_state, item_row_in, items_in}
+use Rattle.store_rows.specs.Rows.{maybe_number_in, number_in, reserves_in}
 use Rattle.store_rows.proofs.RowLemmas.{filter_same_on, one_row}
 use Rattle.store_items.specs.Items.{OfItem}
 use Rattle.store_rows.specs.Tables.{tables_in}
@@ -40,9 +41,10 @@ use Rattle.store_items.proofs.ItemLemmas.{fits_state, kept_opening}
 pub one_item : (db : Database) → IsHouse db → (n : ℕ) → n < 2 ^ 32 → length (filter (is_item n) (items_in db.trees)) ≤ 1
 one_item db house n low =
     let shaped = house.shaped.1.1.1.1.0 in
-    let same : filter (λ r. is_item n (item_row_in r)) (db.trees 6) ≡ filter (λ r. is_int (rowid r) && eqb (number_in (rowid r)) n) (db.trees 6) =
-    filter_same_on (λ r. IsTrue (is_int (rowid r))) (λ r. is_item n (item_row_in r)) (λ r. is_int (rowid r) && eqb (number_in (rowid r)) n) (λ r int. rw int refl) (db.trees 6) shaped.1 in
-    rw (filter-map (is_item n) item_row_in (db.trees 6), length-map (filter (λ r. is_item n (item_row_in r)) (db.trees 6)) item_row_in, same) (one_row (db.trees 6) n shaped (omega arith))
+    let make = item_row_in (reserves_in db.trees) in
+    let same : filter (λ r. is_item n (make r)) (db.trees 6) ≡ filter (λ r. is_int (rowid r) && eqb (number_in (rowid r)) n) (db.trees 6) =
+    filter_same_on (λ r. IsTrue (is_int (rowid r))) (λ r. is_item n (make r)) (λ r. is_int (rowid r) && eqb (number_in (rowid r)) n) (λ r int. rw int refl) (db.trees 6) shaped.1 in
+    rw (filter-map (is_item n) make (db.trees 6), length-map (filter (λ r. is_item n (make r)) (db.trees 6)) make, same) (one_row (db.trees 6) n shaped (omega arith))
 
 all_of_few : {X : Type 0} (P : X → Type 0) (xs : List X) → length xs ≤ 1 → IfSome (slice_get xs 0) P → AllByRecursion P xs
 all_of_few P [] few first = tt
@@ -72,42 +74,53 @@ start_checked db house n low t found fits =
     let row = whole (λ (row : ItemRow). row.item.terms) (find (is_item n) (items_in db.trees)) t found in
     of_found StartFits db house n low row.0 row.1 (subst (λ (terms : Terms). terms.start ≤ most_cents) (sym row.2) fits.start.1)
 
--- ---- the start of a standing
+-- ---- what a standing opens with
 
 -- the bids begin at the start
 abbrev Begins : ItemRow → Type 0
-Begins row = row.item.terms.start ≤ most_cents → opening_of row.standing ≡ record { start = row.item.terms.start; reserve = None }
+Begins row = row.item.terms.start ≤ most_cents → opening_of row.standing ≡ row_opening row
 
-row_begins : (r : Row) → Begins (item_row_in r)
-row_begins r fits =
+row_begins : (reserves : List ReserveRow) (r : Row) → Begins (item_row_in reserves r)
+row_begins reserves r fits =
     let is = fits_state (is_state (column r 10)) (number_in (column r 7)) fits in
-    kept_opening (number_in (column r 7)) (number_in (column r 12)) (maybe_number_in (column r 13)) (maybe_number_in (column r 14)) (maybe_number_in (column r 15)) (number_in (column r 16))
-    ∙ ap (λ n. record { start = n; reserve = None }) (sym (ap (λ b. cond b (number_in (column r 7)) (2 ^ 64)) is))
+    let reserve = amount_of reserves (number_in (column r 0)) in
+    let start = number_in (column r 7) in
+    let opens = kept_opening start reserve (number_in (column r 12)) (maybe_number_in (column r 13)) (maybe_number_in (column r 14)) (maybe_number_in (column r 15)) (number_in (column r 16)) in
+    opens
+    ∙ ap (λ n. record { start = n; reserve = reserve }) (sym (ap (λ b. cond b start (2 ^ 64)) is))
+    ∙ ap (λ (o : Opening). record { start = (item_row_in reserves r).item.terms.start; reserve = o.reserve }) (sym opens)
 
-rows_begin : (rows : List Row) → AllByRecursion Begins (map item_row_in rows)
-rows_begin [] = tt
-rows_begin (r ∷ rows) = (row_begins r, rows_begin rows)
+rows_begin : (reserves : List ReserveRow) (rows : List Row) → AllByRecursion Begins (map (item_row_in reserves) rows)
+rows_begin reserves [] = tt
+rows_begin reserves (r ∷ rows) = (row_begins reserves r, rows_begin reserves rows)
 
 begins : (db : Database) (n : ℕ) (row : ItemRow) → find (is_item n) (items_in db.trees) ≡ Some row → Begins row
-begins db n row found = found_has Begins (is_item n) (items_in db.trees) row (rows_begin (db.trees 6)) found
+begins db n row found = found_has Begins (is_item n) (items_in db.trees) row (rows_begin (reserves_in db.trees) (db.trees 6)) found
 
-pub standing_checked : (db : Database) → IsHouse db → (n : ℕ) → n < 2 ^ 32 → (t : Terms) (opening : Opening) → option_map (λ (row : ItemRow). row.item.terms) (find (is_item n) (items_in db.trees)) ≡ Some t → TermsFit t → opening ≡ record { start = t.start; reserve = None }
-    → OfItem n (StartsAt opening) db
+-- the reserve of a row is that of its number
+row_reserve : (reserves : List ReserveRow) (r : Row) → (item_row_in reserves r).standing.reserve ≡ amount_of reserves (item_row_in reserves r).item.terms.item
+row_reserve reserves r =
+    ap (λ (o : Opening). o.reserve) (kept_opening (number_in (column r 7)) (amount_of reserves (number_in (column r 0))) (number_in (column r 12)) (maybe_number_in (column r 13)) (maybe_number_in (column r 14)) (maybe_number_in (column r 15)) (number_in (column r 16)))
+
+abbrev pub IsReserved : List ReserveRow → ItemRow → Type 0
+IsReserved reserves row = row.standing.reserve ≡ amount_of reserves row.item.terms.item
+
+pub rows_reserved : (reserves : List ReserveRow) (rows : List Row) → AllByRecursion (IsReserved reserves) (map (item_row_in reserves) rows)
+rows_reserved reserves [] = tt
+rows_reserved reserves (r ∷ rows) = (row_reserve reserves r, rows_reserved reserves rows)
+
+pub reserved : (db : Trees) (n : ℕ) (row : ItemRow) → find (is_item n) (items_in db) ≡ Some row → row.standing.reserve ≡ amount_of (reserves_in db) row.item.terms.item
+reserved db n row found = found_has (IsReserved (reserves_in db)) (is_item n) (items_in db) row (rows_reserved (reserves_in db) (db 6)) found
+
+pub standing_checked : (db : Database) → IsHouse db → (n : ℕ) → n < 2 ^ 32 → (t : Terms) (opening : Opening) → option_map (λ (row : ItemRow). row.item.terms) (find (is_item n) (items_in db.trees)) ≡ Some t → TermsFit t
+    → opening ≡ record { start = t.start; reserve = amount_of (reserves_in db.trees) t.item } → OfItem n (StartsAt opening) db
 standing_checked db house n low t opening found fits same =
     let row = whole (λ (row : ItemRow). row.item.terms) (find (is_item n) (items_in db.trees)) t found in
     let within = subst (λ (terms : Terms). terms.start ≤ most_cents) (sym row.2) fits.start.1 in
-    of_found (StartsAt opening) db house n low row.0 row.1 (begins db n row.0 row.1 within ∙ ap (λ (terms : Terms). record { start = terms.start; reserve = None }) row.2 ∙ sym same)
-
--- no row has a reserve
-row_unreserved : (r : Row) → (item_row_in r).standing.reserve ≡ None
-row_unreserved r = ap (λ (o : Opening). o.reserve) (kept_opening (number_in (column r 7)) (number_in (column r 12)) (maybe_number_in (column r 13)) (maybe_number_in (column r 14)) (maybe_number_in (column r 15)) (number_in (column r 16)))
-
-rows_unreserved : (rows : List Row) → AllByRecursion (λ (row : ItemRow). row.standing.reserve ≡ None) (map item_row_in rows)
-rows_unreserved [] = tt
-rows_unreserved (r ∷ rows) = (row_unreserved r, rows_unreserved rows)
-
-pub unreserved : (db : Trees) (n : ℕ) (row : ItemRow) → find (is_item n) (items_in db) ≡ Some row → row.standing.reserve ≡ None
-unreserved db n row found = found_has (λ (row : ItemRow). row.standing.reserve ≡ None) (is_item n) (items_in db) row (rows_unreserved (db 6)) found
+    of_found (StartsAt opening) db house n low row.0 row.1 (
+    begins db n row.0 row.1 within
+    ∙ ap (λ (r : Option ℕ). record { start = row.0.item.terms.start; reserve = r }) (reserved db.trees n row.0 row.1)
+    ∙ ap (λ (terms : Terms). record { start = terms.start; reserve = amount_of (reserves_in db.trees) terms.item }) row.2 ∙ sym same)
 
 -- ---- an item on which nobody has bid
 

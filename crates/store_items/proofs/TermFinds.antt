@@ -29,9 +29,10 @@ use Rattle.house_rows.specs.Editions.{BandTables}
 use Rattle.house_rows.proofs.Put.{by_test}
 use Rattle.store_rows.specs.Schema.{house_schema, item_table}
 use Rattle.store_rows.specs.House.{IsHouse}
-use Rattle.store_rows.specs.ItemRows.{item_row_in, items_in, state_in, terms_of}
+use Rattle.store_rows.specs.declared.reserve.ReserveRow.{ReserveRow}
+use Rattle.store_rows.specs.ItemRows.{item_row_in, items_in, state_in, terms_by}
 use Rattle.store_rows.specs.Plain.{passes, shown_by}
-use Rattle.store_rows.specs.Rows.{number_in}
+use Rattle.store_rows.specs.Rows.{number_in, reserves_in}
 use Rattle.store_rows.proofs.ColumnLemmas.{holds_all}
 use Rattle.store_rows.proofs.RowLemmas.{int_if, equals_number, alone, passing_fit}
 use Rattle.store_rows.proofs.Select.{by_rowid, equals, in_order, listed, typed_part}
@@ -75,40 +76,46 @@ are_rows db house =
         }
 
 module _ (sql : List ℕ) (test : List Term) (is : AsksTerms sql test) (params : Row) (old new : State) (answer : List Row) (house : IsHouse old.now) (h : Shown sql params old new answer) where
+  abbrev R : List ReserveRow
+  R = reserves_in old.now.trees
+
+  abbrev make : Row → ItemRow
+  make r = item_row_in R r
+
   -- a query that keeps some of the items
-  pub terms_found : (keep : ItemRow → Bool) → ((r : Row) → IsRow r → passes test params r ≡ keep (item_row_in r))
-      → map terms_of answer ≡ map (λ (row : ItemRow). row.item.terms) (filter keep (items_in old.now.trees))
+  pub terms_found : (keep : ItemRow → Bool) → ((r : Row) → IsRow r → passes test params r ≡ keep (make r))
+      → map (terms_by R) answer ≡ map (λ (row : ItemRow). row.item.terms) (filter keep (items_in old.now.trees))
   terms_found keep tests =
       let rows = old.now.trees 6 in
       let read = reads_as sql params old new house_schema house.schema _ is.0 is.2 is.1 answer h in
       let order = in_order test terms_shown params rows answer house.shaped.1.1.1.1.0.0 (listed 6 test terms_shown by_rowid (overlay old.now.trees []) params answer (read.answer Null)) in
-      typed_part terms_of item_row_in (λ (row : ItemRow). row.item.terms) keep IsRow test terms_shown params rows answer (λ r. refl) tests (are_rows old.now house) order
+      typed_part (terms_by R) make (λ (row : ItemRow). row.item.terms) keep IsRow test terms_shown params rows answer (λ r. refl) tests (are_rows old.now house) order
 
-  pub terms_held : (editions : BandTables) → AllByRecursion (FitsBy editions) (items_in old.now.trees) → AllByRecursion (TermsHold editions) answer
+  pub terms_held : (editions : BandTables) → AllByRecursion (FitsBy editions) (items_in old.now.trees) → AllByRecursion (TermsHold editions R) answer
   terms_held editions fit =
       let read = reads_as sql params old new house_schema house.schema _ is.0 is.2 is.1 answer h in
       let order = in_order test terms_shown params (old.now.trees 6) answer house.shaped.1.1.1.1.0.0 (listed 6 test terms_shown by_rowid (overlay old.now.trees []) params answer (read.answer Null)) in
-      rows_hold editions (TermsHold editions) terms_shown test params (old.now.trees 6) answer (terms_row editions params) order fit
+      rows_hold editions R (TermsHold editions R) terms_shown test params (old.now.trees 6) answer (terms_row editions R params) order fit
 
   -- where the items that the query keeps fit
-  pub terms_kept : (keep : ItemRow → Bool) → ((r : Row) → IsRow r → passes test params r ≡ keep (item_row_in r)) → (editions : BandTables) → FitWhere keep (FitsBy editions) (items_in old.now.trees)
-      → AllByRecursion (TermsHold editions) answer
+  pub terms_kept : (keep : ItemRow → Bool) → ((r : Row) → IsRow r → passes test params r ≡ keep (make r)) → (editions : BandTables) → FitWhere keep (FitsBy editions) (items_in old.now.trees)
+      → AllByRecursion (TermsHold editions R) answer
   terms_kept keep tests editions fit =
       let rows = old.now.trees 6 in
       let kept = filter (passes test params) rows in
       let show = shown_by terms_shown params in
       let read = reads_as sql params old new house_schema house.schema _ is.0 is.2 is.1 answer h in
       let order = in_order test terms_shown params rows answer house.shaped.1.1.1.1.0.0 (listed 6 test terms_shown by_rowid (overlay old.now.trees []) params answer (read.answer Null)) in
-      let each = passing_fit item_row_in (FitsBy editions) keep IsRow (passes test params) tests rows (are_rows old.now house) fit in
-      subst (AllByRecursion (TermsHold editions)) (sym order) (all_map (TermsHold editions) show kept (all_weaker (λ r. FitsBy editions (item_row_in r)) (λ r. TermsHold editions (show r)) (terms_row editions params) kept each))
+      let each = passing_fit make (FitsBy editions) keep IsRow (passes test params) tests rows (are_rows old.now house) fit in
+      subst (AllByRecursion (TermsHold editions R)) (sym order) (all_map (TermsHold editions R) show kept (all_weaker (λ r. FitsBy editions (make r)) (λ r. TermsHold editions R (show r)) (terms_row editions R params) kept each))
 
 -- ---- the tests
 
-pub seller_test : (seller : ℕ) → seller < 2 ^ 32 → (r : Row) → IsRow r → passes (equals 2 ∷ []) (Int (pos seller) ∷ []) r ≡ ((item_row_in r).item.terms.seller == seller)
-seller_test seller low r is = rw (equals_number (column r 2) seller is.seller low) (alone _)
+pub seller_test : (reserves : List ReserveRow) (seller : ℕ) → seller < 2 ^ 32 → (r : Row) → IsRow r → passes (equals 2 ∷ []) (Int (pos seller) ∷ []) r ≡ ((item_row_in reserves r).item.terms.seller == seller)
+seller_test reserves seller low r is = rw (equals_number (column r 2) seller is.seller low) (alone _)
 
-pub leader_test : (member : ℕ) → member < 2 ^ 32 → (r : Row) → IsRow r → passes (equals 13 ∷ []) (Int (pos member) ∷ []) r ≡ is_leader (item_row_in r).item.terms.leader member
-leader_test member low r is = rw (equals_maybe (column r 13) member is.leader low) (alone _)
+pub leader_test : (reserves : List ReserveRow) (member : ℕ) → member < 2 ^ 32 → (r : Row) → IsRow r → passes (equals 13 ∷ []) (Int (pos member) ∷ []) r ≡ is_leader (item_row_in reserves r).item.terms.leader member
+leader_test reserves member low r is = rw (equals_maybe (column r 13) member is.leader low) (alone _)
 
 open_state : (v : Value) → eqb (number_in v) 0 ≡ is_open (state_in v)
 open_state v =
@@ -120,8 +127,8 @@ open_state v =
       ])
     ]
 
-pub due_test : (moment : ℕ) → moment < 2 ^ 32 → (r : Row) → IsRow r → passes ended_by (Int (pos moment) ∷ []) r ≡ is_due moment (item_row_in r).item.terms
-due_test moment low r is =
+pub due_test : (reserves : List ReserveRow) (moment : ℕ) → moment < 2 ^ 32 → (r : Row) → IsRow r → passes ended_by (Int (pos moment) ∷ []) r ≡ is_due moment (item_row_in reserves r).item.terms
+due_test reserves moment low r is =
     rw (equals_number (column r 10) 0 is.state (omega arith))
     (ap (λ b. eqb (number_in (column r 10)) 0 && b) (ap (λ b. is_true (binary (Compare Ge Binary) (column r 9) (Int (pos 0))) && b) (alone (is_true (binary (Compare Le Binary) (column r 9) (Int (pos moment))))) ∙ within (column r 9) moment is.ending low)
     ∙ ap (λ b. b && nat_le (number_in (column r 9)) moment) (open_state (column r 10)))

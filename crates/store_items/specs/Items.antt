@@ -8,19 +8,21 @@ use Rattle.house_rows.specs.Limits.{most_cents}
 use Rattle.house_rows.specs.Tables.{ItemRow}
 use Rattle.store_rows.specs.House.{IsHouse, KeepsOthers}
 use Rattle.store_rows.specs.ItemRows.{items_in}
+use Rattle.store_rows.specs.Rows.{reserves_in}
 
--- one more item, the last where its number is over every other
+-- one more item without a reserve, the last where its number is over every other, that of each reserve among them
 pub record AddsItem (row : ItemRow) (old new : Database) : Type 0 where
   pub house : IsHouse new
   pub others : KeepsOthers 6 old new
   pub items : All (λ r. r.item.terms.item < row.item.terms.item) (items_in old.trees)
+      → All (λ r. r.item < row.item.terms.item) (reserves_in old.trees)
       → items_in new.trees ≡ items_in old.trees ++ row ∷ []
 
 -- of each row with the number
 abbrev pub OfItem : ℕ → (ItemRow → Type 0) → Database → Type 0
 OfItem item P db = All (λ row. is_item item row ≡ true → P row) (items_in db.trees)
 
--- the item stands as its bids now do, if the start is its own, and who leads has a top
+-- the item stands as its bids now do, if start and reserve are its own, and who leads has a top
 pub record SetsStanding (item : ℕ) (kept : Kept) (old new : Database) : Type 0 where
   pub house : IsHouse new
   pub others : KeepsOthers 6 old new

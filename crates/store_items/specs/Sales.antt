@@ -26,10 +26,10 @@ IsUnbid row = (row.item.terms.start ≤ most_cents) × (row.standing.price ≡ r
 abbrev pub StartsAt : Opening → ItemRow → Type 0
 StartsAt opening row = opening_of row.standing ≡ opening
 
--- the items are closed in turn, each as sold where somebody leads
+-- the items are closed in turn, each as sold where the close sells it
 abbrev pub with_ends : List Terms → ItemRow → ItemRow
 with_ends [] row = row
-with_ends (t ∷ ts) row = with_ends ts (with_end t.item (close_sells t.leader) row)
+with_ends (t ∷ ts) row = with_ends ts (with_end t.item (close_sells t.leader t.met) row)
 
 -- every item is made another, and the other tables are as they were
 pub record SetsItems (f : ItemRow → ItemRow) (old new : Database) : Type 0 where

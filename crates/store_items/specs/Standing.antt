@@ -1,5 +1,5 @@
 -- Items that stand, as a reader of their rows tests it.
-use Rattle.std.specs.Prelude.{◌≡◌, ◌≤◌, ◌<◌, ◌+◌, ℕ, Bool, true, false, ◌==◌, ◌&&◌, ◌||◌, List, length, Option, Some, None, is_none, IfSome}
+use Rattle.std.specs.Prelude.{◌≡◌, ◌≤◌, ◌<◌, ◌+◌, ℕ, Bool, true, false, ◌==◌, ◌&&◌, ◌||◌, List, length, Option, Some, None, is_none, is_some, nat_le, nat_lt, IfSome}
 use Rattle.sqlite_value.specs.Order.{Row, column}
 use Rattle.proxy.specs.Rows.{is_shape}
 use Rattle.house_rows.specs.declared.item.Terms.{Terms}
@@ -8,31 +8,49 @@ use Rattle.house_rows.specs.Fits.{ItemFits, TermsFit}
 use Rattle.house_rows.specs.Limits.{most_cents}
 use Rattle.house_rows.specs.Verdict.{was_sold}
 use Rattle.store_rows.specs.Rows.{maybe_number_in}
-use Rattle.store_rows.specs.ItemRows.{item_of, terms_of}
+use Rattle.store_rows.specs.declared.reserve.ReserveRow.{ReserveRow}
+use Rattle.store_rows.specs.ItemRows.{amount_of, item_of, terms_of}
 
 abbrev pub is_price : Option ℕ → ℕ → Bool
 is_price None price = false
 is_price (Some amount) price = amount == price
 
--- nobody has bid, and the item was sold at its buy-now price
+-- nobody has bid, and the item was sold to somebody at its buy-now price
 abbrev pub is_bought : Terms → Bool
-is_bought t = was_sold t.state && ((t.count == 0) && is_price t.buy_now t.price)
+is_bought t = was_sold t.state && (is_some t.leader && ((t.count == 0) && is_price t.buy_now t.price))
 
--- by what is sealed of their bids, the terms stand
-abbrev pub stands : List (ℕ × ℕ) → Terms → Option ℕ → Option ℕ → Bool
-stands bands t top second = (is_none top && is_none second && is_bought t)
-    || is_shape bands (record { start = t.start; reserve = None }) t.price t.count t.leader top second
+-- an amount is at most the buy-now price, if there is one
+abbrev pub is_at_most : Option ℕ → ℕ → Bool
+is_at_most None amount = true
+is_at_most (Some most) amount = nat_le amount most
+
+-- a reserve, if there is one, is over the start and at most the buy-now price
+abbrev pub is_reserve : Terms → Option ℕ → Bool
+is_reserve t None = true
+is_reserve t (Some amount) = nat_lt t.start amount && is_at_most t.buy_now amount
+
+-- by what is sealed of their bids, the terms stand: as a purchase, or as a standing
+abbrev pub is_told : List (ℕ × ℕ) → Terms → Option ℕ → Option ℕ → Option ℕ → Bool
+is_told bands t reserve top second = (is_none top && is_none second && is_bought t)
+    || is_shape bands (record { start = t.start; reserve = reserve }) t.price t.count t.leader top second
+
+-- by the reserve and by what is sealed of their bids, the terms stand
+abbrev pub stands : List (ℕ × ℕ) → Terms → Option ℕ → Option ℕ → Option ℕ → Bool
+stands bands t reserve top second = is_reserve t reserve && is_told bands t reserve top second
 
 -- the columns from one on hold what is sealed, and the terms stand by it
-pub record AreSealed (bands : List (ℕ × ℕ)) (at : ℕ) (r : Row) : Type 0 where
+pub record AreSealed (bands : List (ℕ × ℕ)) (reserve : Option ℕ) (at : ℕ) (r : Row) : Type 0 where
   pub wide : at + 1 < length r
   pub top : IfSome (maybe_number_in (column r at)) (λ n. n ≤ most_cents)
   pub second : IfSome (maybe_number_in (column r (at + 1))) (λ n. n ≤ most_cents)
-  pub stands : stands bands (terms_of r) (maybe_number_in (column r at)) (maybe_number_in (column r (at + 1))) ≡ true
+  pub stands : stands bands (terms_of r) reserve (maybe_number_in (column r at)) (maybe_number_in (column r (at + 1)))
+      ≡ true
 
 -- what a query shows of an item, its maxima after the terms, or after the texts
-abbrev pub TermsHold : BandTables → Row → Type 0
-TermsHold editions r = TermsFit (terms_of r) × AreSealed (bands_in editions (terms_of r).item) 11 r
+abbrev pub TermsHold : BandTables → List ReserveRow → Row → Type 0
+TermsHold editions reserves r = TermsFit (terms_of r)
+    × AreSealed (bands_in editions (terms_of r).item) (amount_of reserves (terms_of r).item) 11 r
 
-abbrev pub ItemHolds : BandTables → Row → Type 0
-ItemHolds editions r = ItemFits (item_of r) × AreSealed (bands_in editions (item_of r).terms.item) 14 r
+abbrev pub ItemHolds : BandTables → List ReserveRow → Row → Type 0
+ItemHolds editions reserves r = ItemFits (item_of r)
+    × AreSealed (bands_in editions (item_of r).terms.item) (amount_of reserves (item_of r).terms.item) 14 r

@@ -7,8 +7,9 @@ ghost use Rattle.house_rows.specs.Asks.{ChangeFits, IsFree, PurchaseFits};
 ghost use Rattle.house_rows.specs.Keeping.{AreSound};
 ghost use Rattle.house_rows.specs.declared.change.Change.TheVariants.{Buy};
 ghost use Rattle.house_rows.specs.declared.fault.KeepFault.TheVariants.{Damaged};
-ghost use Rattle.store_rows.specs.House.{IsBegun, Serves};
+ghost use Rattle.store_rows.specs.House.{IsBegun, ServesBy};
 ghost use Rattle.store_items.specs.Items.{OfItem};
+ghost use Rattle.store_rows.specs.Rows.{reserves_in};
 ghost use Rattle.store_rows.specs.Tables.{Changes, IsNumbered, Rests, tables_in};
 ghost use Rattle.store_items.specs.RowsStanding.{HasStandingItem};
 ghost use Rattle.store_items.specs.Sales.{IsUnbid};
@@ -18,9 +19,10 @@ ghost use Rattle.store_rows.specs.Commits.{Commits};
 use crate::item::set_bought;
 use crate::looking::{standing_there, terms_there};
 use cents::Cents;
-use house_rows::{Editions, KeepFault, Terms};
+use house_rows::{KeepFault, Terms};
 use proxy::Standing;
 use sqlite::{Alter, Connection, Transaction};
+use store_reserves::Rules;
 use store_rows::{commit, set_clock, stored_moment};
 
 // Whether nobody has bid. Of an item that was bought the standing is that of no bids, too.
@@ -34,24 +36,24 @@ fn is_unbid(terms: &Terms, standing: &Standing) -> bool
 // Whether nobody has bid on an item; Damaged where somebody has.
 fn check_unbid<S: Alter>(
     conn: &mut Connection<S>,
-    editions: &Editions,
+    rules: &Rules,
     item: u32,
 ) -> Result<(), KeepFault>
-    requires { Serves (state S.Store conn.old) }
+    requires { ServesBy rules.now.reserves (state S.Store conn.old) }
     ensures there { HasCleanDisk (state S.Store conn.new)
-        → OnOk result (HasStandingItem editions.now (state S.Store conn.old).now.trees item) }
+        → OnOk result (HasStandingItem rules.now.editions (state S.Store conn.old).now.trees item) }
     ensures unbid { HasCleanDisk (state S.Store conn.new)
         → OnOk result (OfItem item IsUnbid (state S.Store conn.old).now) }
     ensures damaged { HasCleanDisk (state S.Store conn.new)
         → AreSound (tables_in (state S.Store conn.old).now.trees)
-        → editions.now ≡ band_tables (tables_in (state S.Store conn.old).now.trees)
+        → rules.now.editions ≡ band_tables (tables_in (state S.Store conn.old).now.trees)
         → (moment buyer price : ℕ)
         → PurchaseFits (tables_in (state S.Store conn.old).now.trees) moment item buyer price
         → ¬ (IsErrOf result Damaged) }
     ensures read { OnlyReads (state S.Store conn.old) (state S.Store conn.new) result }
 {
-    let terms = terms_there(conn, editions, item)?;
-    let standing = standing_there(conn, editions, item)?;
+    let terms = terms_there(conn, rules, item)?;
+    let standing = standing_there(conn, rules, item)?;
     if is_unbid(&terms, &standing) {
         Ok(())
     } else {
@@ -90,7 +92,7 @@ fn write_purchase<S: Alter>(
 /// 32 bits.
 pub fn buy<S: Alter>(
     conn: &mut Connection<S>,
-    editions: &Editions,
+    rules: &Rules,
     moment: u64,
     item: u32,
     buyer: u32,
@@ -99,11 +101,13 @@ pub fn buy<S: Alter>(
     requires rests { Rests (state S.Store conn.old) }
     requires mode { conn.old.in_transaction ≡ false }
     requires editions { HasCleanDisk (state S.Store conn.old)
-        → editions.now ≡ band_tables (tables_in (state S.Store conn.old).now.trees) }
+        → rules.now.editions ≡ band_tables (tables_in (state S.Store conn.old).now.trees) }
+    requires reserves { HasCleanDisk (state S.Store conn.old)
+        → rules.now.reserves ≡ reserves_in (state S.Store conn.old).now.trees }
     ensures commit { Commits (Buy moment item buyer price) (state S.Store conn.old)
         (state S.Store conn.new) result }
     ensures there { HasCleanDisk (state S.Store conn.new)
-        → OnOk result (HasStandingItem editions.now (state S.Store conn.old).now.trees item) }
+        → OnOk result (HasStandingItem rules.now.editions (state S.Store conn.old).now.trees item) }
     ensures unbid { HasCleanDisk (state S.Store conn.new)
         → OnOk result (OfItem item IsUnbid (state S.Store conn.old).now) }
     ensures moment { OnOk result (moment < 2 ^ 32) }
@@ -114,7 +118,7 @@ pub fn buy<S: Alter>(
         → ¬ (IsErrOf result Damaged) }
 {
     let moment = stored_moment(moment)?;
-    check_unbid(conn, editions, item)?;
+    check_unbid(conn, rules, item)?;
     let mut tx = conn.transaction();
     write_purchase(&mut tx, moment, item, buyer, price)?;
     commit(tx)

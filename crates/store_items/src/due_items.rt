@@ -8,27 +8,29 @@ ghost use Rattle.house_rows.specs.Items.{close_sells, is_due};
 ghost use Rattle.house_rows.specs.Keeping.{AreSoundBy, FitsBy};
 ghost use Rattle.house_rows.specs.Taken.{FitWhere};
 ghost use Rattle.house_rows.specs.declared.fault.KeepFault.TheVariants.{Damaged};
-ghost use Rattle.store_rows.specs.House.{Serves};
+ghost use Rattle.store_rows.specs.House.{ServesBy};
 ghost use Rattle.store_rows.specs.ItemRows.{items_in};
 ghost use Rattle.store_rows.specs.Tables.{tables_in};
 ghost use Rattle.store_items.specs.RowsStanding.{RowsStand};
 ghost use Rattle.store_rows.specs.Frames.{OnlyReads};
 
+use crate::ending::close_sells;
 use crate::terms::due_terms;
-use house_rows::{Due, Editions, KeepFault, Terms};
+use house_rows::{Due, KeepFault, Terms};
 use sqlite::{Alter, Connection};
 use std::alloc::Global;
+use store_reserves::Rules;
 use store_rows::bound_of;
 
-// How many of the items somebody leads, and how many nobody.
+// How many of the items a close sells, and how many it doesn't.
 fn counts_of(due: &[Terms]) -> Due
-    ensures sold { result.sold ≡ counted (λ t. close_sells t.leader) due.now }
-    ensures unsold { result.unsold ≡ counted (λ t. not (close_sells t.leader)) due.now }
+    ensures sold { result.sold ≡ counted (λ t. close_sells t.leader t.met) due.now }
+    ensures unsold { result.unsold ≡ counted (λ t. not (close_sells t.leader t.met)) due.now }
 {
     let mut sold = 0;
     let mut unsold = 0;
     for terms in due {
-        if terms.leader.is_some() {
+        if close_sells(terms) {
             sold += 1;
         } else {
             unsold += 1;
@@ -41,25 +43,25 @@ fn counts_of(due: &[Terms]) -> Due
 fn due_by<S: Alter>(
     alloc: Global,
     conn: &mut Connection<S>,
-    editions: &Editions,
+    rules: &Rules,
     moment: u32,
 ) -> Result<Due, KeepFault>
-    requires { Serves (state S.Store conn.old) }
+    requires { ServesBy rules.now.reserves (state S.Store conn.old) }
     ensures value { HasCleanDisk (state S.Store conn.new)
         → IfOk result (λ due. due ≡ due_at (tables_in (state S.Store conn.old).now.trees) moment) }
     ensures stands { HasCleanDisk (state S.Store conn.new)
-        → OnOk result (RowsStand editions.now (λ row. is_due moment row.item.terms)
+        → OnOk result (RowsStand rules.now.editions (λ row. is_due moment row.item.terms)
         (state S.Store conn.old).now.trees) }
     ensures damaged { HasCleanDisk (state S.Store conn.new)
-        → AreSoundBy editions.now (tables_in (state S.Store conn.old).now.trees)
+        → AreSoundBy rules.now.editions (tables_in (state S.Store conn.old).now.trees)
         → ¬ (IsErrOf result Damaged) }
     ensures here { HasCleanDisk (state S.Store conn.new)
-        → FitWhere (λ row. is_due moment row.item.terms) (FitsBy editions.now)
+        → FitWhere (λ row. is_due moment row.item.terms) (FitsBy rules.now.editions)
         (items_in (state S.Store conn.old).now.trees)
         → ¬ (IsErrOf result Damaged) }
     ensures read { OnlyReads (state S.Store conn.old) (state S.Store conn.new) result }
 {
-    let due = due_terms(alloc, conn, editions, moment)?;
+    let due = due_terms(alloc, conn, rules, moment)?;
     Ok(counts_of(&due))
 }
 
@@ -69,23 +71,23 @@ fn due_by<S: Alter>(
 pub fn due<S: Alter>(
     alloc: Global,
     conn: &mut Connection<S>,
-    editions: &Editions,
+    rules: &Rules,
     moment: u64,
 ) -> Result<Due, KeepFault>
-    requires { Serves (state S.Store conn.old) }
+    requires { ServesBy rules.now.reserves (state S.Store conn.old) }
     ensures value { HasCleanDisk (state S.Store conn.new)
         → IfOk result (λ due. due ≡ due_at (tables_in (state S.Store conn.old).now.trees) moment) }
     ensures stands { HasCleanDisk (state S.Store conn.new)
-        → OnOk result (RowsStand editions.now (λ row. is_due moment row.item.terms)
+        → OnOk result (RowsStand rules.now.editions (λ row. is_due moment row.item.terms)
         (state S.Store conn.old).now.trees) }
     ensures damaged { HasCleanDisk (state S.Store conn.new)
-        → AreSoundBy editions.now (tables_in (state S.Store conn.old).now.trees)
+        → AreSoundBy rules.now.editions (tables_in (state S.Store conn.old).now.trees)
         → ¬ (IsErrOf result Damaged) }
     ensures here { HasCleanDisk (state S.Store conn.new)
-        → FitWhere (λ row. is_due moment row.item.terms) (FitsBy editions.now)
+        → FitWhere (λ row. is_due moment row.item.terms) (FitsBy rules.now.editions)
         (items_in (state S.Store conn.old).now.trees)
         → ¬ (IsErrOf result Damaged) }
     ensures read { OnlyReads (state S.Store conn.old) (state S.Store conn.new) result }
 {
-    due_by(alloc, conn, editions, bound_of(moment))
+    due_by(alloc, conn, rules, bound_of(moment))
 }

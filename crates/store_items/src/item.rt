@@ -1,5 +1,5 @@
 //! The table of items: what is written.
-ghost use Rattle.std.specs.Prelude.{◌≡◌, ◌<◌, ◌^◌, IfSome, if◌then◌else◌, OnOk, IsErrOf};
+ghost use Rattle.std.specs.Prelude.{◌≡◌, ◌<◌, ◌^◌, IfSome, None, if◌then◌else◌, OnOk, IsErrOf};
 ghost use Rattle.sqlite.specs.State.{HasCleanDisk};
 ghost use Rattle.sqlite.specs.Held.{state};
 ghost use Rattle.house_rows.specs.Changed.{new_item};
@@ -56,7 +56,8 @@ fn stored_text(text: &str) -> &str
     text
 }
 
-/// Adds an item with a number and an end, open and with no bid, within a transaction.
+/// Adds an item with a number and an end, open, with no bid and without its reserve, within a
+/// transaction.
 pub(crate) fn put_item<S: Alter>(
     tx: &mut Transaction<'_, S>,
     number: u32,
@@ -66,7 +67,7 @@ pub(crate) fn put_item<S: Alter>(
     requires { IsBegun (state S.Store tx.old.conn.now) }
     ensures same_reference { tx.new.conn.ghost_name ≡ tx.old.conn.ghost_name }
     ensures ok { HasCleanDisk (state S.Store tx.new.conn.now)
-        → OnOk result (AddsItem (new_item number (record item.now { end = end }))
+        → OnOk result (AddsItem (new_item number (record item.now { end = end; reserve = None }))
         (state S.Store tx.old.conn.now).now (state S.Store tx.new.conn.now).now) }
     ensures sound { ¬ (IsErrOf result Damaged) }
     ensures write { WritesOnce (state S.Store tx.old.conn.now)

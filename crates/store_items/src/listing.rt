@@ -3,13 +3,14 @@ ghost use Rattle.std.specs.Prelude.{◌≡◌, ◌<◌, ◌+◌, ◌^◌, false,
 ghost use Rattle.sqlite.specs.State.{HasCleanDisk};
 ghost use Rattle.sqlite.specs.Held.{state};
 ghost use Rattle.house_rows.specs.Asks.{ChangeFits, IsFree};
+ghost use Rattle.house_rows.specs.Changed.{new_item};
 ghost use Rattle.house_rows.specs.Keeping.{AreSound};
 ghost use Rattle.house_rows.specs.declared.change.Change.TheVariants.{List};
 ghost use Rattle.house_rows.specs.declared.fault.KeepFault.TheVariants.{Damaged};
 ghost use Rattle.store_rows.specs.House.{IsBegun};
 ghost use Rattle.store_rows.specs.ItemRows.{items_in};
 ghost use Rattle.store_rows.specs.Tables.{Changes, IsNumbered, Rests, tables_in};
-ghost use Rattle.store_items.specs.Listed.{listed};
+ghost use Rattle.store_items.specs.Listed.{AddsListing, listed};
 ghost use Rattle.store_rows.specs.Frames.{WritesMany};
 ghost use Rattle.store_rows.specs.Commits.{Commits};
 
@@ -17,7 +18,35 @@ use crate::item::put_item;
 use crate::item_reads::item_with_lot;
 use house_rows::{KeepFault, NewItem};
 use sqlite::{Alter, Connection, Transaction};
+use store_reserves::put_reserve;
 use store_rows::{fault_of, set_clock, stored_moment};
+
+// The item with its reserve, if it has one.
+fn put_listing<S: Alter>(
+    tx: &mut Transaction<'_, S>,
+    number: u32,
+    item: &NewItem<'_>,
+    end: u32,
+) -> Result<(), KeepFault>
+    requires begun { IsBegun (state S.Store tx.old.conn.now) }
+    requires numbered { HasCleanDisk (state S.Store tx.old.conn.now)
+        → IsNumbered (state S.Store tx.old.conn.now).now.trees }
+    requires next { HasCleanDisk (state S.Store tx.old.conn.now)
+        → number ≡ length (items_in (state S.Store tx.old.conn.now).now.trees) + 1 }
+    ensures same_reference { tx.new.conn.ghost_name ≡ tx.old.conn.ghost_name }
+    ensures ok { HasCleanDisk (state S.Store tx.new.conn.now)
+        → OnOk result (AddsListing (new_item number (record item.now { end = end }))
+        (state S.Store tx.old.conn.now).now (state S.Store tx.new.conn.now).now) }
+    ensures sound { ¬ (IsErrOf result Damaged) }
+    ensures write { WritesMany (state S.Store tx.old.conn.now)
+        (state S.Store tx.new.conn.now) result }
+{
+    put_item(tx, number, item, end)?;
+    match item.reserve {
+        Some(reserve) => put_reserve(tx, number, reserve),
+        None => Ok(()),
+    }
+}
 
 // The item and the clock, whether or not its lot is free.
 fn list_within<S: Alter>(
@@ -40,7 +69,7 @@ fn list_within<S: Alter>(
     ensures write { WritesMany (state S.Store tx.old.conn.now)
         (state S.Store tx.new.conn.now) result }
 {
-    put_item(tx, number, item, end)?;
+    put_listing(tx, number, item, end)?;
     set_clock(tx, moment)
 }
 
@@ -68,9 +97,9 @@ fn commit_list<S: Alter>(
     }
 }
 
-/// Lists an item with the next number. The moment is in seconds since 1970-01-01T00:00:00Z. Where the
-/// seller has an item with the lot, it is `Damaged`, and so is a moment or an end of more than 32
-/// bits.
+/// Lists an item with the next number, and its reserve, if it has one. The moment is in seconds
+/// since 1970-01-01T00:00:00Z. Where the seller has an item with the lot, it is `Damaged`, and so
+/// is a moment or an end of more than 32 bits.
 pub fn list<S: Alter>(
     conn: &mut Connection<S>,
     number: u32,

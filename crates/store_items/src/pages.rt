@@ -10,15 +10,16 @@ ghost use Rattle.house_rows.specs.Tables.{ItemRow};
 ghost use Rattle.house_rows.specs.declared.fault.KeepFault.TheVariants.{Damaged};
 ghost use Rattle.sqlite.specs.State.{HasCleanDisk};
 ghost use Rattle.sqlite.specs.Held.{state};
-ghost use Rattle.store_rows.specs.House.{Serves};
+ghost use Rattle.store_rows.specs.House.{ServesBy};
 ghost use Rattle.store_rows.specs.ItemRows as stored;
 ghost use Rattle.store_rows.specs.Tables.{tables_in};
 ghost use Rattle.store_rows.specs.Frames.{OnlyReads};
 
 use crate::reads::item_list;
-use house_rows::{Editions, Item, KeepFault};
+use house_rows::{Item, KeepFault};
 use sqlite::{Alter, Connection, params};
 use std::alloc::Global;
+use store_reserves::Rules;
 use store_rows::{bound_of, page_rows};
 
 // The items of a category, from a number on; at most fifty. It is damaged only where one of the rows
@@ -26,11 +27,11 @@ use store_rows::{bound_of, page_rows};
 fn items_from<S: Alter>(
     alloc: Global,
     conn: &mut Connection<S>,
-    editions: &Editions,
+    rules: &Rules,
     category: u32,
     from: u32,
 ) -> Result<Vec<Item>, KeepFault>
-    requires { Serves (state S.Store conn.old) }
+    requires { ServesBy rules.now.reserves (state S.Store conn.old) }
     ensures items { HasCleanDisk (state S.Store conn.new)
         → IfOk result (λ items. items.items ≡ take most_shown
         (filter (λ it. (it.terms.category == category) && nat_le from it.terms.item)
@@ -38,13 +39,13 @@ fn items_from<S: Alter>(
         (state S.Store conn.old).now.trees)))) }
     ensures fits { IfOk result (λ items. AllByRecursion ItemFits items.items) }
     ensures stands { IfOk result (λ items. AllByRecursion
-        (λ it. StandsBy editions.now it.terms) items.items) }
+        (λ it. StandsBy rules.now.editions it.terms) items.items) }
     ensures damaged { HasCleanDisk (state S.Store conn.new)
-        → AllByRecursion (FitsBy editions.now)
+        → AllByRecursion (FitsBy rules.now.editions)
         (stored.items_in (state S.Store conn.old).now.trees)
         → ¬ (IsErrOf result Damaged) }
     ensures reached { HasCleanDisk (state S.Store conn.new)
-        → AllByRecursion (FitsBy editions.now) (take most_shown
+        → AllByRecursion (FitsBy rules.now.editions) (take most_shown
         (filter (λ row. (row.item.terms.category == category) && nat_le from row.item.terms.item)
         (stored.items_in (state S.Store conn.old).now.trees)))
         → ¬ (IsErrOf result Damaged) }
@@ -58,35 +59,35 @@ fn items_from<S: Alter>(
         "SELECT id, seller, category, start, buy_now, ending, state, closed, price, leader, count, lot, title, body, top, second FROM item WHERE category = ?1 AND id >= ?2 ORDER BY id",
         params![category, from],
     )?;
-    item_list(alloc, editions, &rows)
+    item_list(alloc, rules, &rows)
 }
 
 /// The items of a category, from a number on; at most fifty.
 pub fn items_in<S: Alter>(
     alloc: Global,
     conn: &mut Connection<S>,
-    editions: &Editions,
+    rules: &Rules,
     category: u32,
     from: u64,
 ) -> Result<Vec<Item>, KeepFault>
-    requires { Serves (state S.Store conn.old) }
+    requires { ServesBy rules.now.reserves (state S.Store conn.old) }
     ensures items { HasCleanDisk (state S.Store conn.new)
         → IfOk result (λ items. items.items ≡ items_in
         (tables_in (state S.Store conn.old).now.trees) category from) }
     ensures fits { IfOk result (λ items. AllByRecursion ItemFits items.items) }
     ensures stands { IfOk result (λ items. AllByRecursion
-        (λ it. StandsBy editions.now it.terms) items.items) }
+        (λ it. StandsBy rules.now.editions it.terms) items.items) }
     ensures damaged { HasCleanDisk (state S.Store conn.new)
-        → AllByRecursion (FitsBy editions.now)
+        → AllByRecursion (FitsBy rules.now.editions)
         (stored.items_in (state S.Store conn.old).now.trees)
         → ¬ (IsErrOf result Damaged) }
     ensures reached { HasCleanDisk (state S.Store conn.new)
-        → AllByRecursion (FitsBy editions.now) (take most_shown
+        → AllByRecursion (FitsBy rules.now.editions) (take most_shown
         (filter (λ row. (row.item.terms.category == category)
         && nat_le (start_of from) row.item.terms.item)
         (stored.items_in (state S.Store conn.old).now.trees)))
         → ¬ (IsErrOf result Damaged) }
     ensures read { OnlyReads (state S.Store conn.old) (state S.Store conn.new) result }
 {
-    items_from(alloc, conn, editions, category, bound_of(from))
+    items_from(alloc, conn, rules, category, bound_of(from))
 }

@@ -13,7 +13,7 @@ ghost use Rattle.house_rows.specs.Limits.{most_items};
 ghost use Rattle.house_rows.specs.Pages.{sale_of};
 ghost use Rattle.house_rows.specs.declared.fault.KeepFault.TheVariants.{Damaged};
 ghost use Rattle.house_rows.specs.declared.item.Terms.{Terms as TermsRow};
-ghost use Rattle.store_rows.specs.House.{Serves};
+ghost use Rattle.store_rows.specs.House.{ServesBy};
 ghost use Rattle.store_rows.specs.ItemRows.{items_in};
 ghost use Rattle.store_rows.specs.Tables.{tables_in};
 ghost use Rattle.store_rows.specs.Joined.{found_of};
@@ -23,11 +23,12 @@ ghost use Rattle.store_rows.specs.Frames.{OnlyReads};
 
 use crate::item_reads::all_items;
 use crate::terms::{terms_led_by, terms_of_seller};
-use house_rows::{Editions, KeepFault, State, Terms};
+use house_rows::{KeepFault, State, Terms};
 use list_rows::push;
 use settle::Sold;
 use sqlite::{Alter, Connection};
 use std::alloc::Global;
+use store_reserves::Rules;
 
 // The sale of an item of these terms, if it was sold.
 fn sale(terms: &Terms) -> Option<Sold>
@@ -101,34 +102,34 @@ fn by_number(mut sold: Vec<Terms>, mut led: Vec<Terms>) -> Result<Vec<Terms>, Ke
 fn sales_of_member<S: Alter>(
     alloc: Global,
     conn: &mut Connection<S>,
-    editions: &Editions,
+    rules: &Rules,
     member: u32,
 ) -> Result<Vec<Sold>, KeepFault>
-    requires serves { Serves (state S.Store conn.old) }
+    requires serves { ServesBy rules.now.reserves (state S.Store conn.old) }
     requires numbered { 1 ≤ member }
     ensures value { HasCleanDisk (state S.Store conn.new)
         → IfOk result (λ sales. sales.items ≡ sales_to
         (tables_in (state S.Store conn.old).now.trees) member) }
     ensures stands { HasCleanDisk (state S.Store conn.new)
-        → OnOk result (RowsStand editions.now
+        → OnOk result (RowsStand rules.now.editions
         (λ row. list_any (is_party member) (sale_of row.item.terms))
         (state S.Store conn.old).now.trees) }
     ensures fits { IfOk result (λ sales. All IsSale sales.items) }
     ensures apart { IfOk result (λ sales. AllPairs (λ a b. a.item ≢ b.item) sales.items) }
     ensures few { IfOk result (λ sales. length sales.items ≤ most_items) }
     ensures damaged { HasCleanDisk (state S.Store conn.new)
-        → AreSoundBy editions.now (tables_in (state S.Store conn.old).now.trees)
+        → AreSoundBy rules.now.editions (tables_in (state S.Store conn.old).now.trees)
         → ¬ (IsErrOf result Damaged) }
     ensures here { HasCleanDisk (state S.Store conn.new)
-        → FitWhere (λ row. row.item.terms.seller == member) (FitsBy editions.now)
+        → FitWhere (λ row. row.item.terms.seller == member) (FitsBy rules.now.editions)
         (items_in (state S.Store conn.old).now.trees)
-        → FitWhere (λ row. is_leader row.item.terms.leader member) (FitsBy editions.now)
+        → FitWhere (λ row. is_leader row.item.terms.leader member) (FitsBy rules.now.editions)
         (items_in (state S.Store conn.old).now.trees)
         → ¬ (IsErrOf result Damaged) }
     ensures read { OnlyReads (state S.Store conn.old) (state S.Store conn.new) result }
 {
-    let sold = terms_of_seller(alloc, conn, editions, member)?;
-    let led = terms_led_by(alloc, conn, editions, member)?;
+    let sold = terms_of_seller(alloc, conn, rules, member)?;
+    let led = terms_led_by(alloc, conn, rules, member)?;
     let items = by_number(sold, led)?;
     // Items with one number have no place of their own: no statement shows such.
     if !rise(&items) {
@@ -141,28 +142,28 @@ fn sales_of_member<S: Alter>(
 fn sales_of_nobody<S: Alter>(
     alloc: Global,
     conn: &mut Connection<S>,
-    editions: &Editions,
+    rules: &Rules,
 ) -> Result<Vec<Sold>, KeepFault>
-    requires { Serves (state S.Store conn.old) }
+    requires { ServesBy rules.now.reserves (state S.Store conn.old) }
     ensures value { HasCleanDisk (state S.Store conn.new)
         → IfOk result (λ sales. sales.items ≡ sales_to
         (tables_in (state S.Store conn.old).now.trees) 0) }
     ensures stands { HasCleanDisk (state S.Store conn.new)
-        → OnOk result (RowsStand editions.now
+        → OnOk result (RowsStand rules.now.editions
         (λ row. list_any (is_party 0) (sale_of row.item.terms))
         (state S.Store conn.old).now.trees) }
     ensures fits { IfOk result (λ sales. All IsSale sales.items) }
     ensures apart { IfOk result (λ sales. AllPairs (λ a b. a.item ≢ b.item) sales.items) }
     ensures few { IfOk result (λ sales. length sales.items ≤ most_items) }
     ensures damaged { HasCleanDisk (state S.Store conn.new)
-        → AreSoundBy editions.now (tables_in (state S.Store conn.old).now.trees)
+        → AreSoundBy rules.now.editions (tables_in (state S.Store conn.old).now.trees)
         → ¬ (IsErrOf result Damaged) }
     ensures here { HasCleanDisk (state S.Store conn.new)
-        → AllByRecursion (FitsBy editions.now) (items_in (state S.Store conn.old).now.trees)
+        → AllByRecursion (FitsBy rules.now.editions) (items_in (state S.Store conn.old).now.trees)
         → ¬ (IsErrOf result Damaged) }
     ensures read { OnlyReads (state S.Store conn.old) (state S.Store conn.new) result }
 {
-    all_items(alloc, conn, editions)?;
+    all_items(alloc, conn, rules)?;
     Ok(Vec::new(alloc))
 }
 
@@ -171,32 +172,32 @@ fn sales_of_nobody<S: Alter>(
 pub fn sales_to<S: Alter>(
     alloc: Global,
     conn: &mut Connection<S>,
-    editions: &Editions,
+    rules: &Rules,
     member: u32,
 ) -> Result<Vec<Sold>, KeepFault>
-    requires { Serves (state S.Store conn.old) }
+    requires { ServesBy rules.now.reserves (state S.Store conn.old) }
     ensures value { HasCleanDisk (state S.Store conn.new)
         → IfOk result (λ sales. sales.items ≡ sales_to
         (tables_in (state S.Store conn.old).now.trees) member) }
     ensures stands { HasCleanDisk (state S.Store conn.new)
-        → OnOk result (RowsStand editions.now
+        → OnOk result (RowsStand rules.now.editions
         (λ row. list_any (is_party member) (sale_of row.item.terms))
         (state S.Store conn.old).now.trees) }
     ensures fits { IfOk result (λ sales. All IsSale sales.items) }
     ensures apart { IfOk result (λ sales. AllPairs (λ a b. a.item ≢ b.item) sales.items) }
     ensures few { IfOk result (λ sales. length sales.items ≤ most_items) }
     ensures damaged { HasCleanDisk (state S.Store conn.new)
-        → AreSoundBy editions.now (tables_in (state S.Store conn.old).now.trees)
+        → AreSoundBy rules.now.editions (tables_in (state S.Store conn.old).now.trees)
         → ¬ (IsErrOf result Damaged) }
     ensures here { HasCleanDisk (state S.Store conn.new)
-        → FitWhere (may_be_party member) (FitsBy editions.now)
+        → FitWhere (may_be_party member) (FitsBy rules.now.editions)
         (items_in (state S.Store conn.old).now.trees)
         → ¬ (IsErrOf result Damaged) }
     ensures read { OnlyReads (state S.Store conn.old) (state S.Store conn.new) result }
 {
     if member == 0 {
-        sales_of_nobody(alloc, conn, editions)
+        sales_of_nobody(alloc, conn, rules)
     } else {
-        sales_of_member(alloc, conn, editions, member)
+        sales_of_member(alloc, conn, rules, member)
     }
 }

@@ -7,8 +7,9 @@ ghost use Rattle.house_rows.specs.Asks.{ChangeFits, HasItem, IsFree};
 ghost use Rattle.house_rows.specs.Keeping.{AreSound};
 ghost use Rattle.house_rows.specs.declared.change.Change.TheVariants.{Settle};
 ghost use Rattle.house_rows.specs.declared.fault.KeepFault.TheVariants.{Damaged};
-ghost use Rattle.store_rows.specs.House.{IsBegun, Serves};
+ghost use Rattle.store_rows.specs.House.{IsBegun, ServesBy};
 ghost use Rattle.store_items.specs.Items.{OfItem};
+ghost use Rattle.store_rows.specs.Rows.{reserves_in};
 ghost use Rattle.store_rows.specs.Tables.{Changes, IsNumbered, Rests, tables_in};
 ghost use Rattle.store_items.specs.RowsStanding.{HasStandingItem};
 ghost use Rattle.store_items.specs.Sales.{StartFits};
@@ -17,29 +18,30 @@ ghost use Rattle.store_rows.specs.Commits.{Commits};
 
 use crate::item::set_settled;
 use crate::looking::terms_there;
-use house_rows::{Editions, KeepFault};
+use house_rows::KeepFault;
 use sqlite::{Alter, Connection, Transaction};
+use store_reserves::Rules;
 use store_rows::{commit, set_clock, stored_moment};
 
 // Whether the row of an item fits; Damaged where there is none.
 fn check_terms<S: Alter>(
     conn: &mut Connection<S>,
-    editions: &Editions,
+    rules: &Rules,
     item: u32,
 ) -> Result<(), KeepFault>
-    requires { Serves (state S.Store conn.old) }
+    requires { ServesBy rules.now.reserves (state S.Store conn.old) }
     ensures there { HasCleanDisk (state S.Store conn.new)
-        → OnOk result (HasStandingItem editions.now (state S.Store conn.old).now.trees item) }
+        → OnOk result (HasStandingItem rules.now.editions (state S.Store conn.old).now.trees item) }
     ensures fits { HasCleanDisk (state S.Store conn.new)
         → OnOk result (OfItem item StartFits (state S.Store conn.old).now) }
     ensures damaged { HasCleanDisk (state S.Store conn.new)
         → AreSound (tables_in (state S.Store conn.old).now.trees)
-        → editions.now ≡ band_tables (tables_in (state S.Store conn.old).now.trees)
+        → rules.now.editions ≡ band_tables (tables_in (state S.Store conn.old).now.trees)
         → HasItem (tables_in (state S.Store conn.old).now.trees) item
         → ¬ (IsErrOf result Damaged) }
     ensures read { OnlyReads (state S.Store conn.old) (state S.Store conn.new) result }
 {
-    terms_there(conn, editions, item)?;
+    terms_there(conn, rules, item)?;
     Ok(())
 }
 
@@ -71,18 +73,20 @@ fn write_settlement<S: Alter>(
 /// or where the moment has more than 32 bits.
 pub fn settle<S: Alter>(
     conn: &mut Connection<S>,
-    editions: &Editions,
+    rules: &Rules,
     moment: u64,
     item: u32,
 ) -> Result<(), KeepFault>
     requires rests { Rests (state S.Store conn.old) }
     requires mode { conn.old.in_transaction ≡ false }
     requires editions { HasCleanDisk (state S.Store conn.old)
-        → editions.now ≡ band_tables (tables_in (state S.Store conn.old).now.trees) }
+        → rules.now.editions ≡ band_tables (tables_in (state S.Store conn.old).now.trees) }
+    requires reserves { HasCleanDisk (state S.Store conn.old)
+        → rules.now.reserves ≡ reserves_in (state S.Store conn.old).now.trees }
     ensures commit { Commits (Settle moment item) (state S.Store conn.old)
         (state S.Store conn.new) result }
     ensures there { HasCleanDisk (state S.Store conn.new)
-        → OnOk result (HasStandingItem editions.now (state S.Store conn.old).now.trees item) }
+        → OnOk result (HasStandingItem rules.now.editions (state S.Store conn.old).now.trees item) }
     ensures moment { OnOk result (moment < 2 ^ 32) }
     ensures damaged { HasCleanDisk (state S.Store conn.new)
         → AreSound (tables_in (state S.Store conn.old).now.trees)
@@ -91,7 +95,7 @@ pub fn settle<S: Alter>(
         → ¬ (IsErrOf result Damaged) }
 {
     let moment = stored_moment(moment)?;
-    check_terms(conn, editions, item)?;
+    check_terms(conn, rules, item)?;
     let mut tx = conn.transaction();
     write_settlement(&mut tx, moment, item)?;
     commit(tx)

@@ -3,7 +3,7 @@ ghost use Rattle.std.specs.Prelude.{◌≡◌, ◌==◌, ◌&&◌, true, None, i
 ghost use Rattle.proxy.specs.Rows.{is_standing};
 ghost use Rattle.house_rows.specs.Fits.{StandingFits};
 ghost use Rattle.house_rows.specs.declared.fault.KeepFault.TheVariants.{Damaged};
-ghost use Rattle.store_rows.specs.ItemRows.{kept_from, kept_of};
+ghost use Rattle.store_rows.specs.ItemRows.{kept_by, kept_from};
 ghost use Rattle.store_items.specs.Columns.{AreStanding};
 
 use crate::fits::standing_fits;
@@ -12,15 +12,21 @@ use house_rows::KeepFault;
 use proxy::Standing;
 use sqlite::Row;
 use steps::Bands;
+use store_reserves::Reserves;
 use store_rows::{cents_at, maybe_cents_at, maybe_number_at, number_at};
 
 // The standing of no bids, where a row tells of none.
-fn no_bids(start: Cents, second: Option<Cents>, count: u32) -> Option<Standing>
+fn no_bids(
+    start: Cents,
+    reserve: Option<Cents>,
+    second: Option<Cents>,
+    count: u32,
+) -> Option<Standing>
     ensures fits { is_some result ≡ (is_none second && (count == 0)) }
     ensures value { IfSome result
         (λ s. s ≡ record {
           start = start;
-          reserve = None;
+          reserve = reserve;
           price = start;
           leader = None;
           top = None;
@@ -29,7 +35,7 @@ fn no_bids(start: Cents, second: Option<Cents>, count: u32) -> Option<Standing>
         }) }
 {
     if second.is_none() && count == 0 {
-        Some(Standing::open(start, None))
+        Some(Standing::open(start, reserve))
     } else {
         None
     }
@@ -39,6 +45,7 @@ fn no_bids(start: Cents, second: Option<Cents>, count: u32) -> Option<Standing>
 fn standing_from(
     bands: &Bands,
     start: Cents,
+    reserve: Option<Cents>,
     price: Cents,
     leader: Option<u32>,
     top: Option<Cents>,
@@ -46,22 +53,22 @@ fn standing_from(
     count: u32,
 ) -> Option<Standing>
     ensures fits { is_some result ≡ is_standing bands.now
-        (kept_from start price leader top second count) }
-    ensures value { IfSome result (λ s. s ≡ kept_from start price leader top second count) }
+        (kept_from start reserve price leader top second count) }
+    ensures value { IfSome result (λ s. s ≡ kept_from start reserve price leader top second count) }
 {
     let is_bought = leader.is_some() && top.is_none();
     if is_bought {
-        no_bids(start, second, count)
+        no_bids(start, reserve, second, count)
     } else {
-        Standing::of_row(start, None, bands, price, leader, top, second, count)
+        Standing::of_row(start, reserve, bands, price, leader, top, second, count)
     }
 }
 
 // The standing that the columns tell.
-fn told_standing(bands: &Bands, row: &Row) -> Result<Standing, KeepFault>
-    ensures value { IfOk result (λ s. s ≡ kept_of row.now) }
+fn told_standing(bands: &Bands, reserves: &Reserves, row: &Row) -> Result<Standing, KeepFault>
+    ensures value { IfOk result (λ s. s ≡ kept_by reserves.now row.now) }
     ensures stands { IfOk result (λ s. is_standing bands.now s ≡ true) }
-    ensures damaged { AreStanding bands.now row.now → ¬ (IsErrOf result Damaged) }
+    ensures damaged { AreStanding bands.now reserves.now row.now → ¬ (IsErrOf result Damaged) }
 {
     let start = cents_at(row, 0)?;
     let price = cents_at(row, 1)?;
@@ -69,20 +76,21 @@ fn told_standing(bands: &Bands, row: &Row) -> Result<Standing, KeepFault>
     let top = maybe_cents_at(row, 3)?;
     let second = maybe_cents_at(row, 4)?;
     let count = number_at(row, 5)?;
-    match standing_from(bands, start, price, leader, top, second, count) {
+    let reserve = reserves.amount(u64::from(number_at(row, 6)?));
+    match standing_from(bands, start, reserve, price, leader, top, second, count) {
         Some(standing) => Ok(standing),
         None => Err(KeepFault::Damaged),
     }
 }
 
 // A standing, which fits.
-fn read_standing(bands: &Bands, row: &Row) -> Result<Standing, KeepFault>
-    ensures value { IfOk result (λ s. s ≡ kept_of row.now) }
+fn read_standing(bands: &Bands, reserves: &Reserves, row: &Row) -> Result<Standing, KeepFault>
+    ensures value { IfOk result (λ s. s ≡ kept_by reserves.now row.now) }
     ensures stands { IfOk result (λ s. is_standing bands.now s ≡ true) }
     ensures fits { IfOk result StandingFits }
-    ensures damaged { AreStanding bands.now row.now → ¬ (IsErrOf result Damaged) }
+    ensures damaged { AreStanding bands.now reserves.now row.now → ¬ (IsErrOf result Damaged) }
 {
-    let standing = told_standing(bands, row)?;
+    let standing = told_standing(bands, reserves, row)?;
     if standing_fits(&standing) {
         Ok(standing)
     } else {
@@ -91,15 +99,20 @@ fn read_standing(bands: &Bands, row: &Row) -> Result<Standing, KeepFault>
 }
 
 /// The standing that the first of the rows tells.
-pub(crate) fn first_standing(bands: &Bands, rows: &[Row]) -> Result<Option<Standing>, KeepFault>
-    ensures value { IfOk result (λ found. found ≡ option_map kept_of (slice_get rows.now 0)) }
+pub(crate) fn first_standing(
+    bands: &Bands,
+    reserves: &Reserves,
+    rows: &[Row],
+) -> Result<Option<Standing>, KeepFault>
+    ensures value { IfOk result (λ found. found ≡ option_map (kept_by reserves.now)
+        (slice_get rows.now 0)) }
     ensures stands { IfOk result (λ found. IfSome found (λ s. is_standing bands.now s ≡ true)) }
     ensures fits { IfOk result (λ found. IfSome found StandingFits) }
-    ensures damaged { IfSome (slice_get rows.now 0) (AreStanding bands.now)
+    ensures damaged { IfSome (slice_get rows.now 0) (AreStanding bands.now reserves.now)
         → ¬ (IsErrOf result Damaged) }
 {
     match rows.first() {
         None => Ok(None),
-        Some(row) => Ok(Some(read_standing(bands, row)?)),
+        Some(row) => Ok(Some(read_standing(bands, reserves, row)?)),
     }
 }

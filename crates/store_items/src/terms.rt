@@ -10,35 +10,37 @@ ghost use Rattle.house_rows.specs.Keeping.{FitsBy, StandsBy};
 ghost use Rattle.house_rows.specs.Taken.{FitWhere};
 ghost use Rattle.house_rows.specs.Tables.{ItemRow};
 ghost use Rattle.house_rows.specs.declared.fault.KeepFault.TheVariants.{Damaged};
-ghost use Rattle.store_rows.specs.House.{Serves};
+ghost use Rattle.store_rows.specs.House.{ServesBy};
 ghost use Rattle.store_rows.specs.ItemRows.{items_in};
 ghost use Rattle.store_rows.specs.Frames.{OnlyReads};
 
 use crate::reads::terms_list;
-use house_rows::{Editions, KeepFault, Terms};
+use house_rows::{KeepFault, Terms};
 use sqlite::{Alter, Connection, params};
 use std::alloc::Global;
+use store_reserves::Rules;
 use store_rows::rows_shown;
 
 /// The items that a member sells, without their texts.
 pub fn terms_of_seller<S: Alter>(
     alloc: Global,
     conn: &mut Connection<S>,
-    editions: &Editions,
+    rules: &Rules,
     seller: u32,
 ) -> Result<Vec<Terms>, KeepFault>
-    requires { Serves (state S.Store conn.old) }
+    requires { ServesBy rules.now.reserves (state S.Store conn.old) }
     ensures terms { HasCleanDisk (state S.Store conn.new)
         → IfOk result (λ terms. terms.items ≡ map (λ (row : ItemRow). row.item.terms)
         (filter (λ row. row.item.terms.seller == seller)
         (items_in (state S.Store conn.old).now.trees))) }
     ensures fits { IfOk result (λ terms. AllByRecursion TermsFit terms.items) }
-    ensures stands { IfOk result (λ terms. AllByRecursion (StandsBy editions.now) terms.items) }
+    ensures stands { IfOk result (λ terms. AllByRecursion
+        (StandsBy rules.now.editions) terms.items) }
     ensures damaged { HasCleanDisk (state S.Store conn.new)
-        → AllByRecursion (FitsBy editions.now) (items_in (state S.Store conn.old).now.trees)
+        → AllByRecursion (FitsBy rules.now.editions) (items_in (state S.Store conn.old).now.trees)
         → ¬ (IsErrOf result Damaged) }
     ensures here { HasCleanDisk (state S.Store conn.new)
-        → FitWhere (λ row. row.item.terms.seller == seller) (FitsBy editions.now)
+        → FitWhere (λ row. row.item.terms.seller == seller) (FitsBy rules.now.editions)
         (items_in (state S.Store conn.old).now.trees)
         → ¬ (IsErrOf result Damaged) }
     ensures read { OnlyReads (state S.Store conn.old) (state S.Store conn.new) result }
@@ -48,28 +50,29 @@ pub fn terms_of_seller<S: Alter>(
         "SELECT id, seller, category, start, buy_now, ending, state, closed, price, leader, count, top, second FROM item WHERE seller = ?1 ORDER BY id",
         params![seller],
     )?;
-    terms_list(alloc, editions, &rows)
+    terms_list(alloc, rules, &rows)
 }
 
 /// The items that a member leads, or has bought, without their texts.
 pub(crate) fn terms_led_by<S: Alter>(
     alloc: Global,
     conn: &mut Connection<S>,
-    editions: &Editions,
+    rules: &Rules,
     member: u32,
 ) -> Result<Vec<Terms>, KeepFault>
-    requires { Serves (state S.Store conn.old) }
+    requires { ServesBy rules.now.reserves (state S.Store conn.old) }
     ensures terms { HasCleanDisk (state S.Store conn.new)
         → IfOk result (λ terms. terms.items ≡ map (λ (row : ItemRow). row.item.terms)
         (filter (λ row. is_leader row.item.terms.leader member)
         (items_in (state S.Store conn.old).now.trees))) }
     ensures fits { IfOk result (λ terms. AllByRecursion TermsFit terms.items) }
-    ensures stands { IfOk result (λ terms. AllByRecursion (StandsBy editions.now) terms.items) }
+    ensures stands { IfOk result (λ terms. AllByRecursion
+        (StandsBy rules.now.editions) terms.items) }
     ensures damaged { HasCleanDisk (state S.Store conn.new)
-        → AllByRecursion (FitsBy editions.now) (items_in (state S.Store conn.old).now.trees)
+        → AllByRecursion (FitsBy rules.now.editions) (items_in (state S.Store conn.old).now.trees)
         → ¬ (IsErrOf result Damaged) }
     ensures here { HasCleanDisk (state S.Store conn.new)
-        → FitWhere (λ row. is_leader row.item.terms.leader member) (FitsBy editions.now)
+        → FitWhere (λ row. is_leader row.item.terms.leader member) (FitsBy rules.now.editions)
         (items_in (state S.Store conn.old).now.trees)
         → ¬ (IsErrOf result Damaged) }
     ensures read { OnlyReads (state S.Store conn.old) (state S.Store conn.new) result }
@@ -79,7 +82,7 @@ pub(crate) fn terms_led_by<S: Alter>(
         "SELECT id, seller, category, start, buy_now, ending, state, closed, price, leader, count, top, second FROM item WHERE leader = ?1 ORDER BY id",
         params![member],
     )?;
-    terms_list(alloc, editions, &rows)
+    terms_list(alloc, rules, &rows)
 }
 
 /// The open items whose end is at or before a moment, without their texts. The moment is in seconds
@@ -87,21 +90,22 @@ pub(crate) fn terms_led_by<S: Alter>(
 pub(crate) fn due_terms<S: Alter>(
     alloc: Global,
     conn: &mut Connection<S>,
-    editions: &Editions,
+    rules: &Rules,
     moment: u32,
 ) -> Result<Vec<Terms>, KeepFault>
-    requires { Serves (state S.Store conn.old) }
+    requires { ServesBy rules.now.reserves (state S.Store conn.old) }
     ensures terms { HasCleanDisk (state S.Store conn.new)
         → IfOk result (λ terms. terms.items ≡ map (λ (row : ItemRow). row.item.terms)
         (filter (λ row. is_due moment row.item.terms)
         (items_in (state S.Store conn.old).now.trees))) }
     ensures fits { IfOk result (λ terms. AllByRecursion TermsFit terms.items) }
-    ensures stands { IfOk result (λ terms. AllByRecursion (StandsBy editions.now) terms.items) }
+    ensures stands { IfOk result (λ terms. AllByRecursion
+        (StandsBy rules.now.editions) terms.items) }
     ensures damaged { HasCleanDisk (state S.Store conn.new)
-        → AllByRecursion (FitsBy editions.now) (items_in (state S.Store conn.old).now.trees)
+        → AllByRecursion (FitsBy rules.now.editions) (items_in (state S.Store conn.old).now.trees)
         → ¬ (IsErrOf result Damaged) }
     ensures here { HasCleanDisk (state S.Store conn.new)
-        → FitWhere (λ row. is_due moment row.item.terms) (FitsBy editions.now)
+        → FitWhere (λ row. is_due moment row.item.terms) (FitsBy rules.now.editions)
         (items_in (state S.Store conn.old).now.trees)
         → ¬ (IsErrOf result Damaged) }
     ensures read { OnlyReads (state S.Store conn.old) (state S.Store conn.new) result }
@@ -112,5 +116,5 @@ pub(crate) fn due_terms<S: Alter>(
         "SELECT id, seller, category, start, buy_now, ending, state, closed, price, leader, count, top, second FROM item WHERE state = 0 AND ending >= 0 AND ending <= ?1 ORDER BY id",
         params![moment],
     )?;
-    terms_list(alloc, editions, &rows)
+    terms_list(alloc, rules, &rows)
 }

@@ -1,7 +1,7 @@
 -- What is found in a table whose rows fit, fits.
 use Rattle.std.proofs.Common.{◌≡◌, ℕ, zero, suc, List, [], ◌∷◌, length, take, map, filter, Bool, true, ◌∙◌, ap, sym, subst, arith, inl, inr, refl, Bor, Option, Some, None, Result, Ok, Err}
 use Rattle.std.specs.Option.{option_copied}
-use Rattle.std.specs.Prelude.{IfOk, IfSome, OnOk, Vec, find, is_some, option_map, ◌==◌, ◌&&◌, nat_le, nat_lt}
+use Rattle.std.specs.Prelude.{IfOk, IfSome, OnOk, Vec, find, is_some, option_map, ◌++◌, ◌==◌, ◌&&◌, nat_le, nat_lt}
 use Rattle.std.specs.List.{AllByRecursion}
 use Rattle.std.proofs.lemmas.Bool.Decides.{nat_tests}
 use Rattle.proxy.specs.declared.bid.Bid.{Bid}
@@ -11,11 +11,14 @@ use Rattle.proxy.specs.Kept.{Kept}
 use Rattle.proxy.proofs.Placed.{standing-none}
 use Rattle.house_rows.specs.declared.item.Item.{Item}
 use Rattle.house_rows.specs.declared.item.OwnBid.{OwnBid}
-use Rattle.house_rows.specs.Fits.{IsItem, IsMember, ItemFits, OwnBidFits, StandingFits, TermsFit}
-use Rattle.house_rows.specs.Found.{all_items, item_at, item_with_lot, own_bid, own_bids, standing_at, terms_at}
+use Rattle.house_rows.specs.declared.item.OwnReserve.{OwnReserve}
+use Rattle.house_rows.specs.declared.item.Terms.{Terms}
+use Rattle.house_rows.specs.Fits.{IsItem, IsMember, ItemFits, OwnBidFits, OwnReserveFits, StandingFits, TermsFit}
+use Rattle.house_rows.specs.Found.{all_items, item_at, item_with_lot, own_bid, own_bids, own_reserves, reserves_in, standing_at, terms_at}
 use Rattle.house_rows.specs.Changed.{is_item}
 use Rattle.house_rows.specs.Keeping.{AllStand, AreSound, ItemRowFits, RowFits, StandsAt, StandsIn}
 use Rattle.house_rows.specs.Limits.{most_shown}
+use Rattle.house_rows.specs.Pages.{reserve_told}
 use Rattle.house_rows.specs.Tables.{ItemRow, Tables, bands_for, row_opening}
 use Rattle.house_rows.specs.Text.{same_text}
 use Rattle.house_rows.proofs.Every.{every_as, every_map}
@@ -114,6 +117,23 @@ own_bids_fit t member from sound =
     (every_as ItemFits (λ (it : Item). IsItem it.terms.item) (all_items t) (λ it fits. fits.terms.item) (items_fit t sound)) in
     take_fits OwnBidFits most_shown (filter test made)
     (every_as (λ (b : OwnBid). IsItem b.item × (test b ≡ true)) OwnBidFits (filter test made) (λ b one. record { item = one.0; mine = let is = one.1 in grind (arith, nat_tests, is) }) (passed (λ (b : OwnBid). IsItem b.item) test made known))
+
+-- a reserve that is told is of an item
+reserve_fits : (terms : Terms) (reserve : Option ℕ) (rest : List OwnReserve) → IsItem terms.item → AllByRecursion OwnReserveFits rest → AllByRecursion OwnReserveFits (reserve_told terms reserve ++ rest)
+reserve_fits terms None rest is all = all
+reserve_fits terms (Some amount) rest is all = (record { item = is }, all)
+
+reserves_fit : (rows : List ItemRow) → AllByRecursion (λ row. IsItem row.item.terms.item) rows → AllByRecursion OwnReserveFits (reserves_in rows)
+reserves_fit [] all = tt
+reserves_fit (row ∷ rows) all = reserve_fits row.item.terms row.standing.reserve (reserves_in rows) all.0 (reserves_fit rows all.1)
+
+pub own_reserves_fit : (t : Tables) (member from : ℕ) → AreSound t → AllByRecursion OwnReserveFits (own_reserves t member from)
+own_reserves_fit t member from sound =
+    let sells : ItemRow → Bool = λ row. row.item.terms.seller == member in
+    let known : AllByRecursion (λ (row : ItemRow). IsItem row.item.terms.item) t.items =
+    every_as (RowFits t) (λ (row : ItemRow). IsItem row.item.terms.item) t.items (λ row fits. fits.item.terms.item) sound.items in
+    take_fits OwnReserveFits most_shown _ (filter_fits OwnReserveFits (λ (r : OwnReserve). nat_le from r.item) (reserves_in (filter sells t.items))
+    (reserves_fit (filter sells t.items) (filter_fits (λ (row : ItemRow). IsItem row.item.terms.item) sells t.items known)))
 
 -- what is found in tables that are sound, here those that a keep's fields are, fits and stands
 pub terms_fit : (t u : Tables) → t ≡ u → AreSound t → (i : ℕ) → IfSome (terms_at t i) TermsFit

@@ -4,9 +4,10 @@ ghost use Rattle.house_rows.specs.Tables.{tables_of};
 ghost use Rattle.house_rows.specs.declared.fault.KeepFault.TheVariants as fault;
 
 use crate::{bids, watches};
+use cents::Cents;
 use house_rows::{
     Category, Change, Counts, Due, Editions, Feedback, Item, Keep, KeepFault, Member, OwnBest,
-    OwnBid, Question, Ratings, Settings, Terms,
+    OwnBid, OwnReserve, Question, Ratings, Settings, Terms,
 };
 use list_bids::Bids;
 use list_items::Items;
@@ -203,6 +204,14 @@ impl Keep for ListKeep {
 
     fn bids_of(&mut self, member: u64, from: u64) -> Result<Vec<OwnBid>, KeepFault> {
         bids::own_bids(self.alloc, &self.items, &self.bids, member, from)
+    }
+
+    fn reserve(&mut self, item: u64) -> Result<Option<Cents>, KeepFault> {
+        Ok(self.items.reserve(item))
+    }
+
+    fn reserves_of(&mut self, member: u64, from: u64) -> Result<Vec<OwnReserve>, KeepFault> {
+        self.items.reserves_of(self.alloc, member, from)
     }
 
     fn published(&mut self, item: u64, from: u64) -> Result<Vec<Question>, KeepFault> {

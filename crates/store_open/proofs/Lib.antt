@@ -6,4 +6,5 @@ pub mod OpenLemmas
 pub mod PutMeaning
 pub mod PutLemmas
 pub mod ReadLemmas
+pub mod ReserveLemmas
 pub mod UpgradeLemmas

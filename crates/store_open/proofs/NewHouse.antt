@@ -15,10 +15,11 @@ use Rattle.house_rows.specs.Text.{is_plain}
 use Rattle.house_rows.specs.declared.settings.Settings.{Settings}
 use Rattle.store_rows.specs.declared.band.BandRow.{BandRow}
 use Rattle.store_rows.specs.declared.house.HouseRow.{HouseRow}
-use Rattle.store_rows.specs.Fitting.{HouseRowFits}
+use Rattle.store_rows.specs.Fitting.{HouseRowFits, ReserveRowFits}
 use Rattle.store_rows.specs.House.{IsHouse}
-use Rattle.store_rows.specs.ItemRows.{item_row_in}
-use Rattle.store_rows.specs.Rows.{band_in, bands_in, bid_in, category_in, house_in, houses_in, member_in, one_feedback_in, question_in, watch_in}
+use Rattle.store_rows.specs.ItemRows.{item_row_in, items_by, items_in}
+use Rattle.store_rows.specs.Rows.{band_in, bands_in, bid_in, category_in, house_in, houses_in, member_in, one_feedback_in, question_in, reserve_in, reserves_in, watch_in}
+use Rattle.store_rows.specs.declared.reserve.ReserveRow.{ReserveRow}
 use Rattle.store_rows.specs.Schema.{house_schema}
 use Rattle.house_rows.specs.Bids.{bid_key}
 use Rattle.house_rows.specs.Changed.{question_key}
@@ -74,33 +75,33 @@ same_bands [] = refl
 same_bands (b ∷ bands) = ap (λ l. b ∷ l) (same_bands bands)
 
 -- the tables of these rows
-abbrev from_rows : List HouseRow → List BandRow → List Row → List Row → List Row → List Row → List Row → List Row → List Row → Tables
-from_rows houses bands members categories items bids watches questions feedback =
+abbrev from_rows : List HouseRow → List BandRow → List Row → List Row → List Row → List ReserveRow → List Row → List Row → List Row → List Row → Tables
+from_rows houses bands members categories items reserves bids watches questions feedback =
     let house = Rattle.std.proofs.Common.unwrap_or (find (λ (h : HouseRow). h.id == 1) houses) (record { id = 0; version = 0; clock = 0; rate = 0; zone = [] }) in
     record {
       settings = record { bands = map (λ (b : BandRow). (b.from, b.step)) bands; rate = house.rate; zone = house.zone };
       clock = house.clock;
       members = map member_in members;
       categories = map category_in categories;
-      items = map item_row_in items;
+      items = map (item_row_in reserves) items;
       bids = sorted_by bid_key (map bid_in bids);
       watches = sorted_by watch_key (map watch_in watches);
       questions = sorted_by question_key (map question_in questions);
       feedback = sorted_by feedback_key (map one_feedback_in feedback);
     }
 
-from_trees : (db : Trees) → tables_in db ≡ from_rows (houses_in db) (bands_in db) (db 2) (db 4) (db 6) (db 8) (db 10) (db 12) (db 14)
+from_trees : (db : Trees) → tables_in db ≡ from_rows (houses_in db) (bands_in db) (db 2) (db 4) (db 6) (reserves_in db) (db 8) (db 10) (db 12) (db 14)
 unfolding tables_in settings_in house_row_in
 from_trees db = refl
 
-from_settings : (settings : Settings) → from_rows (new_house settings.rate settings.zone ∷ []) (map band_row settings.bands) [] [] [] [] [] [] [] ≡ tables_of settings []
+from_settings : (settings : Settings) → from_rows (new_house settings.rate settings.zone ∷ []) (map band_row settings.bands) [] [] [] [] [] [] [] [] ≡ tables_of settings []
 unfolding tables_of questions sorted_by
 from_settings settings = ap (λ (bands : List (ℕ × ℕ)). record (tables_of settings []) { settings = record settings { bands = bands } }) (same_bands settings.bands)
 
 -- a house of these rows is one that an opening takes
 new_is_sound : (settings : Settings) (new : Database) → IsHouse new → IsBandTable settings.bands → settings.rate ≤ 2000 → houses_in new.trees ≡ new_house settings.rate settings.zone ∷ [] → bands_in new.trees ≡ map band_row settings.bands
-    → new.trees 2 ≡ [] → new.trees 4 ≡ [] → new.trees 6 ≡ [] → is_plain settings.zone ≡ true → IsSoundHouse new
-new_is_sound settings new house valid rate houses bands members categories items plain = record {
+    → new.trees 2 ≡ [] → new.trees 4 ≡ [] → new.trees 6 ≡ [] → reserves_in new.trees ≡ [] → is_plain settings.zone ≡ true → IsSoundHouse new
+new_is_sound settings new house valid rate houses bands members categories items sealed plain = record {
   house = house;
   set_up = record {
     house = subst (λ (l : List HouseRow). is_some (find (λ h. h.id == 1) l) ≡ true) (sym houses) refl;
@@ -112,8 +113,12 @@ new_is_sound settings new house valid rate houses bands members categories items
     members = subst (λ rows. AllByRecursion (λ (m : _). IsWithin 1 (length (map member_in rows)) m.member) (map member_in rows)) (sym members) tt;
     few_categories = subst (λ rows. length (map category_in rows) < 2 ^ 32) (sym categories) (omega arith);
     categories = subst (λ rows. AllByRecursion (λ (k : _). IsWithin 1 (length (map category_in rows)) k.category) (map category_in rows)) (sym categories) tt;
-    few_items = subst (λ rows. length (map item_row_in rows) < 2 ^ 32) (sym items) (omega arith);
-    items = subst (λ rows. AllByRecursion (λ (row : _). IsWithin 1 (length (map item_row_in rows)) row.item.terms.item) (map item_row_in rows)) (sym items) tt;
+    few_items = subst (λ rows. length (map (item_row_in []) rows) < 2 ^ 32) (sym items) (omega arith);
+    items = subst (λ rows. AllByRecursion (λ (row : _). IsWithin 1 (length (map (item_row_in []) rows)) row.item.terms.item) (map (item_row_in []) rows)) (sym items) tt;
+  };
+  reserved = record {
+    fit = subst (AllByRecursion ReserveRowFits) (sym sealed) tt;
+    within = subst (AllByRecursion (λ (r : ReserveRow). r.item ≤ length (items_by [] new.trees))) (sym sealed) tt;
   };
 }
 
@@ -132,6 +137,7 @@ house_started settings old new valid rate was added =
     let watches : db 10 ≡ [] = others.1.1.1.1.1.1.0 (λ e. absurd (omega (arith, e))) ∙ was.empty.1.1.1.1.1.1.0 (λ e. absurd (omega (arith, e))) in
     let asked : db 12 ≡ [] = others.1.1.1.1.1.1.1.0 (λ e. absurd (omega (arith, e))) ∙ was.empty.1.1.1.1.1.1.1.0 (λ e. absurd (omega (arith, e))) in
     let given : db 14 ≡ [] = others.1.1.1.1.1.1.1.1.0 (λ e. absurd (omega (arith, e))) ∙ was.empty.1.1.1.1.1.1.1.1.0 (λ e. absurd (omega (arith, e))) in
+    let sealed : reserves_in db ≡ [] = ap (map reserve_in) (others.1.1.1.1.1.1.1.1.1.0 (λ e. absurd (omega (arith, e))) ∙ was.empty.1.1.1.1.1.1.1.1.1.0 (λ e. absurd (omega (arith, e)))) in
     let hs = new_house settings.rate settings.zone ∷ [] in
     let bs = map band_row settings.bands in
     record {
@@ -140,18 +146,21 @@ house_started settings old new valid rate was added =
         house = subst (λ (l : List HouseRow). is_some (find (λ h. h.id == 1) l) ≡ true) (sym houses) refl;
         members = subst (λ rows. All (λ (m : _). m.member ≤ length (map member_in rows)) (map member_in rows)) (sym members) (All-nil _);
         categories = subst (λ rows. All (λ (k : _). k.category ≤ length (map category_in rows)) (map category_in rows)) (sym categories) (All-nil _);
-        items = subst (λ rows. All (λ (row : _). row.item.terms.item ≤ length (map item_row_in rows)) (map item_row_in rows)) (sym items) (All-nil _);
+        items = subst (λ rows. All (λ (row : _). row.item.terms.item ≤ length (map (item_row_in (reserves_in db)) rows)) (map (item_row_in (reserves_in db)) rows)) (sym items) (All-nil _);
+        reserves = subst (All (λ (r : ReserveRow). r.item ≤ length (items_in db))) (sym sealed) (All-nil _);
       };
       tables = from_trees db
-          ∙ ap (λ l. from_rows l (bands_in db) (db 2) (db 4) (db 6) (db 8) (db 10) (db 12) (db 14)) houses
-          ∙ ap (λ l. from_rows hs l (db 2) (db 4) (db 6) (db 8) (db 10) (db 12) (db 14)) bands
-          ∙ ap (λ l. from_rows hs bs l (db 4) (db 6) (db 8) (db 10) (db 12) (db 14)) members
-          ∙ ap (λ l. from_rows hs bs [] l (db 6) (db 8) (db 10) (db 12) (db 14)) categories
-          ∙ ap (λ l. from_rows hs bs [] [] l (db 8) (db 10) (db 12) (db 14)) items
-          ∙ ap (λ l. from_rows hs bs [] [] [] l (db 10) (db 12) (db 14)) bids
-          ∙ ap (λ l. from_rows hs bs [] [] [] [] l (db 12) (db 14)) watches
-          ∙ ap (λ l. from_rows hs bs [] [] [] [] [] l (db 14)) asked
-          ∙ ap (λ l. from_rows hs bs [] [] [] [] [] [] l) given
+          ∙ ap (λ l. from_rows l (bands_in db) (db 2) (db 4) (db 6) (reserves_in db) (db 8) (db 10) (db 12) (db 14)) houses
+          ∙ ap (λ l. from_rows hs l (db 2) (db 4) (db 6) (reserves_in db) (db 8) (db 10) (db 12) (db 14)) bands
+          ∙ ap (λ l. from_rows hs bs l (db 4) (db 6) (reserves_in db) (db 8) (db 10) (db 12) (db 14)) members
+          ∙ ap (λ l. from_rows hs bs [] l (db 6) (reserves_in db) (db 8) (db 10) (db 12) (db 14)) categories
+          ∙ ap (λ l. from_rows hs bs [] [] l (reserves_in db) (db 8) (db 10) (db 12) (db 14)) items
+          ∙ ap (λ l. from_rows hs bs [] [] [] l (db 8) (db 10) (db 12) (db 14)) sealed
+          ∙ ap (λ l. from_rows hs bs [] [] [] [] l (db 10) (db 12) (db 14)) bids
+          ∙ ap (λ l. from_rows hs bs [] [] [] [] [] l (db 12) (db 14)) watches
+          ∙ ap (λ l. from_rows hs bs [] [] [] [] [] [] l (db 14)) asked
+          ∙ ap (λ l. from_rows hs bs [] [] [] [] [] [] [] l) given
           ∙ from_settings settings;
-      sound = new_is_sound settings new added.house valid rate houses bands members categories items;
+      reserves = sealed;
+      sound = new_is_sound settings new added.house valid rate houses bands members categories items sealed;
     }

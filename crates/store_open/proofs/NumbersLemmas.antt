@@ -15,7 +15,7 @@ use Rattle.house_rows.specs.Tables.{ItemRow}
 use Rattle.house_rows.specs.declared.people.Category.{Category}
 use Rattle.house_rows.specs.declared.people.Member.{Member}
 use Rattle.store_rows.specs.House.{IsHouse}
-use Rattle.store_rows.specs.ItemRows.{item_row_in, items_in}
+use Rattle.store_rows.specs.ItemRows.{item_row_in, items_by}
 use Rattle.store_rows.specs.Plain.{passes, shown_by}
 use Rattle.store_rows.specs.Rows.{category_in, categories_in, member_in, members_in, number_in}
 use Rattle.store_rows.specs.Schema.{house_schema}
@@ -104,9 +104,9 @@ items_above old new n house h =
     none_pass is_above params (old.now.trees 6) house.shaped.1.1.1.1.0.0 (listed 6 is_above number_shown by_rowid (overlay old.now.trees []) params [] (read.answer Null))
 
 pub items_within : (db : Database) (n : ℕ) → n < 2 ^ 32 → IsHouse db → AllByRecursion (λ r. passes is_below [] r ≡ false) (db.trees 6) → AllByRecursion (λ r. passes is_above (Int (pos n) ∷ []) r ≡ false) (db.trees 6)
-    → AllByRecursion (λ x. IsWithin 1 n x.item.terms.item) (items_in db.trees)
+    → AllByRecursion (λ x. IsWithin 1 n x.item.terms.item) (items_by [] db.trees)
 items_within db n low house below above =
-    within item_row_in (λ (x : ItemRow). x.item.terms.item) (λ r. refl) n low (db.trees 6) house.shaped.1.1.1.1.0.1 below above
+    within (item_row_in []) (λ (x : ItemRow). x.item.terms.item) (λ r. refl) n low (db.trees 6) house.shaped.1.1.1.1.0.1 below above
 
 pub members_none_below : (old new : State) (n : ℕ) (rows : List Row) → n < 2 ^ 32 → IsHouse old.now → AllByRecursion (λ m. IsWithin 1 n m.member) (members_in old.now.trees) → Shown members_below_text [] old new rows → rows ≡ []
 members_none_below old new n rows low house all h =
@@ -134,15 +134,15 @@ categories_none_above old new n rows low house all h =
     none_shown is_above params (old.now.trees 4) rows house.shaped.1.1.1.0.0 (listed 4 is_above number_shown by_rowid (overlay old.now.trees []) params rows (read.answer Null))
     (between category_in (λ (k : Category). k.category) (λ r. refl) n low (old.now.trees 4) all).1
 
-pub items_none_below : (old new : State) (n : ℕ) (rows : List Row) → n < 2 ^ 32 → IsHouse old.now → AllByRecursion (λ row. IsWithin 1 n row.item.terms.item) (items_in old.now.trees) → Shown items_below_text [] old new rows → rows ≡ []
+pub items_none_below : (old new : State) (n : ℕ) (rows : List Row) → n < 2 ^ 32 → IsHouse old.now → AllByRecursion (λ row. IsWithin 1 n row.item.terms.item) (items_by [] old.now.trees) → Shown items_below_text [] old new rows → rows ≡ []
 items_none_below old new n rows low house all h =
     let read = reads_as items_below_text [] old new house_schema house.schema _ items_below_is.0 items_below_is.2 items_below_is.1 rows h in
     none_shown is_below [] (old.now.trees 6) rows house.shaped.1.1.1.1.0.0 (listed 6 is_below number_shown by_rowid (overlay old.now.trees []) [] rows (read.answer Null))
-    (between item_row_in (λ (row : ItemRow). row.item.terms.item) (λ r. refl) n low (old.now.trees 6) all).0
+    (between (item_row_in []) (λ (row : ItemRow). row.item.terms.item) (λ r. refl) n low (old.now.trees 6) all).0
 
-pub items_none_above : (old new : State) (n : ℕ) (rows : List Row) → n < 2 ^ 32 → IsHouse old.now → AllByRecursion (λ row. IsWithin 1 n row.item.terms.item) (items_in old.now.trees) → Shown items_above_text (Int (pos n) ∷ []) old new rows → rows ≡ []
+pub items_none_above : (old new : State) (n : ℕ) (rows : List Row) → n < 2 ^ 32 → IsHouse old.now → AllByRecursion (λ row. IsWithin 1 n row.item.terms.item) (items_by [] old.now.trees) → Shown items_above_text (Int (pos n) ∷ []) old new rows → rows ≡ []
 items_none_above old new n rows low house all h =
     let params = Int (pos n) ∷ [] in
     let read = reads_as items_above_text params old new house_schema house.schema _ items_above_is.0 items_above_is.2 items_above_is.1 rows h in
     none_shown is_above params (old.now.trees 6) rows house.shaped.1.1.1.1.0.0 (listed 6 is_above number_shown by_rowid (overlay old.now.trees []) params rows (read.answer Null))
-    (between item_row_in (λ (row : ItemRow). row.item.terms.item) (λ r. refl) n low (old.now.trees 6) all).1
+    (between (item_row_in []) (λ (row : ItemRow). row.item.terms.item) (λ r. refl) n low (old.now.trees 6) all).1

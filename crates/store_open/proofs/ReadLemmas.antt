@@ -1,7 +1,9 @@
 -- What was read of a house says what it is.
-use Rattle.std.proofs.Common.{◌≡◌, ◌≤◌, ◌==◌, ℕ, true, List, map, find, is_some, All, Option, Some, unwrap_or, [], ◌∷◌, refl, sym, ap, subst, ◌∙◌, IsTrue, arith}
+use Rattle.std.proofs.Common.{◌≡◌, ◌≤◌, ◌==◌, ℕ, true, List, map, find, is_some, length, All, Option, Some, unwrap_or, [], ◌∷◌, refl, sym, ap, subst, ◌∙◌, IsTrue, arith}
 use Rattle.std.specs.List.{AllByRecursion}
+use Rattle.std.proofs.lemmas.List.{length-map}
 use Rattle.std.proofs.lemmas.List.Elements.{All-from_recursion}
+use Rattle.sqlite_value.specs.Order.{Row}
 use Rattle.sqlite_trees.specs.Tree.{Trees}
 use Rattle.sqlite.specs.Effect.{Database}
 use Rattle.sqlite.specs.State.{State, IsUnchanged}
@@ -17,10 +19,11 @@ use Rattle.store_rows.specs.declared.band.BandRow.{BandRow}
 use Rattle.store_rows.specs.declared.house.HouseRow.{HouseRow}
 use Rattle.store_rows.specs.Fitting.{BandRowFits, HouseRowFits}
 use Rattle.store_rows.specs.House.{IsHouse}
-use Rattle.store_rows.specs.ItemRows.{items_in}
-use Rattle.store_rows.specs.Rows.{bands_in, categories_in, houses_in, members_in}
+use Rattle.store_rows.specs.ItemRows.{item_row_in, items_by, items_in}
+use Rattle.store_rows.specs.Rows.{bands_in, categories_in, houses_in, members_in, reserves_in}
+use Rattle.store_rows.specs.declared.reserve.ReserveRow.{ReserveRow}
 use Rattle.store_rows.specs.Tables.{IsAtRest, IsNumbered, house_row_in, settings_in, tables_in}
-use Rattle.store_open.specs.Opening.{AreNumbered, HasSettings, HaveNumbers}
+use Rattle.store_open.specs.Opening.{AreNumbered, HasReserves, HasSettings, HaveNumbers}
 
 abbrev pairs : List BandRow → List (ℕ × ℕ)
 pairs = map (λ b. (b.from, b.step))
@@ -56,12 +59,27 @@ each_within number n (x ∷ xs) all = (all.0.1, each_within number n xs all.1)
 within : {T : Type 0} (number : T → ℕ) (n : ℕ) (xs : List T) → AllByRecursion (λ x. IsWithin 1 n (number x)) xs → All (λ x. number x ≤ n) xs
 within number n xs all = All-from_recursion (λ x. number x ≤ n) xs (each_within number n xs all)
 
-numbered : (db : Trees) (s : Settings) (clock : ℕ) → HasSettings db s clock → AreNumbered db → IsNumbered db
-numbered db s clock set are = record {
+-- items have the same numbers by any reserves
+numbers_by : (reserves others : List ReserveRow) (n : ℕ) (rows : List Row) → AllByRecursion (λ (row : ItemRow). IsWithin 1 n row.item.terms.item) (map (item_row_in reserves) rows)
+    → AllByRecursion (λ (row : ItemRow). IsWithin 1 n row.item.terms.item) (map (item_row_in others) rows)
+numbers_by reserves others n [] all = tt
+numbers_by reserves others n (r ∷ rows) all = (all.0, numbers_by reserves others n rows all.1)
+
+count_by : (reserves others : List ReserveRow) (rows : List Row) → length (map (item_row_in reserves) rows) ≡ length (map (item_row_in others) rows)
+count_by reserves others rows = length-map rows (item_row_in reserves) ∙ sym (length-map rows (item_row_in others))
+
+pub so_many : (db : Trees) → length (items_by [] db) ≡ length (items_in db)
+so_many db = count_by [] (reserves_in db) (db 6)
+
+numbered : (db : Trees) (s : Settings) (clock : ℕ) (reserves : List ReserveRow) → HasSettings db s clock → AreNumbered db → HasReserves db reserves → IsNumbered db
+numbered db s clock reserves set are sealed = record {
   house = set.house;
   members = within (λ (m : Member). m.member) _ (members_in db) are.members;
   categories = within (λ (k : Category). k.category) _ (categories_in db) are.categories;
-  items = within (λ (row : ItemRow). row.item.terms.item) _ (items_in db) are.items;
+  items = within (λ (row : ItemRow). row.item.terms.item) _ (items_in db)
+      (subst (λ n. AllByRecursion (λ (row : ItemRow). IsWithin 1 n row.item.terms.item) (items_in db)) (so_many db) (numbers_by [] (reserves_in db) (length (items_by [] db)) (db 6) are.items));
+  reserves = All-from_recursion (λ (r : ReserveRow). r.item ≤ length (items_in db)) (reserves_in db)
+      (subst (λ n. AllByRecursion (λ (r : ReserveRow). r.item ≤ n) (reserves_in db)) (so_many db) sealed.within);
 }
 
 counts_are : (db : Trees) (counts : Counts) → HaveNumbers db counts → counts_of (tables_in db) ≡ counts
@@ -69,35 +87,38 @@ unfolding tables_in
 counts_are db counts have =
     ap (λ (n : ℕ). record (counts_of (tables_in db)) { members = n }) have.members
     ∙ ap (λ (n : ℕ). record (counts_of (tables_in db)) { members = counts.members; categories = n }) have.categories
-    ∙ ap (λ (n : ℕ). record { members = counts.members; categories = counts.categories; items = n }) have.items
+    ∙ ap (λ (n : ℕ). record { members = counts.members; categories = counts.categories; items = n }) (sym (so_many db) ∙ have.items)
 
 clock_of : (db : Trees) → (tables_in db).clock ≡ (house_row_in db).clock
 unfolding tables_in
 clock_of db = refl
 
 -- a house that was read, and is as it was
-pub record WasRead (was is : State) (s : Settings) (clock : ℕ) (counts : Counts) : Type 0 where
+pub record WasRead (was is : State) (s : Settings) (clock : ℕ) (counts : Counts) (reserves : List ReserveRow) : Type 0 where
   pub rests : IsAtRest is
   pub settings_are : settings_in is.now.trees ≡ s
   pub counts_are : counts_of (tables_in is.now.trees) ≡ counts
   pub clock_is : (tables_in is.now.trees).clock ≡ clock
+  pub reserves_are : reserves ≡ reserves_in is.now.trees
   pub row : HouseRowFits (house_row_in is.now.trees)
   pub numbered : AreNumbered is.now.trees
   pub same : is.now ≡ was.now
   pub committed : is.committed ≡ is.now
 
-pub was_read : (was is : State) (s : Settings) (clock : ℕ) (counts : Counts) → IsTrue was.is_open × IsHouse was.now → was.now ≡ was.committed → IsUnchanged was is
-    → HasSettings was.now.trees s clock → HaveNumbers was.now.trees counts → WasRead was is s clock counts
-was_read was is s clock counts house settled unchanged set have =
+pub was_read : (was is : State) (s : Settings) (clock : ℕ) (counts : Counts) (reserves : List ReserveRow) → IsTrue was.is_open × IsHouse was.now → was.now ≡ was.committed → IsUnchanged was is
+    → HasSettings was.now.trees s clock → HaveNumbers was.now.trees counts → HasReserves was.now.trees reserves → WasRead was is s clock counts reserves
+was_read was is s clock counts reserves house settled unchanged set have sealed =
     let now = unchanged.0.now_is in
     let committed = unchanged.0.committed_is in
     let set_now = subst (λ (d : Database). HasSettings d.trees s clock) (sym now) set in
+    let sealed_now = subst (λ (d : Database). HasReserves d.trees reserves) (sym now) sealed in
     let have_now = subst (λ (d : Database). HaveNumbers d.trees counts) (sym now) have in
     record {
-      rests = record { is_open = unchanged.0.is_open; house = subst IsHouse (sym now) house.1; settled = now ∙ settled ∙ sym committed; numbered = numbered is.now.trees s clock set_now have_now.numbered };
+      rests = record { is_open = unchanged.0.is_open; house = subst IsHouse (sym now) house.1; settled = now ∙ settled ∙ sym committed; numbered = numbered is.now.trees s clock reserves set_now have_now.numbered sealed_now };
       settings_are = set_now.settings_are;
       counts_are = counts_are is.now.trees counts have_now;
       clock_is = clock_of is.now.trees ∙ set_now.clock_is;
+      reserves_are = sealed_now.reserves_are;
       row = set_now.row;
       numbered = have_now.numbered;
       same = now;

@@ -1,5 +1,5 @@
 -- What an upgrade makes of a house of version 1.
-use Rattle.std.proofs.Common.{◌≡◌, ◌≢◌, ◌==◌, ℕ, true, List, [], ◌∷◌, ◌++◌, drop, map, find, is_some, length, option_map, IfSome, IsTrue, Option, Some, None, unwrap_or, refl, sym, ap, subst, ◌∙◌, inl, inr, arith}
+use Rattle.std.proofs.Common.{◌≡◌, ◌≢◌, ◌≤◌, ◌==◌, ℕ, true, List, [], ◌∷◌, ◌++◌, drop, map, find, is_some, length, option_map, IfSome, IsTrue, Option, Some, None, unwrap_or, refl, sym, ap, subst, ◌∙◌, inl, inr, arith}
 use Rattle.std.specs.List.{AllByRecursion}
 use Rattle.sqlite_trees.specs.Tree.{Trees}
 use Rattle.sqlite_trees.specs.View.{IsClean, IsQuiet, IsRolledBack as IsUndone}
@@ -13,13 +13,15 @@ use Rattle.sqlite_schema.specs.declared.schema.Schema.{Schema}
 use Rattle.store_open.proofs.OpenLemmas.{one_schema}
 use Rattle.steps.specs.Table.{IsBandTable}
 use Rattle.house_rows.proofs.Put.{by_test}
-use Rattle.store_rows.specs.Fitting.{FirstRowFits, HouseRowFits}
+use Rattle.store_rows.specs.Fitting.{FirstRowFits, HouseRowFits, ReserveRowFits}
 use Rattle.store_rows.specs.House.{AddsTables, IsFirstHouse, IsHouse, SetsVersion, with_version}
-use Rattle.store_rows.specs.Rows.{band_in, house_in, houses_in}
+use Rattle.store_rows.specs.Rows.{band_in, house_in, houses_in, reserve_in, reserves_in}
+use Rattle.store_rows.specs.ItemRows.{items_by}
+use Rattle.store_rows.specs.declared.reserve.ReserveRow.{ReserveRow}
 use Rattle.store_rows.specs.Schema.{first_schema, house_schema}
 use Rattle.store_rows.specs.Tables.{house_row_in, settings_in, tables_in}
 use Rattle.store_rows.specs.declared.house.HouseRow.{HouseRow}
-use Rattle.store_open.specs.Opening.{AreNumbered, Follows, FollowsOrGrows, IsFirstSetUp, IsSetUp, IsSoundFirst, IsSoundHouse, Upgraded, Upgrades}
+use Rattle.store_open.specs.Opening.{AreNumbered, AreReserved, Follows, FollowsOrGrows, IsFirstSetUp, IsSetUp, IsSoundFirst, IsSoundHouse, Upgraded, Upgrades, first_tables_in}
 
 -- ---- the two writes
 
@@ -75,7 +77,7 @@ row_fits None h = h
 row_fits (Some row) h = h.others
 
 module _ (old : Trees) (new : Database) (w : Upgrades old new) where
-  pub upgraded_tables : tables_in new.trees ≡ tables_in old
+  pub upgraded_tables : tables_in new.trees ≡ first_tables_in old
   unfolding house_row_in settings_in tables_in
   upgraded_tables =
       let found = ap (find (λ (h : HouseRow). h.id == 1)) w.houses ∙ found_with_version (houses_in old) in
@@ -88,7 +90,8 @@ module _ (old : Trees) (new : Database) (w : Upgrades old new) where
       let v : new.trees 10 ≡ old 10 = w.others.1.1.1.1.1.1.0 (λ e. absurd (omega (arith, e))) in
       let q : new.trees 12 ≡ old 12 = w.others.1.1.1.1.1.1.1.0 (λ e. absurd (omega (arith, e))) in
       let f : new.trees 14 ≡ old 14 = w.others.1.1.1.1.1.1.1.1.0 (λ e. absurd (omega (arith, e))) in
-      rw (b, m, k, i, d, v, q, f, row) refl
+      let r = w.reserves in
+      rw (b, m, k, i, r, d, v, q, f, row) refl
 
   pub upgraded_set_up : IsFirstSetUp old → IsSetUp new.trees
   upgraded_set_up was =
@@ -112,6 +115,15 @@ module _ (old : Trees) (new : Database) (w : Upgrades old new) where
         categories = rw k was.categories;
         few_items = rw i was.few_items;
         items = rw i was.items;
+      }
+
+  -- no item has a reserve
+  pub upgraded_reserved : AreReserved new.trees
+  upgraded_reserved =
+      let none : reserves_in new.trees ≡ [] = ap (map reserve_in) w.reserves in
+      record {
+        fit = subst (AllByRecursion ReserveRowFits) (sym none) tt;
+        within = subst (AllByRecursion (λ (r : ReserveRow). r.item ≤ length (items_by [] new.trees))) (sym none) tt;
       }
 
 -- the version that a house to be upgraded tells
@@ -224,4 +236,4 @@ pub sound_first_at : (db held : Database) → IsFirstHouse db → db.trees ≡ h
 sound_first_at db held first trees sound = record { house = first; set_up = subst IsFirstSetUp (sym trees) sound.set_up; numbered = subst AreNumbered (sym trees) sound.numbered }
 
 pub sound_house_at : (db held : Database) → IsHouse db → db.trees ≡ held.trees → IsSoundHouse held → IsSoundHouse db
-sound_house_at db held house trees sound = record { house = house; set_up = subst IsSetUp (sym trees) sound.set_up; numbered = subst AreNumbered (sym trees) sound.numbered }
+sound_house_at db held house trees sound = record { house = house; set_up = subst IsSetUp (sym trees) sound.set_up; numbered = subst AreNumbered (sym trees) sound.numbered; reserved = subst AreReserved (sym trees) sound.reserved }

@@ -1,5 +1,5 @@
 -- What is read of a house as it is opened, and which houses are taken.
-use Rattle.std.specs.Prelude.{◌≡◌, ◌≢◌, ◌⊎◌, ◌≤◌, ◌<◌, ◌^◌, ◌==◌, ℕ, [], IfSome, IsTrue, Some, false, true, find, is_some, length, map, option_map}
+use Rattle.std.specs.Prelude.{◌≡◌, ◌≢◌, ◌⊎◌, ◌≤◌, ◌<◌, ◌^◌, ◌==◌, ℕ, List, [], IfSome, IsTrue, Some, false, true, find, is_some, length, map, option_map}
 use Rattle.std.specs.List.{AllByRecursion}
 use Rattle.sqlite_trees.specs.declared.store.Store.{Ghosts}
 use Rattle.sqlite_trees.specs.Tree.{Trees}
@@ -10,31 +10,42 @@ use Rattle.sqlite.specs.State.{HasCleanDisk, Survives}
 use Rattle.steps.specs.Table.{IsBandTable}
 use Rattle.house_rows.specs.Fits.{IsWithin}
 use Rattle.house_rows.specs.declared.people.Counts.{Counts}
-use Rattle.house_rows.specs.Tables.{tables_of}
+use Rattle.house_rows.specs.Tables.{Tables, tables_of}
 use Rattle.house_rows.specs.declared.settings.Settings.{Settings}
-use Rattle.store_rows.specs.Fitting.{FirstRowFits, HouseRowFits}
+use Rattle.store_rows.specs.Fitting.{FirstRowFits, HouseRowFits, ReserveRowFits}
 use Rattle.store_rows.specs.House.{IsFirstHouse, IsHouse, with_version}
-use Rattle.store_rows.specs.ItemRows.{items_in}
-use Rattle.store_rows.specs.Rows.{bands_in, categories_in, houses_in, members_in}
+use Rattle.store_rows.specs.ItemRows.{items_by}
+use Rattle.store_rows.specs.Rows.{bands_in, categories_in, houses_in, members_in, reserves_in}
+use Rattle.store_rows.specs.declared.reserve.ReserveRow.{ReserveRow}
 use Rattle.store_rows.specs.Commits.{IsBack}
 use Rattle.store_rows.specs.Schema.{first_schema}
 use Rattle.store_rows.specs.Tables.{house_row_in, settings_in, tables_in}
 
--- members, categories and items have numbers from 1 to how many there are, which has 32 bits
+-- members, categories and items have numbers from 1 to how many there are, which has 32 bits; that is so whatever reserves there are
 pub record AreNumbered (db : Trees) : Type 0 where
   pub few_members : length (members_in db) < 2 ^ 32
   pub members : AllByRecursion (λ m. IsWithin 1 (length (members_in db)) m.member) (members_in db)
   pub few_categories : length (categories_in db) < 2 ^ 32
   pub categories : AllByRecursion (λ k. IsWithin 1 (length (categories_in db)) k.category) (categories_in db)
-  pub few_items : length (items_in db) < 2 ^ 32
-  pub items : AllByRecursion (λ row. IsWithin 1 (length (items_in db)) row.item.terms.item) (items_in db)
+  pub few_items : length (items_by [] db) < 2 ^ 32
+  pub items : AllByRecursion (λ row. IsWithin 1 (length (items_by [] db)) row.item.terms.item) (items_by [] db)
 
 -- the tables have so many rows, numbered from 1 on
 pub record HaveNumbers (db : Trees) (counts : Counts) : Type 0 where
   pub members : length (members_in db) ≡ counts.members
   pub categories : length (categories_in db) ≡ counts.categories
-  pub items : length (items_in db) ≡ counts.items
+  pub items : length (items_by [] db) ≡ counts.items
   pub numbered : AreNumbered db
+
+-- each reserve fits, and is of an item with a number of at most how many items there are
+pub record AreReserved (db : Trees) : Type 0 where
+  pub fit : AllByRecursion ReserveRowFits (reserves_in db)
+  pub within : AllByRecursion (λ r. r.item ≤ length (items_by [] db)) (reserves_in db)
+
+-- the house has these reserves
+pub record HasReserves (db : Trees) (reserves : List ReserveRow) : Type 0 where
+  pub reserves_are : reserves ≡ reserves_in db
+  pub within : AllByRecursion (λ r. r.item ≤ length (items_by [] db)) (reserves_in db)
 
 -- the house has its row, which fits, and is set up like this
 pub record HasSettings (db : Trees) (settings : Settings) (clock : ℕ) : Type 0 where
@@ -56,6 +67,7 @@ pub record IsSoundHouse (db : Database) : Type 0 where
   pub house : IsHouse db
   pub set_up : IsSetUp db.trees
   pub numbered : AreNumbered db.trees
+  pub reserved : AreReserved db.trees
 
 -- what a crash finds is a house to which nothing has happened yet
 abbrev pub NewHouse : Settings → Trees → Type 0
@@ -74,6 +86,10 @@ pub record IsSoundFirst (db : Database) : Type 0 where
   pub house : IsFirstHouse db
   pub set_up : IsFirstSetUp db.trees
   pub numbered : AreNumbered db.trees
+
+-- the tables of a house of version 1, in which no item has a reserve
+abbrev pub first_tables_in : Trees → Tables
+first_tables_in db = record (tables_in db) { items = items_by [] db }
 
 -- A house of version 1 is made one of version 2: its row tells the version, the three new tables have no row, and the others
 -- have those that they had.

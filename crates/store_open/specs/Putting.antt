@@ -8,7 +8,7 @@ use Rattle.house_rows.specs.declared.settings.Settings.{Settings}
 use Rattle.store_rows.specs.declared.band.BandRow.{BandRow}
 use Rattle.store_rows.specs.declared.house.HouseRow.{HouseRow}
 use Rattle.store_rows.specs.House.{IsHouse, KeepsOthers}
-use Rattle.store_rows.specs.Rows.{bands_in, houses_in}
+use Rattle.store_rows.specs.Rows.{bands_in, houses_in, reserves_in}
 use Rattle.store_rows.specs.Schema.{house_schema}
 use Rattle.store_rows.specs.Tables.{IsNumbered, tables_in}
 use Rattle.store_open.specs.Opening.{IsSoundHouse}
@@ -44,4 +44,5 @@ pub record IsStarted (settings : Settings) (db : Database) : Type 0 where
   pub house : IsHouse db
   pub numbered : IsNumbered db.trees
   pub tables : tables_in db.trees ≡ tables_of settings []
+  pub reserves : reserves_in db.trees ≡ []
   pub sound : is_plain settings.zone ≡ true → IsSoundHouse db

@@ -2,6 +2,7 @@
 
 use house_rows::{Counts, Settings};
 use sqlite::{Alter, Connection};
+use store_reserves::Reserves;
 
 /// A house that was opened.
 #[derive(Drop)]
@@ -10,6 +11,8 @@ pub struct Opened<S: Alter> {
     pub conn: Connection<S>,
     /// What it is set up with.
     pub settings: Settings,
+    /// Its reserves.
+    pub reserves: Reserves,
     /// How many members, categories and items it has.
     pub counts: Counts,
     /// Its clock, in seconds since 1970-01-01T00:00:00Z.

@@ -11,6 +11,7 @@ ghost use Rattle.steps.specs.Table.{IsBandTable};
 ghost use Rattle.store_rows.specs.Making.{IsBlank, IsEmptyHouse};
 ghost use Rattle.store_rows.specs.Schema.{no_schema};
 ghost use Rattle.store_rows.specs.Commits.{IsBack};
+ghost use Rattle.store_rows.specs.Rows.{reserves_in};
 ghost use Rattle.store_rows.specs.Tables.{IsAtRest, tables_in};
 ghost use Rattle.store_open.specs.Opening.{IsSoundHouse, NewHouse};
 ghost use Rattle.store_open.specs.Putting.{IsBanded, IsStarted};
@@ -129,6 +130,8 @@ pub fn make_house<S: Alter>(conn: &mut Connection<S>, settings: &Settings) -> Re
     ensures ok { HasCleanDisk (state S.Store conn.new)
         → OnOk result (IsAtRest (state S.Store conn.new)
         × (tables_in (state S.Store conn.new).now.trees ≡ tables_of settings.now [])) }
+    ensures reserves { HasCleanDisk (state S.Store conn.new)
+        → OnOk result (reserves_in (state S.Store conn.new).now.trees ≡ []) }
     ensures opens { HasCleanDisk (state S.Store conn.new)
         → OnOk result (is_plain settings.now.zone ≡ true
         → IsSoundHouse (state S.Store conn.new).now) }

@@ -10,7 +10,7 @@ ghost use Rattle.sqlite.specs.Values.{bound};
 ghost use Rattle.house_rows.specs.Fits.{IsWithin};
 ghost use Rattle.house_rows.specs.declared.fault.KeepFault.TheVariants.{Damaged};
 ghost use Rattle.store_rows.specs.House.{IsHouse, Serves};
-ghost use Rattle.store_rows.specs.ItemRows.{items_in};
+ghost use Rattle.store_rows.specs.ItemRows.{items_by};
 ghost use Rattle.store_rows.specs.Rows.{categories_in, members_in};
 ghost use Rattle.store_rows.specs.Schema.{house_schema};
 ghost use Rattle.store_open.specs.Opening.{AreNumbered, HaveNumbers};
@@ -108,10 +108,10 @@ fn items_within<S: Alter>(conn: &mut Connection<S>, most: u32) -> Result<(), Kee
     requires { Serves (state S.Store conn.old) }
     ensures within { HasCleanDisk (state S.Store conn.new)
         → OnOk result (AllByRecursion (λ row. IsWithin 1 most row.item.terms.item)
-        (items_in (state S.Store conn.old).now.trees)) }
+        (items_by [] (state S.Store conn.old).now.trees)) }
     ensures damaged { HasCleanDisk (state S.Store conn.new)
         → AllByRecursion (λ row. IsWithin 1 most row.item.terms.item)
-        (items_in (state S.Store conn.old).now.trees)
+        (items_by [] (state S.Store conn.old).now.trees)
         → ¬ (IsErrOf result Damaged) }
     ensures read { OnlyReads (state S.Store conn.old) (state S.Store conn.new) result }
 {
@@ -161,9 +161,9 @@ fn categories_numbered<S: Alter>(conn: &mut Connection<S>) -> Result<u32, KeepFa
 fn items_numbered<S: Alter>(conn: &mut Connection<S>) -> Result<u32, KeepFault>
     requires { Serves (state S.Store conn.old) }
     ensures count { HasCleanDisk (state S.Store conn.new)
-        → IfOk result (λ n. (length (items_in (state S.Store conn.old).now.trees) ≡ n)
+        → IfOk result (λ n. (length (items_by [] (state S.Store conn.old).now.trees) ≡ n)
         × (n < 2 ^ 32) × AllByRecursion (λ row. IsWithin 1 n row.item.terms.item)
-        (items_in (state S.Store conn.old).now.trees)) }
+        (items_by [] (state S.Store conn.old).now.trees)) }
     ensures damaged { HasCleanDisk (state S.Store conn.new)
         → AreNumbered (state S.Store conn.old).now.trees
         → ¬ (IsErrOf result Damaged) }

@@ -10,17 +10,20 @@ ghost use Rattle.house_rows.specs.declared.fault.KeepFault.TheVariants.{Damaged}
 ghost use Rattle.steps.specs.Table.{IsBandTable};
 ghost use Rattle.store_rows.specs.Fitting.{HouseRowFits};
 ghost use Rattle.store_rows.specs.House.{Serves};
+ghost use Rattle.store_rows.specs.Rows.{reserves_in};
 ghost use Rattle.store_rows.specs.Tables.{IsAtRest, house_row_in, settings_in, tables_in};
-ghost use Rattle.store_open.specs.Opening.{AreNumbered, Follows, HasSettings, HaveNumbers, IsSetUp, IsSoundHouse};
+ghost use Rattle.store_open.specs.Opening.{AreNumbered, AreReserved, Follows, HasReserves, HasSettings, HaveNumbers, IsSetUp, IsSoundHouse};
 ghost use Rattle.store_rows.specs.Frames.{OnlyReads};
 
 use crate::anew::house_anew;
 use crate::house::Opened;
 use crate::numbers::read_counts;
+use crate::reserves::read_reserves;
 use house_rows::{Counts, KeepFault, Rate, Settings};
 use sqlite::{Alter, Connection};
 use std::alloc::Global;
 use steps::{Bands, BandsFault};
+use store_reserves::Reserves;
 use store_rows::{BandRow, HouseRow, all_bands, house_row};
 
 // The rows of the band table as pairs.
@@ -93,34 +96,39 @@ fn read_settings<S: Alter>(
     Ok((settings, clock))
 }
 
-/// All that is read of a house as it is opened; `Damaged` where what it is set up with or a number
-/// doesn't fit.
+/// All that is read of a house as it is opened; `Damaged` where what it is set up with, a number or a
+/// reserve doesn't fit.
 pub(crate) fn read_house<S: Alter>(
     alloc: Global,
     conn: &mut Connection<S>,
-) -> Result<(Settings, u64, Counts), KeepFault>
+) -> Result<(Settings, u64, Counts, Reserves), KeepFault>
     requires { Serves (state S.Store conn.old) }
     ensures settings { HasCleanDisk (state S.Store conn.new)
         → IfOk result (λ read. HasSettings (state S.Store conn.old).now.trees read.0 read.1) }
     ensures moment { IfOk result (λ read. IsMoment read.1) }
     ensures counts { HasCleanDisk (state S.Store conn.new)
         → IfOk result (λ read. HaveNumbers (state S.Store conn.old).now.trees read.2) }
+    ensures reserves { HasCleanDisk (state S.Store conn.new)
+        → IfOk result (λ read. HasReserves (state S.Store conn.old).now.trees read.3) }
     ensures damaged { HasCleanDisk (state S.Store conn.new)
         → IsSetUp (state S.Store conn.old).now.trees
         → AreNumbered (state S.Store conn.old).now.trees
+        → AreReserved (state S.Store conn.old).now.trees
         → ¬ (IsErrOf result Damaged) }
     ensures read { OnlyReads (state S.Store conn.old) (state S.Store conn.new) result }
 {
     let (settings, clock) = read_settings(alloc, conn)?;
     let counts = read_counts(conn)?;
-    Ok((settings, clock, counts))
+    let reserves = read_reserves(alloc, conn, counts.items)?;
+    Ok((settings, clock, counts, reserves))
 }
 
 /// Opens the house that a connection holds. What it has not committed is undone.
 ///
 /// `Damaged` where it holds no house of version 2: other tables than those of a house, a row of the
-/// house or bands that don't fit, or a member, a category or an item with a number that is 0 or over
-/// how many there are. After an error the store is given back as it was: nothing was written.
+/// house or bands that don't fit, a member, a category or an item with a number that is 0 or over how
+/// many there are, or a reserve that doesn't fit or whose item's number is over how many items there
+/// are. After an error the store is given back as it was: nothing was written.
 pub fn open_house<S: Alter + Drop>(
     alloc: Global,
     conn: Connection<S>,
@@ -131,6 +139,8 @@ pub fn open_house<S: Alter + Drop>(
         → settings_in (state S.Store o.conn).now.trees ≡ o.settings) }
     ensures counts { IfOk result (λ o. HasCleanDisk (state S.Store o.conn)
         → counts_of (tables_in (state S.Store o.conn).now.trees) ≡ o.counts) }
+    ensures reserves { IfOk result (λ o. HasCleanDisk (state S.Store o.conn)
+        → o.reserves ≡ reserves_in (state S.Store o.conn).now.trees) }
     ensures numbered { IfOk result (λ o. HasCleanDisk (state S.Store o.conn)
         → AreNumbered (state S.Store o.conn).now.trees) }
     ensures clock { IfOk result (λ o. HasCleanDisk (state S.Store o.conn)
@@ -150,9 +160,10 @@ pub fn open_house<S: Alter + Drop>(
 {
     let mut conn = house_anew(alloc, conn)?;
     match read_house(alloc, &mut conn) {
-        Ok((settings, clock, counts)) => Ok(Opened {
+        Ok((settings, clock, counts, reserves)) => Ok(Opened {
             conn,
             settings,
+            reserves,
             counts,
             clock,
         }),

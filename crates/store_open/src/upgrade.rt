@@ -13,9 +13,9 @@ ghost use Rattle.house_rows.specs.declared.fault.KeepFault.TheVariants.{Damaged,
 ghost use Rattle.store_rows.specs.Fitting.{HouseRowFits};
 ghost use Rattle.store_rows.specs.House.{IsFirstHouse, IsInside, Serves};
 ghost use Rattle.store_rows.specs.Frames.{OnlyReads};
-ghost use Rattle.store_rows.specs.Rows.{houses_in};
+ghost use Rattle.store_rows.specs.Rows.{houses_in, reserves_in};
 ghost use Rattle.store_rows.specs.Tables.{IsAtRest, house_row_in, settings_in, tables_in};
-ghost use Rattle.store_open.specs.Opening.{AreNumbered, Follows, FollowsOrGrows, HasSettings, HaveNumbers, IsFirstSetUp, IsSoundFirst, IsSoundHouse, Upgraded, Upgrades};
+ghost use Rattle.store_open.specs.Opening.{AreNumbered, Follows, FollowsOrGrows, HasReserves, HasSettings, HaveNumbers, IsFirstSetUp, IsSoundFirst, IsSoundHouse, Upgraded, Upgrades, first_tables_in};
 
 use crate::anew::either_anew;
 use crate::house::Opened;
@@ -24,6 +24,7 @@ use house_rows::{Counts, KeepFault, Settings};
 use sqlite::{Alter, Connection};
 use sqlite_trees::store::Store;
 use std::alloc::Global;
+use store_reserves::Reserves;
 use store_rows::{add_tables, begin, end, set_version, stored_version};
 
 // The version of a house that is upgraded.
@@ -93,7 +94,7 @@ fn finish<S: Alter>(conn: &mut Connection<S>) -> Result<(), KeepFault>
 fn upgrade_read<S: Alter>(
     alloc: Global,
     conn: &mut Connection<S>,
-) -> Result<(Settings, u64, Counts), KeepFault>
+) -> Result<(Settings, u64, Counts, Reserves), KeepFault>
     requires first { HasCleanDisk (state S.Store conn.old)
         → IsTrue (state S.Store conn.old).is_open × IsFirstHouse (state S.Store conn.old).now }
     ensures upgraded { HasCleanDisk (state S.Store conn.new)
@@ -106,6 +107,8 @@ fn upgrade_read<S: Alter>(
     ensures moment { IfOk result (λ read. IsMoment read.1) }
     ensures counts { HasCleanDisk (state S.Store conn.new)
         → IfOk result (λ read. HaveNumbers (state S.Store conn.new).now.trees read.2) }
+    ensures reserves { HasCleanDisk (state S.Store conn.new)
+        → IfOk result (λ read. HasReserves (state S.Store conn.new).now.trees read.3) }
     ensures mode { OnOk result (conn.new.in_transaction ≡ false) }
     ensures damaged { HasCleanDisk (state S.Store conn.new)
         → IsFirstSetUp (state S.Store conn.old).now.trees
@@ -140,6 +143,8 @@ fn upgrade_first<S: Alter + Drop>(
         → settings_in (state S.Store o.conn).now.trees ≡ o.settings) }
     ensures counts { IfOk result (λ o. HasCleanDisk (state S.Store o.conn)
         → counts_of (tables_in (state S.Store o.conn).now.trees) ≡ o.counts) }
+    ensures reserves { IfOk result (λ o. HasCleanDisk (state S.Store o.conn)
+        → o.reserves ≡ reserves_in (state S.Store o.conn).now.trees) }
     ensures numbered { IfOk result (λ o. HasCleanDisk (state S.Store o.conn)
         → AreNumbered (state S.Store o.conn).now.trees) }
     ensures clock { IfOk result (λ o. HasCleanDisk (state S.Store o.conn)
@@ -161,9 +166,10 @@ fn upgrade_first<S: Alter + Drop>(
 {
     let mut conn = conn;
     match upgrade_read(alloc, &mut conn) {
-        Ok((settings, clock, counts)) => Ok(Opened {
+        Ok((settings, clock, counts, reserves)) => Ok(Opened {
             conn,
             settings,
+            reserves,
             counts,
             clock,
         }),
@@ -193,6 +199,8 @@ pub fn upgrade_house<S: Alter + Drop>(
         → settings_in (state S.Store r.0.conn).now.trees ≡ r.0.settings) }
     ensures counts { IfOk result (λ r. HasCleanDisk (state S.Store r.0.conn)
         → counts_of (tables_in (state S.Store r.0.conn).now.trees) ≡ r.0.counts) }
+    ensures reserves { IfOk result (λ r. HasCleanDisk (state S.Store r.0.conn)
+        → r.0.reserves ≡ reserves_in (state S.Store r.0.conn).now.trees) }
     ensures numbered { IfOk result (λ r. HasCleanDisk (state S.Store r.0.conn)
         → AreNumbered (state S.Store r.0.conn).now.trees) }
     ensures clock { IfOk result (λ r. HasCleanDisk (state S.Store r.0.conn)
@@ -204,8 +212,9 @@ pub fn upgrade_house<S: Alter + Drop>(
         → (state S.Store r.0.conn).may_leave db → db ≡ (state S.Store r.0.conn).now.trees) }
     ensures mode { IfOk result (λ r. r.0.conn.in_transaction ≡ false) }
     ensures same { IfOk result (λ r. HasCleanDisk (state S.Store r.0.conn)
+        → r.1 ≡ true
         → tables_in (state S.Store r.0.conn).now.trees
-        ≡ tables_in (state S.Store conn).committed.trees) }
+        ≡ first_tables_in (state S.Store conn).committed.trees) }
     ensures upgraded { IfOk result (λ r. HasCleanDisk (state S.Store r.0.conn)
         → r.1 ≡ true
         → Upgrades (state S.Store conn).committed.trees (state S.Store r.0.conn).now) }

@@ -1,5 +1,5 @@
 -- What a registration and a new category make of the tables.
-use Rattle.std.proofs.Common.{Bor, ◌≡◌, ◌+◌, ℕ, List, [], ◌∷◌, ◌++◌, length, refl}
+use Rattle.std.proofs.Common.{Bor, ◌≡◌, ◌+◌, ℕ, List, [], ◌∷◌, ◌++◌, length, refl, ◌∙◌, arith}
 use Rattle.sqlite.specs.Effect.{Database}
 use Rattle.house_rows.specs.Changed.{changed}
 use Rattle.house_rows.specs.declared.change.Change.TheVariants.{AddCategory, Register}
@@ -8,7 +8,7 @@ use Rattle.house_rows.specs.declared.people.Member.{Member}
 use Rattle.store_rows.specs.House.{AddsCategory, AddsMember, SetsClock}
 use Rattle.store_rows.specs.Rows.{members_in, categories_in}
 use Rattle.store_rows.specs.Tables.{IsNumbered, Changes, house_row_in, settings_in, tables_in}
-use Rattle.store_rows.proofs.Made.{Makes, makes_both, other, all_below, still_numbered, sets_clock}
+use Rattle.store_rows.proofs.Made.{Makes, makes_both, other, all_below, still_numbered, same_reserves, sets_clock}
 
 pub adds_member : (number : ℕ) (name : List ℕ) (old new : Database) → IsNumbered old.trees → number ≡ length (members_in old.trees) + 1 → AddsMember number name old new
     → Makes (λ t. record t { members = t.members ++ record { member = length t.members + 1; name = name } ∷ [] }) old new
@@ -23,6 +23,7 @@ adds_member number name old new was next w =
     let v = w.others.1.1.1.1.1.1.0 (other 10 2 refl) in
     let q = w.others.1.1.1.1.1.1.1.0 (other 12 2 refl) in
     let f = w.others.1.1.1.1.1.1.1.1.0 (other 14 2 refl) in
+    let r = w.others.1.1.1.1.1.1.1.1.1.0 (other 23 2 refl) in
     let rows = w.members (all_below (λ m. m.member) (members_in old.trees) x next was.members) in
     record {
       house = w.house;
@@ -30,9 +31,10 @@ adds_member number name old new was next w =
         house = rw h was.house;
         members = rw rows (still_numbered (λ m. m.member) (members_in old.trees) x next was.members);
         categories = rw k was.categories;
-        items = rw i was.items;
+        items = rw (i, r) was.items;
+        reserves = rw (i, r) was.reserves;
       };
-      tables = rw (h, b, k, i, d, v, q, f, rows, next) refl;
+      tables = rw (h, b, k, i, r, d, v, q, f, rows, next) refl;
     }
 
 pub adds_category : (number : ℕ) (name : List ℕ) (old new : Database) → IsNumbered old.trees → number ≡ length (categories_in old.trees) + 1 → AddsCategory number name old new
@@ -48,6 +50,7 @@ adds_category number name old new was next w =
     let v = w.others.1.1.1.1.1.1.0 (other 10 4 refl) in
     let q = w.others.1.1.1.1.1.1.1.0 (other 12 4 refl) in
     let f = w.others.1.1.1.1.1.1.1.1.0 (other 14 4 refl) in
+    let r = w.others.1.1.1.1.1.1.1.1.1.0 (other 23 4 refl) in
     let rows = w.categories (all_below (λ k. k.category) (categories_in old.trees) x next was.categories) in
     record {
       house = w.house;
@@ -55,9 +58,10 @@ adds_category number name old new was next w =
         house = rw h was.house;
         members = rw m was.members;
         categories = rw rows (still_numbered (λ k. k.category) (categories_in old.trees) x next was.categories);
-        items = rw i was.items;
+        items = rw (i, r) was.items;
+        reserves = rw (i, r) was.reserves;
       };
-      tables = rw (h, b, m, i, d, v, q, f, rows, next) refl;
+      tables = rw (h, b, m, i, r, d, v, q, f, rows, next) refl;
     }
 
 pub registers : (number moment : ℕ) (name : Bor (List ℕ)) (old mid new : Database) → IsNumbered old.trees → number ≡ length (members_in old.trees) + 1 → AddsMember number name.now old mid → SetsClock moment mid new
@@ -66,7 +70,7 @@ unfolding changed
 registers number moment name old mid new was next one two =
     let put = adds_member number name.now old mid was next one in
     let it = makes_both _ _ old mid new put (sets_clock moment mid new put.numbered two) in
-    record { house = it.house; numbered = it.numbered; tables = it.tables }
+    record { house = it.house; numbered = it.numbered; tables = it.tables; reserves = same_reserves 0 mid new (omega arith) two.others ∙ same_reserves 2 old mid (omega arith) one.others }
 
 pub adds_category_named : (number moment : ℕ) (name : Bor (List ℕ)) (old mid new : Database) → IsNumbered old.trees → number ≡ length (categories_in old.trees) + 1 → AddsCategory number name.now old mid → SetsClock moment mid new
     → Changes (AddCategory moment name) old new
@@ -74,4 +78,4 @@ unfolding changed
 adds_category_named number moment name old mid new was next one two =
     let put = adds_category number name.now old mid was next one in
     let it = makes_both _ _ old mid new put (sets_clock moment mid new put.numbered two) in
-    record { house = it.house; numbered = it.numbered; tables = it.tables }
+    record { house = it.house; numbered = it.numbered; tables = it.tables; reserves = same_reserves 0 mid new (omega arith) two.others ∙ same_reserves 4 old mid (omega arith) one.others }

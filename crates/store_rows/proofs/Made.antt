@@ -1,10 +1,11 @@
 -- What a write makes of the tables in the order of their keys, and that the house stays numbered.
-use Rattle.std.proofs.Common.{◌≡◌, ◌≤◌, ◌<◌, ◌+◌, ℕ, eqb, false, List, [], ◌∷◌, ◌++◌, length, refl, ap, ◌∙◌, arith, length-append}
+use Rattle.std.proofs.Common.{◌≡◌, ◌≤◌, ◌<◌, ◌+◌, ℕ, eqb, false, List, [], ◌∷◌, ◌++◌, length, map, refl, ap, ◌∙◌, arith, length-append}
 use Rattle.std.specs.Prelude.{All}
 use Rattle.std.proofs.lemmas.List.Elements.{All-push, All-weaker}
 use Rattle.sqlite.specs.Effect.{Database}
 use Rattle.house_rows.specs.Tables.{Tables}
 use Rattle.store_rows.specs.House.{IsHouse, KeepsOthers, SetsClock}
+use Rattle.store_rows.specs.Rows.{reserve_in, reserves_in}
 use Rattle.store_rows.specs.Tables.{IsNumbered, house_row_in, settings_in, tables_in}
 use Rattle.store_rows.specs.Sorted.{sorted_bids, sorted_feedback, sorted_questions, sorted_watches}
 use Rattle.store_rows.proofs.Clock.{clock_set}
@@ -44,23 +45,35 @@ module _ {A : Type 0} (number : A → ℕ) (xs : List A) (x : A) (next : number 
 pub sets_clock : (moment : ℕ) (old new : Database) → IsNumbered old.trees → SetsClock moment old new → Makes (λ t. record t { clock = moment }) old new
 sets_clock moment old new was w = let it = clock_set moment old new was w in record { house = w.house; numbered = it.numbered; tables = it.tables }
 
+-- ---- the reserves
+
+-- a write of a table before theirs leaves them
+pub same_reserves : (tree : ℕ) (old new : Database) → tree < 23 → KeepsOthers tree old new → reserves_in new.trees ≡ reserves_in old.trees
+same_reserves tree old new under others = ap (map reserve_in) (others.1.1.1.1.1.1.1.1.1.0 (λ e. absurd (omega (arith, under, e))))
+
 -- ---- the tables of what members do, which no number counts
 
-module _ (tree : ℕ) (old new : Database) (over : 6 < tree) (was : IsNumbered old.trees) (others : KeepsOthers tree old new) where
+module _ (tree : ℕ) (old new : Database) (apart : (6 < tree) × (tree < 23)) (was : IsNumbered old.trees) (others : KeepsOthers tree old new) where
   pub stays_numbered : IsNumbered new.trees
   stays_numbered =
+      let over = apart.0 in
+      let under = apart.1 in
       let h = others.0 (λ e. absurd (omega arith)) in
       let m = others.1.1.0 (λ e. absurd (omega arith)) in
       let k = others.1.1.1.0 (λ e. absurd (omega arith)) in
       let i = others.1.1.1.1.0 (λ e. absurd (omega arith)) in
-      record { house = rw h was.house; members = rw m was.members; categories = rw k was.categories; items = rw i was.items }
+      let r = others.1.1.1.1.1.1.1.1.1.0 (λ e. absurd (omega arith)) in
+      record { house = rw h was.house; members = rw m was.members; categories = rw k was.categories; items = rw (i, r) was.items; reserves = rw (i, r) was.reserves }
 
   pub same_people : tables_in new.trees ≡ record (tables_in old.trees) { bids = sorted_bids new.trees; watches = sorted_watches new.trees; questions = sorted_questions new.trees; feedback = sorted_feedback new.trees }
   unfolding house_row_in settings_in tables_in
   same_people =
+      let over = apart.0 in
+      let under = apart.1 in
       let h = others.0 (λ e. absurd (omega arith)) in
       let b = others.1.0 (λ e. absurd (omega arith)) in
       let m = others.1.1.0 (λ e. absurd (omega arith)) in
       let k = others.1.1.1.0 (λ e. absurd (omega arith)) in
       let i = others.1.1.1.1.0 (λ e. absurd (omega arith)) in
-      rw (h, b, m, k, i) refl
+      let r = others.1.1.1.1.1.1.1.1.1.0 (λ e. absurd (omega arith)) in
+      rw (h, b, m, k, i, r) refl

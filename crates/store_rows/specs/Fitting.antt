@@ -6,6 +6,7 @@ use Rattle.house_rows.specs.Limits.{most_bids, most_cents}
 use Rattle.house_rows.specs.Text.{is_plain}
 use Rattle.store_rows.specs.declared.house.HouseRow.{HouseRow}
 use Rattle.store_rows.specs.declared.band.BandRow.{BandRow}
+use Rattle.store_rows.specs.declared.reserve.ReserveRow.{ReserveRow}
 
 -- a bid without its item
 pub record BidFits (b : Bid) : Type 0 where
@@ -16,6 +17,10 @@ pub record BidFits (b : Bid) : Type 0 where
 pub record BandRowFits (b : BandRow) : Type 0 where
   pub from : b.from < 2 ^ 32
   pub step : b.step < 2 ^ 32
+
+pub record ReserveRowFits (r : ReserveRow) : Type 0 where
+  pub item : r.item < 2 ^ 32
+  pub amount : r.amount ≤ most_cents
 
 -- the only row of the house, of version 2 of the tables
 pub record HouseRowFits (h : HouseRow) : Type 0 where

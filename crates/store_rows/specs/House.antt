@@ -10,7 +10,8 @@ use Rattle.house_rows.specs.Watches.{WatchRow, unwatched}
 use Rattle.house_rows.specs.declared.talk.Question.{Question}
 use Rattle.house_rows.specs.declared.talk.Feedback.{Feedback}
 use Rattle.store_rows.specs.declared.house.HouseRow.{HouseRow}
-use Rattle.store_rows.specs.Rows.{houses_in, members_in, categories_in, bids_in, watches_in, questions_in, feedback_in}
+use Rattle.store_rows.specs.declared.reserve.ReserveRow.{ReserveRow}
+use Rattle.store_rows.specs.Rows.{houses_in, members_in, categories_in, bids_in, watches_in, questions_in, feedback_in, reserves_in}
 use Rattle.store_rows.specs.Schema.{first_schema, house_schema}
 
 -- the twelve tables, whose rows lie in the order of their rowids, and obey the schema
@@ -36,6 +37,10 @@ pub record AddsTables (old new : Database) : Type 0 where
 -- the connection is open and holds a house, as far as the disk was honest
 abbrev pub Serves : State → Type 0
 Serves s = HasCleanDisk s → IsTrue s.is_open × IsHouse s.now
+
+-- and these are the reserves that it has
+abbrev pub ServesBy : List ReserveRow → State → Type 0
+ServesBy reserves s = HasCleanDisk s → IsTrue s.is_open × IsHouse s.now × (reserves ≡ reserves_in s.now.trees)
 
 -- it serves, and a transaction is open
 pub record IsBegun (s : State) : Type 0 where

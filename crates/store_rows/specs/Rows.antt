@@ -10,6 +10,7 @@ use Rattle.house_rows.specs.declared.people.Category.{Category}
 use Rattle.house_rows.specs.declared.people.Member.{Member}
 use Rattle.store_rows.specs.declared.house.HouseRow.{HouseRow}
 use Rattle.store_rows.specs.declared.band.BandRow.{BandRow}
+use Rattle.store_rows.specs.declared.reserve.ReserveRow.{ReserveRow}
 use Rattle.house_rows.specs.declared.rating.Rating.{Rating}
 use Rattle.house_rows.specs.declared.rating.Rating.TheVariants.{Minus, Zero, Plus}
 use Rattle.house_rows.specs.declared.talk.Question.{Question}
@@ -69,6 +70,9 @@ house_of r = record {
 abbrev pub band_of : Row → BandRow
 band_of r = record { from = number_in (column r 0); step = number_in (column r 1) }
 
+abbrev pub reserve_of : Row → ReserveRow
+reserve_of r = record { item = number_in (column r 0); amount = number_in (column r 1) }
+
 abbrev pub member_of : Row → Member
 member_of r = record { member = number_in (column r 0); name = text_in (column r 1) }
 
@@ -115,6 +119,9 @@ house_in r = house_of (column r 0 ∷ column r 2 ∷ column r 3 ∷ column r 4 �
 abbrev pub band_in : Row → BandRow
 band_in r = band_of (column r 0 ∷ column r 2 ∷ [])
 
+abbrev pub reserve_in : Row → ReserveRow
+reserve_in r = reserve_of (column r 0 ∷ column r 2 ∷ [])
+
 abbrev pub member_in : Row → Member
 member_in r = member_of (column r 0 ∷ column r 2 ∷ [])
 
@@ -140,6 +147,9 @@ houses_in db = map house_in (db 0)
 
 abbrev pub bands_in : Trees → List BandRow
 bands_in db = map band_in (db 1)
+
+abbrev pub reserves_in : Trees → List ReserveRow
+reserves_in db = map reserve_in (db 23)
 
 abbrev pub members_in : Trees → List Member
 members_in db = map member_in (db 2)

@@ -1,16 +1,18 @@
 -- The tables of the house that a database holds.
-use Rattle.std.specs.Prelude.{◌≡◌, ◌≤◌, ◌==◌, true, [], map, find, length, All, is_some, unwrap_or, IsTrue}
+use Rattle.std.specs.Prelude.{◌≡◌, ◌≤◌, ◌+◌, ◌==◌, true, ℕ, List, [], ◌∷◌, ◌++◌, Option, Some, None, map, find, length, All, is_some, unwrap_or, IsTrue}
 use Rattle.sqlite_trees.specs.Tree.{Trees}
 use Rattle.sqlite.specs.Effect.{Database}
 use Rattle.sqlite.specs.State.{State, HasCleanDisk}
 use Rattle.house_rows.specs.Changed.{changed}
 use Rattle.house_rows.specs.Tables.{Tables}
 use Rattle.house_rows.specs.declared.change.Change.{Change}
+use Rattle.house_rows.specs.declared.change.Change.TheVariants.{Register, AddCategory, List as Listed, Bid, Buy, Close, Settle, Watch, Unwatch, Ask, Answer, Feedback}
 use Rattle.house_rows.specs.declared.settings.Settings.{Settings}
 use Rattle.store_rows.specs.declared.house.HouseRow.{HouseRow}
+use Rattle.store_rows.specs.declared.reserve.ReserveRow.{ReserveRow}
 use Rattle.store_rows.specs.House.{IsHouse}
 use Rattle.store_rows.specs.ItemRows.{items_in}
-use Rattle.store_rows.specs.Rows.{bands_in, categories_in, houses_in, members_in}
+use Rattle.store_rows.specs.Rows.{bands_in, categories_in, houses_in, members_in, reserves_in}
 use Rattle.store_rows.specs.Sorted.{sorted_bids, sorted_feedback, sorted_questions, sorted_watches}
 
 -- the row of the house, or none of ours
@@ -38,12 +40,13 @@ tables_in db = record {
   feedback = sorted_feedback db;
 }
 
--- the house has its row, and no member, category or item has a number over how many there are
+-- the house has its row, and no member, category or item has a number over how many there are, nor has a reserve
 pub record IsNumbered (db : Trees) : Type 0 where
   pub house : is_some (find (λ h. h.id == 1) (houses_in db)) ≡ true
   pub members : All (λ m. m.member ≤ length (members_in db)) (members_in db)
   pub categories : All (λ k. k.category ≤ length (categories_in db)) (categories_in db)
   pub items : All (λ row. row.item.terms.item ≤ length (items_in db)) (items_in db)
+  pub reserves : All (λ r. r.item ≤ length (items_in db)) (reserves_in db)
 
 -- the connection is open, and a numbered house is committed
 pub record IsAtRest (s : State) : Type 0 where
@@ -56,8 +59,29 @@ pub record IsAtRest (s : State) : Type 0 where
 abbrev pub Rests : State → Type 0
 Rests s = HasCleanDisk s → IsAtRest s
 
+-- one reserve more, if there is one
+abbrev pub with_reserve : ℕ → Option ℕ → List ReserveRow → List ReserveRow
+with_reserve item None reserves = reserves
+with_reserve item (Some amount) reserves = reserves ++ record { item = item; amount = amount } ∷ []
+
+-- the reserves after a change: a listing adds that of its item, which has the next number
+abbrev pub reserves_after : List ReserveRow → ℕ → Change → List ReserveRow
+reserves_after reserves next (Register moment name) = reserves
+reserves_after reserves next (AddCategory moment name) = reserves
+reserves_after reserves next (Listed moment item) = with_reserve next item.reserve reserves
+reserves_after reserves next (Bid moment item placed standing) = reserves
+reserves_after reserves next (Buy moment item buyer price) = reserves
+reserves_after reserves next (Close moment) = reserves
+reserves_after reserves next (Settle moment item) = reserves
+reserves_after reserves next (Watch member item) = reserves
+reserves_after reserves next (Unwatch member item) = reserves
+reserves_after reserves next (Ask item asker number text) = reserves
+reserves_after reserves next (Answer moment item asker number text) = reserves
+reserves_after reserves next (Feedback moment item from to rating text) = reserves
+
 -- what a change makes of the house
 pub record Changes (change : Change) (old new : Database) : Type 0 where
   pub house : IsHouse new
   pub numbered : IsNumbered new.trees
   pub tables : tables_in new.trees ≡ changed (tables_in old.trees) change
+  pub reserves : reserves_in new.trees ≡ reserves_after (reserves_in old.trees) (length (items_in old.trees) + 1) change

@@ -55,10 +55,11 @@ fn told_terms(row: &Row) -> Result<Terms, KeepFault>
         price: cents_at(row, 8)?,
         leader: maybe_number_at(row, 9)?,
         count: number_at(row, 10)?,
+        met: None,
     })
 }
 
-// All but the texts, from the first eleven columns.
+// All but the texts, from the first eleven columns, without a reserve.
 impl Stored for Terms {
     ghost told = { terms_of };
 

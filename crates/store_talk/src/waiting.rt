@@ -11,7 +11,7 @@ ghost use Rattle.house_rows.specs.Limits.{most_shown};
 ghost use Rattle.house_rows.specs.declared.item.Terms.{Terms as TermsRow};
 ghost use Rattle.house_rows.specs.declared.fault.KeepFault.TheVariants.{Damaged};
 ghost use Rattle.store_rows.specs.ItemRows.{items_in};
-ghost use Rattle.store_rows.specs.House.{Serves};
+ghost use Rattle.store_rows.specs.House.{Serves, ServesBy};
 ghost use Rattle.store_rows.specs.Rows.{questions_in};
 ghost use Rattle.store_rows.specs.Tables.{tables_in};
 ghost use Rattle.store_talk.specs.Waiting.{waiting_in, WaitingFit, WaitingInTurn};
@@ -20,10 +20,11 @@ ghost use Rattle.store_rows.specs.Frames.{OnlyReads};
 
 use crate::question_lists::waiting_on;
 use crate::question_pages::first_waiting_on;
-use house_rows::{Editions, KeepFault, MOST_SHOWN, Question, Terms};
+use house_rows::{KeepFault, MOST_SHOWN, Question, Terms};
 use sqlite::{Alter, Connection};
 use std::alloc::Global;
 use store_items::terms_of_seller;
+use store_reserves::Rules;
 
 // Adds the questions on an item that wait to those found.
 fn add_waiting<S: Alter>(
@@ -68,7 +69,8 @@ fn waiting_on_each<S: Alter>(
         → AllByRecursion QuestionFits (questions_in (state S.Store conn.old).now.trees)
         → ¬ (IsErrOf result Damaged) }
     ensures here { HasCleanDisk (state S.Store conn.new)
-        → AllByRecursion (λ (t : TermsRow). WaitingFit (state S.Store conn.old).now.trees t.item) own.now
+        → AllByRecursion (λ (t : TermsRow). WaitingFit
+        (state S.Store conn.old).now.trees t.item) own.now
         → ¬ (IsErrOf result Damaged) }
     ensures read { OnlyReads (state S.Store conn.old) (state S.Store conn.new) result }
 {
@@ -83,22 +85,22 @@ fn waiting_on_each<S: Alter>(
 pub fn waiting_for<S: Alter>(
     alloc: Global,
     conn: &mut Connection<S>,
-    editions: &Editions,
+    rules: &Rules,
     member: u32,
 ) -> Result<Vec<Question>, KeepFault>
-    requires { Serves (state S.Store conn.old) }
+    requires { ServesBy rules.now.reserves (state S.Store conn.old) }
     ensures value { HasCleanDisk (state S.Store conn.new)
         → IfOk result (λ asked. asked.items ≡ waiting_for
         (tables_in (state S.Store conn.old).now.trees) member) }
     ensures stands { HasCleanDisk (state S.Store conn.new)
         → IfOk result (λ asked. AllByRecursion
-        (λ q. ItemStands editions.now (state S.Store conn.old).now.trees q.item) asked.items) }
+        (λ q. ItemStands rules.now.editions (state S.Store conn.old).now.trees q.item) asked.items) }
     ensures fits { IfOk result (λ asked. AllByRecursion QuestionFits asked.items) }
     ensures damaged { HasCleanDisk (state S.Store conn.new)
-        → AreSoundBy editions.now (tables_in (state S.Store conn.old).now.trees)
+        → AreSoundBy rules.now.editions (tables_in (state S.Store conn.old).now.trees)
         → ¬ (IsErrOf result Damaged) }
     ensures here { HasCleanDisk (state S.Store conn.new)
-        → FitWhere (λ row. row.item.terms.seller == member) (FitsBy editions.now)
+        → FitWhere (λ row. row.item.terms.seller == member) (FitsBy rules.now.editions)
         (items_in (state S.Store conn.old).now.trees)
         → FitWhere (λ q. not (is_some q.answer)
         && sells (row_at (tables_in (state S.Store conn.old).now.trees) q.item) member) QuestionFits
@@ -106,7 +108,7 @@ pub fn waiting_for<S: Alter>(
         → ¬ (IsErrOf result Damaged) }
     ensures read { OnlyReads (state S.Store conn.old) (state S.Store conn.new) result }
 {
-    let own = terms_of_seller(alloc, conn, editions, member)?;
+    let own = terms_of_seller(alloc, conn, rules, member)?;
     waiting_on_each(alloc, conn, &own)
 }
 
@@ -180,22 +182,22 @@ fn first_on_each<S: Alter>(
 pub fn first_waiting<S: Alter>(
     alloc: Global,
     conn: &mut Connection<S>,
-    editions: &Editions,
+    rules: &Rules,
     member: u32,
 ) -> Result<Vec<Question>, KeepFault>
-    requires { Serves (state S.Store conn.old) }
+    requires { ServesBy rules.now.reserves (state S.Store conn.old) }
     ensures value { HasCleanDisk (state S.Store conn.new)
         → IfOk result (λ asked. asked.items ≡ first_waiting
         (tables_in (state S.Store conn.old).now.trees) member) }
     ensures stands { HasCleanDisk (state S.Store conn.new)
         → IfOk result (λ asked. AllByRecursion
-        (λ q. ItemStands editions.now (state S.Store conn.old).now.trees q.item) asked.items) }
+        (λ q. ItemStands rules.now.editions (state S.Store conn.old).now.trees q.item) asked.items) }
     ensures fits { IfOk result (λ asked. AllByRecursion QuestionFits asked.items) }
     ensures damaged { HasCleanDisk (state S.Store conn.new)
-        → AreSoundBy editions.now (tables_in (state S.Store conn.old).now.trees)
+        → AreSoundBy rules.now.editions (tables_in (state S.Store conn.old).now.trees)
         → ¬ (IsErrOf result Damaged) }
     ensures reached { HasCleanDisk (state S.Store conn.new)
-        → FitWhere (λ row. row.item.terms.seller == member) (FitsBy editions.now)
+        → FitWhere (λ row. row.item.terms.seller == member) (FitsBy rules.now.editions)
         (items_in (state S.Store conn.old).now.trees)
         → FirstFit (λ q. not (is_some q.answer)
         && sells (row_at (tables_in (state S.Store conn.old).now.trees) q.item) member)
@@ -203,6 +205,6 @@ pub fn first_waiting<S: Alter>(
         → ¬ (IsErrOf result Damaged) }
     ensures read { OnlyReads (state S.Store conn.old) (state S.Store conn.new) result }
 {
-    let own = terms_of_seller(alloc, conn, editions, member)?;
+    let own = terms_of_seller(alloc, conn, rules, member)?;
     first_on_each(alloc, conn, &own)
 }

@@ -4,11 +4,19 @@ use std::alloc::AllocError;
 use std::fmt::Write;
 
 /// Adds a command: its name, with the rating of feedback, its numbers and then its texts, in the order in which they
-/// stand in `Command`, but for the price at which a listing may be bought, which comes last of the numbers.
+/// stand in `Command`, but for the price at which a listing may be bought, which comes last of the numbers, and its
+/// reserve, which comes after them with its word.
 pub(crate) fn push(line: &mut String, command: &Command) -> Result<(), AllocError> {
     line.push_str(name(command))?;
     for number in numbers(command).iter().flatten() {
         write!(line, " {number}")?;
+    }
+    if let Command::List {
+        reserve: Some(reserve),
+        ..
+    } = command
+    {
+        write!(line, " reserve {reserve}")?;
     }
     for text in texts(command).iter().flatten() {
         write!(line, " {:?}", text.as_str())?;

@@ -63,6 +63,7 @@ fn name(route: &Route<'_>) -> &'static str {
         Route::Member { .. } => "Member",
         Route::FeedbackTo { .. } => "FeedbackTo",
         Route::MyBids { .. } => "MyBids",
+        Route::MyReserves { .. } => "MyReserves",
         Route::MyWatches => "MyWatches",
         Route::MyQuestions { .. } => "MyQuestions",
         Route::MyWaiting => "MyWaiting",
@@ -83,6 +84,7 @@ fn numbers(route: &Route<'_>) -> [Option<u64>; 3] {
         Route::Member { member: number }
         | Route::MyBids { from: number }
         | Route::MyQuestions { from: number }
+        | Route::MyReserves { from: number }
         | Route::Bid { item: number }
         | Route::Buy { item: number }
         | Route::Settle { item: number }

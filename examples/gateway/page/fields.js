@@ -82,8 +82,8 @@ export function codeField(label, { hint, value }) {
   });
 }
 
-// The cents of an amount of at least so many. Where `isOptional` holds an empty field is null.
-export function moneyField(label, { hint = "", least = () => 1, tooLow, isOptional = false }) {
+// The cents of an amount of at least so many, and at most so many. Where `isOptional` holds an empty field is null.
+export function moneyField(label, { hint = "", least = () => 1, tooLow, most = () => MOST, isOptional = false }) {
   const control = make("input", { type: "text", inputmode: "decimal", autocomplete: "off", class: "amount" });
   return new Field(label, control, hint, text => {
     if (isOptional && !text.trim()) {
@@ -96,8 +96,8 @@ export function moneyField(label, { hint = "", least = () => 1, tooLow, isOption
     if (amount < least()) {
       throw new Mistake(tooLow(least()));
     }
-    if (amount > MOST) {
-      throw new Mistake(`The greatest amount is ${shown(MOST)}. Write less.`);
+    if (amount > most()) {
+      throw new Mistake(`The greatest amount is ${shown(most())}. Write less.`);
     }
     return amount;
   });

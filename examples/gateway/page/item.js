@@ -2,7 +2,7 @@
 import { read } from "./api.js";
 import { caller } from "./caller.js";
 import { link, make, paragraphs, put, replace, written } from "./dom.js";
-import { categories, nameOf } from "./known.js";
+import { categories, nameOf, reserveOf } from "./known.js";
 import { countdown, hasEnded, secondsLeft, tick, time } from "./moments.js";
 import { shown } from "./money.js";
 import { tell } from "./news.js";
@@ -51,11 +51,13 @@ async function leading(item) {
   return [item.state === "open" ? "Led by " : "Sold to ", link(`member/${item.leader}`, name)];
 }
 
-// Price, state and end, with a call that puts them anew.
-function facts() {
+// Price, state and end, with a call that puts them anew. The reserve, which is the seller's to see, stays.
+function facts(reserve) {
   const parts = {
     badge: make("p", { class: "badges" }), what: make("h2", { class: "what", tabindex: "-1" }),
-    price: make("p", { class: "amount-now" }), bids: make("p"), leader: make("p"), end: make("p"), standing: make("p"),
+    price: make("p", { class: "amount-now" }), bids: make("p"), leader: make("p"), end: make("p"),
+    reserve: make("p", {}, reserve === null ? null : `Your reserve is ${shown(reserve)}, and nobody else sees it.`),
+    standing: make("p"),
   };
   const node = make("div", { class: "facts" }, ...Object.values(parts));
   const update = async (item, bid) => {
@@ -86,9 +88,9 @@ function change(before, after) {
 }
 
 // The parts of the page that follow the item, and the call that reads it anew.
-function followed(first, wasWatched, conversation) {
+function followed(first, reserve, wasWatched, conversation) {
   const shownNow = { ...first };
-  const about = facts();
+  const about = facts(reserve);
   const place = make("div");
   const lookAgain = async isTold => {
     const after = await look(shownNow.item.item);
@@ -143,6 +145,11 @@ async function byline(item) {
 const story = item => make("section", { class: "box story" }, make("h2", {}, "About it"),
   item.text ? paragraphs(item.text) : make("p", { class: "soft" }, "The seller wrote nothing about it."));
 
+// What the caller has sealed as the seller.
+async function ownReserve(item) {
+  return item.seller === caller.number && typeof item.met === "boolean" ? reserveOf(item.item) : null;
+}
+
 async function isWatched(number) {
   return caller.isMember && (await read("/me/watches")).items.some(item => item.item === number);
 }
@@ -150,8 +157,9 @@ async function isWatched(number) {
 export async function item(visit, number) {
   const first = await look(number);
   const own = first.item;
-  const [of, watched, conversation] = await Promise.all([byline(own), isWatched(own.item), talk(own)]);
-  const { node, update, refresh, shownNow } = followed(first, watched, conversation);
+  const asked = [byline(own), ownReserve(own), isWatched(own.item), talk(own)];
+  const [of, reserve, watched, conversation] = await Promise.all(asked);
+  const { node, update, refresh, shownNow } = followed(first, reserve, watched, conversation);
   await update();
   let wasOver = hasEnded(own);
   visit.repeat(() => pace(shownNow.item), async () => {

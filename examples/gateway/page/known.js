@@ -39,6 +39,11 @@ export const itemsOf = numbers => each(numbers, number => read(`/items/${number}
 
 export const categories = async () => (await read("/categories")).categories;
 
+// The reserve that the caller has sealed of an own item, or null.
+export async function reserveOf(number) {
+  return (await read(`/me/reserves/${number}`)).reserves.find(one => one.item === number)?.reserve ?? null;
+}
+
 // The caller's bids by item. The house has none.
 export async function bidsByItem() {
   return new Map((await whole("/me/bids", "bids")).map(bid => [bid.item, bid]));

@@ -6,7 +6,7 @@ import { choiceField, codeField, dayField, moneyField, textField, timeField } fr
 import { form } from "./form.js";
 import { categories } from "./known.js";
 import { dayAt, moment, timeAt, zoneInWords } from "./moments.js";
-import { shown } from "./money.js";
+import { MOST, shown } from "./money.js";
 import { tell } from "./news.js";
 
 const WEEK = 7 * 86400;
@@ -28,11 +28,16 @@ function fieldsOf(list) {
     hint: "Who pays this gets it at once, as long as nobody has bid. Leave it empty to have none.", isOptional: true,
     least: () => start.value ?? 1, tooLow: least => `This can't be less than the start price, ${shown(least)}.`,
   });
+  const reserve = moneyField("Reserve price", {
+    hint: "It isn't sold for less, and nobody else sees this. Leave it empty to have none.", isOptional: true,
+    least: () => (start.value ?? 0) + 1, tooLow: least => `Write ${shown(least)} or more: it is over the start price.`,
+    most: () => buyNow.value ?? MOST,
+  });
   return [
     choiceField("Category", { choices: list.map(one => [one.category, one.name]) }),
     textField("Title", { most: 80, hint: "What it is, in up to 80 letters." }),
     textField("About it", { least: 0, most: 2000, rows: 6, hint: "Its age, its size, its faults. Up to 2000 letters." }),
-    start, buyNow,
+    start, buyNow, reserve,
     dayField("Ends on", dayAt(now() + WEEK)),
     timeField("Ends at", EVENING, zoneInWords()),
     codeField("Your code for it", {
@@ -41,9 +46,9 @@ function fieldsOf(list) {
   ];
 }
 
-async function list(category, title, text, start, buyNow, day, time, lot) {
+async function list(category, title, text, start, buyNow, reserve, day, time, lot) {
   const end = Math.min(moment(day, time), LAST);
-  const told = await send("/items", { category, title, text, start, buy_now: buyNow, end, lot });
+  const told = await send("/items", { category, title, text, start, buy_now: buyNow, reserve, end, lot });
   location.hash = `#/item/${told.item}`;
   setTimeout(() => tell("Your item is listed."), 500);
 }

@@ -1,4 +1,3 @@
-use Rattle.std.proofs.Common.{refl}
 use Rattle.auction_runs.proofs.Outcomes.{on_ok_then}
 use Rattle.auction_runs.proofs.Rows.{dealt, ok_of_both, taken}
 use Rattle.office.specs.Imports.{keep_of}

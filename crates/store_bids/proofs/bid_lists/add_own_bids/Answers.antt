@@ -12,7 +12,13 @@ use Rattle.house_rows.specs.Reached.{FitsAt}
 use Rattle.store_bids.specs.Reached.{FitInTurn}
 use Rattle.store_items.specs.RowsStanding.{ItemStands}
 use Rattle.store_rows.proofs.Steps.{both_same, both_survive, clean_before, first_found_all, first_found_full, found_more}
+use Rattle.store_reserves.proofs.Serving.{serves_still}
 use Rattle.store_bids.proofs.bid_lists.add_own_bids.Goals as goal
+
+pub add_own_bid-requires : goal.add_own_bid-requires
+add_own_bid-requires g c =
+    let held = c.loop-number.invariant in
+    serves_still c.args.rules.now.reserves (state g.S.Store c.args.conn.now) (state g.S.Store c.loop-number.conn) held.survives held.same c.requires.serves
 
 pub loop-number-preserved : goal.loop-number-preserved
 loop-number-preserved g c =
@@ -37,11 +43,11 @@ loop-number-preserved g c =
       few = (let more = c.in_ok-add_own_bid.ensures.few in omega (arith, more));
       fits = λ all. c.in_ok-add_own_bid.ensures.fits (held.fits all);
       stands = λ clean all. (let before = clean_before mid new crash clean in
-          let P = λ (db : Database) (b : OwnBid). ItemStands c.args.editions.now db.trees b.item in
+          let P = λ (db : Database) (b : OwnBid). ItemStands c.args.rules.now.editions db.trees b.item in
           subst (λ (db : Database). AllByRecursion (P db) c.loop-number.found.items → AllByRecursion (P db) c.add_own_bid.new.found.items) (held.same before).0.now_is (c.in_ok-add_own_bid.ensures.stands clean) (held.stands before all));
       reached = λ clean fit. (let now = held.reached (clean_before mid new crash clean) fit in
-          let first = subst (FitInTurn c.args.editions.now t c.args.member (length c.loop-number.found.items)) (drop_more numbers i 0 c.loop-number-test.true) now in
-          subst (λ many. FitInTurn c.args.editions.now t c.args.member many (drop (i + 1) numbers)) (sym (ap length (one clean) ∙ length-append c.loop-number.found.items (F (get_or numbers i 0)))) first.1);
+          let first = subst (FitInTurn c.args.rules.now.editions t c.args.member (length c.loop-number.found.items)) (drop_more numbers i 0 c.loop-number-test.true) now in
+          subst (λ many. FitInTurn c.args.rules.now.editions t c.args.member many (drop (i + 1) numbers)) (sym (ap length (one clean) ∙ length-append c.loop-number.found.items (F (get_or numbers i 0)))) first.1);
     }
 
 pub returns-then-len-ge-MOST_SHOWN-clause-value : goal.returns-then-len-ge-MOST_SHOWN-clause-value
@@ -69,6 +75,6 @@ returns-in_err-add_own_bid-clause-reached g c clean fit is =
     let before = clean_before mid new c.add_own_bid.ensures.read.crash clean in
     let whole = c.loop-number.found.ok.0 in
     let few : length c.loop-number.found.items < most_shown = omega (arith, whole) in
-    let first = subst (FitInTurn c.args.editions.now (tables_in old.now.trees) c.args.member (length c.loop-number.found.items)) (drop_more numbers i 0 c.loop-number-test.true) (held.reached before fit) in
-    let here = subst (λ (db : Database). FitsAt c.args.editions.now (tables_in db.trees) c.args.member (get_or numbers i 0)) (sym (held.same before).0.now_is) (first.0 few) in
+    let first = subst (FitInTurn c.args.rules.now.editions (tables_in old.now.trees) c.args.member (length c.loop-number.found.items)) (drop_more numbers i 0 c.loop-number-test.true) (held.reached before fit) in
+    let here = subst (λ (db : Database). FitsAt c.args.rules.now.editions (tables_in db.trees) c.args.member (get_or numbers i 0)) (sym (held.same before).0.now_is) (first.0 few) in
     c.add_own_bid.ensures.here clean here (search rules)

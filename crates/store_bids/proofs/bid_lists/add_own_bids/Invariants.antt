@@ -17,7 +17,7 @@ invariant-loop-number g l =
     let now = state g.S.Store l.conn in
     let t = tables_in old.now.trees in
     let F = own_found t l.member in
-    let P = λ (b : OwnBid). ItemStands l.editions old.now.trees b.item in
+    let P = λ (b : OwnBid). ItemStands l.rules.editions old.now.trees b.item in
     record {
       survives : Survives old now (λ _. ⊥);
       same : HasCleanDisk now → IsUnchanged old now;
@@ -26,5 +26,5 @@ invariant-loop-number g l =
       few : length l.found.items ≤ most_shown;
       fits : AllByRecursion OwnBidFits l.fn.found.items → AllByRecursion OwnBidFits l.found.items;
       stands : HasCleanDisk now → AllByRecursion P l.fn.found.items → AllByRecursion P l.found.items;
-      reached : HasCleanDisk now → FitInTurn l.editions t l.member (length l.fn.found.items) l.numbers → FitInTurn l.editions t l.member (length l.found.items) (drop l.number-index l.numbers);
+      reached : HasCleanDisk now → FitInTurn l.rules.editions t l.member (length l.fn.found.items) l.numbers → FitInTurn l.rules.editions t l.member (length l.found.items) (drop l.number-index l.numbers);
     }

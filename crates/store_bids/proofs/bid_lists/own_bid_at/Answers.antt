@@ -11,7 +11,14 @@ use Rattle.store_bids.proofs.InTurn.{items_are}
 use Rattle.store_bids.proofs.BidStanding.{bid_stands}
 use Rattle.store_items.proofs.RowsStanding.{terms_in}
 use Rattle.store_rows.proofs.Steps.{clean_before}
+use Rattle.store_reserves.proofs.Serving.{serves, serves_still}
 use Rattle.store_bids.proofs.bid_lists.own_bid_at.Goals as goal
+
+pub own_best-requires : goal.own_best-requires
+own_best-requires g c =
+    let old = state g.S.Store c.args.conn.now in
+    let mid = state g.S.Store c.terms_at.new.conn in
+    serves c.args.rules.now.reserves mid (serves_still c.args.rules.now.reserves old mid c.terms_at.ensures.read.crash c.in_ok-terms.ensures.read.same c.requires)
 
 pub returns-in_err-terms-clause-here : goal.returns-in_err-terms-clause-here
 returns-in_err-terms-clause-here g c clean fits is =
@@ -39,5 +46,5 @@ pub returns-clause-stands : goal.returns-clause-stands
 returns-clause-stands g c clean =
     let db = (state g.S.Store c.args.conn.now).now.trees in
     let before = clean_before (state g.S.Store c.terms_at.new.conn) (state g.S.Store c.own_best.new.conn) c.own_best.ensures.read.crash clean in
-    let here = terms_in c.args.editions.now db c.args.item c.in_ok-terms.terms (c.in_ok-terms.ensures.found before) c.in_ok-terms.ensures.stands in
-    bid_stands c.args.editions.now db c.args.member c.args.item c.own_bid.result (returns-clause-value g c clean) here
+    let here = terms_in c.args.rules.now.editions db c.args.item c.in_ok-terms.terms (c.in_ok-terms.ensures.found before) c.in_ok-terms.ensures.stands in
+    bid_stands c.args.rules.now.editions db c.args.member c.args.item c.own_bid.result (returns-clause-value g c clean) here

@@ -18,7 +18,23 @@ use Rattle.store_bids.specs.Strays.{far_items_text}
 use Rattle.store_bids.proofs.InTurn.{all_fit}
 use Rattle.store_bids.proofs.ItemsBid.{all_ours, far_items_finite, far_items_is, items_up, low_items_finite, low_items_is, no_far_item, no_low_item}
 use Rattle.store_bids.proofs.ListedBids.{own_fewer, own_full, own_in_turn, own_ours}
+use Rattle.store_reserves.proofs.Serving.{serves, serves_still}
 use Rattle.store_bids.proofs.bid_pages.own_bids.Goals as goal
+
+pub no_item-requires-clause-serves : goal.no_item-requires-clause-serves
+no_item-requires-clause-serves g c = serves c.args.rules.now.reserves (state g.S.Store c.args.conn.now) c.requires
+
+pub own_bids_from-requires : goal.own_bids_from-requires
+own_bids_from-requires g c =
+    serves_still c.args.rules.now.reserves (state g.S.Store c.args.conn.now) (state g.S.Store c.no_item.new.conn) c.no_item.ensures.read.crash c.in_ok-no_item.ensures.read.same c.requires
+
+pub no_item-requires-2-clause-serves : goal.no_item-requires-2-clause-serves
+no_item-requires-2-clause-serves g c =
+    let old = state g.S.Store c.args.conn.now in
+    let first = state g.S.Store c.no_item.new.conn in
+    let mid = state g.S.Store c.own_bids_from.new.conn in
+    serves c.args.rules.now.reserves mid (serves_still c.args.rules.now.reserves first mid c.own_bids_from.ensures.read.crash c.in_ok-found.ensures.read.same
+    (serves_still c.args.rules.now.reserves old first c.no_item.ensures.read.crash c.in_ok-no_item.ensures.read.same c.requires))
 
 pub no_item-requires-clause-plain : goal.no_item-requires-clause-plain
 no_item-requires-clause-plain g c = low_items_is.2
@@ -49,18 +65,18 @@ pub returns-then-len-ge-MOST_SHOWN-clause-stands : goal.returns-then-len-ge-MOST
 returns-then-len-ge-MOST_SHOWN-clause-stands g c clean =
     let mid = state g.S.Store c.no_item.new.conn in
     let before = clean_before mid (state g.S.Store c.own_bids_from.new.conn) c.own_bids_from.ensures.read.crash clean in
-    subst (λ (db : Database). AllByRecursion (λ (b : OwnBid). ItemStands c.args.editions.now db.trees b.item) c.in_ok-found.found.items) (c.in_ok-no_item.ensures.read.same before).0.now_is (c.in_ok-found.ensures.stands clean)
+    subst (λ (db : Database). AllByRecursion (λ (b : OwnBid). ItemStands c.args.rules.now.editions db.trees b.item) c.in_ok-found.found.items) (c.in_ok-no_item.ensures.read.same before).0.now_is (c.in_ok-found.ensures.stands clean)
 
 pub returns-in_err-no_item-clause-reached : goal.returns-in_err-no_item-clause-reached
 returns-in_err-no_item-clause-reached g c clean fit is =
     let old = state g.S.Store c.args.conn.now in
     let mid = state g.S.Store c.no_item.new.conn in
     let house = (c.requires (clean_before old mid c.no_item.ensures.read.crash clean)).1 in
-    no_low_item old mid house (c.no_item.ensures.damaged clean (search rules)) (own_ours old.now c.args.member c.args.from house c.args.editions.now fit)
+    no_low_item old mid house (c.no_item.ensures.damaged clean (search rules)) (own_ours old.now c.args.member c.args.from house c.args.rules.now.editions fit)
 
 pub returns-in_err-no_item-clause-damaged : goal.returns-in_err-no_item-clause-damaged
 returns-in_err-no_item-clause-damaged g c clean sound is =
-    returns-in_err-no_item-clause-reached g c clean (all_fit c.args.editions.now (tables_in (state g.S.Store c.args.conn.now).now.trees) c.args.member c.args.from sound) is
+    returns-in_err-no_item-clause-reached g c clean (all_fit c.args.rules.now.editions (tables_in (state g.S.Store c.args.conn.now).now.trees) c.args.member c.args.from sound) is
 
 pub returns-in_err-found-clause-reached : goal.returns-in_err-found-clause-reached
 returns-in_err-found-clause-reached g c clean fit is =
@@ -69,12 +85,12 @@ returns-in_err-found-clause-reached g c clean fit is =
     let before = clean_before mid (state g.S.Store c.own_bids_from.new.conn) c.own_bids_from.ensures.read.crash clean in
     let same = (c.in_ok-no_item.ensures.read.same before).0.now_is in
     let house = (c.requires (clean_before old mid c.no_item.ensures.read.crash before)).1 in
-    let turn = subst (λ (db : Database). FitFrom c.args.editions.now db.trees c.args.member 0 c.args.from) (sym same) (own_in_turn old.now c.args.member c.args.from house c.args.editions.now fit) in
+    let turn = subst (λ (db : Database). FitFrom c.args.rules.now.editions db.trees c.args.member 0 c.args.from) (sym same) (own_in_turn old.now c.args.member c.args.from house c.args.rules.now.editions fit) in
     c.own_bids_from.ensures.reached clean turn (search rules)
 
 pub returns-in_err-found-clause-damaged : goal.returns-in_err-found-clause-damaged
 returns-in_err-found-clause-damaged g c clean sound is =
-    returns-in_err-found-clause-reached g c clean (all_fit c.args.editions.now (tables_in (state g.S.Store c.args.conn.now).now.trees) c.args.member c.args.from sound) is
+    returns-in_err-found-clause-reached g c clean (all_fit c.args.rules.now.editions (tables_in (state g.S.Store c.args.conn.now).now.trees) c.args.member c.args.from sound) is
 
 pub returns-in_err-no_item-2-clause-reached : goal.returns-in_err-no_item-2-clause-reached
 returns-in_err-no_item-2-clause-reached g c clean fit is =
@@ -87,11 +103,11 @@ returns-in_err-no_item-2-clause-reached g c clean fit is =
     let house = (c.requires (clean_before old first c.no_item.ensures.read.crash early)).1 in
     let same = (both_same old first mid (c.in_ok-no_item.ensures.read.same early) (c.in_ok-found.ensures.read.same late)).0.now_is in
     no_far_item mid new (subst IsHouse (sym same) house) (c.no_item-2.ensures.damaged clean (search rules))
-    (subst (λ (db : Database). AllByRecursion (λ row. number_of row < 2 ^ 32) (items_in db.trees)) (sym same) (own_ours old.now c.args.member c.args.from house c.args.editions.now fit))
+    (subst (λ (db : Database). AllByRecursion (λ row. number_of row < 2 ^ 32) (items_in db.trees)) (sym same) (own_ours old.now c.args.member c.args.from house c.args.rules.now.editions fit))
 
 pub returns-in_err-no_item-2-clause-damaged : goal.returns-in_err-no_item-2-clause-damaged
 returns-in_err-no_item-2-clause-damaged g c clean sound is =
-    returns-in_err-no_item-2-clause-reached g c clean (all_fit c.args.editions.now (tables_in (state g.S.Store c.args.conn.now).now.trees) c.args.member c.args.from sound) is
+    returns-in_err-no_item-2-clause-reached g c clean (all_fit c.args.rules.now.editions (tables_in (state g.S.Store c.args.conn.now).now.trees) c.args.member c.args.from sound) is
 
 pub returns-clause-value : goal.returns-clause-value
 returns-clause-value g c clean =
@@ -115,4 +131,4 @@ returns-clause-stands g c clean =
     let mid = state g.S.Store c.own_bids_from.new.conn in
     let late = clean_before mid (state g.S.Store c.no_item-2.new.conn) c.no_item-2.ensures.read.crash clean in
     let early = clean_before first mid c.own_bids_from.ensures.read.crash late in
-    subst (λ (db : Database). AllByRecursion (λ (b : OwnBid). ItemStands c.args.editions.now db.trees b.item) c.in_ok-found.found.items) (c.in_ok-no_item.ensures.read.same early).0.now_is (c.in_ok-found.ensures.stands late)
+    subst (λ (db : Database). AllByRecursion (λ (b : OwnBid). ItemStands c.args.rules.now.editions db.trees b.item) c.in_ok-found.found.items) (c.in_ok-no_item.ensures.read.same early).0.now_is (c.in_ok-found.ensures.stands late)

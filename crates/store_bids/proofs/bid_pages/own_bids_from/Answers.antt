@@ -1,4 +1,4 @@
-use Rattle.std.proofs.Common.{◌≡◌, ◌≤◌, ◌<◌, ◌^◌, ◌++◌, ◌∙◌, arith, flat_map, length, rules, subst, sym, take}
+use Rattle.std.proofs.Common.{◌≡◌, ◌≤◌, ◌<◌, ◌^◌, ◌++◌, ◌∙◌, arith, length, rules, subst, sym, take}
 use Rattle.std.specs.List.{AllByRecursion}
 use Rattle.sqlite_keyed.proofs.ListLemmas.{all_weaker}
 use Rattle.sqlite.specs.Effect.{Database}
@@ -15,7 +15,13 @@ use Rattle.store_bids.proofs.InTurn.{all_added, none_left}
 use Rattle.store_bids.proofs.ItemsBid.{low_items}
 use Rattle.store_bids.proofs.Numbers.{none_behind}
 use Rattle.store_bids.proofs.bid_pages.own_bids_from.Goals.{then-bids-test+else-next-lt-BEHIND_ALL, else-bids-test}
+use Rattle.store_reserves.proofs.Serving.{serves_still}
 use Rattle.store_bids.proofs.bid_pages.own_bids_from.Goals as goal
+
+pub add_next_bids-requires-clause-serves : goal.add_next_bids-requires-clause-serves
+add_next_bids-requires-clause-serves g c =
+    let held = c.bids.invariant in
+    serves_still c.args.rules.now.reserves (state g.S.Store c.args.conn.now) (state g.S.Store c.bids.conn) held.survives held.same c.requires
 
 pub bids-preserved : goal.bids-preserved
 bids-preserved g c =
@@ -34,10 +40,10 @@ bids-preserved g c =
       few = c.in_ok-next.ensures.few;
       fits = c.in_ok-next.ensures.fits held.fits;
       stands = λ clean. (let before = clean_before mid new crash clean in
-          let P = λ (db : Database) (b : OwnBid). ItemStands c.args.editions.now db.trees b.item in
+          let P = λ (db : Database) (b : OwnBid). ItemStands c.args.rules.now.editions db.trees b.item in
           subst (λ (db : Database). AllByRecursion (P db) c.bids.found.items → AllByRecursion (P db) c.add_next_bids.new.found.items) (held.same before).0.now_is (c.in_ok-next.ensures.stands clean) (held.stands before));
       reached = λ clean fit. (let before = clean_before mid new crash clean in
-          subst (λ (db : Database). FitFrom c.args.editions.now db.trees c.args.member (length c.bids.found.items) c.bids.next → FitFrom c.args.editions.now db.trees c.args.member (length c.add_next_bids.new.found.items) c.in_ok-next.next)
+          subst (λ (db : Database). FitFrom c.args.rules.now.editions db.trees c.args.member (length c.bids.found.items) c.bids.next → FitFrom c.args.rules.now.editions db.trees c.args.member (length c.add_next_bids.new.found.items) c.in_ok-next.next)
           (held.same before).0.now_is (c.in_ok-next.ensures.later clean) (held.reached before fit));
     }
 
@@ -47,7 +53,7 @@ returns-in_err-next-clause-reached g c clean fit is =
     let new = state g.S.Store c.add_next_bids.new.conn in
     let held = c.bids.invariant in
     let before = clean_before mid new c.add_next_bids.ensures.read.crash clean in
-    let turn = subst (λ (db : Database). FitFrom c.args.editions.now db.trees c.args.member (length c.bids.found.items) c.bids.next) (sym (held.same before).0.now_is) (held.reached before fit) in
+    let turn = subst (λ (db : Database). FitFrom c.args.rules.now.editions db.trees c.args.member (length c.bids.found.items) c.bids.next) (sym (held.same before).0.now_is) (held.reached before fit) in
     c.add_next_bids.ensures.reached clean turn (search rules)
 
 pub returns-clause-value : goal.returns-clause-value

@@ -21,8 +21,8 @@ invariant-bids g l =
       found : HasCleanDisk now → take most_shown (l.found.items ++ found_from old.now.trees l.member l.next) ≡ take most_shown (found_from old.now.trees l.member l.from);
       few : length l.found.items ≤ most_shown;
       fits : AllByRecursion OwnBidFits l.found.items;
-      stands : HasCleanDisk now → AllByRecursion (λ (b : OwnBid). ItemStands l.editions old.now.trees b.item) l.found.items;
-      reached : HasCleanDisk now → FitFrom l.editions old.now.trees l.member 0 l.from → FitFrom l.editions old.now.trees l.member (length l.found.items) l.next;
+      stands : HasCleanDisk now → AllByRecursion (λ (b : OwnBid). ItemStands l.rules.editions old.now.trees b.item) l.found.items;
+      reached : HasCleanDisk now → FitFrom l.rules.editions old.now.trees l.member 0 l.from → FitFrom l.rules.editions old.now.trees l.member (length l.found.items) l.next;
     }
 
 abbrev pub decreases-bids : goal.decreases-bids

@@ -5,7 +5,14 @@ use Rattle.sqlite.specs.Effect.{Database}
 use Rattle.sqlite.specs.Held.{state}
 use Rattle.sqlite.specs.State.{HasCleanDisk}
 use Rattle.store_rows.specs.Tables.{tables_in}
+use Rattle.store_reserves.proofs.Serving.{serves, serves_still}
 use Rattle.store_bids.proofs.bidding.check_bid.Goals as goal
+
+pub check_free-requires : goal.check_free-requires
+check_free-requires g c =
+    let old = state g.S.Store c.args.conn.now in
+    let mid = state g.S.Store c.check_standing.new.conn in
+    serves c.args.rules.now.reserves mid (serves_still c.args.rules.now.reserves old mid c.check_standing.ensures.read.crash c.in_ok-check_standing.ensures.read.same c.requires)
 
 pub returns-in_err-check_standing-clause-damaged : goal.returns-in_err-check_standing-clause-damaged
 returns-in_err-check_standing-clause-damaged g c clean sound bands moment placed fits free =

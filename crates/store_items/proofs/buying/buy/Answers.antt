@@ -6,6 +6,9 @@ use Rattle.store_rows.specs.Commits.{MadeBy}
 use Rattle.store_rows.proofs.CommitSteps.{survives_change, survives_commit}
 use Rattle.store_items.proofs.buying.buy.Goals as goal
 
+pub check_unbid-requires : goal.check_unbid-requires
+check_unbid-requires g c clean = let rest = c.requires.rests clean in (rest.is_open, rest.house, c.requires.reserves clean)
+
 pub returns-in_err-check_unbid-clause-damaged : goal.returns-in_err-check_unbid-clause-damaged
 returns-in_err-check_unbid-clause-damaged g c clean sound fits =
     let none = c.in_err-check_unbid.ensures.damaged clean sound (c.requires.editions (omega (arith, c.check_unbid.ensures.read.crash.clean))) c.args.moment c.args.buyer c.args.price fits in

@@ -3,7 +3,11 @@ use Rattle.sqlite.specs.Held.{state}
 use Rattle.sqlite.specs.State.{HasCleanDisk}
 use Rattle.store_items.proofs.Rows.{purchase_unbid, same_items, unbid_checked}
 use Rattle.store_items.proofs.RowsStanding.{has_standing_item}
+use Rattle.store_reserves.proofs.Serving.{serves_still}
 use Rattle.store_items.proofs.buying.check_unbid.Goals as goal
+
+pub standing_there-requires : goal.standing_there-requires
+standing_there-requires g c = serves_still c.args.rules.now.reserves (state g.S.Store c.args.conn.now) (state g.S.Store c.terms_there.new.conn) c.terms_there.ensures.read.crash c.in_ok-terms.ensures.read.same c.requires
 
 pub returns-then-is_unbid-clause-unbid : goal.returns-then-is_unbid-clause-unbid
 returns-then-is_unbid-clause-unbid g c clean =
@@ -25,4 +29,4 @@ returns-else-is_unbid-clause-damaged g c clean sound bands moment buyer price fi
 pub returns-then-is_unbid-clause-there : goal.returns-then-is_unbid-clause-there
 returns-then-is_unbid-clause-there g c clean =
     let mid : HasCleanDisk (state g.S.Store c.terms_there.new.conn) = omega (arith, c.standing_there.ensures.read.crash.clean) in
-    has_standing_item c.args.editions.now (state g.S.Store c.args.conn.now).now.trees c.args.item c.in_ok-terms.terms (c.in_ok-terms.ensures.found mid) c.in_ok-terms.ensures.fits c.in_ok-terms.ensures.stands
+    has_standing_item c.args.rules.now.editions (state g.S.Store c.args.conn.now).now.trees c.args.item c.in_ok-terms.terms (c.in_ok-terms.ensures.found mid) c.in_ok-terms.ensures.fits c.in_ok-terms.ensures.stands

@@ -19,7 +19,7 @@ loop-terms-preserved g c =
             inside.is_open,
             inside.mode,
             inside.committed ∙ so.2,
-            closing_steps c.args.due.now c.loop-terms.terms-index c.terms-item.result c.is_some.result old.now now.now next.now (omega (arith, c.loop-terms-test.true)) c.terms-item.is c.is_some.ensures so.3 (c.in_ok-set_closed.ensures.ok clean),
+            closing_steps c.args.due.now c.loop-terms.terms-index c.terms-item.result c.close_sells.result old.now now.now next.now (omega (arith, c.loop-terms-test.true)) c.terms-item.is c.close_sells.ensures so.3 (c.in_ok-set_closed.ensures.ok clean),
           ),
     )
 

@@ -5,7 +5,7 @@ use Rattle.store_items.proofs.RowsStanding.{ok_both, terms_fit, terms_stand}
 use Rattle.store_items.proofs.closing.find_due.Goals as goal
 
 pub returns-clause-damaged : goal.returns-clause-damaged
-returns-clause-damaged g c clean sound bands = c.due_terms.ensures.damaged clean (items_sound (state g.S.Store c.args.conn.now).now.trees c.args.editions.now sound bands)
+returns-clause-damaged g c clean sound bands = c.due_terms.ensures.damaged clean (items_sound (state g.S.Store c.args.conn.now).now.trees c.args.rules.now.editions sound bands)
 
 pub returns-clause-fits : goal.returns-clause-fits
 returns-clause-fits g c clean =
@@ -14,4 +14,4 @@ returns-clause-fits g c clean =
 pub returns-clause-stands : goal.returns-clause-stands
 returns-clause-stands g c clean =
     ok_both c.due_terms.result (c.due_terms.ensures.terms clean) c.due_terms.ensures.stands
-    (λ due are stand. terms_stand c.args.editions.now (state g.S.Store c.args.conn.now).now.trees (λ row. is_due c.args.moment row.item.terms) due.items are stand)
+    (λ due are stand. terms_stand c.args.rules.now.editions (state g.S.Store c.args.conn.now).now.trees (λ row. is_due c.args.moment row.item.terms) due.items are stand)

@@ -23,12 +23,12 @@ pub returns-clause-stands : goal.returns-clause-stands
 returns-clause-stands g c clean =
     let low : c.args.moment < 2 ^ 64 = omega (arith, c.ranges.moment) in
     let db = (state g.S.Store c.args.conn.now).now.trees in
-    let stand = λ (rows : List ItemRow). OnOk c.due_by.result (AllByRecursion (λ (row : ItemRow). StandsBy c.args.editions.now row.item.terms) rows) in
+    let stand = λ (rows : List ItemRow). OnOk c.due_by.result (AllByRecursion (λ (row : ItemRow). StandsBy c.args.rules.now.editions row.item.terms) rows) in
     subst stand (ap (λ m. filter (λ (row : ItemRow). is_due m row.item.terms) (items_in db)) c.bound_of.ensures ∙ due_rows c.args.moment low db) (c.due_by.ensures.stands clean)
 
 pub returns-clause-here : goal.returns-clause-here
 returns-clause-here g c clean fits =
     let low : c.args.moment < 2 ^ 64 = omega (arith, c.ranges.moment) in
     let db = (state g.S.Store c.args.conn.now).now.trees in
-    c.due_by.ensures.here clean (subst (λ m. FitWhere (λ (row : ItemRow). is_due m row.item.terms) (FitsBy c.args.editions.now) (items_in db)) (sym c.bound_of.ensures)
-    (due_where c.args.moment low db (FitsBy c.args.editions.now) fits))
+    c.due_by.ensures.here clean (subst (λ m. FitWhere (λ (row : ItemRow). is_due m row.item.terms) (FitsBy c.args.rules.now.editions) (items_in db)) (sym c.bound_of.ensures)
+    (due_where c.args.moment low db (FitsBy c.args.rules.now.editions) fits))

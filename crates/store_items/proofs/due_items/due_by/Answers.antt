@@ -8,19 +8,19 @@ use Rattle.store_items.proofs.RowsStanding.{terms_stand}
 use Rattle.store_items.proofs.due_items.due_by.Goals as goal
 
 pub returns-in_err-due-clause-damaged : goal.returns-in_err-due-clause-damaged
-returns-in_err-due-clause-damaged g c clean sound is = c.in_err-due.ensures.damaged clean (rows_fit (state g.S.Store c.args.conn.now).now.trees c.args.editions.now sound) (search rules)
+returns-in_err-due-clause-damaged g c clean sound is = c.in_err-due.ensures.damaged clean (rows_fit (state g.S.Store c.args.conn.now).now.trees c.args.rules.now.editions sound) (search rules)
 
 pub returns-clause-value : goal.returns-clause-value
 returns-clause-value g c clean =
     let due = c.in_ok-due.due.items in
     let same : c.deref.result.now ≡ due = search rules in
     due_terms_are (state g.S.Store c.args.conn.now).now.trees c.args.moment due (c.in_ok-due.ensures.terms clean) c.counts_of.result
-    (c.counts_of.ensures.sold ∙ ap (counted (λ t. close_sells t.leader)) same)
-    (c.counts_of.ensures.unsold ∙ ap (counted (λ t. not (close_sells t.leader))) same)
+    (c.counts_of.ensures.sold ∙ ap (counted (λ t. close_sells t.leader t.met)) same)
+    (c.counts_of.ensures.unsold ∙ ap (counted (λ t. not (close_sells t.leader t.met))) same)
 
 pub returns-clause-stands : goal.returns-clause-stands
 returns-clause-stands g c clean =
-    terms_stand c.args.editions.now (state g.S.Store c.args.conn.now).now.trees (λ row. is_due c.args.moment row.item.terms) c.in_ok-due.due.items (c.in_ok-due.ensures.terms clean) c.in_ok-due.ensures.stands
+    terms_stand c.args.rules.now.editions (state g.S.Store c.args.conn.now).now.trees (λ row. is_due c.args.moment row.item.terms) c.in_ok-due.due.items (c.in_ok-due.ensures.terms clean) c.in_ok-due.ensures.stands
 
 pub returns-in_err-due-clause-here : goal.returns-in_err-due-clause-here
 returns-in_err-due-clause-here g c clean fits is = c.in_err-due.ensures.here clean fits (search rules)

@@ -14,5 +14,5 @@ returns-in-Ok-None-clause-damaged g c clean sound bands there _ =
 
 pub returns-in-Err-clause-damaged : goal.returns-in-Err-clause-damaged
 returns-in-Err-clause-damaged g c clean sound bands there =
-    let none = c.in-Err.ensures.damaged clean (items_sound (state g.S.Store c.args.conn.now).now.trees c.args.editions.now sound bands) in
+    let none = c.in-Err.ensures.damaged clean (items_sound (state g.S.Store c.args.conn.now).now.trees c.args.rules.now.editions sound bands) in
     λ is. none (let e : c.in-Err.fault ≡ Damaged = cc in ap Err e)

@@ -18,6 +18,6 @@ returns-clause-items g c clean =
 
 pub returns-clause-reached : goal.returns-clause-reached
 returns-clause-reached g c clean fits =
-    let shown = λ (begin : ℕ). AllByRecursion (FitsBy c.args.editions.now) (take 50 (filter (λ (row : ItemRow). (row.item.terms.category == c.args.category) && nat_le begin row.item.terms.item)
+    let shown = λ (begin : ℕ). AllByRecursion (FitsBy c.args.rules.now.editions) (take 50 (filter (λ (row : ItemRow). (row.item.terms.category == c.args.category) && nat_le begin row.item.terms.item)
     (stored.items_in (state g.S.Store c.args.conn.now).now.trees))) in
     c.items_from.ensures.reached clean (subst shown (sym c.bound_of.ensures) fits)

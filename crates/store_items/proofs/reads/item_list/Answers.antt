@@ -5,5 +5,5 @@ use Rattle.store_items.proofs.reads.item_list.Goals as goal
 
 pub returns-in_err-add_item-clause-damaged : goal.returns-in_err-add_item-clause-damaged
 returns-in_err-add_item-clause-damaged c holds =
-    let held = row_has (ItemHolds c.args.editions.now) c.args.rows.now c.loop-row.row-index c.row-item.result (omega (arith, c.loop-row-test.true)) holds in
-    λ was. c.in_err-add_item.ensures.damaged (subst (ItemHolds c.args.editions.now) (sym c.row-item.is) held) (search rules)
+    let held = row_has (ItemHolds c.args.rules.now.editions c.args.rules.now.reserves) c.args.rows.now c.loop-row.row-index c.row-item.result (omega (arith, c.loop-row-test.true)) holds in
+    λ was. c.in_err-add_item.ensures.damaged (subst (ItemHolds c.args.rules.now.editions c.args.rules.now.reserves) (sym c.row-item.is) held) (search rules)

@@ -2,12 +2,12 @@ use Rattle.std.proofs.Common.{◌≡◌, map, take}
 use Rattle.std.specs.List.{AllByRecursion}
 use Rattle.house_rows.specs.Fits.{ItemFits}
 use Rattle.house_rows.specs.Keeping.{StandsBy}
-use Rattle.store_rows.specs.ItemRows.{item_of}
+use Rattle.store_rows.specs.ItemRows.{item_by}
 use Rattle.store_items.proofs.reads.item_list.Given as goal
 
 abbrev pub invariant-loop-row : goal.invariant-loop-row
 invariant-loop-row l = record {
-  values : l.all.items ≡ map item_of (take l.row-index l.rows);
+  values : l.all.items ≡ map (item_by l.rules.reserves) (take l.row-index l.rows);
   fits : AllByRecursion ItemFits l.all.items;
-  stands : AllByRecursion (λ it. StandsBy l.editions it.terms) l.all.items;
+  stands : AllByRecursion (λ it. StandsBy l.rules.editions it.terms) l.all.items;
 }

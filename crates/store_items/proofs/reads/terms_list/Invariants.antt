@@ -2,12 +2,12 @@ use Rattle.std.proofs.Common.{◌≡◌, map, take}
 use Rattle.std.specs.List.{AllByRecursion}
 use Rattle.house_rows.specs.Fits.{TermsFit}
 use Rattle.house_rows.specs.Keeping.{StandsBy}
-use Rattle.store_rows.specs.ItemRows.{terms_of}
+use Rattle.store_rows.specs.ItemRows.{terms_by}
 use Rattle.store_items.proofs.reads.terms_list.Given as goal
 
 abbrev pub invariant-loop-row : goal.invariant-loop-row
 invariant-loop-row l = record {
-  values : l.all.items ≡ map terms_of (take l.row-index l.rows);
+  values : l.all.items ≡ map (terms_by l.rules.reserves) (take l.row-index l.rows);
   fits : AllByRecursion TermsFit l.all.items;
-  stands : AllByRecursion (λ it. StandsBy l.editions it) l.all.items;
+  stands : AllByRecursion (λ it. StandsBy l.rules.editions it) l.all.items;
 }

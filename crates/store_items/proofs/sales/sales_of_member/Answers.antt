@@ -14,16 +14,20 @@ use Rattle.store_items.proofs.PartySales.{both_fit, rising_from_0, sales_are, sa
 use Rattle.store_rows.proofs.Sound.{rows_fit}
 use Rattle.store_items.proofs.RowsStanding.{ok_so, sales_stand}
 use Rattle.store_rows.proofs.Steps.{clean_before}
+use Rattle.store_reserves.proofs.Serving.{serves_still}
 use Rattle.store_items.proofs.sales.sales_of_member.Goals as goal
 
+pub terms_led_by-requires : goal.terms_led_by-requires
+terms_led_by-requires g c = serves_still c.args.rules.now.reserves (state g.S.Store c.args.conn.now) (state g.S.Store c.terms_of_seller.new.conn) c.terms_of_seller.ensures.read.crash c.in_ok-sold.ensures.read.same c.requires.serves
+
 pub returns-in_err-sold-clause-damaged : goal.returns-in_err-sold-clause-damaged
-returns-in_err-sold-clause-damaged g c clean sound is = c.in_err-sold.ensures.damaged clean (rows_fit (state g.S.Store c.args.conn.now).now.trees c.args.editions.now sound) (search rules)
+returns-in_err-sold-clause-damaged g c clean sound is = c.in_err-sold.ensures.damaged clean (rows_fit (state g.S.Store c.args.conn.now).now.trees c.args.rules.now.editions sound) (search rules)
 
 pub returns-in_err-led-clause-damaged : goal.returns-in_err-led-clause-damaged
 returns-in_err-led-clause-damaged g c clean sound is =
     let before = clean_before (state g.S.Store c.terms_of_seller.new.conn) (state g.S.Store c.terms_led_by.new.conn) c.terms_led_by.ensures.read.crash clean in
     c.in_err-led.ensures.damaged clean
-    (subst (λ (db : Database). AllByRecursion (FitsBy c.args.editions.now) (items_in db.trees)) (sym (c.in_ok-sold.ensures.read.same before).0.now_is) (rows_fit (state g.S.Store c.args.conn.now).now.trees c.args.editions.now sound)) (search rules)
+    (subst (λ (db : Database). AllByRecursion (FitsBy c.args.rules.now.editions) (items_in db.trees)) (sym (c.in_ok-sold.ensures.read.same before).0.now_is) (rows_fit (state g.S.Store c.args.conn.now).now.trees c.args.rules.now.editions sound)) (search rules)
 
 pub returns-then-not-rise-clause-damaged : goal.returns-then-not-rise-clause-damaged
 returns-then-not-rise-clause-damaged g c clean sound is =
@@ -90,7 +94,7 @@ returns-clause-stands g c clean =
     let same = (c.in_ok-sold.ensures.read.same before).0.now_is in
     let led_is = c.in_ok-led.ensures.terms clean ∙ ap (λ (db : Database). map (λ (row : ItemRow). row.item.terms) (filter (λ row. is_leader row.item.terms.leader c.args.member) (items_in db.trees))) same in
     ok_so c.sales_of.result
-    (sales_stand c.args.editions.now old.now.trees c.args.member c.in_ok-sold.sold.items c.in_ok-led.led.items c.requires.numbered (c.in_ok-sold.ensures.terms before) led_is c.in_ok-sold.ensures.stands c.in_ok-led.ensures.stands)
+    (sales_stand c.args.rules.now.editions old.now.trees c.args.member c.in_ok-sold.sold.items c.in_ok-led.led.items c.requires.numbered (c.in_ok-sold.ensures.terms before) led_is c.in_ok-sold.ensures.stands c.in_ok-led.ensures.stands)
 
 pub returns-in_err-sold-clause-here : goal.returns-in_err-sold-clause-here
 returns-in_err-sold-clause-here g c clean sells leads is = c.in_err-sold.ensures.here clean sells (search rules)
@@ -99,7 +103,7 @@ pub returns-in_err-led-clause-here : goal.returns-in_err-led-clause-here
 returns-in_err-led-clause-here g c clean sells leads is =
     let before = clean_before (state g.S.Store c.terms_of_seller.new.conn) (state g.S.Store c.terms_led_by.new.conn) c.terms_led_by.ensures.read.crash clean in
     c.in_err-led.ensures.here clean
-    (subst (λ (db : Database). FitWhere (λ (row : ItemRow). is_leader row.item.terms.leader c.args.member) (FitsBy c.args.editions.now) (items_in db.trees)) (sym (c.in_ok-sold.ensures.read.same before).0.now_is) leads) (search rules)
+    (subst (λ (db : Database). FitWhere (λ (row : ItemRow). is_leader row.item.terms.leader c.args.member) (FitsBy c.args.rules.now.editions) (items_in db.trees)) (sym (c.in_ok-sold.ensures.read.same before).0.now_is) leads) (search rules)
 
 pub returns-then-not-rise-clause-here : goal.returns-then-not-rise-clause-here
 returns-then-not-rise-clause-here g c clean sells leads is =

@@ -9,7 +9,7 @@ use Rattle.store_items.proofs.RowsStanding.{items_stand}
 use Rattle.store_items.proofs.sales.sales_of_nobody.Goals as goal
 
 pub returns-in_err-all_items-clause-damaged : goal.returns-in_err-all_items-clause-damaged
-returns-in_err-all_items-clause-damaged g c clean sound is = c.in_err-all_items.ensures.damaged clean (rows_fit (state g.S.Store c.args.conn.now).now.trees c.args.editions.now sound) (search rules)
+returns-in_err-all_items-clause-damaged g c clean sound is = c.in_err-all_items.ensures.damaged clean (rows_fit (state g.S.Store c.args.conn.now).now.trees c.args.rules.now.editions sound) (search rules)
 
 pub returns-clause-value : goal.returns-clause-value
 returns-clause-value g c clean =
@@ -17,7 +17,7 @@ returns-clause-value g c clean =
 
 pub returns-clause-stands : goal.returns-clause-stands
 returns-clause-stands g c clean =
-    items_stand c.args.editions.now (state g.S.Store c.args.conn.now).now.trees (λ row. list_any (is_party 0) (sale_of row.item.terms)) c.in_ok-all_items.field-0.items
+    items_stand c.args.rules.now.editions (state g.S.Store c.args.conn.now).now.trees (λ row. list_any (is_party 0) (sale_of row.item.terms)) c.in_ok-all_items.field-0.items
     (c.in_ok-all_items.ensures.items clean) c.in_ok-all_items.ensures.stands
 
 pub returns-in_err-all_items-clause-here : goal.returns-in_err-all_items-clause-here

@@ -12,4 +12,4 @@ returns-clause-fits g c clean =
 
 pub returns-clause-there : goal.returns-clause-there
 returns-clause-there g c clean =
-    has_standing_item c.args.editions.now (state g.S.Store c.args.conn.now).now.trees c.args.item c.in_ok-terms_there.field-0 (c.in_ok-terms_there.ensures.found clean) c.in_ok-terms_there.ensures.fits c.in_ok-terms_there.ensures.stands
+    has_standing_item c.args.rules.now.editions (state g.S.Store c.args.conn.now).now.trees c.args.item c.in_ok-terms_there.field-0 (c.in_ok-terms_there.ensures.found clean) c.in_ok-terms_there.ensures.fits c.in_ok-terms_there.ensures.stands

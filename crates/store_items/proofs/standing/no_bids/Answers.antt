@@ -6,4 +6,4 @@ pub returns-then-count-eq0-clause-value : goal.returns-then-count-eq0-clause-val
 returns-then-count-eq0-clause-value c =
     let none : c.args.second ≡ None = search rules in
     let zero : c.args.count ≡ 0 = search rules in
-    rw (none, zero) (c.open.ensures [] ∙ sym (no_bids [] c.args.start))
+    rw (none, zero) (c.open.ensures [] ∙ sym (no_bids [] c.args.start c.args.reserve))

@@ -6,7 +6,7 @@ use Rattle.sqlite.specs.Effect.{Database}
 use Rattle.sqlite.specs.Held.{state}
 use Rattle.sqlite.specs.State.{HasCleanDisk}
 use Rattle.house_rows.specs.Fits.{IsWithin}
-use Rattle.store_rows.specs.ItemRows.{items_in}
+use Rattle.store_rows.specs.ItemRows.{items_by}
 use Rattle.store_rows.specs.Plain.{passes}
 use Rattle.store_open.proofs.NumbersLemmas.{items_above, items_below, items_none_above, items_none_below, items_within}
 use Rattle.store_open.proofs.NumbersMeaning.{is_above, items_above_is, items_below_is}
@@ -47,5 +47,5 @@ returns-clause-damaged g c clean all =
     let early : HasCleanDisk middle = omega (arith, c.shows_none-2.ensures.read.crash.clean) in
     let low : c.args.most < 2 ^ 32 = omega (arith, c.ranges.most) in
     let same : middle.now ≡ old.now = (c.in_ok-shows_none.ensures.read.same early).0.now_is in
-    let still = subst (λ (db : Database). AllByRecursion (λ row. IsWithin 1 c.args.most row.item.terms.item) (items_in db.trees)) (sym same) all in
+    let still = subst (λ (db : Database). AllByRecursion (λ row. IsWithin 1 c.args.most row.item.terms.item) (items_by [] db.trees)) (sym same) all in
     c.shows_none-2.ensures.damaged clean (λ rows shown. items_none_above middle new c.args.most rows low (c.shows_none-2.ensures.house clean) still (rw c.params-to_sql.ensures at shown))

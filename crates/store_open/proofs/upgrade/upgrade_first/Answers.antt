@@ -14,12 +14,13 @@ pub returns-in-Ok : goal.returns-in-Ok
 returns-in-Ok g c =
     let last = state g.S.Store c.upgrade_read.new.conn in
     let read = c.in-Ok.ensures in
-    let found : HasCleanDisk last → WasRead last last c.in-Ok.settings c.in-Ok.clock c.in-Ok.counts = λ clean.
-    was_read last last _ _ _ ((read.rests clean).0, (read.upgraded clean).house) (read.rests clean).1 (unchanged last (read.rests clean).0) (read.settings clean) (read.counts clean) in
+    let found : HasCleanDisk last → WasRead last last c.in-Ok.settings c.in-Ok.clock c.in-Ok.counts c.in-Ok.reserves = λ clean.
+    was_read last last _ _ _ _ ((read.rests clean).0, (read.upgraded clean).house) (read.rests clean).1 (unchanged last (read.rests clean).0) (read.settings clean) (read.counts clean) (read.reserves clean) in
     record {
       rests = λ clean. (found clean).rests;
       settings = λ clean. (found clean).settings_are;
       counts = λ clean. (found clean).counts_are;
+      reserves = λ clean. (found clean).reserves_are;
       numbered = λ clean. (found clean).numbered;
       clock = λ clean. (found clean).clock_is;
       moment = read.moment;

@@ -3,27 +3,20 @@ use Rattle.std.proofs.lemmas.Result.{err_from_is_err_and}
 use Rattle.sqlite.specs.Effect.{Database}
 use Rattle.sqlite.specs.Held.{state}
 use Rattle.sqlite.specs.State.{HasCleanDisk}
-use Rattle.store_rows.specs.Tables.{tables_in}
-use Rattle.store_open.specs.Opening.{IsSoundHouse}
+use Rattle.store_open.specs.Opening.{IsSoundHouse, first_tables_in}
 use Rattle.store_open.proofs.UpgradeLemmas.{follows_or_grows, follows_twice, grows_after, not_both, not_first, sound_first_at, sound_house_at, upgraded_tables}
 use Rattle.store_open.proofs.upgrade.upgrade_house.Goals as goal
 
 pub returns-in_ok-upgrade_first-clause-same : goal.returns-in_ok-upgrade_first-clause-same
-returns-in_ok-upgrade_first-clause-same g c clean =
+returns-in_ok-upgrade_first-clause-same g c clean _ =
     let first = c.in_ok-upgrade_first.ensures.clean clean in
-    upgraded_tables _ _ (c.in_ok-upgrade_first.ensures.upgraded clean) ∙ ap tables_in (c.in_ok-conn.ensures.same first)
+    upgraded_tables _ _ (c.in_ok-upgrade_first.ensures.upgraded clean) ∙ ap first_tables_in (c.in_ok-conn.ensures.same first)
 
 pub returns-in_ok-open_house-clause-kept : goal.returns-in_ok-open_house-clause-kept
 returns-in_ok-open_house-clause-kept g c clean second =
     let opened = c.in_ok-open_house.ensures in
     let first : HasCleanDisk (state g.S.Store c.in_ok-conn.conn) = omega (arith, opened.follows.clean, clean) in
     opened.same clean ∙ sym (ap (λ (d : Database). d.trees) (c.in_ok-conn.ensures.rests first)) ∙ c.in_ok-conn.ensures.same first
-
-pub returns-in_ok-open_house-clause-same : goal.returns-in_ok-open_house-clause-same
-returns-in_ok-open_house-clause-same g c clean =
-    let opened = c.in_ok-open_house.ensures in
-    let first : HasCleanDisk (state g.S.Store c.in_ok-conn.conn) = omega (arith, opened.follows.clean, clean) in
-    ap tables_in (opened.same clean ∙ sym (ap (λ (d : Database). d.trees) (c.in_ok-conn.ensures.rests first)) ∙ c.in_ok-conn.ensures.same first)
 
 -- an error gives the store back
 

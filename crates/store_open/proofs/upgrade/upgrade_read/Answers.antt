@@ -2,8 +2,8 @@ use Rattle.std.proofs.Common.{◌∙◌, ap, subst, sym, arith, refl, rules}
 use Rattle.sqlite.specs.Effect.{Database}
 use Rattle.sqlite.specs.Held.{state}
 use Rattle.sqlite.specs.State.{HasCleanDisk}
-use Rattle.store_open.specs.Opening.{HasSettings, HaveNumbers, Upgraded, Upgrades}
-use Rattle.store_open.proofs.UpgradeLemmas.{nothing_committed, set_up_version, survives_end, survives_none, survives_two, upgraded_numbered, upgraded_set_up}
+use Rattle.store_open.specs.Opening.{HasReserves, HasSettings, HaveNumbers, Upgraded, Upgrades}
+use Rattle.store_open.proofs.UpgradeLemmas.{nothing_committed, set_up_version, survives_end, survives_none, survives_two, upgraded_numbered, upgraded_reserved, upgraded_set_up}
 use Rattle.store_open.proofs.upgrade.upgrade_read.Goals as goal
 
 pub read_house-requires : goal.read_house-requires
@@ -32,6 +32,7 @@ returns g c =
       settings = λ clean. subst (λ (d : Database). HasSettings d.trees c.in_ok-read.read.0 c.in_ok-read.read.1) (sym (same clean)) (c.in_ok-read.ensures.settings (second clean));
       moment = c.in_ok-read.ensures.moment;
       counts = λ clean. subst (λ (d : Database). HaveNumbers d.trees c.in_ok-read.read.2) (sym (same clean)) (c.in_ok-read.ensures.counts (second clean));
+      reserves = λ clean. subst (λ (d : Database). HasReserves d.trees c.in_ok-read.read.3) (sym (same clean)) (c.in_ok-read.ensures.reserves (second clean));
       mode = c.in_ok-finish.ensures.mode;
       damaged = search rules;
       err = search rules;
@@ -71,7 +72,7 @@ returns-in_err-read-clause-damaged g c clean set numbered =
     let made = c.in_ok-grow.ensures.ok early in
     let old = (state g.S.Store c.args.conn.now).now.trees in
     let grown = (state g.S.Store c.grow.new.conn).now in
-    let calm = c.in_err-read.ensures.damaged clean (upgraded_set_up old grown made set) (upgraded_numbered old grown made numbered) in
+    let calm = c.in_err-read.ensures.damaged clean (upgraded_set_up old grown made set) (upgraded_numbered old grown made numbered) (upgraded_reserved old grown made) in
     search rules
 
 pub returns-in_err-finish-clause-crash : goal.returns-in_err-finish-clause-crash

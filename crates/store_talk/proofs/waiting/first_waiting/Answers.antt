@@ -15,10 +15,17 @@ use Rattle.store_rows.proofs.Sound.{questions_fit, rows_fit}
 use Rattle.store_talk.proofs.WaitingStanding.{waiting_stand}
 use Rattle.store_rows.proofs.Steps.{clean_before}
 use Rattle.store_talk.proofs.WaitingItems.{waiting_found, waiting_in_turn}
+use Rattle.store_reserves.proofs.Serving.{serves, serves_still}
 use Rattle.store_talk.proofs.waiting.first_waiting.Goals as goal
 
+pub first_on_each-requires : goal.first_on_each-requires
+first_on_each-requires g c =
+    let old = state g.S.Store c.args.conn.now in
+    let mid = state g.S.Store c.terms_of_seller.new.conn in
+    serves c.args.rules.now.reserves mid (serves_still c.args.rules.now.reserves old mid c.terms_of_seller.ensures.read.crash c.in_ok-own.ensures.read.same c.requires)
+
 pub returns-in_err-own-clause-damaged : goal.returns-in_err-own-clause-damaged
-returns-in_err-own-clause-damaged g c clean sound is = c.in_err-own.ensures.damaged clean (rows_fit (state g.S.Store c.args.conn.now).now.trees c.args.editions.now sound) (search rules)
+returns-in_err-own-clause-damaged g c clean sound is = c.in_err-own.ensures.damaged clean (rows_fit (state g.S.Store c.args.conn.now).now.trees c.args.rules.now.editions sound) (search rules)
 
 pub returns-clause-value : goal.returns-clause-value
 returns-clause-value g c clean =
@@ -45,8 +52,8 @@ pub returns-clause-stands : goal.returns-clause-stands
 returns-clause-stands g c clean =
     let old = state g.S.Store c.args.conn.now in
     let before = clean_before (state g.S.Store c.terms_of_seller.new.conn) (state g.S.Store c.first_on_each.new.conn) c.first_on_each.ensures.read.crash clean in
-    let P = λ (q : Question). ItemStands c.args.editions.now old.now.trees q.item in
-    let stand = all-take P most_shown _ (waiting_stand c.args.editions.now old.now.trees c.args.member c.in_ok-own.own.items (c.in_ok-own.ensures.terms before) c.in_ok-own.ensures.stands) in
+    let P = λ (q : Question). ItemStands c.args.rules.now.editions old.now.trees q.item in
+    let stand = all-take P most_shown _ (waiting_stand c.args.rules.now.editions old.now.trees c.args.member c.in_ok-own.own.items (c.in_ok-own.ensures.terms before) c.in_ok-own.ensures.stands) in
     ok_then c.first_on_each.result (returns-clause-value g c clean) (λ asked e. subst (AllByRecursion P) (sym e) stand)
 
 pub returns-in_err-own-clause-reached : goal.returns-in_err-own-clause-reached

@@ -6,7 +6,13 @@ use Rattle.store_items.proofs.Stands.{row_has}
 use Rattle.store_watches.specs.Watched.{item_found}
 use Rattle.store_rows.proofs.Steps.{both_same, both_survive, clean_before, found_more}
 use Rattle.store_watches.proofs.WatchedItems.{all_small}
+use Rattle.store_reserves.proofs.Serving.{serves_still}
 use Rattle.store_watches.proofs.watched_items.items_at.Goals as goal
+
+pub add_item-requires : goal.add_item-requires
+add_item-requires g c =
+    let held = c.loop-number.invariant in
+    serves_still c.args.rules.now.reserves (state g.S.Store c.args.conn.now) (state g.S.Store c.loop-number.conn) held.survives held.same c.requires
 
 pub loop-number-preserved : goal.loop-number-preserved
 loop-number-preserved g c =
@@ -38,5 +44,5 @@ returns-in_err-add_item-clause-here g c clean fits is =
     let mid = state g.S.Store c.loop-number.conn in
     let before = clean_before mid (state g.S.Store c.add_item.new.conn) c.add_item.ensures.read.crash clean in
     let number = get_or c.args.numbers.now c.loop-number.number-index 0 in
-    let here = row_has (RowFitsAt c.args.editions.now old.now.trees) c.args.numbers.now c.loop-number.number-index 0 c.loop-number-test.true fits in
-    c.in_err-add_item.ensures.here clean (subst (λ (db : Database). RowFitsAt c.args.editions.now db.trees number) (sym (c.loop-number.invariant.same before).0.now_is) here) (search rules)
+    let here = row_has (RowFitsAt c.args.rules.now.editions old.now.trees) c.args.numbers.now c.loop-number.number-index 0 c.loop-number-test.true fits in
+    c.in_err-add_item.ensures.here clean (subst (λ (db : Database). RowFitsAt c.args.rules.now.editions db.trees number) (sym (c.loop-number.invariant.same before).0.now_is) here) (search rules)

@@ -17,5 +17,5 @@ invariant-loop-number g l =
       mode : l.fn.conn.in_transaction ≡ false → l.conn.in_transaction ≡ false;
       found : HasCleanDisk now → l.items.items ++ flat_map (item_found old.now.trees) (drop l.number-index l.numbers) ≡ flat_map (item_found old.now.trees) l.numbers;
       fits : AllByRecursion ItemFits l.items.items;
-      stands : AllByRecursion (λ it. StandsBy l.editions it.terms) l.items.items;
+      stands : AllByRecursion (λ it. StandsBy l.rules.editions it.terms) l.items.items;
     }

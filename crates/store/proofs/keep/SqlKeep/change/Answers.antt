@@ -1,10 +1,12 @@
 -- A change that is made moves what the keep knows; after one that failed a crash leaves what it left before, unless the keep failed.
-use Rattle.std.proofs.Common.{◌≡◌, ◌∙◌, arith, rules, false, inl, inr}
-use Rattle.std.specs.Prelude.{IsTrue}
+use Rattle.std.proofs.Common.{◌≡◌, ◌∙◌, List, ap, arith, refl, rules, false, true≢false, inl, inr}
+use Rattle.std.specs.Prelude.{IsTrue, is_err}
 use Rattle.sqlite.specs.Held.{state}
 use Rattle.sqlite.specs.State.{HasCleanDisk}
 use Rattle.store.specs.Kept.{content}
-use Rattle.store.proofs.Moves.{known_after, left_after}
+use Rattle.store_rows.specs.Tables.{reserves_after, tables_in}
+use Rattle.store_rows.specs.declared.reserve.ReserveRow.{ReserveRow}
+use Rattle.store.proofs.Moves.{known_after, left_after, not_err}
 use Rattle.store.proofs.keep.SqlKeep.change.Goals as goal
 
 pub returns-in_default-clause-faults : goal.returns-in_default-clause-faults
@@ -16,16 +18,42 @@ returns-in_default-clause-faults g c = record {
   taken = search rules;
 }
 
+pub make_change-requires-clause-reserves : goal.make_change-requires-clause-reserves
+make_change-requires-clause-reserves g c clean = c.make_room.ensures.same ∙ (c.self.invariant.known c.if-self.false clean).reserves_are
+
+-- without room nothing was changed
 pub invariant_of-self : goal.invariant_of-self
-invariant_of-self g c = record {
+invariant_of-self g c = rw c.make_room.ensures.same c.self.invariant
+
+-- a keep that knows less than its tables has failed
+pub invariant_of-self-then-is_err-2 : goal.invariant_of-self-then-is_err-2
+invariant_of-self-then-is_err-2 g c = record {
+  idle = c.in-Ok.ensures.commit.mode;
+  moment = c.in-Some.ensures.fits;
+  rests = λ going honest. absurd (true≢false going);
+  known = λ going honest. absurd (true≢false going);
+}
+
+pub invariant_of-self-else-is_err-2 : goal.invariant_of-self-else-is_err-2
+invariant_of-self-else-is_err-2 g c = record {
   idle = c.in-Ok.ensures.commit.mode;
   moment = c.in-Some.ensures.fits;
   rests = λ going honest. let ok = c.in-Ok.ensures.commit.ok honest in record { is_open = ok.0; house = ok.2.house; settled = ok.1; numbered = ok.2.numbered };
   known = λ going honest.
       let before : HasCleanDisk (state g.S.Store c.self.inside.conn) = omega (arith, c.in-Ok.ensures.commit.crash.clean, honest) in
-      rw (c.in-Some-counts_after.ensures.value, c.in-Some.ensures.value)
-      (known_after _ c.self.inside.counts c.self.inside.clock c.args.change.now (state g.S.Store c.self.inside.conn).now.trees _ (c.self.invariant.known c.if-self.false before) (c.in-Ok.ensures.commit.ok honest).2.tables);
+      let after = c.in-Some-counts_after.counts in
+      let none : is_err c.add_reserve.result ≡ false = search rules in
+      let added : c.add_reserve.new.reserves ≡ reserves_after c.self.inside.rules.reserves after.items c.args.change.now =
+      not_err c.add_reserve.result none c.add_reserve.ensures.value ∙ ap (λ (l : List ReserveRow). reserves_after l after.items c.args.change.now) c.make_room.ensures.same in
+      rw (added, c.in-Some-counts_after.ensures.value, c.in-Some.ensures.value)
+      (known_after _ c.self.inside.rules.reserves c.self.inside.counts c.self.inside.clock c.args.change.now (state g.S.Store c.self.inside.conn).now _ (c.self.invariant.known c.if-self.false before) (c.in-Ok.ensures.commit.ok honest).2);
 }
+
+pub returns-then-is_err-2-clause-crash : goal.returns-then-is_err-2-clause-crash
+returns-then-is_err-2-clause-crash g c = rw (← c.self.view_is) (λ honest t left.
+    let made = (c.in-Ok.ensures.commit.ok honest).2 in
+    let shown = c.in-Ok.ensures.commit.only honest left.0 left.1 in
+    inr (c.if-self.false, refl, left.2 ∙ ap tables_in shown ∙ made.tables))
 
 pub returns-in-Err-clause-crash : goal.returns-in-Err-clause-crash
 returns-in-Err-clause-crash g c = λ honest t left.

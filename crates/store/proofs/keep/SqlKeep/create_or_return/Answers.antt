@@ -1,4 +1,4 @@
-use Rattle.std.proofs.Common.{arith}
+use Rattle.std.proofs.Common.{arith, rules}
 use Rattle.store.proofs.Begins.{known_new}
 use Rattle.store.proofs.keep.SqlKeep.create_or_return.Goals as goal
 
@@ -7,7 +7,7 @@ invariant_of-result g c = record {
   idle = c.make_house.ensures.mode c.in-Ok.ensures.blank.0;
   moment = omega arith;
   rests = λ going honest. (c.in-Ok.ensures.ok honest).0;
-  known = λ going honest. known_new _ _ _ c.new.ensures (c.in-Ok.ensures.ok honest).1;
+  known = λ going honest. known_new _ _ _ _ c.new.ensures (c.in-Ok.ensures.ok honest).1 (search rules) (c.in-Ok.ensures.reserves honest);
 }
 
 -- an error leaves what is so

@@ -12,20 +12,23 @@ use Rattle.store_rows.specs.ItemRows.{items_in}
 use Rattle.store_rows.specs.Rows.{questions_in}
 use Rattle.store_rows.specs.Tables.{tables_in}
 use Rattle.store_talk.proofs.WaitingItems.{first_stored_waiting}
-use Rattle.store.proofs.Known.{each_stands, known_sound, known_where, not_told, told_sound, works}
+use Rattle.store.proofs.Known.{each_stands, known_serves, known_sound, known_where, not_told, told_sound, works}
 use Rattle.store.proofs.keep.SqlKeepKeep.first_waiting.Goals as goal
+
+pub first_waiting-requires : goal.first_waiting-requires
+first_waiting-requires g c = known_serves g.S.Store _ c.self.invariant (works _ _ c.self.view_is c.in_ok-serves.ensures.ok)
 
 pub returns-in-Err-clause-faults : goal.returns-in-Err-clause-faults
 returns-in-Err-clause-faults g c = rw (← c.self.view_is)
     (told_sound _ _ _ _ _ c.told_fault.ensures.fault c.told_fault.ensures.store (λ honest sound is.
     let clean : HasCleanDisk (state g.S.Store c.first_waiting.new.conn) = omega (arith, c.told_fault.ensures.crash.clean, honest) in
     let before : HasCleanDisk (state g.S.Store c.self.inside.conn) = omega (arith, c.in-Err.ensures.read.crash.clean, clean) in
-    c.in-Err.ensures.damaged clean (known_sound _ _ _ _ (c.self.invariant.known (works _ _ c.self.view_is c.in_ok-serves.ensures.ok) before) sound) (ap Err is)))
+    c.in-Err.ensures.damaged clean (known_sound _ _ _ _ _ (c.self.invariant.known (works _ _ c.self.view_is c.in_ok-serves.ensures.ok) before) sound) (ap Err is)))
 
 pub returns-in-Ok-first_waiting-clause-stands : goal.returns-in-Ok-first_waiting-clause-stands
 returns-in-Ok-first_waiting-clause-stands g c = λ honest.
     let before : HasCleanDisk (state g.S.Store c.self.inside.conn) = omega (arith, c.in-Ok-first_waiting.ensures.read.crash.clean, honest) in
-    rw (← c.self.view_is) (each_stands _ _ _ _ (c.self.invariant.known (works _ _ c.self.view_is c.in_ok-serves.ensures.ok) before) (λ (q : Question). q.item) _ (c.in-Ok-first_waiting.ensures.stands honest))
+    rw (← c.self.view_is) (each_stands _ _ _ _ _ (c.self.invariant.known (works _ _ c.self.view_is c.in_ok-serves.ensures.ok) before) (λ (q : Question). q.item) _ (c.in-Ok-first_waiting.ensures.stands honest))
 
 pub returns-in-Err-clause-damaged : goal.returns-in-Err-clause-damaged
 returns-in-Err-clause-damaged g c = rw (← c.self.view_is)
@@ -34,6 +37,6 @@ returns-in-Err-clause-damaged g c = rw (← c.self.view_is)
     let before : HasCleanDisk (state g.S.Store c.self.inside.conn) = omega (arith, c.in-Err.ensures.read.crash.clean, clean) in
     let same : c.in-Ok.member ≡ c.args.member = search rules in
     let db = (state g.S.Store c.self.inside.conn).now.trees in
-    let sold = λ (member : ℕ). FitWhere (λ (row : ItemRow). row.item.terms.seller == member) (FitsBy c.self.inside.editions) (items_in db) in
+    let sold = λ (member : ℕ). FitWhere (λ (row : ItemRow). row.item.terms.seller == member) (FitsBy c.self.inside.rules.editions) (items_in db) in
     let waits = λ (member : ℕ). FirstFit (λ (q : Question). not (is_some q.answer) && sells (row_at (tables_in db) q.item) member) (λ (q : Question). q.item) QuestionFits (questions_in db) in
-    c.in-Err.ensures.reached clean (subst sold (sym same) (known_where _ _ _ _ (c.self.invariant.known (works _ _ c.self.view_is c.in_ok-serves.ensures.ok) before) _ items)) (subst waits (sym same) (first_stored_waiting db c.args.member asked)) (ap Err is)))
+    c.in-Err.ensures.reached clean (subst sold (sym same) (known_where _ _ _ _ _ (c.self.invariant.known (works _ _ c.self.view_is c.in_ok-serves.ensures.ok) before) _ items)) (subst waits (sym same) (first_stored_waiting db c.args.member asked)) (ap Err is)))

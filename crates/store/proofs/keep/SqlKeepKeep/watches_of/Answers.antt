@@ -12,20 +12,23 @@ use Rattle.store_rows.specs.ItemRows.{items_in}
 use Rattle.store_rows.specs.Rows.{watches_in}
 use Rattle.store_rows.specs.Tables.{tables_in}
 use Rattle.store_rows.proofs.Sound.{watches_where}
-use Rattle.store.proofs.Known.{items_stand, known_sound, known_where, not_told, told_sound, works}
+use Rattle.store.proofs.Known.{items_stand, known_serves, known_sound, known_where, not_told, told_sound, works}
 use Rattle.store.proofs.keep.SqlKeepKeep.watches_of.Goals as goal
+
+pub items_watched-requires : goal.items_watched-requires
+items_watched-requires g c = known_serves g.S.Store _ c.self.invariant (works _ _ c.self.view_is c.in_ok-serves.ensures.ok)
 
 pub returns-in-Err-clause-faults : goal.returns-in-Err-clause-faults
 returns-in-Err-clause-faults g c = rw (← c.self.view_is)
     (told_sound _ _ _ _ _ c.told_fault.ensures.fault c.told_fault.ensures.store (λ honest sound is.
     let clean : HasCleanDisk (state g.S.Store c.items_watched.new.conn) = omega (arith, c.told_fault.ensures.crash.clean, honest) in
     let before : HasCleanDisk (state g.S.Store c.self.inside.conn) = omega (arith, c.in-Err.ensures.read.crash.clean, clean) in
-    c.in-Err.ensures.damaged clean (known_sound _ _ _ _ (c.self.invariant.known (works _ _ c.self.view_is c.in_ok-serves.ensures.ok) before) sound) (ap Err is)))
+    c.in-Err.ensures.damaged clean (known_sound _ _ _ _ _ (c.self.invariant.known (works _ _ c.self.view_is c.in_ok-serves.ensures.ok) before) sound) (ap Err is)))
 
 pub returns-in-Ok-items_watched-clause-stands : goal.returns-in-Ok-items_watched-clause-stands
 returns-in-Ok-items_watched-clause-stands g c = λ honest.
     let before : HasCleanDisk (state g.S.Store c.self.inside.conn) = omega (arith, c.in-Ok-items_watched.ensures.read.crash.clean, honest) in
-    rw (← c.self.view_is) (items_stand _ _ _ _ (c.self.invariant.known (works _ _ c.self.view_is c.in_ok-serves.ensures.ok) before) _ c.in-Ok-items_watched.ensures.stands)
+    rw (← c.self.view_is) (items_stand _ _ _ _ _ (c.self.invariant.known (works _ _ c.self.view_is c.in_ok-serves.ensures.ok) before) _ c.in-Ok-items_watched.ensures.stands)
 
 pub returns-in-Err-clause-damaged : goal.returns-in-Err-clause-damaged
 returns-in-Err-clause-damaged g c = rw (← c.self.view_is)
@@ -35,5 +38,5 @@ returns-in-Err-clause-damaged g c = rw (← c.self.view_is)
     let same : c.in-Ok.member ≡ c.args.member = search rules in
     let db = (state g.S.Store c.self.inside.conn).now.trees in
     let mine = λ (member : ℕ). FitWhere (λ (w : WatchRow). w.member == member) WatchRowFits (watches_in db) in
-    let theirs = λ (member : ℕ). FitWhere (λ (row : ItemRow). is_watched (tables_in db) member row.item.terms.item) (FitsBy c.self.inside.editions) (items_in db) in
-    c.in-Err.ensures.here clean (subst mine (sym same) (watches_where db _ watches)) (subst theirs (sym same) (known_where _ _ _ _ (c.self.invariant.known (works _ _ c.self.view_is c.in_ok-serves.ensures.ok) before) _ items)) (ap Err is)))
+    let theirs = λ (member : ℕ). FitWhere (λ (row : ItemRow). is_watched (tables_in db) member row.item.terms.item) (FitsBy c.self.inside.rules.editions) (items_in db) in
+    c.in-Err.ensures.here clean (subst mine (sym same) (watches_where db _ watches)) (subst theirs (sym same) (known_where _ _ _ _ _ (c.self.invariant.known (works _ _ c.self.view_is c.in_ok-serves.ensures.ok) before) _ items)) (ap Err is)))

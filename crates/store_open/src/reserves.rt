@@ -1,0 +1,53 @@
+//! The reserves of a house as it is opened.
+ghost use Rattle.std.specs.Prelude.{◌≡◌, ◌≤◌, nat_le, IfOk, OnOk, IsErrOf};
+ghost use Rattle.std.specs.List.{AllByRecursion, list_all};
+ghost use Rattle.sqlite.specs.State.{HasCleanDisk};
+ghost use Rattle.sqlite.specs.Held.{state};
+ghost use Rattle.house_rows.specs.declared.fault.KeepFault.TheVariants.{Damaged};
+ghost use Rattle.store_rows.specs.Fitting.{ReserveRowFits};
+ghost use Rattle.store_rows.specs.Frames.{OnlyReads};
+ghost use Rattle.store_rows.specs.House.{Serves};
+ghost use Rattle.store_rows.specs.Rows.{reserves_in};
+
+use house_rows::KeepFault;
+use sqlite::{Alter, Connection};
+use std::alloc::Global;
+use store_reserves::{Reserves, all_reserves};
+use store_rows::ReserveRow;
+
+// Whether no item of a reserve has a number over this one.
+fn are_within(rows: &[ReserveRow], most: u32) -> bool
+    ensures { result ≡ list_all (λ r. nat_le r.item most) rows.now }
+{
+    rows.iter().all(|row| row.item <= most)
+}
+
+/// The reserves of a house; `Damaged` where one doesn't fit, or where its item has a number over how
+/// many items there are.
+// Rows that fit rise in their items, since these are their keys.
+pub(crate) fn read_reserves<S: Alter>(
+    alloc: Global,
+    conn: &mut Connection<S>,
+    items: u32,
+) -> Result<Reserves, KeepFault>
+    requires { Serves (state S.Store conn.old) }
+    ensures value { HasCleanDisk (state S.Store conn.new)
+        → IfOk result (λ all. all ≡ reserves_in (state S.Store conn.old).now.trees) }
+    ensures within { HasCleanDisk (state S.Store conn.new)
+        → OnOk result (AllByRecursion (λ r. r.item ≤ items)
+        (reserves_in (state S.Store conn.old).now.trees)) }
+    ensures damaged { HasCleanDisk (state S.Store conn.new)
+        → AllByRecursion ReserveRowFits (reserves_in (state S.Store conn.old).now.trees)
+        → AllByRecursion (λ r. r.item ≤ items) (reserves_in (state S.Store conn.old).now.trees)
+        → ¬ (IsErrOf result Damaged) }
+    ensures read { OnlyReads (state S.Store conn.old) (state S.Store conn.new) result }
+{
+    let rows = all_reserves(alloc, conn)?;
+    if !are_within(&rows, items) {
+        return Err(KeepFault::Damaged);
+    }
+    match Reserves::from_rows(rows) {
+        Some(reserves) => Ok(reserves),
+        None => Err(KeepFault::Damaged),
+    }
+}

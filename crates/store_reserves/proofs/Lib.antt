@@ -1,0 +1,5 @@
+mod Meaning
+mod Lemmas
+mod Places
+pub mod Rising
+pub mod Serving
