@@ -140,6 +140,7 @@ program:
 	python3 tests/served.py crates/auction/out/auction
 	python3 tests/served_pages.py crates/auction/out/auction
 	python3 tests/office.py crates/auction/out/auction
+	python3 tests/living_house.py crates/auction/out/auction
 	if command -v curl > /dev/null; then \
 		python3 tests/real_clients.py crates/auction/out/auction && \
 		python3 tests/readme.py crates/auction/out/auction; \

@@ -11,6 +11,7 @@
 //! first, and then `houses` and `files`.
 #![tactic(auto)]
 
+mod copies;
 mod files;
 mod houses;
 mod input;

@@ -6,17 +6,18 @@ ghost use Rattle.site_serve.specs.Serving.{keep_of};
 ghost use Rattle.auction_runs.specs.Faults.{IsOfKeep, IsOfSettings};
 ghost use Rattle.auction_words.specs.Houses.{IsNew};
 
+use crate::copies::{CopiedKeep, StoreInMemory};
 use crate::files::StoreInFile;
 use crate::houses::{KeepInFile, KeepInMemory};
 use crate::input::{open_input, open_source};
 use crate::listener::Listener;
 use auction_runs::{
-    Fault, Inquiry, Raise, Run, Trial, answer_each, audit_run, ended, import_run, init_run,
-    replay_run, serve_run, statement_run, surplus_run, upgrade_run,
+    Fault, Inquiry, Raise, Run, Trial, answer_each, audit_from_run, audit_run, ended, import_run,
+    init_run, replay_run, serve_run, statement_run, surplus_from_run, surplus_run, upgrade_run,
 };
 use auction_words::{
-    AuditWords, HouseWords, ImportWords, Replay, Serve, StatementWords, SurplusWords, Task,
-    read_settings, read_task, same_settings,
+    AuditWords, Beginning, HouseWords, ImportWords, Replay, Serve, StatementWords, SurplusWords,
+    Task, read_settings, read_task, same_settings,
 };
 use clap::Error;
 use device::{Reading, Writing};
@@ -24,6 +25,7 @@ use house_rows::{Ends, KeepFault};
 use office::Lister;
 use site::Site;
 use sqlite::{File, FileStore};
+use sqlite_disk::Memory;
 use std::alloc::Global;
 use std::env;
 use std::io::{self, BufWriter, ErrorKind, Write};
@@ -86,8 +88,8 @@ fn start_over<F: KeepInFile, M: KeepInMemory>(
         Ok(Some(Task::Import(path, asked))) => import_file::<F>(rt, alloc, path, asked),
         Ok(Some(Task::Statement(path, asked))) => statement_file::<F>(rt, alloc, path, &asked),
         Ok(Some(Task::Upgrade(path))) => upgrade_file::<F>(rt, alloc, path),
-        Ok(Some(Task::Audit(house, asked))) => audit_files::<M>(rt, alloc, &house, asked),
-        Ok(Some(Task::Surplus(house, asked))) => surplus_file::<M>(rt, alloc, &house, asked),
+        Ok(Some(Task::Audit(begun, asked))) => audit::<M>(rt, alloc, &begun, asked),
+        Ok(Some(Task::Surplus(begun, asked))) => surplus::<M>(rt, alloc, &begun, asked),
         // Words that ask for nothing are refused there.
         Ok(None) => REFUSED,
         Err(error) => refuse(rt, &error),
@@ -302,7 +304,7 @@ fn new_houses<K: KeepInMemory>(
     Ok((left, right))
 }
 
-// Compares the messages of two files.
+// Compares the messages of two files over new houses.
 fn audit_files<K: KeepInMemory>(
     rt: &HostRuntime,
     alloc: Global,
@@ -329,7 +331,70 @@ fn audit_files<K: KeepInMemory>(
     }
 }
 
-// Raises a bid of the messages of a file.
+// Compares the messages of two files over copies of the house in a third.
+fn audit_copies<K: CopiedKeep>(
+    rt: &HostRuntime,
+    alloc: Global,
+    path: &str,
+    asked: AuditWords<'_>,
+) -> u8
+    ensures { result ≤ 1 }
+{
+    let mut errors = rt.stderr();
+    match K::open_twice(rt, alloc, path) {
+        Ok((left_keep, right_keep)) => {
+            let left = Run {
+                keep: left_keep,
+                source: open_source(rt, asked.left),
+            };
+            let right = Run {
+                keep: right_keep,
+                source: open_source(rt, asked.right),
+            };
+            let caller = asked.member;
+            audit_from_run(alloc, left, right, caller, &mut rt.stdout(), &mut errors)
+        }
+        Err(fault) => ended(&mut errors, Err(Fault::from(fault))),
+    }
+}
+
+// The same, of copies in a store in memory.
+fn audit_house<S: StoreInMemory>(
+    rt: &HostRuntime,
+    alloc: Global,
+    path: &str,
+    asked: AuditWords<'_>,
+) -> u8
+    ensures { result ≤ 1 }
+{
+    audit_copies::<SqlKeep<S>>(rt, alloc, path, asked)
+}
+
+// Compares the messages of two files.
+fn audit<M: KeepInMemory>(
+    rt: &HostRuntime,
+    alloc: Global,
+    begun: &Beginning<'_>,
+    asked: AuditWords<'_>,
+) -> u8
+    ensures { result ≤ 1 }
+{
+    match begun {
+        Beginning::New(house) => audit_files::<M>(rt, alloc, house, asked),
+        Beginning::House(path) => audit_house::<FileStore<Memory>>(rt, alloc, path, asked),
+    }
+}
+
+// Which bid is raised, and who looks.
+fn raise(asked: SurplusWords<'_>) -> Raise {
+    Raise {
+        place: asked.place,
+        maximum: asked.maximum,
+        other: asked.member,
+    }
+}
+
+// Raises a bid of the messages of a file, over new houses.
 fn surplus_file<K: KeepInMemory>(
     rt: &HostRuntime,
     alloc: Global,
@@ -346,13 +411,58 @@ fn surplus_file<K: KeepInMemory>(
                 right,
                 source: open_source(rt, asked.list),
             };
-            let raise = Raise {
-                place: asked.place,
-                maximum: asked.maximum,
-                other: asked.member,
-            };
-            surplus_run(alloc, trial, raise, &mut rt.stdout(), &mut errors)
+            surplus_run(alloc, trial, raise(asked), &mut rt.stdout(), &mut errors)
         }
         Err(fault) => ended(&mut errors, Err(fault)),
+    }
+}
+
+// Raises a bid of the messages of a file, over copies of the house in another.
+fn surplus_copies<K: CopiedKeep>(
+    rt: &HostRuntime,
+    alloc: Global,
+    path: &str,
+    asked: SurplusWords<'_>,
+) -> u8
+    ensures { result ≤ 1 }
+{
+    let mut errors = rt.stderr();
+    match K::open_twice(rt, alloc, path) {
+        Ok((left, right)) => {
+            let trial = Trial {
+                left,
+                right,
+                source: open_source(rt, asked.list),
+            };
+            surplus_from_run(alloc, trial, raise(asked), &mut rt.stdout(), &mut errors)
+        }
+        Err(fault) => ended(&mut errors, Err(Fault::from(fault))),
+    }
+}
+
+// The same, of copies in a store in memory.
+fn surplus_house<S: StoreInMemory>(
+    rt: &HostRuntime,
+    alloc: Global,
+    path: &str,
+    asked: SurplusWords<'_>,
+) -> u8
+    ensures { result ≤ 1 }
+{
+    surplus_copies::<SqlKeep<S>>(rt, alloc, path, asked)
+}
+
+// Raises a bid of the messages of a file.
+fn surplus<M: KeepInMemory>(
+    rt: &HostRuntime,
+    alloc: Global,
+    begun: &Beginning<'_>,
+    asked: SurplusWords<'_>,
+) -> u8
+    ensures { result ≤ 1 }
+{
+    match begun {
+        Beginning::New(house) => surplus_file::<M>(rt, alloc, house, asked),
+        Beginning::House(path) => surplus_house::<FileStore<Memory>>(rt, alloc, path, asked),
     }
 }

@@ -1,10 +1,12 @@
 pub mod Audited
+pub mod AuditedFrom
 pub mod Faults
 pub mod Inquired
 pub mod Lines
 pub mod Listed
 pub mod Printed
 pub mod Raised
+pub mod RaisedFrom
 pub mod Replayed
 pub mod Setup
 pub mod Stated

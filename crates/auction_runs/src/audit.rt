@@ -139,8 +139,8 @@ fn tell_apart<W: Write>(output: &mut W, step: u64) -> Result<(), Fault>
     }
 }
 
-// Tells a verdict, and whether the runs are equal.
-fn tell<W: Write>(output: &mut W, verdict: &Verdict) -> Result<bool, Fault>
+/// Tells a verdict, and whether the runs are equal.
+pub fn tell<W: Write>(output: &mut W, verdict: &Verdict) -> Result<bool, Fault>
     ensures told { IfOk result
         (IsTold (W.contents output.old) (W.contents output.new) verdict.now) }
     ensures fault { IfErr result (λ fault. fault ≡ Fault.Write) }

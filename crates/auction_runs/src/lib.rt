@@ -9,6 +9,7 @@
 #![tactic(auto)]
 
 mod audit;
+mod audit_from;
 mod fault;
 mod import;
 mod init;
@@ -17,9 +18,11 @@ mod serve;
 mod setup;
 mod statement;
 mod surplus;
+mod surplus_from;
 mod upgrade;
 
 pub use audit::{Run, audit_run};
+pub use audit_from::audit_from_run;
 pub use fault::{Fault, Side, ended};
 pub use import::import_run;
 pub use init::init_run;
@@ -27,4 +30,5 @@ pub use replay::replay_run;
 pub use serve::{answer_each, serve_run};
 pub use statement::{Inquiry, statement_run};
 pub use surplus::{Raise, Trial, surplus_run};
+pub use surplus_from::surplus_from_run;
 pub use upgrade::upgrade_run;

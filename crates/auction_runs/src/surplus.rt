@@ -99,8 +99,8 @@ fn tell_not_covered<W: Write>(output: &mut W) -> Result<(), Fault>
     }
 }
 
-// Tells what was found, and whether the bid is covered.
-fn tell<W: Write>(output: &mut W, found: &Surplus) -> Result<bool, Fault>
+/// Tells what was found, and whether the bid is covered.
+pub fn tell<W: Write>(output: &mut W, found: &Surplus) -> Result<bool, Fault>
     ensures told { IfOk result (IsShown (W.contents output.old) (W.contents output.new) found.now) }
     ensures fault { IfErr result (λ fault. fault ≡ Fault.Write) }
 {

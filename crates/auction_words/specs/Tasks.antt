@@ -17,6 +17,6 @@ IsWithin (Replay house asked) = ⊤
 IsWithin (Import file asked) = IsMember asked.member × (asked.moment ≤ last_moment)
 IsWithin (Statement file asked) = IsMember asked.member
 IsWithin (Upgrade file) = ⊤
-IsWithin (Audit house asked) = IsMember asked.member
-IsWithin (Surplus house asked) = IsInRange 1 1000000 asked.place × (asked.maximum ≤ most_cents)
+IsWithin (Audit begun asked) = IsMember asked.member
+IsWithin (Surplus begun asked) = IsInRange 1 1000000 asked.place × (asked.maximum ≤ most_cents)
     × IsMember asked.member

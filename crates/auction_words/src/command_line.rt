@@ -87,6 +87,15 @@ pub struct SurplusWords<'a> {
     pub member: u64,
 }
 
+/// What the runs of an audit begin with.
+#[derive(Clone, Copy, Debug, PartialEq, Eq)]
+pub enum Beginning<'a> {
+    /// New houses in memory.
+    New(HouseWords<'a>),
+    /// The house in a file, which stays as it is.
+    House(&'a str),
+}
+
 /// What the words ask for.
 #[derive(Clone, Copy, Debug, PartialEq, Eq)]
 pub enum Task<'a> {
@@ -102,10 +111,10 @@ pub enum Task<'a> {
     Statement(&'a str, StatementWords<'a>),
     /// To make the house in a file one of the newest version.
     Upgrade(&'a str),
-    /// To compare two runs over new houses in memory.
-    Audit(HouseWords<'a>, AuditWords<'a>),
-    /// To raise a bid of a run over new houses in memory.
-    Surplus(HouseWords<'a>, SurplusWords<'a>),
+    /// To compare two runs.
+    Audit(Beginning<'a>, AuditWords<'a>),
+    /// To raise a bid of a run.
+    Surplus(Beginning<'a>, SurplusWords<'a>),
 }
 
 // The number of a member.
@@ -126,6 +135,17 @@ fn house_words<'a>(words: &ArgMatches<'a>) -> Result<HouseWords<'a>, Refused> {
             zone,
         }),
         None => Err(Refused { name: "rate" }),
+    }
+}
+
+// What the words of a subcommand say of the beginning of its runs.
+fn beginning_words<'a>(words: &ArgMatches<'a>) -> Result<Beginning<'a>, Refused> {
+    match words.get_str("house") {
+        Some(file) => Ok(Beginning::House(file)),
+        None => match house_words(words) {
+            Ok(house) => Ok(Beginning::New(house)),
+            Err(refused) => Err(refused),
+        },
     }
 }
 
@@ -207,8 +227,8 @@ fn audit_task<'a>(words: &ArgMatches<'a>) -> Result<Task<'a>, Refused>
         right: text(words, "right")?,
         member: member(words)?,
     };
-    match house_words(words) {
-        Ok(house) => Ok(Task::Audit(house, asked)),
+    match beginning_words(words) {
+        Ok(begun) => Ok(Task::Audit(begun, asked)),
         Err(refused) => Err(refused),
     }
 }
@@ -223,8 +243,8 @@ fn surplus_task<'a>(words: &ArgMatches<'a>) -> Result<Task<'a>, Refused>
         maximum: number(words, "maximum", 0, LIMIT)?,
         member: member(words)?,
     };
-    match house_words(words) {
-        Ok(house) => Ok(Task::Surplus(house, asked)),
+    match beginning_words(words) {
+        Ok(begun) => Ok(Task::Surplus(begun, asked)),
         Err(refused) => Err(refused),
     }
 }

@@ -35,6 +35,15 @@ fn zone<'a>(alloc: Global) -> Arg<'a> {
     option(alloc, "zone", "RULE", "The time zone, as a POSIX rule").long_help(texts::ZONE)
 }
 
+// The file of a house that runs begin with in place of new ones.
+fn begins_with<'a>(alloc: Global) -> Result<Arg<'a>, AllocError> {
+    option(alloc, "house", "FILE", "Begin with the house in a file")
+        .long_help(texts::HOUSE)
+        .conflicts_with("bands")?
+        .conflicts_with("rate")?
+        .conflicts_with("zone")
+}
+
 // A flag.
 fn flag<'a>(alloc: Global, name: &'a str, help: &'a str) -> Arg<'a> {
     Arg::new(alloc, name)
@@ -164,6 +173,7 @@ fn upgrade_command<'a>(alloc: Global) -> Result<Command<'a>, AllocError> {
 
 // `audit`, of two runs for one member.
 fn audit_command<'a>(alloc: Global) -> Result<Command<'a>, AllocError> {
+    let house = begins_with(alloc)?;
     Command::new(alloc, "audit")
         .about("Compares two runs of messages as one member sees them")
         .after_long_help(texts::AUDIT)
@@ -175,6 +185,7 @@ fn audit_command<'a>(alloc: Global) -> Result<Command<'a>, AllocError> {
         ))?
         .arg(file(alloc, "right", "RIGHT", "The messages of the other run"))?
         .arg(number(alloc, "member", "The member who looks: 1 to 100000"))?
+        .arg(house)?
         .arg(bands(alloc))?
         .arg(rate(alloc).default_value("1000"))?
         .arg(zone(alloc).default_value("UTC0"))
@@ -182,6 +193,7 @@ fn audit_command<'a>(alloc: Global) -> Result<Command<'a>, AllocError> {
 
 // `surplus`, of one bid in a run, for one member.
 fn surplus_command<'a>(alloc: Global) -> Result<Command<'a>, AllocError> {
+    let house = begins_with(alloc)?;
     Command::new(alloc, "surplus")
         .about("Tells whether a raised maximum stays unseen by another member")
         .after_long_help(texts::SURPLUS)
@@ -202,6 +214,7 @@ fn surplus_command<'a>(alloc: Global) -> Result<Command<'a>, AllocError> {
             "What the bid is raised to, in cents: 0 to 1000000000",
         ))?
         .arg(number(alloc, "member", "The member who looks: 1 to 100000"))?
+        .arg(house)?
         .arg(bands(alloc))?
         .arg(rate(alloc).default_value("1000"))?
         .arg(zone(alloc).default_value("UTC0"))

@@ -12,7 +12,7 @@ mod texts;
 mod values;
 
 pub use command_line::{
-    AuditWords, HouseWords, ImportWords, Replay, Serve, StatementWords, SurplusWords, Task,
-    read_task,
+    AuditWords, Beginning, HouseWords, ImportWords, Replay, Serve, StatementWords, SurplusWords,
+    Task, read_task,
 };
 pub use settings::{SettingsFault, read_settings, same_settings};

@@ -23,6 +23,13 @@ The time zone, as a POSIX rule such as CET-1CEST,M3.5.0,M10.5.0/3\n\
 \n\
 The days of statements go by it. The name of a city is no rule.";
 
+/// A house that runs begin with.
+pub const HOUSE: &str = "\
+Begin with the house in a file, as it is\n\
+\n\
+FILE and its log are read into memory, and stay as they are. The house\n\
+has a band table, a rate and a zone of its own.";
+
 /// The moment of an import.
 pub const MOMENT: &str = "\
 The moment of each listing, in whole seconds after 1970 began:\n\
@@ -95,7 +102,7 @@ Example: auction upgrade house";
 /// What else is told of `audit`.
 pub const AUDIT: &str = "\
 Both runs begin with a new house in memory. Without --bands it has a table of\n\
-ten bands.\n\
+ten bands. With --house both begin with the house in a file.\n\
 \n\
 It prints equal and the number of the member's replies where three things are\n\
 the same in both: every message of the member, the public record after each\n\
@@ -108,6 +115,7 @@ Example: auction audit left.http right.http --member 2";
 pub const SURPLUS: &str = "\
 It puts a greater maximum into one bid of the run, and compares both runs. Both\n\
 begin with a new house in memory. Without --bands it has a table of ten bands.\n\
+With --house both begin with the house in a file.\n\
 \n\
 It prints same and the number of the member's replies where the bid is covered:\n\
 it is accepted and its bidder's last on its item, in the end its bidder leads by\n\

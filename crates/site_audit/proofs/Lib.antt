@@ -1,4 +1,5 @@
 mod Callers
+mod CoveredFrom
 mod Cuts
 mod Leaders
 mod Lists

@@ -6,37 +6,39 @@ use Rattle.std.proofs.lemmas.List.{map-append, take_all}
 use Rattle.house_rows.specs.declared.message.Message.{Message}
 use Rattle.house_rows.specs.declared.settings.Settings.{Settings}
 use Rattle.house_rows.specs.History.{History}
-use Rattle.house_rows.specs.Runs.{history_of}
+use Rattle.house_rows.specs.Runs.{history_from}
 use Rattle.house_rows.specs.Tables.{Tables, tables_of}
 use Rattle.house_rows.specs.Verdict.{IsHistory}
 use Rattle.settle.specs.declared.zone.Zone.{Zone}
 use Rattle.site.specs.Answers.{answer_of, next_of}
 use Rattle.site.specs.declared.engine.Site.{Site}
-use Rattle.site.specs.Runs.{TwinRuns, answers_to, meant, rendered}
+use Rattle.site.specs.Lives.{TwinRunsFrom, answers_to_from}
+use Rattle.site.specs.Runs.{meant, rendered}
+use Rattle.house_laws.specs.Alike.{AreAlike}
 use Rattle.house_laws.proofs.Alike as laws
 use Rattle.site_asks.specs.declared.asked.Asked.{Asked}
 use Rattle.site_asks.specs.declared.fault.Fault.{Fault}
 use Rattle.site_audit.specs.declared.fault.AuditFault.{AuditFault}
 use Rattle.site_audit.specs.declared.fault.AuditFault.TheVariants.{Memory, Store, NotNew}
 use Rattle.site_audit.specs.declared.verdict.Verdict.{Verdict}
-use Rattle.site_audit.specs.Audits.{AreEqual, ArePart, AreTwinTexts, IsFound, IsVerdict, MayBegin, what_is_asked}
+use Rattle.site_audit.specs.declared.verdict.Verdict.TheVariants.{Equal, Apart}
+use Rattle.site_audit.specs.Audits.{IsFound, IsVerdict, MayBegin, what_is_asked}
+use Rattle.site_audit.specs.AuditsFrom.{AreEqualFrom, ArePartFrom, AreTwinTextsFrom, IsFoundFrom, heard_history}
 use Rattle.site_audit.specs.Places.{GoesOn, Have, Heard, IsHeard, IsPlaceTold, IsTwinPlace, IsUsed, heard_message, reply_at}
 use Rattle.site_audit.proofs.Places.{next_is}
 use Rattle.site_audit.proofs.Lists.{zip_last, zip_length, zip_take}
 use Rattle.site_audit.proofs.Twins.{TwinAt, history_more, replies_more, twins_last, twins_length, twins_more, twins_read, twins_take}
 
--- the history after a list of texts
-abbrev pub behind : Settings → List Heard → History
-behind settings heards = history_of settings (map heard_message heards)
-
 -- the texts so far are twin runs, the replies to the caller are kept, and the keeps have the tables
 pub record SoFar {K : Type 0} (content : K → Tables) (settings : Settings) (zone : Zone) (c : ℕ)
-    (lefts rights : List Heard) (replies : List (List ℕ)) (left right : K) : Type 0 where
-  pub twins : AreTwinTexts settings c lefts rights
-  pub kept : replies ≡ answers_to settings zone c (what_is_asked lefts)
-  pub have : Have content settings (behind settings lefts) (behind settings rights) left right
-  pub left_is : IsHistory settings (behind settings lefts)
-  pub right_is : IsHistory settings (behind settings rights)
+    (h k : History) (lefts rights : List Heard) (replies : List (List ℕ)) (left right : K)
+    : Type 0 where
+  pub twins : AreTwinTextsFrom settings c h k lefts rights
+  pub kept : replies ≡ answers_to_from settings zone c h (what_is_asked lefts)
+  pub have : Have content settings (heard_history settings h lefts)
+      (heard_history settings k rights) left right
+  pub left_is : IsHistory settings (heard_history settings h lefts)
+  pub right_is : IsHistory settings (heard_history settings k rights)
 
 -- a place of twin runs, as twin runs say it
 place_at : (settings : Settings) (c : ℕ) (h k : History) (x y : Heard)
@@ -50,19 +52,20 @@ unfolding next_of
 at_place settings c h k x y here = record { paired = here.0; agree = here.1 }
 
 -- isolation, of what is asked
-isolated : (settings : Settings) (zone : Zone) (c : ℕ) (left right : List Asked)
-    → TwinRuns settings c left right
-    → answers_to settings zone c left ≡ answers_to settings zone c right
-isolated settings zone c left right twin =
-    laws.isolation meant (rendered settings zone) settings c left right twin
+isolated : (settings : Settings) (zone : Zone) (c : ℕ) (h k : History) (left right : List Asked)
+    → AreAlike settings c h k → TwinRunsFrom settings c h k left right
+    → answers_to_from settings zone c h left ≡ answers_to_from settings zone c k right
+isolated settings zone c h k left right alike twin =
+    laws.rendered_same meant (rendered settings zone) settings c h k left right alike twin
 
 -- the history after one more text
-behind_more : (settings : Settings) (heards : List Heard) (x : Heard)
-    → behind settings (heards ++ x ∷ []) ≡ next_of settings (behind settings heards) x.asked
+heard_more : (settings : Settings) (h : History) (heards : List Heard) (x : Heard)
+    → heard_history settings h (heards ++ x ∷ [])
+    ≡ next_of settings (heard_history settings h heards) x.asked
 unfolding next_of
-behind_more settings heards x =
-    ap (history_of settings) (map-append heard_message heards (x ∷ []))
-    ∙ history_more settings [] (map heard_message heards) (heard_message x)
+heard_more settings h heards x =
+    ap (history_from settings h) (map-append heard_message heards (x ∷ []))
+    ∙ history_more settings h (map heard_message heards) (heard_message x)
 
 asked_more : (heards : List Heard) (x : Heard)
     → what_is_asked (heards ++ x ∷ []) ≡ what_is_asked heards ++ x.asked ∷ []
@@ -74,84 +77,90 @@ asked_means (x ∷ heards) = ap (λ rest. heard_message x ∷ rest) (asked_means
 
 -- nothing was compared yet
 pub so_far_none : {K : Type 0} (content : K → Tables) (settings : Settings) (zone : Zone) (c : ℕ)
-    (left right : K) → content left ≡ tables_of settings [] → content right ≡ tables_of settings []
-    → SoFar content settings zone c [] [] [] left right
-so_far_none content settings zone c left right e d = record {
+    (h k : History) (left right : K) → IsHistory settings h → IsHistory settings k
+    → content left ≡ tables_of settings h → content right ≡ tables_of settings k
+    → SoFar content settings zone c h k [] [] [] left right
+so_far_none content settings zone c h k left right is is' e d = record {
   twins = tt;
   kept = refl;
   have = record { left_has = e; right_has = d };
-  left_is = tt;
-  right_is = tt;
+  left_is = is;
+  right_is = is';
 }
 
-answers_more : (settings : Settings) (zone : Zone) (c : ℕ) (heards : List Heard) (x : Heard)
-    → answers_to settings zone c (what_is_asked (heards ++ x ∷ []))
-    ≡ answers_to settings zone c (what_is_asked heards)
-    ++ reply_at settings zone c (behind settings heards) x.asked
+answers_more : (settings : Settings) (zone : Zone) (c : ℕ) (h : History) (heards : List Heard)
+    (x : Heard) → answers_to_from settings zone c h (what_is_asked (heards ++ x ∷ []))
+    ≡ answers_to_from settings zone c h (what_is_asked heards)
+    ++ reply_at settings zone c (heard_history settings h heards) x.asked
 unfolding answer_of
-answers_more settings zone c heards x =
-    ap (answers_to settings zone c) (asked_more heards x)
-    ∙ replies_more meant (rendered settings zone) settings c [] (what_is_asked heards) x.asked
-    ∙ ap (λ (ms : List (Message Fault)). answers_to settings zone c (what_is_asked heards)
-    ++ reply_at settings zone c (history_of settings ms) x.asked) (asked_means heards)
+answers_more settings zone c h heards x =
+    ap (answers_to_from settings zone c h) (asked_more heards x)
+    ∙ replies_more meant (rendered settings zone) settings c h (what_is_asked heards) x.asked
+    ∙ ap (λ (ms : List (Message Fault)). answers_to_from settings zone c h (what_is_asked heards)
+    ++ reply_at settings zone c (history_from settings h ms) x.asked) (asked_means heards)
 
 -- one more place that goes on
 so_far_more : {K : Type 0} (content : K → Tables) (settings : Settings) (zone : Zone) (c : ℕ)
-    (lefts rights : List Heard) (x y : Heard) (before after : List (List ℕ))
+    (h k : History) (lefts rights : List Heard) (x y : Heard) (before after : List (List ℕ))
     (left right left_new right_new : K)
-    → SoFar content settings zone c lefts rights before left right
-    → GoesOn content settings zone c (behind settings lefts) (behind settings rights) x y before
-    after left_new right_new
-    → SoFar content settings zone c (lefts ++ x ∷ []) (rights ++ y ∷ []) after left_new right_new
-so_far_more content settings zone c lefts rights x y before after left right left_new right_new so
-    goes = record {
-      twins = twins_more heard_message settings c [] [] lefts rights x y so.twins
+    → SoFar content settings zone c h k lefts rights before left right
+    → GoesOn content settings zone c (heard_history settings h lefts)
+    (heard_history settings k rights) x y before after left_new right_new
+    → SoFar content settings zone c h k (lefts ++ x ∷ []) (rights ++ y ∷ []) after left_new right_new
+so_far_more content settings zone c h k lefts rights x y before after left right left_new right_new
+    so goes = record {
+      twins = twins_more heard_message settings c h k lefts rights x y so.twins
           (place_at settings c _ _ x y goes.twin);
       kept = goes.kept
-          ∙ ap (λ rs. rs ++ reply_at settings zone c (behind settings lefts) x.asked) so.kept
-          ∙ sym (answers_more settings zone c lefts x);
+          ∙ ap (λ rs. rs ++ reply_at settings zone c (heard_history settings h lefts) x.asked)
+          so.kept
+          ∙ sym (answers_more settings zone c h lefts x);
       have = record {
-        left_has = goes.have.left_has ∙ ap (tables_of settings) (sym (behind_more settings lefts x));
-        right_has = goes.have.right_has ∙ ap (tables_of settings) (sym (behind_more settings rights y));
+        left_has = goes.have.left_has
+            ∙ ap (tables_of settings) (sym (heard_more settings h lefts x));
+        right_has = goes.have.right_has
+            ∙ ap (tables_of settings) (sym (heard_more settings k rights y));
       };
-      left_is = subst (IsHistory settings) (sym (behind_more settings lefts x))
-          (next_is settings (behind settings lefts) x.asked so.left_is);
-      right_is = subst (IsHistory settings) (sym (behind_more settings rights y))
-          (next_is settings (behind settings rights) y.asked so.right_is);
+      left_is = subst (IsHistory settings) (sym (heard_more settings h lefts x))
+          (next_is settings (heard_history settings h lefts) x.asked so.left_is);
+      right_is = subst (IsHistory settings) (sym (heard_more settings k rights y))
+          (next_is settings (heard_history settings k rights) y.asked so.right_is);
     }
 
 -- the whole of both lists was compared
 equal_of : {K : Type 0} (content : K → Tables) (settings : Settings) (zone : Zone) (c : ℕ)
-    (lefts rights : List Heard) (replies : List (List ℕ)) (left right : K)
-    → SoFar content settings zone c lefts rights replies left right
-    → AreEqual content settings zone c lefts rights replies left right
-equal_of content settings zone c lefts rights replies left right so = record {
+    (h k : History) (lefts rights : List Heard) (replies : List (List ℕ)) (left right : K)
+    → AreAlike settings c h k → SoFar content settings zone c h k lefts rights replies left right
+    → AreEqualFrom content settings zone c h k lefts rights replies left right
+equal_of content settings zone c h k lefts rights replies left right alike so = record {
   twins = so.twins;
   left = so.kept;
-  right = so.kept ∙ isolated settings zone c (what_is_asked lefts) (what_is_asked rights)
-      (twins_read (λ (heard : Heard). heard.asked) meant settings c [] [] lefts rights so.twins);
+  right = so.kept ∙ isolated settings zone c h k (what_is_asked lefts) (what_is_asked rights) alike
+      (twins_read (λ (heard : Heard). heard.asked) meant settings c h k lefts rights so.twins);
   left_tables = so.have.left_has;
   right_tables = so.have.right_has;
+  alike = laws.alike_again heard_message settings c h k lefts rights alike so.twins;
 }
 
 -- the first place at which they are no twin runs
-part_of : (settings : Settings) (c n : ℕ) (lefts rights : List Heard)
-    → AreTwinTexts settings c (take n lefts) (take n rights)
-    → ¬ (AreTwinTexts settings c (take (n + 1) lefts) (take (n + 1) rights))
-    → ArePart settings c lefts rights (n + 1)
-part_of settings c n lefts rights before not =
+part_of : (settings : Settings) (c n : ℕ) (h k : History) (lefts rights : List Heard)
+    → AreTwinTextsFrom settings c h k (take n lefts) (take n rights)
+    → ¬ (AreTwinTextsFrom settings c h k (take (n + 1) lefts) (take (n + 1) rights))
+    → ArePartFrom settings c h k lefts rights (n + 1)
+part_of settings c n h k lefts rights before not =
     let one : (n + 1) - 1 ≡ n = omega arith in
     record {
-      before = subst (λ k. AreTwinTexts settings c (take k lefts) (take k rights)) (sym one) before;
+      before = subst (λ m. AreTwinTextsFrom settings c h k (take m lefts) (take m rights)) (sym one)
+          before;
       here = not;
-      whole = λ twins. not (twins_take heard_message settings c (n + 1) [] [] lefts rights twins);
+      whole = λ twins. not (twins_take heard_message settings c (n + 1) h k lefts rights twins);
     }
 
 -- the texts so far are twin runs
-abbrev pub AreSoFar : ℕ → Settings → ℕ → List (List ℕ) → List (List ℕ) → Type 0
-AreSoFar n settings c texts others = (lefts rights : List Heard)
+abbrev pub AreSoFar : ℕ → Settings → ℕ → History → History → List (List ℕ) → List (List ℕ) → Type 0
+AreSoFar n settings c h k texts others = (lefts rights : List Heard)
     → AllZip IsHeard (take n texts) lefts → AllZip IsHeard (take n others) rights
-    → AreTwinTexts settings c lefts rights
+    → AreTwinTextsFrom settings c h k lefts rights
 
 -- the text at the next place, as it was heard
 pub next_heard : (n : ℕ) (texts : List (List ℕ)) (t : List ℕ) (heards : List Heard)
@@ -164,48 +173,54 @@ next_heard n texts t heards are more =
     (zip_take IsHeard (n + 1) texts heards are))
 
 -- a place that is none of twin runs parts them
-pub part_place : (settings : Settings) (c n : ℕ) (texts others : List (List ℕ)) (t o : List ℕ)
-    (lefts rights : List Heard) → AllZip IsHeard texts lefts → AllZip IsHeard others rights
+pub part_place : (settings : Settings) (c n : ℕ) (h k : History) (texts others : List (List ℕ))
+    (t o : List ℕ) (lefts rights : List Heard) → AllZip IsHeard texts lefts
+    → AllZip IsHeard others rights
     → take (n + 1) texts ≡ take n texts ++ t ∷ [] → take (n + 1) others ≡ take n others ++ o ∷ []
-    → AreSoFar n settings c texts others
+    → AreSoFar n settings c h k texts others
     → ((fs gs : List Heard) → AllZip IsHeard (take n texts) fs → AllZip IsHeard (take n others) gs
     → (x y : Heard) → IsHeard t x → IsHeard o y
-    → ¬ (IsTwinPlace settings c (behind settings fs) (behind settings gs) x y))
-    → ArePart settings c lefts rights (n + 1)
-part_place settings c n texts others t o lefts rights are others_are more more' so not =
+    → ¬ (IsTwinPlace settings c (heard_history settings h fs) (heard_history settings k gs) x y))
+    → ArePartFrom settings c h k lefts rights (n + 1)
+part_place settings c n h k texts others t o lefts rights are others_are more more' so not =
     let (fs, x, e, fs_are, is) = next_heard n texts t lefts are more in
     let (gs, y, d, gs_are, is') = next_heard n others o rights others_are more' in
-    part_of settings c n lefts rights
+    part_of settings c n h k lefts rights
     (so (take n lefts) (take n rights) (zip_take IsHeard n texts lefts are)
     (zip_take IsHeard n others rights others_are))
     (λ twins. not fs gs fs_are gs_are x y is is'
-    (at_place settings c (behind settings fs) (behind settings gs) x y
-    (twins_last heard_message settings c [] [] fs gs x y (so fs gs fs_are gs_are)
-    (subst (λ l. AreTwinTexts settings c l (gs ++ y ∷ [])) e
-    (subst (λ l. AreTwinTexts settings c (take (n + 1) lefts) l) d twins)))))
+    (at_place settings c (heard_history settings h fs) (heard_history settings k gs) x y
+    (twins_last heard_message settings c h k fs gs x y (so fs gs fs_are gs_are)
+    (subst (λ l. AreTwinTextsFrom settings c h k l (gs ++ y ∷ [])) e
+    (subst (λ l. AreTwinTextsFrom settings c h k (take (n + 1) lefts) l) d twins)))))
 
 -- and so does the end of one of them
-pub part_end : (settings : Settings) (c n : ℕ) (texts others : List (List ℕ))
+pub part_end : (settings : Settings) (c n : ℕ) (h k : History) (texts others : List (List ℕ))
     (lefts rights : List Heard) → AllZip IsHeard texts lefts → AllZip IsHeard others rights
-    → AreSoFar n settings c texts others
+    → AreSoFar n settings c h k texts others
     → length (take (n + 1) texts) ≢ length (take (n + 1) others)
-    → ArePart settings c lefts rights (n + 1)
-part_end settings c n texts others lefts rights are others_are so not =
-    part_of settings c n lefts rights
+    → ArePartFrom settings c h k lefts rights (n + 1)
+part_end settings c n h k texts others lefts rights are others_are so not =
+    part_of settings c n h k lefts rights
     (so (take n lefts) (take n rights) (zip_take IsHeard n texts lefts are)
     (zip_take IsHeard n others rights others_are))
     (λ twins. not (sym (zip_length IsHeard _ _ (zip_take IsHeard (n + 1) texts lefts are))
-    ∙ twins_length heard_message settings c [] [] _ _ twins
+    ∙ twins_length heard_message settings c h k _ _ twins
     ∙ zip_length IsHeard _ _ (zip_take IsHeard (n + 1) others rights others_are)))
 
--- what was compared so far, of houses that were new
+-- two keeps have the tables of two histories
+abbrev pub BeginWith : {K : Type 0} → (K → Tables) → Settings → History → History → K → K → Type 0
+BeginWith content settings h k left right = IsHistory settings h × IsHistory settings k
+    × (content left ≡ tables_of settings h) × (content right ≡ tables_of settings k)
+
+-- what was compared so far, of houses that had any two histories
 abbrev pub Compared : {K : Type 0} → (K → Tables) → (K → Type 0) → Zone → ℕ → K → K
     → List (List ℕ) → List (List ℕ) → ℕ → List (List ℕ) → K → K → Type 0
 Compared content is_honest zone c first first' texts others n replies left right =
-    is_honest left → is_honest right → (settings : Settings) → content first ≡ tables_of settings []
-    → content first' ≡ tables_of settings [] → (lefts rights : List Heard)
+    is_honest left → is_honest right → (settings : Settings) (h k : History)
+    → BeginWith content settings h k first first' → (lefts rights : List Heard)
     → AllZip IsHeard (take n texts) lefts → AllZip IsHeard (take n others) rights
-    → SoFar content settings zone c lefts rights replies left right
+    → SoFar content settings zone c h k lefts rights replies left right
 
 -- what is told of the next place
 abbrev pub Told : {K : Type 0} → (K → Tables) → (K → Bool) → (K → Type 0) → Zone → ℕ → List ℕ
@@ -219,12 +234,13 @@ Told content is_failed is_honest zone c t o before after left right left_new rig
 pub compared_none : {K : Type 0} (content : K → Tables) (is_honest : K → Type 0) (zone : Zone)
     (c : ℕ) (left right : K) (texts others : List (List ℕ))
     → Compared content is_honest zone c left right texts others 0 [] left right
-compared_none content is_honest zone c left right texts others honest honest' settings e d lefts
-    rights are others_are = none lefts rights are others_are
+compared_none content is_honest zone c left right texts others honest honest' settings h k begin
+    lefts rights are others_are = none lefts rights are others_are
   where
     none : (lefts rights : List Heard) → AllZip IsHeard [] lefts → AllZip IsHeard [] rights
-        → SoFar content settings zone c lefts rights [] left right
-    none [] [] are others_are = so_far_none content settings zone c left right e d
+        → SoFar content settings zone c h k lefts rights [] left right
+    none [] [] are others_are =
+        so_far_none content settings zone c h k left right begin.0 begin.1 begin.2 begin.3
     none [] (y ∷ rights) are others_are = absurd others_are
     none (x ∷ lefts) rights are others_are = absurd are
 
@@ -239,17 +255,17 @@ pub compared_more : {K : Type 0} (content : K → Tables) (is_failed : K → Boo
     (Ok true)
     → Compared content is_honest zone c first first' texts others (n + 1) after left_new right_new
 compared_more content is_failed is_honest zone c first first' texts others n t o before after left
-    right left_new right_new so was was' more more' told honest honest' settings e d lefts rights
-    are others_are =
+    right left_new right_new so was was' more more' told honest honest' settings h k begin lefts
+    rights are others_are =
     let (fs, x, p, fs_are, is) = zip_last IsHeard (take n texts) t lefts
     (subst (λ l. AllZip IsHeard l lefts) more are) in
     let (gs, y, q, gs_are, is') = zip_last IsHeard (take n others) o rights
     (subst (λ l. AllZip IsHeard l rights) more' others_are) in
-    let run = so (was honest) (was' honest') settings e d fs gs fs_are gs_are in
-    rw (p, q) (so_far_more content settings zone c fs gs x y before after left right left_new
+    let run = so (was honest) (was' honest') settings h k begin fs gs fs_are gs_are in
+    rw (p, q) (so_far_more content settings zone c h k fs gs x y before after left right left_new
     right_new run
-    (told honest honest' settings (behind settings fs) (behind settings gs) run.left_is run.right_is
-    run.have.left_has run.have.right_has x y is is'))
+    (told honest honest' settings (heard_history settings h fs) (heard_history settings k gs)
+    run.left_is run.right_is run.have.left_has run.have.right_has x y is is'))
 
 -- the next place is none of twin runs
 pub found_apart : {K : Type 0} (content : K → Tables) (is_failed : K → Bool)
@@ -260,18 +276,18 @@ pub found_apart : {K : Type 0} (content : K → Tables) (is_failed : K → Bool)
     → take (n + 1) texts ≡ take n texts ++ t ∷ [] → take (n + 1) others ≡ take n others ++ o ∷ []
     → Told content is_failed is_honest zone c t o before after left right left_new right_new
     (Ok false)
-    → is_honest left_new → is_honest right_new → (settings : Settings)
-    → content first ≡ tables_of settings [] → content first' ≡ tables_of settings []
+    → is_honest left_new → is_honest right_new → (settings : Settings) (h k : History)
+    → BeginWith content settings h k first first'
     → (lefts rights : List Heard) → AllZip IsHeard texts lefts → AllZip IsHeard others rights
-    → ArePart settings c lefts rights (n + 1)
+    → ArePartFrom settings c h k lefts rights (n + 1)
 found_apart content is_failed is_honest zone c first first' texts others n t o before after left
-    right left_new right_new so was was' more more' told honest honest' settings e d lefts rights
-    are others_are =
-    let run = so (was honest) (was' honest') settings e d in
-    part_place settings c n texts others t o lefts rights are others_are more more'
+    right left_new right_new so was was' more more' told honest honest' settings h k begin lefts
+    rights are others_are =
+    let run = so (was honest) (was' honest') settings h k begin in
+    part_place settings c n h k texts others t o lefts rights are others_are more more'
     (λ fs gs fs_are gs_are. (run fs gs fs_are gs_are).twins)
     (λ fs gs fs_are gs_are x y is is'.
-    told honest honest' settings (behind settings fs) (behind settings gs)
+    told honest honest' settings (heard_history settings h fs) (heard_history settings k gs)
     (run fs gs fs_are gs_are).left_is (run fs gs fs_are gs_are).right_is
     (run fs gs fs_are gs_are).have.left_has (run fs gs fs_are gs_are).have.right_has x y is is')
 
@@ -285,27 +301,28 @@ pub found_fault : {K : Type 0} (content : K → Tables) (is_failed : K → Bool)
     → take (n + 1) texts ≡ take n texts ++ t ∷ [] → take (n + 1) others ≡ take n others ++ o ∷ []
     → Told content is_failed is_honest zone c t o before after left right left_new right_new
     (Err fault)
-    → is_honest left_new → is_honest right_new → (settings : Settings)
-    → content first ≡ tables_of settings [] → content first' ≡ tables_of settings []
+    → is_honest left_new → is_honest right_new → (settings : Settings) (h k : History)
+    → BeginWith content settings h k first first'
     → (lefts rights : List Heard) → AllZip IsHeard texts lefts → AllZip IsHeard others rights
-    → IsFound content is_failed settings zone c lefts rights left_new right_new (Err fault)
+    → IsFoundFrom content is_failed settings zone c h k lefts rights left_new right_new (Err fault)
 found_fault content is_failed is_honest zone c first first' texts others n t o before after left
-    right left_new right_new fault so was was' more more' told honest honest' settings e d lefts
-    rights are others_are =
+    right left_new right_new fault so was was' more more' told honest honest' settings h k begin
+    lefts rights are others_are =
     let (fs, x, p, fs_are, is) = next_heard n texts t lefts are more in
     let (gs, y, q, gs_are, is') = next_heard n others o rights others_are more' in
-    let run = so (was honest) (was' honest') settings e d fs gs fs_are gs_are in
-    by_fault fault (behind settings fs) (behind settings gs) x y
-    (told honest honest' settings (behind settings fs) (behind settings gs)
+    let run = so (was honest) (was' honest') settings h k begin fs gs fs_are gs_are in
+    by_fault fault (heard_history settings h fs) (heard_history settings k gs) x y
+    (told honest honest' settings (heard_history settings h fs) (heard_history settings k gs)
     run.left_is run.right_is run.have.left_has run.have.right_has x y is is')
   where
-    by_fault : (fault : AuditFault) (h k : History) (x y : Heard)
-        → IsPlaceTold content is_failed settings zone c h k x y before after left_new right_new
+    by_fault : (fault : AuditFault) (g j : History) (x y : Heard)
+        → IsPlaceTold content is_failed settings zone c g j x y before after left_new right_new
         (Err fault)
-        → IsFound content is_failed settings zone c lefts rights left_new right_new (Err fault)
-    by_fault Memory h k x y told = tt
-    by_fault Store h k x y told = told
-    by_fault NotNew h k x y told = told
+        → IsFoundFrom content is_failed settings zone c h k lefts rights left_new right_new
+        (Err fault)
+    by_fault Memory g j x y told = tt
+    by_fault Store g j x y told = told
+    by_fault NotNew g j x y told = told
 
 -- one list has ended
 pub found_end : {K : Type 0} (content : K → Tables) (is_honest : K → Type 0) (zone : Zone) (c : ℕ)
@@ -313,14 +330,14 @@ pub found_end : {K : Type 0} (content : K → Tables) (is_honest : K → Type 0)
     (left right : K)
     → Compared content is_honest zone c first first' texts others n replies left right
     → length (take (n + 1) texts) ≢ length (take (n + 1) others)
-    → is_honest left → is_honest right → (settings : Settings)
-    → content first ≡ tables_of settings [] → content first' ≡ tables_of settings []
+    → is_honest left → is_honest right → (settings : Settings) (h k : History)
+    → BeginWith content settings h k first first'
     → (lefts rights : List Heard) → AllZip IsHeard texts lefts → AllZip IsHeard others rights
-    → ArePart settings c lefts rights (n + 1)
+    → ArePartFrom settings c h k lefts rights (n + 1)
 found_end content is_honest zone c first first' texts others n replies left right so not honest
-    honest' settings e d lefts rights are others_are =
-    part_end settings c n texts others lefts rights are others_are
-    (λ fs gs fs_are gs_are. (so honest honest' settings e d fs gs fs_are gs_are).twins) not
+    honest' settings h k begin lefts rights are others_are =
+    part_end settings c n h k texts others lefts rights are others_are
+    (λ fs gs fs_are gs_are. (so honest honest' settings h k begin fs gs fs_are gs_are).twins) not
 
 -- both have
 pub found_equal : {K : Type 0} (content : K → Tables) (is_honest : K → Type 0) (zone : Zone) (c : ℕ)
@@ -328,14 +345,14 @@ pub found_equal : {K : Type 0} (content : K → Tables) (is_honest : K → Type 
     (left right : K)
     → Compared content is_honest zone c first first' texts others n replies left right
     → length texts ≤ n → length others ≤ n
-    → is_honest left → is_honest right → (settings : Settings)
-    → content first ≡ tables_of settings [] → content first' ≡ tables_of settings []
+    → is_honest left → is_honest right → (settings : Settings) (h k : History)
+    → BeginWith content settings h k first first' → AreAlike settings c h k
     → (lefts rights : List Heard) → AllZip IsHeard texts lefts → AllZip IsHeard others rights
-    → AreEqual content settings zone c lefts rights replies left right
+    → AreEqualFrom content settings zone c h k lefts rights replies left right
 found_equal content is_honest zone c first first' texts others n replies left right so few few'
-    honest honest' settings e d lefts rights are others_are =
-    equal_of content settings zone c lefts rights replies left right
-    (so honest honest' settings e d lefts rights
+    honest honest' settings h k begin alike lefts rights are others_are =
+    equal_of content settings zone c h k lefts rights replies left right alike
+    (so honest honest' settings h k begin lefts rights
     (subst (λ l. AllZip IsHeard l lefts) (sym (take_all n texts few)) are)
     (subst (λ l. AllZip IsHeard l rights) (sym (take_all n others few')) others_are))
 
@@ -355,14 +372,16 @@ told_by content is_failed is_honest zone zone' c t o before after left right lef
 
 -- the fault that a fault was made into
 pub found_gave : {K : Type 0} (content : K → Tables) (is_failed : K → Bool) (settings : Settings)
-    (zone : Zone) (c : ℕ) (lefts rights : List Heard) (left right : K) (fault : AuditFault)
-    (result : Result Verdict AuditFault) → IsErr result × IsErrAnd result (λ told. told ≡ fault)
-    → IsFound content is_failed settings zone c lefts rights left right (Err fault)
-    → IsFound content is_failed settings zone c lefts rights left right result
-found_gave content is_failed settings zone c lefts rights left right fault (Ok verdict) gave found =
-    absurd gave.1
-found_gave content is_failed settings zone c lefts rights left right fault (Err told) gave found =
-    subst (λ f. IsFound content is_failed settings zone c lefts rights left right (Err f))
+    (zone : Zone) (c : ℕ) (h k : History) (lefts rights : List Heard) (left right : K)
+    (fault : AuditFault) (result : Result Verdict AuditFault)
+    → IsErr result × IsErrAnd result (λ told. told ≡ fault)
+    → IsFoundFrom content is_failed settings zone c h k lefts rights left right (Err fault)
+    → IsFoundFrom content is_failed settings zone c h k lefts rights left right result
+found_gave content is_failed settings zone c h k lefts rights left right fault (Ok verdict) gave
+    found = absurd gave.1
+found_gave content is_failed settings zone c h k lefts rights left right fault (Err told) gave
+    found =
+    subst (λ f. IsFoundFrom content is_failed settings zone c h k lefts rights left right (Err f))
     (sym gave.1) found
 
 -- a site that was used twice
@@ -374,6 +393,26 @@ used_twice is_failed is_honest first old new a b = record {
   stays = λ failed. b.stays (a.stays failed);
   zone = b.zone ∙ a.zone;
 }
+
+-- over new houses it is what is found of new houses
+pub found_new : {K : Type 0} (content : K → Tables) (is_failed : K → Bool) (settings : Settings)
+    (zone : Zone) (c : ℕ) (lefts rights : List Heard) (left right : K)
+    (result : Result Verdict AuditFault)
+    → IsFoundFrom content is_failed settings zone c [] [] lefts rights left right result
+    → IsFound content is_failed settings zone c lefts rights left right result
+found_new content is_failed settings zone c lefts rights left right (Ok (Equal replies)) found =
+    record {
+      twins = found.twins;
+      left = found.left;
+      right = found.right;
+      left_tables = found.left_tables;
+      right_tables = found.right_tables;
+    }
+found_new content is_failed settings zone c lefts rights left right (Ok (Apart step)) found =
+    record { before = found.before; here = found.here; whole = found.whole }
+found_new content is_failed settings zone c lefts rights left right (Err Memory) found = tt
+found_new content is_failed settings zone c lefts rights left right (Err Store) found = found
+found_new content is_failed settings zone c lefts rights left right (Err NotNew) found = found
 
 -- what is found of houses that an audit could begin with is its verdict
 pub verdict_of : {K : Type 0} (content : K → Tables) (is_failed : K → Bool) (settings : Settings)

@@ -1,11 +1,10 @@
 -- The bid in a place of a list, and the list in which it is raised.
 use Rattle.std.proofs.Common.{◌≡◌, ◌∙◌, ◌<◌, ◌+◌, ◌++◌, ◌∷◌, [], ℕ, zero, suc, List, get_or, length, length-append, map, ap, refl, sym, arith, Option, Some, None, Result, Ok, Err}
 use Rattle.std.specs.List.{AllZip}
-use Rattle.house_laws.specs.Covered.{IsCovered, Sealed, bid_message, with_maximum}
+use Rattle.house_laws.specs.Covered.{Sealed, bid_message, with_maximum}
 use Rattle.house_rows.specs.declared.command.Command.TheVariants.{Register, AddCategory, List as Listed, Bid, Buy, Close, Settle, Watch, Unwatch, Ask, Answer, Feedback}
 use Rattle.house_rows.specs.declared.message.Message.{Message}
 use Rattle.house_rows.specs.declared.message.Message.TheVariants.{Order, Read, Broken}
-use Rattle.house_rows.specs.declared.settings.Settings.{Settings}
 use Rattle.site_asks.specs.Asked.{IsAsked, asked_of}
 use Rattle.site_asks.specs.declared.asked.Asked.{Asked}
 use Rattle.site_audit.specs.declared.fault.AuditFault.{AuditFault}
@@ -56,11 +55,6 @@ one_bid_at place b d heards is also =
     let same : is.here ≡ also.here = split_same is.before is.later also.before also.later is.here also.here (sym is.parts ∙ also.parts)
     (place_same (length is.before) (length also.before) place is.placed also.placed) in
     one_bid (heard_message is.here) b d is.means (ap heard_message same ∙ also.means)
-
--- a covered bid stands at its place
-pub covered_at : (settings : Settings) (c place y : ℕ) (b : Sealed) (heards : List Heard) → IsCovered heard_message settings c place y b heards → IsBidAt place b heards
-covered_at settings c place y b heards is =
-    record { before = is.before; here = is.here; later = is.later; parts = is.parts; placed = is.placed; means = is.means }
 
 -- what was read of the element in a place
 pub found_at : (place : ℕ) (before : List Heard) (here : Heard) (later heards : List Heard) (result : Result (Option Sealed) AuditFault) → heards ≡ before ++ here ∷ later

@@ -4,8 +4,9 @@
 //! Promised: two lists are told equal exactly where they are twin runs for the caller, and then one
 //! list of replies is the answers to it along both; else the first place is told at which they are
 //! none. A bid's surplus is told hidden exactly where the bid is covered, with the replies to
-//! another, the same whether it is raised or not. And a stream of messages is read into a list. Read
-//! `specs/Audits.antt` first, and then `audit`, `specs/Surplus.antt` and `surplus`.
+//! another, the same whether it is raised or not. `audit_from` and `surplus_from` tell it of houses
+//! that live on. And a stream of messages is read into a list. Read `specs/Audits.antt` first, and
+//! then `audit`, `specs/Surplus.antt` and `surplus`.
 #![tactic(auto)]
 
 mod answers;
@@ -23,5 +24,5 @@ mod verdict;
 pub use fault::AuditFault;
 pub use finding::Surplus;
 pub use messages::{MessagesFault, read_messages};
-pub use raising::surplus;
-pub use verdict::{Verdict, audit};
+pub use raising::{surplus, surplus_from};
+pub use verdict::{Verdict, audit, audit_from};

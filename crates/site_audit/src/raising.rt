@@ -1,5 +1,5 @@
 //! Whether it shows to others how far a bid lies above what leading takes.
-ghost use Rattle.std.specs.Prelude.{◌≡◌, ◌↔◌, ◌≤◌, ℕ, List, [], Ok, map, true, length};
+ghost use Rattle.std.specs.Prelude.{◌≡◌, ◌↔◌, ◌≤◌, ℕ, List, Ok, map, true, length};
 ghost use Rattle.std.specs.List.{AllZip};
 ghost use Rattle.steps.specs.Table.{IsBandTable};
 ghost use Rattle.house_laws.specs.Covered.{raised, with_maximum as the_with_maximum};
@@ -9,10 +9,11 @@ ghost use Rattle.house_rows.specs.Tables.{tables_of};
 ghost use Rattle.house_rows.specs.Verdict.{IsHistory};
 ghost use Rattle.settle.specs.declared.zone.Zone.{Zone as TheZone};
 ghost use Rattle.site.specs.Answers.{zone_of};
-ghost use Rattle.site_audit.specs.Audits.{IsFound};
+ghost use Rattle.site_audit.specs.AuditsFrom.{IsFoundFrom};
 ghost use Rattle.site_audit.specs.Places.{Heard, IsHeard, IsUsed, keep_of};
 ghost use Rattle.site_audit.specs.SealedBids.{IsBidAt, IsRaise, MayRaise};
-ghost use Rattle.site_audit.specs.Surplus.{IsSurplusFound, IsSurplusResult};
+ghost use Rattle.site_audit.specs.Surplus.{IsSurplusResult};
+ghost use Rattle.site_audit.specs.SurplusFrom.{IsSurplusFoundFrom};
 ghost use Rattle.site_bids.specs.Spelt.{bid_text};
 
 use crate::bids::{SealedBid, bid_at, can_send, list_with};
@@ -20,7 +21,7 @@ use crate::fault::AuditFault;
 use crate::finding::Surplus;
 use crate::leading::both_lead;
 use crate::pair::may_begin;
-use crate::verdict::{Verdict, compare};
+use crate::verdict::{Verdict, audit_from};
 use house_rows::Keep;
 use site::Site;
 use std::alloc::Global;
@@ -45,7 +46,7 @@ fn may_raise(bid: SealedBid, maximum: u64, other: u64) -> bool
         && bid.member != other
 }
 
-// Compares a list, over houses that are new, with the one that has another bid in a place.
+// Compares a list, over houses of one history, with the one that has another bid in a place.
 fn compare_with<K: Keep + Drop>(
     alloc: Global,
     left: &mut Site<K>,
@@ -57,18 +58,18 @@ fn compare_with<K: Keep + Drop>(
 ) -> Result<Verdict, AuditFault>
     requires place { (1 ≤ place) × (place ≤ length messages.now) }
     ensures found { K.is_honest (keep_of left.new) → K.is_honest (keep_of right.new)
-        → (settings : TheSettings)
-        → K.content (keep_of left.old) ≡ tables_of settings []
-        → K.content (keep_of right.old) ≡ tables_of settings []
+        → (settings : TheSettings) (h : History) → IsHistory settings h
+        → K.content (keep_of left.old) ≡ tables_of settings h
+        → K.content (keep_of right.old) ≡ tables_of settings h
         → (heards : List Heard) → AllZip IsHeard (map (λ m. m.items) messages.now) heards
         → (text : Heard) → IsHeard (bid_text bid) text
-        → IsFound K.content K.is_failed settings (zone_of left.old) other heards
+        → IsFoundFrom K.content K.is_failed settings (zone_of left.old) other h h heards
         (raised place text heards) (keep_of left.new) (keep_of right.new) result }
     ensures left { IsUsed K.is_failed K.is_honest left.old left.new }
     ensures right { IsUsed K.is_failed K.is_honest right.old right.new }
 {
     let list = list_with(alloc, messages, place, bid)?;
-    compare(alloc, left, right, messages, &list, other)
+    audit_from(alloc, left, right, messages, &list, other)
 }
 
 // Whether a bid is covered, by what comparing the two lists gave and by who leads in the end.
@@ -81,11 +82,12 @@ fn judge<K: Keep + Drop>(
 ) -> Result<Surplus, AuditFault>
     ensures found { K.is_honest (keep_of left.new) → K.is_honest (keep_of right.new)
         → (settings : TheSettings) → IsBandTable settings.bands
+        → (h : History) → IsHistory settings h
         → (zone : TheZone) (other place : ℕ) (heards : List Heard) (text : Heard)
         → IsBidAt place bid heards → MayRaise other maximum bid → IsRaise maximum bid text
-        → IsFound K.content K.is_failed settings zone other heards (raised place text heards)
-        (keep_of left.old) (keep_of right.old) (Ok verdict)
-        → IsSurplusFound K.content K.is_failed settings zone other place maximum heards
+        → IsFoundFrom K.content K.is_failed settings zone other h h heards
+        (raised place text heards) (keep_of left.old) (keep_of right.old) (Ok verdict)
+        → IsSurplusFoundFrom K.content K.is_failed settings zone other h place maximum heards
         (keep_of left.new) (keep_of right.new) result }
     ensures left { IsUsed K.is_failed K.is_honest left.old left.new }
     ensures right { IsUsed K.is_failed K.is_honest right.old right.new }
@@ -98,6 +100,42 @@ fn judge<K: Keep + Drop>(
             Err(fault) => Err(fault),
         },
     }
+}
+
+/// Answers a list of messages over a house that lives on, and over another of equal tables the same
+/// list in which the bid in a place, counted from 1, has another maximum; and tells whether that bid
+/// is covered, with the replies to another, which are then the same in both.
+///
+/// Which bids are covered is told at `surplus`. NotNew is never answered.
+pub fn surplus_from<K: Keep + Drop>(
+    alloc: Global,
+    left: &mut Site<K>,
+    right: &mut Site<K>,
+    messages: &[Vec<u8>],
+    place: u64,
+    maximum: u64,
+    other: u64,
+) -> Result<Surplus, AuditFault>
+    ensures found { K.is_honest (keep_of left.new) → K.is_honest (keep_of right.new)
+        → (settings : TheSettings) → IsBandTable settings.bands
+        → (h : History) → IsHistory settings h
+        → K.content (keep_of left.old) ≡ tables_of settings h
+        → K.content (keep_of right.old) ≡ tables_of settings h
+        → (heards : List Heard) → AllZip IsHeard (map (λ m. m.items) messages.now) heards
+        → IsSurplusFoundFrom K.content K.is_failed settings (zone_of left.old) other h place
+        maximum heards (keep_of left.new) (keep_of right.new) result }
+    ensures left { IsUsed K.is_failed K.is_honest left.old left.new }
+    ensures right { IsUsed K.is_failed K.is_honest right.old right.new }
+{
+    let Some(bid) = bid_at(alloc, messages, place)? else {
+        return Ok(Surplus::NotCovered);
+    };
+    if !may_raise(bid, maximum, other) {
+        return Ok(Surplus::NotCovered);
+    }
+    let raised = with_maximum(bid, maximum);
+    let verdict = compare_with(alloc, left, right, messages, place, raised, other)?;
+    judge(left, right, verdict, bid, maximum)
 }
 
 /// Answers a list of messages over a new house, and over another the same list in which the bid in a
@@ -132,13 +170,5 @@ pub fn surplus<K: Keep + Drop>(
     if !may_begin(left, right)? {
         return Err(AuditFault::NotNew);
     }
-    let Some(bid) = bid_at(alloc, messages, place)? else {
-        return Ok(Surplus::NotCovered);
-    };
-    if !may_raise(bid, maximum, other) {
-        return Ok(Surplus::NotCovered);
-    }
-    let raised = with_maximum(bid, maximum);
-    let verdict = compare_with(alloc, left, right, messages, place, raised, other)?;
-    judge(left, right, verdict, bid, maximum)
+    surplus_from(alloc, left, right, messages, place, maximum, other)
 }

@@ -1,12 +1,14 @@
 //! Two lists of messages, compared as a caller sees them.
-ghost use Rattle.std.specs.Prelude.{◌≡◌, ◌+◌, ◌<◌, ◌^◌, [], List, map};
+ghost use Rattle.std.specs.Prelude.{◌≡◌, ◌+◌, ◌<◌, ◌^◌, List, map};
 ghost use Rattle.std.specs.List.{AllZip};
+ghost use Rattle.house_laws.specs.Alike.{AreAlike};
 ghost use Rattle.house_rows.specs.declared.settings.Settings.{Settings as TheSettings};
 ghost use Rattle.house_rows.specs.History.{History};
 ghost use Rattle.house_rows.specs.Tables.{tables_of};
 ghost use Rattle.house_rows.specs.Verdict.{IsHistory};
 ghost use Rattle.site.specs.Answers.{zone_of};
-ghost use Rattle.site_audit.specs.Audits.{IsFound, IsVerdict};
+ghost use Rattle.site_audit.specs.Audits.{IsVerdict};
+ghost use Rattle.site_audit.specs.AuditsFrom.{IsFoundFrom};
 ghost use Rattle.site_audit.specs.Places.{Heard, IsHeard, IsUsed, keep_of};
 
 use crate::fault::AuditFault;
@@ -41,8 +43,14 @@ fn apart_at(place: usize) -> Verdict
     }
 }
 
-/// Compares two lists over houses that are new.
-pub(crate) fn compare<K: Keep + Drop>(
+/// Answers two lists of messages over two houses that live on, place by place, and tells whether they
+/// are twin runs for a caller from there on, with the replies to it, or the first place at which they
+/// are none.
+///
+/// The houses may have any two histories that are alike for the caller: two of equal tables have one.
+/// Where the lists are twin runs, the histories after them are alike again, so that it can be asked
+/// of the next two lists. NotNew is never answered.
+pub fn audit_from<K: Keep + Drop>(
     alloc: Global,
     left: &mut Site<K>,
     right: &mut Site<K>,
@@ -51,13 +59,14 @@ pub(crate) fn compare<K: Keep + Drop>(
     caller: u64,
 ) -> Result<Verdict, AuditFault>
     ensures found { K.is_honest (keep_of left.new) → K.is_honest (keep_of right.new)
-        → (settings : TheSettings)
-        → K.content (keep_of left.old) ≡ tables_of settings []
-        → K.content (keep_of right.old) ≡ tables_of settings []
+        → (settings : TheSettings) (h k : History)
+        → IsHistory settings h → IsHistory settings k → AreAlike settings caller h k
+        → K.content (keep_of left.old) ≡ tables_of settings h
+        → K.content (keep_of right.old) ≡ tables_of settings k
         → (lefts rights : List Heard)
         → AllZip IsHeard (map (λ m. m.items) left_messages.now) lefts
         → AllZip IsHeard (map (λ m. m.items) right_messages.now) rights
-        → IsFound K.content K.is_failed settings (zone_of left.old) caller lefts rights
+        → IsFoundFrom K.content K.is_failed settings (zone_of left.old) caller h k lefts rights
         (keep_of left.new) (keep_of right.new) result }
     ensures left { IsUsed K.is_failed K.is_honest left.old left.new }
     ensures right { IsUsed K.is_failed K.is_honest right.old right.new }
@@ -107,5 +116,5 @@ pub fn audit<K: Keep + Drop>(
     if !may_begin(left, right)? {
         return Err(AuditFault::NotNew);
     }
-    compare(alloc, left, right, left_messages, right_messages, caller)
+    audit_from(alloc, left, right, left_messages, right_messages, caller)
 }

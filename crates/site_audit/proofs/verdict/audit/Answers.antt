@@ -1,9 +1,9 @@
-use Rattle.std.proofs.Common.{◌∙◌, [], ap, sym}
+use Rattle.std.proofs.Common.{◌∙◌, [], ap, refl, sym}
 use Rattle.house_rows.specs.Tables.{tables_of}
 use Rattle.site.specs.Answers.{zone_of}
 use Rattle.site_audit.specs.Places.{keep_of}
 use Rattle.site_audit.proofs.Pairs.{left_new, right_new, same_settings}
-use Rattle.site_audit.proofs.Runs.{verdict_of}
+use Rattle.site_audit.proofs.Runs.{found_new, verdict_of}
 use Rattle.site_audit.proofs.verdict.audit.Goals as goal
 
 pub returns-clause-verdict : goal.returns-clause-verdict
@@ -12,15 +12,19 @@ returns-clause-verdict g c =
     let n = g.K.Keep in
     let t = n.content (keep_of c.args.left.now) in
     let u = n.content (keep_of c.args.right.now) in
-    let before = c.compare.ensures.left.honest honest in
-    let before' = c.compare.ensures.right.honest honest' in
+    let before = c.audit_from.ensures.left.honest honest in
+    let before' = c.audit_from.ensures.right.honest honest' in
     let seen = c.in_ok-may_begin.ensures.told before before' settings others h k is is' e d in
     let may = seen.0.0 c.if-not-branch.false in
     let same = same_settings settings others h k t u e d may in
     verdict_of n.content n.is_failed settings (zone_of c.may_begin.new.left)
     (zone_of c.args.left.now) c.args.caller lefts rights (keep_of c.args.left.now)
-    (keep_of c.args.right.now) (keep_of c.compare.new.left) (keep_of c.compare.new.right)
-    c.compare.result may c.in_ok-may_begin.ensures.left.zone
-    (c.compare.ensures.found honest honest' settings (seen.1 ∙ left_new settings h t u e may)
+    (keep_of c.args.right.now) (keep_of c.audit_from.new.left) (keep_of c.audit_from.new.right)
+    c.audit_from.result may c.in_ok-may_begin.ensures.left.zone
+    (found_new n.content n.is_failed settings (zone_of c.may_begin.new.left) c.args.caller lefts
+    rights (keep_of c.audit_from.new.left) (keep_of c.audit_from.new.right) c.audit_from.result
+    (c.audit_from.ensures.found honest honest' settings [] [] tt tt
+    (record { public = refl; own = refl; waiting = refl })
+    (seen.1 ∙ left_new settings h t u e may)
     (seen.2 ∙ right_new others k t u d may ∙ ap (λ s. tables_of s []) (sym same)) lefts rights are
-    others_are)
+    others_are))

@@ -5,10 +5,10 @@ use Rattle.site.specs.Answers.{zone_of}
 use Rattle.site_audit.specs.Places.{keep_of}
 use Rattle.site_audit.proofs.Lists.{ends_apart, next_read}
 use Rattle.site_audit.proofs.Runs.{compared_more, found_apart, found_end, found_equal, found_fault, found_gave, told_by, used_twice}
-use Rattle.site_audit.proofs.verdict.compare.Goals as goal
+use Rattle.site_audit.proofs.verdict.audit_from.Goals as goal
 
 pub returns-in_default-clause-found : goal.returns-in_default-clause-found
-returns-in_default-clause-found g c = λ honest honest' settings e d lefts rights are others_are.
+returns-in_default-clause-found g c = λ honest honest' settings h k is is' alike e d lefts rights are others_are.
     let n = g.K.Keep in
     rw c.apart_at.ensures
     (found_end n.content n.is_honest (zone_of c.args.left.now) c.args.caller
@@ -16,11 +16,11 @@ returns-in_default-clause-found g c = λ honest honest' settings e d lefts right
     (keep_of c.loop-place.left) (keep_of c.loop-place.right) c.loop-place.invariant.so
     (ends_apart (λ m. m.items) c.loop-place.place c.args.left_messages.now
     c.args.right_messages.now c.loop-place-test.true c.in_default.ensures.lookup.3)
-    honest honest' settings e d lefts rights are others_are)
+    honest honest' settings h k (is, is', e, d) lefts rights are others_are)
 
 pub returns-in_err-take_place-clause-found : goal.returns-in_err-take_place-clause-found
 returns-in_err-take_place-clause-found g c =
-    λ honest honest' settings e d lefts rights are others_are.
+    λ honest honest' settings h k is is' alike e d lefts rights are others_are.
     let n = g.K.Keep in
     let place = c.loop-place.place in
     let kept = map (cow_slice_items {X = ℕ} {Z = Global}) c.loop-place.replies.items in
@@ -34,7 +34,7 @@ returns-in_err-take_place-clause-found g c =
     let more' = next_read (λ m. m.items) place c.args.right_messages.now c.in-Some.other.now o
     c.in-Some.ensures.lookup.3.0 c.in-Some.ensures.lookup.1
     c.deref-in-loop-place.ensures.value in
-    found_gave n.content n.is_failed settings (zone_of c.args.left.now) c.args.caller lefts rights
+    found_gave n.content n.is_failed settings (zone_of c.args.left.now) c.args.caller h k lefts rights
     (keep_of c.take_place.new.left) (keep_of c.take_place.new.right) fault c.from_residual.result
     c.from_residual.ensures
     (found_fault n.content n.is_failed n.is_honest (zone_of c.args.left.now) c.args.caller
@@ -47,11 +47,11 @@ returns-in_err-take_place-clause-found g c =
     (keep_of c.loop-place.right) (keep_of c.take_place.new.left) (keep_of c.take_place.new.right)
     (Err fault) (Err fault) c.loop-place.invariant.left.zone refl
     c.in_err-take_place.ensures.told)
-    honest honest' settings e d lefts rights are others_are)
+    honest honest' settings h k (is, is', e, d) lefts rights are others_are)
 
 pub returns-then-not-branch-clause-found : goal.returns-then-not-branch-clause-found
 returns-then-not-branch-clause-found g c =
-    λ honest honest' settings e d lefts rights are others_are.
+    λ honest honest' settings h k is is' alike e d lefts rights are others_are.
     let n = g.K.Keep in
     let place = c.loop-place.place in
     let kept = map (cow_slice_items {X = ℕ} {Z = Global}) c.loop-place.replies.items in
@@ -76,7 +76,7 @@ returns-then-not-branch-clause-found g c =
     (keep_of c.take_place.new.right) (Ok c.in_ok-take_place.field-0) (Ok false)
     c.loop-place.invariant.left.zone (ap Ok c.if-not-branch.true)
     c.in_ok-take_place.ensures.told)
-    honest honest' settings e d lefts rights are others_are)
+    honest honest' settings h k (is, is', e, d) lefts rights are others_are)
 
 pub loop-place-preserved : goal.loop-place-preserved
 loop-place-preserved g c =
@@ -113,7 +113,7 @@ loop-place-preserved g c =
 pub returns-then-left_messages-right_messages-clause-found :
     goal.returns-then-left_messages-right_messages-clause-found
 returns-then-left_messages-right_messages-clause-found g c =
-    λ honest honest' settings e d lefts rights are others_are.
+    λ honest honest' settings h k is is' alike e d lefts rights are others_are.
     let n = g.K.Keep in
     let all : c.loop-place.place ≡ length c.args.left_messages.now =
     omega (arith, c.loop-place-test.false, c.loop-place.auto.place-end) in
@@ -125,10 +125,10 @@ returns-then-left_messages-right_messages-clause-found g c =
     (λ same. ends_apart (λ m. m.items) c.loop-place.place c.args.right_messages.now
     c.args.left_messages.now (omega (arith, all, c.if-left_messages-right_messages.true)) few
     (sym same))
-    honest honest' settings e d lefts rights are others_are)
+    honest honest' settings h k (is, is', e, d) lefts rights are others_are)
 
 pub returns-clause-found : goal.returns-clause-found
-returns-clause-found g c = λ honest honest' settings e d lefts rights are others_are.
+returns-clause-found g c = λ honest honest' settings h k is is' alike e d lefts rights are others_are.
     let n = g.K.Keep in
     let left = c.args.left_messages.now in
     let right = c.args.right_messages.now in
@@ -142,5 +142,5 @@ returns-clause-found g c = λ honest honest' settings e d lefts rights are other
       length-map right (λ m. m.items),
       c.loop-place-test.false,
       c.if-left_messages-right_messages.false,
-    )) honest honest' settings e d lefts rights are
+    )) honest honest' settings h k (is, is', e, d) alike lefts rights are
     others_are

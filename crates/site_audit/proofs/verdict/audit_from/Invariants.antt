@@ -3,7 +3,7 @@ use Rattle.std.specs.Cow.{cow_slice_items}
 use Rattle.site.specs.Answers.{zone_of}
 use Rattle.site_audit.specs.Places.{IsUsed, keep_of}
 use Rattle.site_audit.proofs.Runs.{Compared}
-use Rattle.site_audit.proofs.verdict.compare.Given as goal
+use Rattle.site_audit.proofs.verdict.audit_from.Given as goal
 
 -- the places so far were those of twin runs, and the replies to the caller are kept
 abbrev pub invariant-loop-place : goal.invariant-loop-place
