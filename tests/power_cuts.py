@@ -14,10 +14,6 @@ W wrong'.
 Seen on the proved program before reserves: 377 calls, 397 cuts, 1,044 pairs of files, 515 of them with one command more than was
 answered, in 89 seconds of processor time; with EVERY 12 51 cuts and 258 pairs. None was wrong. With syncs that do nothing in the
 model, the commands that were answered are lost, and told so. The model takes a sync at its word, and a device to
-=======
-Seen on the proved program before reserves: 353 calls, 373 cuts, 926 pairs of files, 397 of them with one command more
-than was answered, in 42 seconds; with EVERY 12 49 cuts and 233 pairs, in 10. None was wrong. With syncs that do nothing
-in the model, the commands that were answered are lost, and told so. The model takes a sync at its word, and a device to
 finish each sector of 512 bytes that it begins; no power was cut, and no device was tested.
 """
 import socket

@@ -11,9 +11,6 @@ as it was or upgraded, and that where it was told. The last lines tell what was 
 
 Seen on the proved program before reserves: 1,853 stops, in 81 seconds of processor time; with EVERY 12, as in the gate, 155. None was
 wrong.
-=======
-Seen on the proved program before reserves: 669 stops, in 50 seconds of processor time; with EVERY 12, as in the gate,
-56 in 7. None was wrong.
 """
 import collections
 import sys
