@@ -10,8 +10,8 @@ is one, with the answers that stand there, and lists of at least COUNT random me
 broken frames in mid-list, with the answers of tests/plain_site.py. `rows.py stored` writes the stored run. The last line
 is 'N lists, M messages, K wrong'.
 
-Seen before reserves: the 653 cases of `replay` that begin, and 60 random lists by the seed 2026: 23,734 messages in
-four forms each, none of them answered otherwise.
+Seen: the 485 cases of `replay` that begin, and 60 random lists by the seed 2026: 18,278 messages in four forms each,
+none of them answered otherwise.
 
 Bodies that give up were found by the stored run: `answer` of `site` always 503, always 500, 503 to bids alone; `run`,
 `record` and `new` always `Memory`; `is_new` always false, always `Memory`.
