@@ -1,11 +1,9 @@
 # The auction house. `make` lists what can be made.
 
-# Conformance cases that lie beside the checkout, and the suites of today, each with those of its cases that are played:
-# the last case of the second shows editions of the band table, which aren't here yet. Its lists alone are held against
-# the description of the interface.
+# Conformance cases that lie beside the checkout, and the suites of today, each with those of its cases that are played.
 CASES ?= ../shared/conformance
-SUITES = reserves:* surplus-with-reserves:*[0-9]
-DESCRIBED = reserves surplus
+SUITES = editions:* surplus-with-reserves:*
+DESCRIBED = editions surplus-with-reserves
 
 # How many messages the fuzz sends at least, how many answers spoiled ones have to get, how many pairs of lists are audited
 # that are equal and that are apart, how often a server is killed, how many rows a lot file has, and the seed that chooses
@@ -107,7 +105,7 @@ has-curl:
 	@command -v curl > /dev/null || { echo "no curl: install it"; exit 1; }
 
 has-tests:
-	@test -x crates/store_tests/out/store_tests || { echo "no crates/store_tests/out: run make test first"; exit 1; }
+	@test -x crates/test_store/out/test_store || { echo "no crates/test_store/out: run make test first"; exit 1; }
 
 demo test auction wrong giving: has-kit
 session: has-bin has-curl
@@ -153,11 +151,11 @@ cases:
 	done
 
 rows:
-	python3 tests/rows.py crates/run_tests/out/run_tests $(CASES)/reserves
+	python3 tests/rows.py crates/test_runs/out/test_runs $(CASES)/editions
 
 fuzz:
 	python3 tests/fuzz.py crates/auction/out/auction $(MESSAGES) $(SEED)
-	python3 tests/plain_pages.py < crates/pages_tests/stdin | cmp - crates/pages_tests/stdout
+	python3 tests/plain_pages.py < crates/test_pages/stdin | cmp - crates/test_pages/stdout
 
 mutated:
 	python3 tests/mutated.py crates/auction/out/auction $(MUTATED) $(SEED)
@@ -171,36 +169,36 @@ memory:
 	python3 tests/refused_memory.py crates/auction/out/auction
 	python3 tests/refused_routes.py crates/auction/out/auction 1 40 10
 	python3 tests/refused_office.py crates/auction/out/auction 400 100 100 40
-	python3 tests/refused_statement.py crates/settle_bench/out/settle_bench
+	python3 tests/refused_statement.py crates/bench_settle/out/bench_settle
 	python3 tests/refused_asks.py crates/test_messages/out/test_messages
-	python3 tests/refused_inbox.py crates/wire_bench/out/wire_bench
-	python3 tests/refused_house.py crates/store_tests/out/store_tests 1 memory
-	python3 tests/refused_house.py crates/store_tests/out/store_tests 4
-	python3 tests/refused_pages.py crates/pages_tests/out/pages_tests
-	python3 tests/refused_store.py crates/store_tests/out/store_tests 4 1
-	python3 tests/refused_rows.py crates/run_tests/out/run_tests 1
+	python3 tests/refused_inbox.py crates/bench_wire/out/bench_wire
+	python3 tests/refused_house.py crates/test_store/out/test_store 1 memory
+	python3 tests/refused_house.py crates/test_store/out/test_store 4
+	python3 tests/refused_pages.py crates/test_pages/out/test_pages
+	python3 tests/refused_store.py crates/test_store/out/test_store 4 1
+	python3 tests/refused_rows.py crates/test_runs/out/test_runs 1
 	python3 tests/refused_device.py crates/test_values/out/test_values
 	python3 tests/refused_bands.py crates/test_values/out/test_values
 
 allocations:
-	python3 tests/refused_rows.py crates/run_tests/out/run_tests 1
-	python3 tests/refused_store.py crates/store_tests/out/store_tests 1 1
-	python3 tests/refused_house.py crates/store_tests/out/store_tests 1
+	python3 tests/refused_rows.py crates/test_runs/out/test_runs 1
+	python3 tests/refused_store.py crates/test_store/out/test_store 1 1
+	python3 tests/refused_house.py crates/test_store/out/test_store 1
 	python3 tests/refused_routes.py crates/auction/out/auction 1 1 1
 	python3 tests/refused_office.py crates/auction/out/auction 1 1 1 1
 
 statement:
-	python3 tests/compared_statements.py crates/settle_bench/out/settle_bench
+	python3 tests/compared_statements.py crates/bench_settle/out/bench_settle
 
 random:
-	python3 tests/random_house.py crates/store_tests/out/store_tests memory
-	python3 tests/long_lists.py crates/store_tests/out/store_tests memory
-	python3 tests/random_house.py crates/store_tests/out/store_tests
-	python3 tests/long_lists.py crates/store_tests/out/store_tests
-	crates/store_tests/out/store_tests memory < crates/store_tests/stdin | cmp - crates/store_tests/stdout
+	python3 tests/random_house.py crates/test_store/out/test_store memory
+	python3 tests/long_lists.py crates/test_store/out/test_store memory
+	python3 tests/random_house.py crates/test_store/out/test_store
+	python3 tests/long_lists.py crates/test_store/out/test_store
+	crates/test_store/out/test_store memory < crates/test_store/stdin | cmp - crates/test_store/stdout
 
 file:
-	python3 tests/store_file.py crates/store_tests/out/store_tests
+	python3 tests/store_file.py crates/test_store/out/test_store
 	python3 tests/house_file.py crates/auction/out/auction
 	python3 tests/spoiled_house.py crates/auction/out/auction
 	python3 tests/bad_files.py crates/auction/out/auction

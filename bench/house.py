@@ -1,6 +1,6 @@
 """How long the house in memory takes for a command, a look-up and a list at several sizes, and its memory.
 
-`house.py PROGRAM` plays scripts by the program `store_tests memory`. A house of so many items is made, with as
+`house.py PROGRAM` plays scripts by the program `test_store memory`. A house of so many items is made, with as
 many members, up to the most that there may be; then come many lines of one kind, and the program tells
 its processor time before and after. Shown are nanoseconds a line at each size, the least of a few runs that take
 the sizes in turn, less those of `? clock`, which any line takes to be read and answered; then the time at the greatest size

@@ -3,7 +3,7 @@
 # 10,000, 100,000 and 1,000,000 sales: medians of processor time. The statement of a million sales is
 # first compared with the one that Python makes. From the top of the repository: sh bench/settle.sh
 set -e
-program=crates/settle_bench/out/settle_bench
-(cd crates/settle_bench && rt run -- 240 > /dev/null)
+program=crates/bench_settle/out/bench_settle
+(cd crates/bench_settle && rt run -- 240 > /dev/null)
 test "$($program 1000000 | cksum)" = "$(python3 tests/statement.py 1000000 | cksum)"
 python3 bench/lines.py $program

@@ -18,14 +18,14 @@ from replay import MORE, WORDS, bids, listed, text
 # Each step with the beginnings of the names of functions with which it begins; the first that fits counts.
 STEPS = {
     "head of the frame": ["httparse::", "wire::front", "wire::look", "wire::inbox", "wire::head", "wire::frame"],
-    "fields asked for by name": ["site_asks::heads::"],
-    "route": ["matchit::", "site_routes::"],
-    "body": ["site_bodies::", "site_orders::"],
+    "fields asked for by name": ["site_request::heads::"],
+    "route": ["matchit::", *(f"site_request::{name}::" for name in ("routes", "numbers", "segment", "table"))],
+    "body": ["site_bodies::", *(f"site_request::{name}::" for name in ("commands", "field", "fields"))],
     "decision": ["house::", "proxy::"],
     "change of the tables": ["store_list::", "list_"],
     "what is told, and its bytes": ["site_told::", "site_replies::", "pages_text::", "pages_json::", "wire::answer", "itoa::"],
     "reading and writing": ["device::", "site_serve::"],
-    "the rest of a message": ["site::", "site_asks::", "site_acts::"],
+    "the rest of a message": ["site::", "site_request::", "site_acts::"],
 }
 OTHER = "the rest: start, words"
 

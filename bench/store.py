@@ -1,6 +1,6 @@
 """How long the house in SQLite takes in a file, beside Python's `sqlite3` on the same tables.
 
-`store.py PROGRAM [SIZE..]` makes houses of so many items, and as many members, by the program `store_tests`, each in
+`store.py PROGRAM [SIZE..]` makes houses of so many items, and as many members, by the program `test_store`, each in
 a file, with a commit a command, and then opens and asks them. Shown are commits a second as the house is made, by the
 clock, over all its commands, beside those of Python for the two statements of a listing on the same file, with
 `journal_mode=WAL` and `synchronous=FULL`; how long an opening takes, with the most memory that it holds; and nanoseconds of the processor for

@@ -1,6 +1,6 @@
 """How many instructions a question costs the house in a file at several sizes, and how often it misses the caches.
 
-`store_counts.py PROGRAM [SIZE..]` makes the houses of `store.py` by the program `store_tests`, and then asks them under
+`store_counts.py PROGRAM [SIZE..]` makes the houses of `store.py` by the program `test_store`, and then asks them under
 valgrind, as `house_counts.py` does. It needs `valgrind`.
 """
 import pathlib

@@ -20,6 +20,6 @@ for package in httparse itoa serde serde_json; do
         exit 1
     fi
 done
-(cd crates/wire_bench && quietly rt run -- frames 1)
+(cd crates/bench_wire && quietly rt run -- frames 1)
 (cd bench/plain && quietly cargo build --release --offline)
-python3 bench/compare.py crates/wire_bench/out/wire_bench bench/plain/target/release/plain
+python3 bench/compare.py crates/bench_wire/out/bench_wire bench/plain/target/release/plain

@@ -20,7 +20,7 @@ import tempfile
 
 from plain_house import BANDS
 from plain_site import setup
-from sent import read
+from sent import read, value_of
 from served import CHECKS, Program, check, exchange, fault, served
 
 NOBODY = 65_534
@@ -95,11 +95,23 @@ NO_HOUSES = [
     ("an earlier version", changed("UPDATE house SET version = 1"), DAMAGED),
     ("a later version", changed("UPDATE house SET version = 3"), DAMAGED),
     ("another clock", changed("UPDATE house SET clock = 4102444801"), DAMAGED),
+    ("no row of the house", changed("DELETE FROM house"), DAMAGED),
+    ("a rate over the limit", changed("UPDATE house SET rate = 2001"), DAMAGED),
     ("no band", changed("DELETE FROM band"), DAMAGED),
+    ("a band that falls", changed("INSERT INTO band VALUES (600000, 1)"), DAMAGED),
+    ("a member 0", changed("INSERT INTO member VALUES (0, 'Zoe')"), DAMAGED),
+    ("a gap of members", changed("INSERT INTO member VALUES (5, 'Zoe')"), DAMAGED),
+    ("a category below 0", changed("INSERT INTO category VALUES (-1, 'Maps')"), DAMAGED),
     ("a reserve of no item", changed("INSERT INTO reserve VALUES (2, 900)"), DAMAGED),
     ("a reserve below 0", changed("INSERT INTO reserve VALUES (1, -1)"), DAMAGED),
     ("a reserve over the limit", changed("INSERT INTO reserve VALUES (1, 1000000001)"), DAMAGED),
     ("one table more", changed("CREATE TABLE more (id INTEGER PRIMARY KEY) STRICT"), DAMAGED),
+    ("one table less", changed("DROP TABLE later_band"), DAMAGED),
+    ("one view more", changed("CREATE VIEW more AS SELECT name FROM member"), DAMAGED),
+    ("one index more", changed("CREATE INDEX more ON member (name, id)"), DAMAGED),
+    ("one index less", changed("DROP INDEX item_by_end"), DAMAGED),
+    ("one check more", changed("DROP TABLE watch", "CREATE TABLE watch (member INTEGER NOT NULL CHECK (member < 5),"
+                               " item INTEGER NOT NULL, PRIMARY KEY (member, item)) STRICT"), DAMAGED),
 ]
 
 
@@ -152,6 +164,17 @@ class Files:
         path = self.clear()
         path.write_bytes(b"")
         check("nothing in the file: init", self.program.ended(*making("bad")), (0, b"created\n", b""))
+
+    def counted(self):
+        """A house to which SQLite has added rows with the next numbers, but for those that it has not committed."""
+        path = self.clear()
+        changed("INSERT INTO member VALUES (4, 'Dan'), (5, 'Eve')", "INSERT INTO category VALUES (2, 'Maps')")(self.whole, path)
+        with contextlib.closing(sqlite3.connect(path)) as tables:
+            tables.execute("INSERT INTO member VALUES (6, 'Flo')")
+        told, ending = self.program.answers("bad", [read("/house", 0).text()])
+        shown = value_of(told[0].split(b"\r\n\r\n", 1)[1])
+        check("rows added", [shown[name] for name in ("members", "categories", "items")], [5, 2, 1])
+        check("rows added: serve", ending, served(1))
 
     def no_files(self):
         """Paths at which there is no file that may be a house."""
@@ -250,7 +273,7 @@ def main():
         shutil.copy(sys.argv[1], program)
         program.chmod(0o755)
         files = Files(str(program), folder)
-        for part in (files.no_houses, files.no_files, files.beside, files.no_rights, files.locked, files.lends):
+        for part in (files.no_houses, files.counted, files.no_files, files.beside, files.no_rights, files.locked, files.lends):
             part()
     print(f"{len(CHECKS)} checks, {CHECKS.count(False)} wrong")
     return 1 if not all(CHECKS) else 0

@@ -16,7 +16,7 @@ from kills import rows
 from refusal import HERE
 from served import SETTINGS, Program, check, exchange, fault, message, served
 
-# All twelve commands, none of them refused; the close closes three items.
+# All thirteen commands, none of them refused; the close closes three items.
 COMMANDS = [text for text in house_file.COMMANDS if b'"maximum":400' not in text]
 CLOSE = next(place for place, text in enumerate(COMMANDS) if text.startswith(b"POST /close "))
 COMMANDS[CLOSE:CLOSE] = [

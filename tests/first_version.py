@@ -67,7 +67,7 @@ def plain_rows():
         site.answer(request)
     house = site.house
     bids = [bid for item in house.rows for bid in enumerate(house.placed_on(item), 1)]
-    return {"house": [(1, 1, house.now, 1000, "UTC0")], "band": house.bands,
+    return {"house": [(1, 1, house.now, 1000, "UTC0")], "band": house.tables[0],
             "member": list(enumerate(house.names, 1)), "category": list(enumerate(house.kinds, 1)),
             "item": [item_row(house, item) for item in house.rows],
             "bid": [(bid.item, number, bid.member, bid.maximum) for number, bid in bids],

@@ -48,7 +48,9 @@ METHODS = ["GET", "POST", "HEAD", "DELETE", "PUT", "get", "PATCH", "X-1"]
 OTHER_KINDS = {"text": [None, 5, True, ["a"], {}],
                "number": [None, "5", 12.5, -1, 2**64, 10**30, True, [1], {"a": 1}],
                "maybe": ["5", 12.5, -1, 2**64, False, []],
-               "integer": [None, "1", 0.5, 2**63, -2**63 - 1, False, []]}
+               "integer": [None, "1", 0.5, 2**63, -2**63 - 1, False, []],
+               "bands": [None, {}, "[]", 5, [None], [{"at": 0}], [{"at": 0, "step": "5"}], [{"at": -1, "step": 5}],
+                         [{"at": 0, "step": 5}, 5], [[0, 5]]]}
 NO_BODIES = [b"", b" ", b"x", b"[]", b"5", b'"a"', b"null", b"{", b'{"name":"a"', b"{'name':1}", b'{"name":"a"}x',
              b'{"name":"a",}', b"\xef\xbb\xbf{}", b'{"name":"\xff"}', b'{"name":"\\ud800"}', b'{"name":"a\nb"}', b"{} {}",
              b'{"a":' + b"[" * 127 + b"]" * 127 + b"}", b'{"a":1e999}', b'{"a":NaN}', b'{"a":01}', b'{"a":-}']
@@ -94,6 +96,8 @@ class Sender:
     def body(self, name, words):
         """The body of a command whose fields have these values, in one of its spellings."""
         members = dict(zip(FIELDS.get(name, {}), words))
+        if name == "set_bands":
+            members = {"bands": [{"at": at, "step": step} for at, step in members["bands"]]}
         if members.get("buy_now", 0) is None and self.rarely(50):
             del members["buy_now"]
         if name == "list" and "reserve" not in members and self.rarely(20):
@@ -141,10 +145,14 @@ class Sender:
     def read(self):
         name = self.one_of(list(READS))
         numbers = {"I": self.chance.item, "C": self.chance.category, "M": self.chance.member, "A": self.chance.member,
-                   "F": self.least, "FROM": self.day, "TO": self.day}
+                   "E": self.edition, "F": self.least, "FROM": self.day, "TO": self.day}
         path = re.sub(r"\b[A-Z]+\b", lambda part: str(numbers[part[0]]()), READS[name])
         caller = self.one_of([self.chance.member(), self.chance.member(), self.chance.member(), 0])
         return name, read(path, caller)
+
+    def edition(self):
+        count = len(self.site.house.tables)
+        return self.one_of([1, count, count + 1, self.random.randint(1, count)])
 
     def least(self):
         return self.one_of([1, 1, 1, 2, 5, self.chance.item(), 9_999_999_999])

@@ -3,7 +3,7 @@
 
 A body that always tells want of memory, or that the store failed, is proved under any contract: memory may be refused at
 any call, and a contract shows no cause. So only tests find it. Each is put into a copy of the checkout and built without
-proofs, by `rt try`; then the stored run of `serve_tests`, `pages_tests` or `run_tests` has to come out otherwise, or
+proofs, by `rt try`; then the stored run of `test_serve`, `test_pages` or `test_runs` has to come out otherwise, or
 tests/office.py has to fail on the program. With nothing put in they have to pass. NAMEs choose among the bodies, `all`
 takes all, none those that are MAIN. It needs the kit, with its `rt` on the path. The last line is 'N bodies, M not
 found'.
@@ -26,7 +26,7 @@ KEEP, ACCOUNT, IMPORTS = "store/src/keep.rt", "office/src/account.rt", "office/s
 REPLAY, SETUP = "auction_runs/src/replay.rt", "auction_runs/src/setup.rt"
 MEMORY, STORE, REPLAYED = "Err(KeepFault::Memory)", "Err(KeepFault::Store)", "Err(Fault::Memory)"
 # What finds a body: the stored run of a crate's program, or a script that is given the house's program.
-STREAMS, SHOWN, RUNS, OFFICE = "serve_tests", "pages_tests", "run_tests", "office.py"
+STREAMS, SHOWN, RUNS, OFFICE = "test_serve", "test_pages", "test_runs", "office.py"
 
 
 @dataclasses.dataclass(frozen=True)

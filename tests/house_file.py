@@ -31,7 +31,7 @@ FAILED = (b"HTTP/1.1 500 Internal Server Error\r\ncontent-type: application/json
           b'{"error":"store"}')
 COMMANDS = MESSAGES[:-len(READS)]
 TABLES = {"house": 1, "member": 2, "category": 1, "item": 2, "bid": 1, "watch": 1, "question": 1, "feedback": 1,
-          "reserve": 1, "edition": 0, "later_band": 0}
+          "reserve": 1, "edition": 1, "later_band": 2}
 
 
 def seen(program, file):

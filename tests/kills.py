@@ -30,19 +30,23 @@ from sent import PATIENCE, command, compact, next_answer
 from served import CHECKS, SETTINGS, Program, check, served
 
 # The tables in which the commands make rows.
-GROWING = ("member", "category", "item", "bid", "watch", "question")
+GROWING = ("member", "category", "item", "bid", "watch", "question", "edition")
+# The last member at whom a band table is set: a house has 99 after the first.
+LAST_TABLE = 990
 # The most that passes before a server is killed, in seconds.
 LONGEST = 0.08
 
 
 def commands():
-    """Commands that are all accepted and make a row each: a category, then members who each list an item, on which the
-    member before bids twice, which it watches and asks about."""
+    """Commands that are all accepted and make a row each, but for the bands of a table: a category, then members who each list
+    an item, on which the member before bids twice, which it watches and asks about; and at each tenth a band table."""
     yield command("/categories", 0, 1000, compact({"name": "Books"}))
     yield command("/members", 0, 1000, compact({"name": "member 1"}))
     for number in itertools.count(2):
         item = number - 1
         yield command("/members", 0, 1000, compact({"name": f"member {number}"}))
+        if number % 10 == 0 and number <= LAST_TABLE:
+            yield command("/bands", 0, 1000, compact({"bands": [{"at": 0, "step": number}, {"at": 500, "step": 2 * number}]}))
         yield command("/items", number, 1000, compact({"category": 1, "end": 5000, "lot": f"A{item}", "reserve": 700,
                                                        "start": 500, "text": "", "title": "Atlas"}))
         for maximum in (500, 900):

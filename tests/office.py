@@ -1,8 +1,8 @@
 #!/usr/bin/env python3
 """Lists lots, prints statements and audits runs: `office.py PROGRAM`.
 
-Each fault of `import`, `statement`, `audit` and `surplus` has its line and its exit status, and of two faults the one that comes
-first in order is told. What is printed has to be what the worked rows have; an import that is made again lists nothing
+Each fault of `import`, `statement`, `bands`, `audit` and `surplus` has its line and its exit status, and of two faults
+the one that comes first in order is told. What is printed has to be what the worked rows have; an import that is made again lists nothing
 and leaves every table as it was; and the file alone is then the house. An import ends where its output or the store
 fails, and what it printed stands. The last line is 'N checks, M wrong'.
 
@@ -215,6 +215,39 @@ def failed_imports(program, folder):
           True)
 
 
+def band_tables(program, folder):
+    """Band tables that are set, each fault of it, and each beside the next in order."""
+    table, bad = written(folder, "new.csv", "at,step\n0,7\n100,9\n"), written(folder, "bad.csv", "at,steps\n0,7\n")
+    now, past = ["--moment", "1000"], ["--moment", "999"]
+    file = changed(folder, "tabled")
+    first = items(folder, file) + 1
+    check("a table", program.ended("bands", file, table, *now), printed(b"edition 2\n"))
+    check("another", program.ended("bands", file, "bands.csv", *now), printed(b"edition 3\n"))
+    with contextlib.closing(sqlite3.connect(folder / file)) as tables:
+        check("their rows", tables.execute("SELECT edition, first FROM edition").fetchall(), [(2, first), (3, first)])
+        check("their bands", tables.execute("SELECT edition, at, step FROM later_band ORDER BY rowid").fetchall(),
+              [(2, 0, 7), (2, 100, 9), *((3, at, step) for at, step in EXAMPLE)])
+    before = rows(folder, file)
+    check("the table before the file", program.ended("bands", "missing", bad, *past), fault("bands: Head"))
+    check("no table", program.ended("bands", file, "missing.csv", *now), fault("bands: Device"))
+    check("no house", program.ended("bands", "missing", table, *past), fault("file: Store"))
+    check("a text", program.ended("bands", "text", table, *past), fault("file: Damaged"))
+    check("a moment behind", program.ended("bands", file, table, *past), fault("refused MomentBehind"))
+    check("which changes nothing", rows(folder, file), before)
+    check("a full output", on_full_device(program, "bands", file, table, *now), (1, b"auction: output: Write\n"))
+    check("after which the table stands", program.ended("bands", file, table, *now), printed(b"edition 5\n"))
+    full = changed(folder, "full", *(f"INSERT INTO edition VALUES ({edition}, {first})" for edition in range(2, 101)),
+                   *(f"INSERT INTO later_band VALUES ({edition}, 0, 5)" for edition in range(2, 101)))
+    check("one too many", program.ended("bands", full, table, *now), fault("refused Limit"))
+    for number, statements in enumerate([["INSERT INTO edition VALUES (2, 9)"],
+                                         ["INSERT INTO edition VALUES (3, 9)", "INSERT INTO later_band VALUES (3, 0, 5)"],
+                                         ["INSERT INTO edition VALUES (2, 9)", "INSERT INTO later_band VALUES (2, 1, 5)"],
+                                         ["INSERT INTO edition VALUES (2, -1)", "INSERT INTO later_band VALUES (2, 0, 5)"],
+                                         ["INSERT INTO later_band VALUES (2, 0, 5)"]]):
+        spoiled = changed(folder, "spoiled", *statements)
+        check(f"no edition {number}", program.ended("bands", spoiled, table, *now), fault("file: Damaged"))
+
+
 def edges(program, folder):
     """The first and the last moment, and a member of a large house."""
     row = written(folder, "row.csv", HEAD + f"E1,1,T,,5.00,,{LAST_MOMENT}\n")
@@ -387,6 +420,7 @@ def main():
         imports(program, folder)
         import_faults(program, folder)
         failed_imports(program, folder)
+        band_tables(program, folder)
         edges(program, folder)
         statements(program, folder)
         audits(program, folder)

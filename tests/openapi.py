@@ -32,7 +32,7 @@ except ImportError as missing:
     sys.exit(f"openapi.py: no package {missing.name}: pip install jsonschema openapi-spec-validator")
 
 from mutated import cut, request_of
-from plain_house import BANDS, MOST_CENTS
+from plain_house import BANDS, MOST_CENTS, is_table
 from plain_site import AHEAD, NUMBERS, SHORT, Site, body_of, frame_fault, refused
 from sent import HEAD, Answer, answers_in, command, compact
 from spoiled_answers import spoiled
@@ -263,8 +263,12 @@ def unseen(operation):
         yield Answer(status, {"error": error}).text()
     if operation.name in MANY:
         yield Answer(*refused("Limit")).text()
-    if operation.name == "settle":
+    if operation.name in ("settle", "addCategory", "close", "member"):
         yield Answer(*refused("NoCaller")).text()
+    if operation.name == "addCategory":
+        yield Answer(400, {"error": "json"}).text()
+    if operation.name == "feedback":
+        yield Answer(400, {"error": "field", "field": "rating"}).text()
     if operation.name == "list":
         for field in ("text", "start", "buy_now", "end", "reserve"):
             yield Answer(400, {"error": "field", "field": field}).text()
@@ -370,7 +374,10 @@ class Held:
         for place in self.description.places:
             schemas = [body_schema(response) for response in place.responses.values()]
             fields = place.body["schema"]["properties"].values() if place.method == "POST" and place.body else []
-            for part in [part for schema in [*schemas, *fields] for part in open_parts(schema)]:
+            wide = [part for schema in schemas for part in open_parts(schema)]
+            # Of the objects in a field other keys are ignored, where that is said.
+            wide += [part for schema in fields for part in open_parts(schema) if part.get("additionalProperties") is not True]
+            for part in wide:
                 self.fail(place.name, "is too wide:", part)
 
     def examples(self):
@@ -414,12 +421,13 @@ def is_told(request, error, misfit):
 
 
 def is_out_of_range(request):
-    """Whether a body may be so by what no schema says: two numbers together, the moment, or a length in bytes."""
+    """Whether a body may be so by what no schema says: numbers together, the moment, or a length in bytes."""
     fields = body_of(request.body)
+    bands = [(band["at"], band["step"]) for band in fields.get("bands", BODIES["setBands"][2]["bands"])]
     prices = [fields[name] for name in ("start", "buy_now") if fields.get(name) is not None]
     reserve, most = fields.get("reserve"), fields.get("buy_now") or MOST_CENTS
     is_reserve = reserve is None or fields["start"] < reserve <= most
-    return (prices != sorted(prices) or not is_reserve or fields.get("end", sys.maxsize) <= int(request.values("x-moment")[0])
+    return (prices != sorted(prices) or not is_reserve or not is_table(bands) or fields.get("end", sys.maxsize) <= int(request.values("x-moment")[0])
             or not all(text.isascii() for text in fields.values() if isinstance(text, str)))
 
 
@@ -437,14 +445,20 @@ BODIES = {"register": ("/members", 0, {"name": "Dora"}), "addCategory": ("/categ
           "list": ("/items", 1, {"category": 1, "end": 9, "lot": "C3", "start": 1, "text": "", "title": "Map"}),
           "bid": ("/items/1/bids", 2, {"maximum": 1}), "ask": ("/items/1/questions", 2, {"text": "Why?"}),
           "answer": ("/items/1/questions/2/1/answer", 1, {"text": "1952"}),
-          "feedback": ("/items/2/feedback", 3, {"rating": 1, "text": ""})}
+          "feedback": ("/items/2/feedback", 3, {"rating": 1, "text": ""}),
+          "setBands": ("/bands", 0, {"bands": [{"at": 0, "step": 1}]})}
 
 
 def at_bounds(schema):
     """Values at the bounds of a schema, and past them."""
     for option in schema.get("oneOf", []):
         yield from at_bounds(option)
-    if "enum" in schema:
+    if schema.get("type") == "array":
+        yield from (None, {}, [], [None], [{}], [{"at": 0, "step": 1}, 1])
+        yield from ([{"at": at, "step": at + 1} for at in range(count)] for count in (1, 2, 50, 51))
+        yield from ([{"at": 0, "step": step}] for step in (0, 1, MOST_CENTS, MOST_CENTS + 1, "1", -1))
+        yield from ([{"at": 0, "step": 1}, {"at": at, "step": 1}] for at in (1, MOST_CENTS, MOST_CENTS + 1, None))
+    elif "enum" in schema:
         yield from [*schema["enum"], min(schema["enum"]) - 1, max(schema["enum"]) + 1]
     elif schema.get("type") == "integer":
         yield from (schema["minimum"] - 1, schema["minimum"], schema["maximum"], schema["maximum"] + 1)

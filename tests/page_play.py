@@ -271,16 +271,19 @@ def allow_saving(reader, folder):
 
 def record(gateway, house, folder):
     """The public record is what the reads tell, put together."""
+    read = lambda path: gateway.ask("house", "GET", f"/api{path}").value
+    table = read("/bands")
+    check("a second band table", gateway.ask("house", "POST", "/api/bands", table).value, {"edition": 2})
     house.go_to("The house")
     told = saved(house, "Save the public record", folder, r"record-.*\.json")
     house.wait_for_text("The record is saved.")
-    read = lambda path: gateway.ask("house", "GET", f"/api{path}").value
     state = read("/house")
     items = [read(f"/items/{number}") for number in range(1, state["items"] + 1)]
     members = [read(f"/members/{number}") for number in range(1, state["members"] + 1)]
     feedback = [one for member in members for one in read(f"/members/{member['member']}/feedback/1")["feedback"]]
-    wanted = {**read("/bands"), **read("/categories"), "clock": state["clock"], "rate": state["rate"], "zone": state["zone"],
-              "items": items, "members": [{key: one[key] for key in ("member", "name")} for one in members],
+    wanted = {**table, **read("/categories"), "clock": state["clock"], "rate": state["rate"], "zone": state["zone"],
+              "editions": [{**table, "edition": number} for number in (1, 2)], "items": items,
+              "members": [{key: one[key] for key in ("member", "name")} for one in members],
               "feedback": sorted(feedback, key=lambda one: (one["item"], one["from"])),
               "questions": [one for item in items for one in read(f"/items/{item['item']}/questions/1")["questions"]]}
     check("the public record", told, compact(wanted))

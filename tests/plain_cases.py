@@ -123,6 +123,14 @@ def statement(case):
     return form(plain_office.lines_of(site.house, site.rate, case.member, *days)), 0
 
 
+def bands(case):
+    house = case.house().house
+    with open(case.path.parent / case.words[2], newline="") as table:
+        rows = [tuple(map(int, row)) for row in list(csv.reader(table))[1:] if row]
+    house.order(int(case.options["--moment"]), 0, "set_bands", rows)
+    return b"edition %d\n" % len(house.tables), 0
+
+
 def audit(case):
     left, right = map(case.list, case.words[1:3])
     step = apart(case.member, case.run(left), case.run(right))
@@ -136,7 +144,7 @@ def surplus(case):
     return (b"same, %d replies\n" % case.replies(requests), 0) if is_covered else (b"not covered\n", 1)
 
 
-TOLD = {"replay": replay, "import": lots, "statement": statement, "audit": audit, "surplus": surplus}
+TOLD = {"replay": replay, "import": lots, "statement": statement, "bands": bands, "audit": audit, "surplus": surplus}
 
 
 def main():

@@ -9,7 +9,8 @@ LAST_MOMENT = 4_102_444_800
 MOST_CENTS = 1_000_000_000
 BANDS = [(0, 5), (100, 25), (500, 50), (2500, 100), (10000, 250), (25000, 500), (50000, 1000),
          (100000, 2500), (250000, 5000), (500000, 10000)]
-OF_HOUSE = {"register", "add_category", "close", "settle"}
+OF_HOUSE = {"register", "add_category", "close", "settle", "set_bands"}
+MOST_EDITIONS = 100
 LEAVES_CLOCK = {"watch", "unwatch", "ask"}
 
 
@@ -37,6 +38,7 @@ class Item:
     state: str = "open"
     closed: int | None = None
     buyer: int | None = None
+    edition: int = 1
 
 
 @dataclasses.dataclass
@@ -79,6 +81,13 @@ def over(amount, bands=BANDS):
     return amount + [step for at, step in bands if at <= amount][-1]
 
 
+def is_table(bands):
+    """Whether bands are a table: the first at 0, the others rising, and no step smaller than the one before."""
+    return (1 <= len(bands) <= 50 and bands[0][0] == 0
+            and all(at <= MOST_CENTS and 1 <= step <= MOST_CENTS for at, step in bands)
+            and all(at < later and step <= next_step for (at, step), (later, next_step) in zip(bands, bands[1:])))
+
+
 def fits(least, most, text):
     return least <= len(text.encode()) <= most and all(ord(c) >= 32 and ord(c) != 127 for c in text)
 
@@ -105,11 +114,15 @@ def feedback_line(f):
 
 class House:
     def __init__(self, bands=BANDS):
-        self.now, self.bands = 0, bands
+        self.now, self.tables = 0, [bands]
         self.names, self.kinds, self.rows = [], [], []
         self.placed, self.watching, self.asked, self.given_rows = [], [], [], []
 
     # Look-ups that rules and questions share.
+
+    def table(self, item):
+        """The band table by which an item goes."""
+        return self.tables[item.edition - 1]
 
     def found(self, number):
         return next((item for item in self.rows if item.number == number), None)
@@ -124,10 +137,10 @@ class House:
         top = max(bid.maximum for bid in bids)
         leader = next(bid.member for bid in bids if bid.maximum == top)
         second = max((bid.maximum for bid in bids if bid.member != leader), default=None)
-        price = item.start if second is None else max(item.start, min(top, over(second, self.bands)))
+        price = item.start if second is None else max(item.start, min(top, over(second, self.table(item))))
         if item.reserve is not None and top >= item.reserve:
             price = max(price, item.reserve)
-        return Standing(price, leader, top, second, len(bids), over(price, self.bands))
+        return Standing(price, leader, top, second, len(bids), over(price, self.table(item)))
 
     def leader(self, item):
         return self.stands(item).leader if item.buyer is None else item.buyer
@@ -210,7 +223,7 @@ class House:
         refuse(not 1 <= category <= len(self.kinds), "Unknown")
         refuse(len(self.rows) >= 1_000_000, "Limit")
         self.rows.append(Item(len(self.rows) + 1, caller, category, lot, title, text, start,
-                              buy_now, end, reserve))
+                              buy_now, end, reserve, edition=len(self.tables)))
 
     def order_bid(self, moment, caller, number, maximum):
         item = self.open_to(moment, caller, number)
@@ -272,7 +285,23 @@ class House:
         to = self.leader(item) if caller == item.seller else item.seller
         self.given_rows.append(Feedback(number, caller, to, rating, text))
 
+    def order_set_bands(self, moment, caller, bands):
+        refuse(not is_table(bands), "Range")
+        refuse(len(self.tables) >= MOST_EDITIONS, "Limit")
+        self.tables.append(bands)
+
     # Questions: what is answered to each.
+
+    def newest(self):
+        return str(len(self.tables))
+
+    def edition(self, number):
+        item = self.found(number)
+        return str(item.edition if item else self.newest() if number else 1)
+
+    def bands(self, edition):
+        table = self.tables[edition - 1] if 1 <= edition <= len(self.tables) else []
+        return line([f"at {at} step {step}" for at, step in table])
 
     def clock(self):
         return str(self.now)

@@ -1,7 +1,7 @@
 #!/usr/bin/env python3
 """What a script of houses and reads has to show, by the plain site: `plain_pages.py < SCRIPT`.
 
-It makes crates/pages_tests/stdout from the stdin there, a transcript; crates/pages_tests/src/script.rt says what
+It makes crates/test_pages/stdout from the stdin there, a transcript; crates/test_pages/src/script.rt says what
 a line may be. Nothing of ours is asked: the rules are those of plain_house.py, the pages plain_site.py's.
 """
 import sys

@@ -28,8 +28,8 @@ NUMBERS = {"NoCaller": (1, 403), "HouseOnly": (2, 403), "SellerOnly": (3, 403), 
 COMMANDS = {"register": "/members", "add_category": "/categories", "list": "/items", "bid": "/items/I/bids",
             "buy": "/items/I/purchase", "close": "/close", "settle": "/items/I/settle",
             "watch": "/items/I/watch", "unwatch": "/items/I/unwatch", "ask": "/items/I/questions",
-            "answer": "/items/I/questions/A/N/answer", "feedback": "/items/I/feedback"}
-READS = {"house": "/house", "bands": "/bands", "categories": "/categories",
+            "answer": "/items/I/questions/A/N/answer", "feedback": "/items/I/feedback", "set_bands": "/bands"}
+READS = {"house": "/house", "bands": "/bands", "bands_of": "/bands/E", "categories": "/categories",
          "items_in": "/categories/C/items/F", "item": "/items/I", "published": "/items/I/questions/F",
          "member": "/members/M", "given": "/members/M/feedback/F", "own_bids": "/me/bids/F",
          "own_reserves": "/me/reserves/F", "watches": "/me/watches", "own_questions": "/me/questions/F",
@@ -38,7 +38,7 @@ FIELDS = {"register": {"name": "text"}, "add_category": {"name": "text"},
           "list": {"category": "number", "lot": "text", "title": "text", "text": "text", "start": "number",
                    "buy_now": "maybe", "end": "number", "reserve": "maybe"},
           "bid": {"maximum": "number"}, "ask": {"text": "text"}, "answer": {"text": "text"},
-          "feedback": {"rating": "integer", "text": "text"}}
+          "feedback": {"rating": "integer", "text": "text"}, "set_bands": {"bands": "bands"}}
 SHORT = re.compile(r"0|[1-9][0-9]{0,9}", re.ASCII)
 DAY = re.compile(r"([0-9]{4})-([0-9]{2})-([0-9]{2})", re.ASCII)
 
@@ -145,6 +145,9 @@ def is_kind(kind, value):
         return True
     if kind == "text":
         return isinstance(value, str)
+    if kind == "bands":
+        return isinstance(value, list) and all(isinstance(band, dict) and is_kind("number", band.get("at"))
+                                               and is_kind("number", band.get("step")) for band in value)
     if not isinstance(value, int) or isinstance(value, bool):
         return False
     return -2**63 <= value < 2**63 if kind == "integer" else 0 <= value < 2**64
@@ -158,6 +161,8 @@ def words_of(name, body):
     stop(members is None, 400, word("json"))
     for field, kind in FIELDS[name].items():
         stop(not is_kind(kind, members.get(field)), 400, {"error": "field", "field": field})
+    if name == "set_bands":
+        return [[(band["at"], band["step"]) for band in members["bands"]]]
     return [members.get(field) for field in FIELDS[name]]
 
 
@@ -274,6 +279,9 @@ class Site:
     def told_feedback(self, caller, number, rating, text):
         return {"item": number, "rating": rating, "to": self.house.given_rows[-1].to}
 
+    def told_set_bands(self, caller, bands):
+        return {"edition": len(self.house.tables)}
+
     # Pages.
 
     def page(self, caller, name, words):
@@ -297,7 +305,11 @@ class Site:
                 "members": len(house.names), "rate": self.rate, "zone": self.zone}
 
     def page_bands(self):
-        return {"bands": [{"at": at, "step": step} for at, step in self.house.bands]}
+        return table(self.house.tables[-1])
+
+    def page_bands_of(self, edition):
+        self.refuse(edition > len(self.house.tables), "Unknown")
+        return table(self.house.tables[edition - 1])
 
     def page_categories(self):
         return {"categories": [{"category": number, "name": name} for number, name in enumerate(self.house.kinds, 1)]}
@@ -369,7 +381,8 @@ class Site:
     def shown(self, item):
         floor = self.house.stands(item).floor if item.state == "open" else None
         return {"buy_now": item.buy_now, "category": item.category, "closed": item.closed,
-                "count": len(self.house.placed_on(item)), "end": item.end, "floor": floor, "item": item.number,
+                "count": len(self.house.placed_on(item)), "edition": item.edition, "end": item.end, "floor": floor,
+                "item": item.number,
                 "leader": self.house.leader(item), "lot": item.lot, "met": self.house.met(item),
                 "price": self.house.price(item), "seller": item.seller, "start": item.start, "state": item.state,
                 "text": item.text, "title": item.title}
@@ -398,10 +411,15 @@ class Site:
         house = self.house
         return compact({
             **self.page_bands(), **self.page_categories(), "clock": house.now, "rate": self.rate, "zone": self.zone,
+            "editions": [{**table(bands), "edition": number} for number, bands in enumerate(house.tables, 1)],
             "feedback": [feedback(f) for f in house.sorted_feedback()],
             "items": [self.shown(item) for item in house.rows],
             "members": [{"member": number, "name": name} for number, name in enumerate(house.names, 1)],
             "questions": [question(q) for q in house.sorted_questions() if q.answer is not None]})
+
+
+def table(bands):
+    return {"bands": [{"at": at, "step": step} for at, step in bands]}
 
 
 def question(q):

@@ -1,7 +1,7 @@
 #!/usr/bin/env python3
 """Models power cuts of `init`, `serve` and `upgrade`: `power_cuts.py PROGRAM [EVERY]`. It needs a C compiler, `cc`.
 
-The calls on its files of a house that is made, served all twelve commands and ended are noted once. Behind each of them,
+The calls on its files of a house that is made, served all thirteen commands and ended are noted once. Behind each of them,
 or each EVERYth, the power is cut: what was synced is there, and of the changes since then nothing, all, each beginning, all
 but any one, any one alone, those of either file alone, and every other sector of all. Each pair of files that may
 be left is opened by SQLite, which has to find a sound database, and by the program: both have to find the house behind the

@@ -17,7 +17,8 @@ READ = b"GET /items/1 HTTP/1.1\r\nhost: h\r\nx-member: 2\r\n\r\n"
 REPLAY = ["replay", "--preset"]
 
 # The public record of a new house.
-EMPTY_RECORD = (b'{"bands":[{"at":0,"step":5},{"at":100,"step":25}],"categories":[],"clock":0,"feedback":[],'
+EMPTY_RECORD = (b'{"bands":[{"at":0,"step":5},{"at":100,"step":25}],"categories":[],"clock":0,'
+                b'"editions":[{"bands":[{"at":0,"step":5},{"at":100,"step":25}],"edition":1}],"feedback":[],'
                 b'"items":[],"members":[],"questions":[],"rate":2000,"zone":"CET-1"}\n')
 
 # Words that are no command line.
@@ -68,6 +69,12 @@ REFUSED_WORDS = [
     ["statement", "house", "--member", "0", "--from", "1970-01-01", "--to", "1970-01-01"],
     ["statement", "house", "--member", "100001", "--from", "1970-01-01", "--to", "1970-01-01"],
     ["statement", "house", "--member", "1", "--from", "1970-01-01", "--to", "1970-01-01", "--csv", "--csv"],
+    ["bands", "house", "--moment", "1"],
+    ["bands", "house", "t.csv"],
+    ["bands", "house", "t.csv", "--moment=-1"],
+    ["bands", "house", "t.csv", "--moment", "4102444801"],
+    ["bands", "house", "t.csv", "more", "--moment", "1"],
+    ["bands", "house", "t.csv", "--moment", "1", "--member", "1"],
     ["upgrade"],
     ["upgrade", "house", "more"],
     ["upgrade", "house", "--rate", "1"],
@@ -94,7 +101,7 @@ REFUSED_WORDS = [
 ]
 
 # Commands, each with its own help.
-COMMANDS = ["init", "serve", "replay", "import", "statement", "upgrade", "audit", "surplus"]
+COMMANDS = ["init", "serve", "replay", "import", "statement", "bands", "upgrade", "audit", "surplus"]
 COLUMNS = 80
 
 # Numbers that are none or out of range, and what the error says that they have to be.
@@ -106,6 +113,7 @@ REFUSED_NUMBERS = [
     (["serve", "house", "--port", "80", "--count", "all"], "1 to 1000000"),
     (["import", "house", "lots.csv", "--member", "1", "--moment", "2026-01-01"], "in whole seconds after 1970 began"),
     (["import", "house", "lots.csv", "--moment", "1", "--member", "Ana"], "1 to 100000"),
+    (["bands", "house", "t.csv", "--moment", "now"], "in seconds after 1970 began"),
     (["surplus", "list", "--maximum", "1", "--member", "1", "--place", "first"], "1 to 1000000"),
     (["surplus", "list", "--place", "7", "--member", "1", "--maximum", "80.00"], "in cents: 0 to 1000000000"),
 ]

@@ -72,7 +72,8 @@ def second(run, bid):
 def is_over_second(run, bid):
     """Whether a bid's maximum is at least a step over the second, if there is one."""
     most = second(run, bid)
-    return most is None or over(most, run.site.house.bands) <= bid.maximum
+    house = run.site.house
+    return most is None or over(most, house.table(house.found(bid.item))) <= bid.maximum
 
 
 def reserve(run, bid):

@@ -1,7 +1,7 @@
 #!/usr/bin/env python3
 """Compares a house with plain lists on random commands: `random_house.py PROGRAM [WORD]`.
 
-The program is that of the crate `store_tests`, with `memory` for a house in memory and no word for one in SQLite. By a fixed seed it is given 2,000 commands, accepted
+The program is that of the crate `test_store`, with `memory` for a house in memory and no word for one in SQLite. By a fixed seed it is given 2,000 commands, accepted
 or refused, and after each twentieth every look-up and list; four times it goes on with a house that
 `fill` has filled with its changes. Each answer has to be that of tests/plain_house.py. The last line
 is 'N of N answers, M wrong'.
@@ -16,7 +16,7 @@ COMMANDS = 2_000
 SEED = 2026
 NEVER = 2**64 - 1
 WEIGHTS = {"register": 3, "add_category": 1, "list": 22, "bid": 40, "buy": 4, "close": 2, "settle": 4,
-           "watch": 12, "unwatch": 3, "ask": 12, "answer": 8, "feedback": 10}
+           "watch": 12, "unwatch": 3, "ask": 12, "answer": 8, "feedback": 10, "set_bands": 2}
 
 
 class Chance:
@@ -154,6 +154,16 @@ class Chance:
         text = "" if self.rarely(40) else self.text(200)
         return self.random.choice(parties) or self.member(), number, rating, text
 
+    def set_bands(self):
+        """A band table, mostly a valid one."""
+        rising = sorted(self.random.sample(range(1, 4_000), self.random.randint(0, 3)))
+        steps = sorted(self.random.choices([1, 5, 20, 25, 100, 1_000], k=len(rising) + 1))
+        bands = list(zip([0, *rising], steps))
+        if self.rarely(15):
+            bands = self.random.choice([[], bands[::-1] + [(0, 1)], [(1, 5)], [(0, 0)], [(0, 5), (9, 4)], [(0, 1_000_000_001)],
+                                        [(at, 1) for at in range(51)], [(0, 1), (1_000_000_001, 1)]])
+        return self.house_mostly(), bands
+
     def command(self):
         """A command: its moment, its caller, its name and its words."""
         name = self.random.choices(list(WEIGHTS), WEIGHTS.values())[0]
@@ -186,7 +196,13 @@ class Chance:
             ("given", item(), member()), ("ratings", member()),
             ("feedback", member(), 0), ("feedback", member(), item()), ("all_feedback",),
             ("due", self.house.now + self.random.choice([0, 1, 50, 5_000])), ("sales", member()),
+            ("newest",), ("edition", item()), ("bands", self.random.randint(0, len(self.house.tables) + 1)),
         ]
+
+
+def flat(words):
+    """The words of a command, of which a band table has two for each band."""
+    return [part for word in words for part in ([n for pair in word for n in pair] if isinstance(word, list) else [word])]
 
 
 def script_of(house):
@@ -195,7 +211,7 @@ def script_of(house):
     lines = [("record", None)]
     for number in range(1, COMMANDS + 1):
         moment, caller, name, *words = chance.command()
-        lines.append((" ".join([str(moment), str(caller), name, *map(spelled, words)]),
+        lines.append((" ".join([str(moment), str(caller), name, *map(spelled, flat(words))]),
                       house.order(moment, caller, name, *words)))
         if number % 500 == 0:
             lines.append(("fill", "ok"))

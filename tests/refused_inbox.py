@@ -1,8 +1,8 @@
 #!/usr/bin/env python3
 """Refuses the buffer of an inbox, and each allocation of a run over one: `refused_inbox.py PROGRAM`.
 
-The run is that of `wire_bench frames 1`, which takes 16 messages through one inbox. Where the inbox is
-refused its 24576 bytes, the run has to end with `wire_bench: memory` and status 1, and has written
+The run is that of `bench_wire frames 1`, which takes 16 messages through one inbox. Where the inbox is
+refused its 24576 bytes, the run has to end with `bench_wire: memory` and status 1, and has written
 nothing else. Where another allocation is refused it ends so too, or as if none were. It needs a C
 compiler, `cc`. The last line is 'N runs, M wrong'.
 """
@@ -12,7 +12,7 @@ import sys
 from refusal import built_library, ended, refused_runs, run, told
 
 DONE = (0, b"512\n", b"")
-STOPPED = (1, b"", b"wire_bench: memory\n")
+STOPPED = (1, b"", b"bench_wire: memory\n")
 
 
 def main():

@@ -1,7 +1,7 @@
 #!/usr/bin/env python3
 """Refuses each allocation of a run that shows every page in turn: `refused_pages.py PROGRAM`.
 
-The program is that of the crate `pages_tests`. With a refusal one line is `memory`, of a page or the
+The program is that of the crate `test_pages`. With a refusal one line is `memory`, of a page or the
 record whose text or tree was refused it, and every other line is as ever: the house and the text before
 it are left. Or the run ends before the refused house or command is made, with status 1; or all lines are
 as ever, where the memory was not needed. It needs a C compiler, `cc`. The last line is 'N runs, M wrong'.
@@ -43,7 +43,7 @@ get 3 /me/watches
 get 0 /items/3
 record
 """
-UNDONE = (b"pages_tests: memory is wanted\n", b"pages_tests: the script can't be read\n")
+UNDONE = (b"test_pages: memory is wanted\n", b"test_pages: the script can't be read\n")
 
 
 def refused_line(result, lines):

@@ -10,7 +10,7 @@ leaves a new house, or a place where one can be made. REPLAY, SERVE and INIT are
 passed over for each that is refused: 1, 1 and 1 without them. It needs a C compiler, `cc`. The last line is
 'N runs, M wrong'.
 
-There are 140 messages.
+There are 157 messages.
 """
 import collections
 import functools
@@ -23,7 +23,7 @@ import tempfile
 from plain_house import BANDS
 from plain_site import Site, setup
 from refusal import allocations, built_library, ended, in_turn, refused_runs, run, told
-from routes import messages, reads
+from routes import lacking, messages, reads
 from sent import Malformed, answers_in
 from served import Program, exchange, served
 
@@ -191,7 +191,7 @@ def main():
         runs.replay(replay)
         runs.serve(serve)
         runs.init(init)
-    return told(runs.count, runs.wrong)
+    return told(runs.count, [*runs.wrong, *(("nothing is told", name) for name in lacking())])
 
 
 if __name__ == "__main__":

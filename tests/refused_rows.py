@@ -1,7 +1,7 @@
 #!/usr/bin/env python3
 """Refuses allocations of lists of messages in every form: `refused_rows.py PROGRAM [EVERY]`.
 
-The program is that of the crate `run_tests`. The list makes the first house and bids on its item; it is played message
+The program is that of the crate `test_runs`. The list makes the first house and bids on its item; it is played message
 by message and as one list, over a house in memory, with each allocation refused in turn, and over one in a database,
 with one in EVERY, 1 without it. Making the house and the site then answers `Memory`, and so does the run, before the
 first message, or the record; what is asked once more is as ever. Or one message is answered 503, and every other, and
@@ -22,7 +22,7 @@ LIST = next(bids())
 REFUSED = (b"HTTP/1.1 503 Service Unavailable\r\ncontent-type: application/json\r\n"
            b'content-length: 18\r\n\r\n{"error":"memory"}')
 # How a run ends in which the program itself had no memory.
-STOPPED = [(1, b"", f"run_tests: {fault}\n".encode()) for fault in ("the script can't be read", "memory is wanted")]
+STOPPED = [(1, b"", f"test_runs: {fault}\n".encode()) for fault in ("the script can't be read", "memory is wanted")]
 FORMS = ("answers lists", "run lists", "answers database", "run database")
 MESSAGES = [given for given, _ in steps(LIST)[1]]
 

@@ -1,7 +1,7 @@
 #!/usr/bin/env python3
 """Refuses each allocation of a run that makes and writes a statement: `refused_statement.py PROGRAM`.
 
-The run is that of `settle_bench 240`: 24 lines, for a sort of more than 20 takes memory too. Without
+The run is that of `bench_settle 240`: 24 lines, for a sort of more than 20 takes memory too. Without
 refusals it writes the statement of tests/statement.py. With one it ends with status 1, tells that
 there was no memory, and has written nothing. It needs a C compiler, `cc`. The last line is
 'N runs, M wrong'.
@@ -12,7 +12,7 @@ import sys
 from refusal import built_library, ended, refused_runs, run, told
 from statement import statement
 
-REFUSED = (1, b"", b"settle_bench: out of memory\n")
+REFUSED = (1, b"", b"bench_settle: out of memory\n")
 
 
 def main():

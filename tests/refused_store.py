@@ -1,7 +1,7 @@
 #!/usr/bin/env python3
 """Refuses allocations of a house's runs in a file, one in so many: `refused_store.py PROGRAM [EVERY [OPENING]]`.
 
-The program is that of the crate `store_tests`. With a refusal a house is made in a new file, and then
+The program is that of the crate `test_store`. With a refusal a house is made in a new file, and then
 asked without one: it answers as the same house in memory does, which got every command but the one that
 was answered `Memory`. Then a house that is there is asked with a refusal: the answers break off with
 status 1, or all come, and the file is as it was. So it is where no more is asked than that it opens and

@@ -1,10 +1,11 @@
 """A list of messages with every command accepted, every page read and every refusal and fault told.
 
 They are for the house that `--preset` stands for: Ana, who sells item 1, Ben and Cid. No command of `commands` has a
-reserve: these are in `sealed`, which a house of version 1 doesn't take.
+reserve or sets a band table: these are in `sealed`, which a house of version 1 doesn't take.
 """
 import dataclasses
 
+from plain_house import BANDS
 from plain_site import COMMANDS, NUMBERS, READS, Site
 from sent import command, compact, read
 
@@ -85,8 +86,10 @@ def commands():
 
 
 def sealed():
-    """Reserves, in the house that `commands` leaves: of item 6 without a bid, of item 7 with one under it, of item 8 with
-    one over it, and of item 9, which is bought; and one that is refused."""
+    """A second band table, which is the same as the first; and reserves, in the house that `commands` leaves: of item 6
+    without a bid, of item 7 with one under it, of item 8 with one over it, and of item 9, which is bought; and one that is
+    refused."""
+    yield command("/bands", 0, 5001, compact({"bands": [{"at": at, "step": step} for at, step in BANDS]}))
     yield listed(1, 5001, "R6", 7000, reserve=900)
     yield listed(1, 5001, "R7", 7000, reserve=900)
     yield listed(1, 5001, "R8", 7000, reserve=900)
@@ -99,11 +102,12 @@ def sealed():
 
 def reads():
     """Each page: by a member who has what it shows, by the house, and of what isn't there."""
-    numbers = {"I": 1, "C": 1, "M": 1, "F": 1, "A": 1, "FROM": "1970-01-01", "TO": "1970-01-01"}
+    numbers = {"I": 1, "C": 1, "M": 1, "F": 1, "A": 1, "E": 1, "FROM": "1970-01-01", "TO": "1970-01-01"}
     for path in READS.values():
         for caller in (3, 1, 0):
             yield read("/".join(str(numbers.get(part, part)) for part in path.split("/")), caller)
-    for path in ("/items/9", "/members/9", "/categories/9/items/1", "/items/9/questions/1", "/members/9/feedback/1"):
+    for path in ("/items/19", "/members/9", "/categories/9/items/1", "/items/19/questions/1", "/members/9/feedback/1",
+                 "/bands/9"):
         yield read(path, 2)
     yield read("/house", 9)
 

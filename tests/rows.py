@@ -1,7 +1,7 @@
 #!/usr/bin/env python3
 """Plays lists of messages in every form: `rows.py PROGRAM [CASES [COUNT [SEED]]]`.
 
-The program is that of the crate `run_tests`. It plays each list over a house in memory and one in a database, message
+The program is that of the crate `test_runs`. It plays each list over a house in memory and one in a database, message
 by message and as one list, and all four have to tell the same: the answers that are expected, whether the house is
 new before and behind them, and the record.
 
@@ -27,7 +27,7 @@ from plain_site import AHEAD, Site, setup
 from sent import PATIENCE, Answer, answers_in, value_of
 from worked import FORMS, block, stored
 
-STORED = pathlib.Path(__file__).resolve().parent.parent / "crates/run_tests"
+STORED = pathlib.Path(__file__).resolve().parent.parent / "crates/test_runs"
 SAME = b"".join(f"{form}: the same\n".encode() for form in FORMS)
 LONGEST = 120
 # Faults of a frame, behind which no message of a stream is looked for.

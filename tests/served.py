@@ -40,8 +40,8 @@ def message(method, path, member, moment=None, body=""):
     return ("\r\n".join(fields) + "\r\n\r\n" + body).encode()
 
 
-# All twelve commands: two members, a category, an item, bids, a watch, a question, another item that is watched, bought and
-# watched no more, a close, a settlement and feedback; and pages.
+# All thirteen commands: two members, a category, an item, bids, a watch, a question, a band table, another item that is watched,
+# bought and watched no more, a close, a settlement and feedback; and pages.
 MESSAGES = [
     message("POST", "/members", 0, 1000, '{"name":"Ana"}'),
     message("POST", "/members", 0, 1000, '{"name":"Ben"}'),
@@ -53,6 +53,7 @@ MESSAGES = [
     message("POST", "/items/1/questions", 2, 1002, '{"text":"Is it signed?"}'),
     message("POST", "/items/1/questions/2/1/answer", 1, 1003, '{"text":"No"}'),
     message("POST", "/items/1/bids", 2, 1004, '{"maximum":400}'),
+    message("POST", "/bands", 0, 1004, '{"bands":[{"at":0,"step":50},{"at":1000,"step":100}]}'),
     message("POST", "/items", 1, 1004,
             '{"buy_now":900,"category":1,"end":5000,"lot":"B2","reserve":700,"start":500,"text":"","title":"Globe"}'),
     message("POST", "/items/2/watch", 2, 1004),

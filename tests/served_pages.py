@@ -1,5 +1,5 @@
 #!/usr/bin/env python3
-"""Serves the houses of the script of crates/pages_tests from files and from memory: `served_pages.py PROGRAM`.
+"""Serves the houses of the script of crates/test_pages from files and from memory: `served_pages.py PROGRAM`.
 
 Each page has to be what stands in that crate's stdout, and so does the record that ends a house, which a replay shows.
 The last line is 'N checks, M wrong'.
@@ -16,7 +16,7 @@ from sent import answers_in
 from served import CHECKS, Program, check, served
 from transcript import pairs
 
-CRATE = pathlib.Path(__file__).resolve().parent.parent / "crates" / "pages_tests"
+CRATE = pathlib.Path(__file__).resolve().parent.parent / "crates" / "test_pages"
 BANDS = CRATE.parent.parent / "examples" / "bands.csv"
 
 

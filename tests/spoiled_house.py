@@ -48,10 +48,10 @@ def shows(number, category, bidders=(), watchers=(), parties=()):
 
 
 def names(number, seller, leader=None):
-    """What goes by an item's row without showing it: commands on it, its questions, what waits for its seller, the
-    reserves of its seller, and the statements of its seller and its leader, which need the row where it was sold."""
+    """What goes by an item's row without showing it: commands on it, its questions, what waits for its seller, and the
+    statements of its seller and its leader, which need the row where it was sold."""
     statements = ((member, "/me/statement/") for member in (seller, leader) if member)
-    return ((None, f"/items/{number}/"), (seller, "/me/waiting"), (seller, "/me/reserves/"), *statements)
+    return ((None, f"/items/{number}/"), (seller, "/me/waiting"), *statements)
 
 
 ATLAS = shows(1, 1, bidders=(2, 3), watchers=(2,), parties=(1, 3)), names(1, 1, 3)
@@ -106,7 +106,7 @@ SPOILED_RESERVES = [
     Spoiled("UPDATE item SET price = 500 WHERE id = 8", *MET),
     Spoiled("UPDATE reserve SET amount = 500 WHERE item = 8", *MET),
     Spoiled("UPDATE reserve SET amount = 1001 WHERE item = 8", *MET),
-    Spoiled("DELETE FROM reserve WHERE item = 8", *MET),
+    Spoiled("DELETE FROM reserve WHERE item = 8", shows(8, 1, bidders=(3,)) + CLOSE, names(8, 1, 3), RESERVES),
     Spoiled("UPDATE item SET price = 900 WHERE id = 9", *BOUGHT),
     Spoiled("UPDATE reserve SET amount = 2001 WHERE item = 9", *BOUGHT),
 ]
@@ -124,6 +124,7 @@ BIDS = "/me/bids/"
 ASKED = "/me/questions/"
 PUBLISHED = "/items/1/questions/"
 GIVEN = "/members/1/feedback/"
+SEALED = "/me/reserves/"
 MAPS = "/categories/1/items/"
 
 
@@ -134,7 +135,7 @@ def reached(change, path, before, at):
 
 
 # By `long_lists`. A list of fifty from item 1 ends at item 50, Ben's questions at item 31, the published questions at
-# the tenth of asker 4, the feedback at item 110. A row with a number or a rating that is none of ours may stand
+# the tenth of asker 4, the feedback at item 110, Ben's reserves at item 171. A row with a number or a rating that is none of ours may stand
 # elsewhere: a rating of none behind all items, a question's number below 0 before all others of its asker.
 REACHED = [
     reached("UPDATE bid SET maximum = -1 WHERE item = 60", BIDS, (1, 10), (11, 60)),
@@ -161,12 +162,18 @@ REACHED = [
     reached("UPDATE feedback SET body = char(10) WHERE item = 110", GIVEN, (111,), (1, 61, 110)),
     reached("UPDATE feedback SET rating = 5 WHERE item = 120", GIVEN, (1, 61, 70), (71, 120)),
     reached("UPDATE feedback SET rating = 5 WHERE item = 61", GIVEN, (62, 71), (1, 61, 72, 120)),
+    reached("UPDATE item SET top = 499 WHERE id = 181", SEALED, (1, 131), (132, 181)),
+    reached("UPDATE item SET top = 499 WHERE id = 172", SEALED, (1, 122, 173), (123, 172)),
+    reached("UPDATE item SET top = 499 WHERE id = 171", SEALED, (172,), (1, 122, 171)),
+    reached("UPDATE item SET top = 499 WHERE id = 121", SEALED, (1, 121, 122), ()),
+    reached("UPDATE item SET title = char(10) WHERE id = 122", SEALED, (1, 122), ()),
+    reached("UPDATE reserve SET amount = 500 WHERE item = 172", SEALED, (1, 122, 173), (123, 172)),
 ]
 
 
 def long_lists():
     """Sixty items in category 1, Ben's bids and questions on each, sixty published questions on item 1 by three askers,
-    and sixty ratings of Ana for her sales of items 61 to 120."""
+    sixty ratings of Ana for her sales of items 61 to 120, and Ben's items 121, without a reserve, to 181, with one."""
     yield command("/members", 0, 1000, compact({"name": "Dora"}))
     yield command("/categories", 0, 1000, compact({"name": "Maps"}))
     yield from (listed(1, 1000, f"L{number}", 5000) for number in range(2, 61))
@@ -177,6 +184,8 @@ def long_lists():
     yield from (listed(1, 1002, f"L{number}", 5000, category=2, buy_now=900) for number in range(61, 121))
     yield from (command(f"/items/{number}/purchase", 3, 1003) for number in range(61, 121))
     yield from (rated(number, 3, 1004, 1) for number in range(61, 121))
+    yield listed(2, 1005, "L121", 5000, category=2)
+    yield from (listed(2, 1005, f"L{number}", 5000, category=2, reserve=900) for number in range(122, 182))
 
 
 def pages():

@@ -1,9 +1,9 @@
 #!/usr/bin/env python3
-"""Writes the statement of `settle_bench N`, by Python alone: `statement.py N`.
+"""Writes the statement of `bench_settle N`, by Python alone: `statement.py N`.
 
-The sales are those that crates/settle_bench/src/sales.rt makes. The civil day of a moment is the C
+The sales are those that crates/bench_settle/src/sales.rt makes. The civil day of a moment is the C
 library's, by localtime(3) under the environment variable TZ, and the CSV is written by Python's csv.
-The file crates/settle_bench/stdout is `python3 tests/statement.py 240`.
+The file crates/bench_settle/stdout is `python3 tests/statement.py 240`.
 """
 import csv
 import io

@@ -22,12 +22,14 @@ KINDS = {
     "an item page": (message("GET", "/items/1", 2), 1),
     "a list of fifty items": (message("GET", "/categories/1/items/1", 2), 3),
     "a list of fifty own bids": (message("GET", "/me/bids/1", 2), 102),
-    "a list of fifty own reserves": (message("GET", "/me/reserves/1", 1), 2),
+    "a list of fifty own reserves": (message("GET", "/me/reserves/1", 1), 1),
+    "a band table": (message("POST", "/bands", 0, 1002, '{"bands":[{"at":0,"step":5},{"at":100,"step":25}]}'), 4),
 }
 SETUP = b"".join([
     message("POST", "/members", 0, 1000, '{"name":"Ana"}'),
     message("POST", "/members", 0, 1000, '{"name":"Ben"}'),
     message("POST", "/categories", 0, 1000, '{"name":"Books"}'),
+    *(message("POST", "/bands", 0, 1000, '{"bands":[{"at":0,"step":%d}]}' % step) for step in (5, 9)),
     *(message("POST", "/items", 1, 1000,
               f'{{"category":1,"end":5000,"lot":"A{number}","reserve":600,"start":500,"text":"","title":"Atlas"}}')
       for number in range(1, ITEMS + 1)),

@@ -1,7 +1,7 @@
 #!/usr/bin/env python3
 """Stops the program at each call on the files of a house: `stopped_calls.py PROGRAM [EVERY]`. It needs a C compiler, `cc`.
 
-For `init`, for `serve` of each of the twelve commands and for `upgrade` of each house that is kept, the k-th call fails and
+For `init`, for `serve` of each of the thirteen commands and for `upgrade` of each house that is kept, the k-th call fails and
 each later one on the same file, k from 1 on until a run ends with no stop; or each EVERYth k. A write at which it stops
 writes half. In the opening, `serve` ends with `file: Store`. Else the answer is the command's own, or that the store failed,
 and then every later one to a read and to a command is so too. The files that are left, as they are and without what was not

@@ -1,23 +1,25 @@
 #!/usr/bin/env python3
 """Plays a script on a house in a file, and looks at the file: `store_file.py PROGRAM`.
 
-The program is that of the crate `store_tests`, and the script the part of its `stdout` on houses in SQLite before `fill`. A first
-run makes the house in a new file and is given the commands; a second opens the file and is asked; each
-answer has to be the one that stands there. Then Python's sqlite3, and SQLite's shell where it is there, look for damage
-and for keys that lead nowhere, and read the tables, which have to be those of the script's commands. A house
-isn't made in a file that has one. A file that is no house, or a damaged one, answers nothing and stays as it
-is: an empty one, one cut short, one with a page overwritten, and one with other tables or another version. One
-with a row that has a column out of its range, or whose columns don't fit together, is opened, and doesn't
-answer when that row is asked for. Then each column of each row of every table is spoiled in turn, and every
-look-up and every list is asked: each is refused, or answers as before, or as if the row weren't there where the
-column is one by which rows are found. The same of items as no bids and no purchase leave them, by their columns or
-by their reserves, whose readers are all refused; but a standing is told by its own columns and its reserve alone, and
-a former leader has bought no such item. The last line is 'N checks, M wrong'.
+The program is that of the crate `test_store`, and the script the part of its `stdout` on houses in SQLite before
+`fill`. A first run makes the house in a new file and is given the commands; a second opens the file and is asked;
+each answer has to be the one that stands there. Then Python's sqlite3, and SQLite's shell where it is there, look for
+damage and for keys that lead nowhere, and read the tables, which have to be those of the script's commands. A house
+isn't made in a file that has one. A file that is no house, or a damaged one, answers nothing and stays as it is: an
+empty one, one cut short, one with a page overwritten, and one with other tables or another version. One with a row
+that has a column out of its range, or whose columns don't fit together, is opened, and doesn't answer when that row
+is asked for. Then each column of each row of every table is spoiled in turn, and every look-up and every list is
+asked: each is refused, or answers as before, or as if the row weren't there where the column is one by which rows are
+found; an item that is due by a spoiled column isn't counted as due. The same of items as no bids and no purchase
+leave them, by their columns or by their reserves, whose readers are all refused; but a standing is told by its own
+columns and its reserve alone, a former leader has bought no such item, and no list of reserves has one without. The
+last line is 'N checks, M wrong'.
 
 Thirty-four items are as no bids and no purchase leave them.
 """
 import contextlib
 import pathlib
+import re
 import shutil
 import sqlite3
 import subprocess
@@ -27,7 +29,7 @@ import tempfile
 from sent import PATIENCE
 from transcript import pairs
 
-CRATE = pathlib.Path(__file__).resolve().parent.parent / "crates" / "store_tests"
+CRATE = pathlib.Path(__file__).resolve().parent.parent / "crates" / "test_store"
 # A question that any house answers once it is open, and its answer by the script.
 CLOCK, MOMENT = "? clock", "7001"
 # By the script's commands. Items are open (0), sold (1), unsold (2) or settled (3).
@@ -44,16 +46,18 @@ TABLES = {
              (5, 1, 2, "K4", "Compass", "", 500, 800, 6000, 2, 6000, 500, None, None, None, 0),
              (6, 2, 2, "R6", "Lamp", "", 500, None, 7000, 2, 7000, 750, 1, 750, 700, 2),
              (7, 1, 1, "R7", "Vase", "", 500, None, 5000, 1, 5000, 900, 2, 1000, None, 2),
-             (8, 1, 2, "R8", "Bell", "", 100, 600, 6000, 1, 1003, 600, 2, None, None, 0)],
+             (8, 1, 2, "R8", "Bell", "", 100, 600, 6000, 1, 1003, 600, 2, None, None, 0),
+             (9, 1, 1, "G9", "Clock", "", 100, None, 9000, 0, None, 100, 2, 100, None, 1),
+             (10, 1, 1, "H10", "Scale", "", 100, None, 9000, 0, None, 109, 3, 110, 100, 2)],
     "bid": [(1, 1, 2, 500), (1, 2, 3, 1000), (1, 3, 2, 1000), (3, 1, 3, 700), (4, 1, 1, 100), (4, 2, 3, 600),
-            (6, 1, 3, 700), (6, 2, 1, 750), (7, 1, 2, 899), (7, 2, 2, 1000)],
+            (6, 1, 3, 700), (6, 2, 1, 750), (7, 1, 2, 899), (7, 2, 2, 1000), (9, 1, 2, 100), (10, 1, 2, 100), (10, 2, 3, 110)],
     "watch": [(2, 1), (2, 4), (3, 1)],
     "question": [(1, 2, 1, "How old?", None), (1, 3, 1, "Is it signed?", None),
                  (1, 3, 2, "By whom?", "By its maker"), (4, 3, 1, "In French?", None)],
     "feedback": [(1, 1, 3, 1, "Good"), (1, 3, 1, 1, "No party"), (2, 2, 1, -1, "Late")],
     "reserve": [(6, 900), (7, 900), (8, 600)],
-    "edition": [],
-    "later_band": [],
+    "edition": [(2, 10), (3, 10)],
+    "later_band": [(2, 0, 3), (2, 110, 11), (3, 0, 9)],
 }
 
 # What sqlite3 does to the file, and a question whose answer it spoils.
@@ -72,6 +76,12 @@ SPOILED = [
     ("DELETE FROM house", CLOCK),
     ("DELETE FROM band", CLOCK),
     ("UPDATE band SET step = 0 WHERE at = 0", CLOCK),
+    ("UPDATE edition SET edition = 4 WHERE edition = 3; UPDATE later_band SET edition = 4 WHERE edition = 3", CLOCK),
+    ("DELETE FROM edition WHERE edition = 3", CLOCK),
+    ("DELETE FROM later_band WHERE edition = 3", CLOCK),
+    ("UPDATE later_band SET step = 2 WHERE at = 110", CLOCK),
+    ("INSERT INTO later_band VALUES (4, 0, 9)", CLOCK),
+    ("UPDATE edition SET first = 11 WHERE edition = 3", "? standing 10"),
     ("DELETE FROM member WHERE id = 2", CLOCK),
     ("UPDATE item SET category = 9 WHERE id = 1", CLOCK),
     ("UPDATE member SET name = '' WHERE id = 1", "? member 1"),
@@ -101,7 +111,7 @@ SPOILED = [
     ("DROP TABLE reserve", CLOCK),
     ("UPDATE reserve SET amount = -1 WHERE item = 6", CLOCK),
     ("UPDATE reserve SET amount = 1000000001 WHERE item = 6", CLOCK),
-    ("UPDATE reserve SET item = 9 WHERE item = 8", CLOCK),
+    ("UPDATE reserve SET item = 19 WHERE item = 8", CLOCK),
     ("INSERT INTO reserve VALUES (4, 200)", "? state 4"),
     ("UPDATE reserve SET amount = 901 WHERE item = 7", "? reserves 1 0"),
     ("UPDATE reserve SET amount = 901 WHERE item = 7", "? reserve 7"),
@@ -160,6 +170,8 @@ UNSTANDING_RESERVES = [
 
 # The columns by which rows are found, beside the keys.
 FOUND_BY = {("member", "name"), ("category", "name"), ("item", "lot"), ("question", "answer")}
+# The columns by which an item is due, and the question of those that are due at last.
+DUE_BY, LAST_DUE = {("item", "state"), ("item", "ending")}, "? due 4294967296"
 
 
 def numbers(table):
@@ -170,8 +182,9 @@ def numbers(table):
 def every_question():
     """Every look-up and every list, of each item, member and category."""
     yield CLOCK
+    yield from ("? newest", "? edition 9", "? edition 10", "? bands 1", "? bands 2", "? bands 3")
     yield from ("? counts", "? members", "? categories", "? items", "? all_published", "? all_feedback")
-    yield from ("? due 4999", "? due 7000", "? due 4294967296")
+    yield from ("? due 4999", "? due 7000", LAST_DUE)
     for number, name in TABLES["member"]:
         yield f"? member_named {name}"
         yield from (f"? member {number}", f"? has_member {number}", f"? sales {number}", f"? ratings {number}")
@@ -191,19 +204,21 @@ def every_question():
             yield from (f"? ask_count {number} {member}", f"? question {number} {member} 1")
 
 
-def is_open(path, number):
-    """Whether an item is open in a file."""
+def is_there(path, what, number):
+    """Whether a file has an item that is open, or that has a reserve."""
     with contextlib.closing(sqlite3.connect(path)) as tables:
-        return tables.execute("SELECT state FROM item WHERE id = ?", (number,)).fetchone() == (0,)
+        return tables.execute(f"SELECT 1 FROM {what} = ?", (number,)).fetchone() is not None
 
 
-def readers(number, is_due):
-    """The questions that read the row of an item, by the tables; what is due, where it may be."""
+def readers(path, number):
+    """The questions that read the row of an item in a file, by the tables."""
     item = next(row for row in TABLES["item"] if row[0] == number)
     yield from ("? items", f"? item {number}", f"? state {number}", f"? items_in {item[2]} 0")
-    if is_due:
-        yield "? due 4294967296"
-    yield from (f"? sales {item[1]}", f"? waiting {item[1]}", f"? first_waiting {item[1]}", f"? reserves {item[1]} 0")
+    if is_there(path, "item WHERE state = 0 AND id", number):
+        yield LAST_DUE
+    if is_there(path, "reserve WHERE item", number):
+        yield f"? reserves {item[1]} 0"
+    yield from (f"? sales {item[1]}", f"? waiting {item[1]}", f"? first_waiting {item[1]}")
     yield from (f"? watches {member}" for member, watched in TABLES["watch"] if watched == number)
     yield from {f"? bids {bid[2]} 0" for bid in TABLES["bid"] if bid[0] == number}
 
@@ -248,7 +263,7 @@ def spoiled(whole, folder):
     for statement, question in SPOILED:
         path.write_bytes(whole)
         with contextlib.closing(sqlite3.connect(path)) as tables:
-            tables.execute(statement)
+            tables.executescript(statement)
             tables.commit()
         yield statement, path.read_bytes(), question
 
@@ -289,8 +304,15 @@ def changed(whole, path, statement):
 
 
 def left_out(answer, number):
-    """A list of sales without that of an item."""
-    return "; ".join(sale for sale in answer.split("; ") if not sale.startswith(f"item {number}, seller"))
+    """A list of sales or reserves without that of an item."""
+    of_item = (f"item {number}, seller", f"item {number}, reserve")
+    return "; ".join(row for row in answer.split("; ") if not row.startswith(of_item))
+
+
+def uncounted(answer):
+    """How many items are due where one of them isn't, which was sold or unsold."""
+    sold, unsold = (int(number) for number in re.findall(r"\d+", answer))
+    return f"sold {sold - 1}, unsold {unsold}", f"sold {sold}, unsold {unsold - 1}"
 
 
 def without(program, whole, path, row, questions):
@@ -326,7 +348,9 @@ def all_columns(program, whole, folder):
             if changed(whole, path, f"UPDATE {table} SET {name} = {value} WHERE {row}"):
                 now = answers(program, str(path), questions)
                 none = "-" if (table, name) in FOUND_BY else None
-                wrong = [each for each in questions if now[each] not in (None, before[each], gone[each], none)]
+                due = uncounted(before[LAST_DUE]) if (table, name) in DUE_BY else ()
+                wrong = [each for each in questions if now[each] not in (None, before[each], gone[each], none)
+                         and not (each == LAST_DUE and now[each] in due)]
                 yield f"{table}.{name} = {value} where {row}", (wrong, now == before), ([], False)
     of_items = [(f"UPDATE item SET {change} WHERE id = {number}", number) for change, number in UNSTANDING]
     for statement, number in [*of_items, *UNSTANDING_RESERVES]:
@@ -334,8 +358,16 @@ def all_columns(program, whole, folder):
         now = answers(program, str(path), questions)
         told = [each for each in questions if now[each] not in (None, before[each], left_out(before[each], number))]
         wrong = [each for each in told if each != f"? standing {number}"]
-        read = [each for each in readers(number, is_open(path, number)) if now[each] is not None]
+        read = [each for each in readers(path, number) if now[each] is not None]
         yield statement, (wrong, read), ([], [])
+
+
+def out_of_turn(program, whole, folder):
+    """The check of editions whose first items don't rise: an item goes by the greatest edition that begins at or before it."""
+    path = folder / "turn.db"
+    changed(whole, path, "UPDATE edition SET first = 9 WHERE edition = 3")
+    asked = [("? newest", "3"), ("? edition 8", "1"), ("? edition 9", "3"), ("? edition 10", "3")]
+    yield "firsts out of turn", played(program, "ask", str(path), asked), told(asked)
 
 
 def tables_checked(path):
@@ -375,6 +407,7 @@ def checks(program, folder):
     yield from tables_checked(path)
     yield from refused(program, path.read_bytes(), folder)
     yield from all_columns(program, path.read_bytes(), folder)
+    yield from out_of_turn(program, path.read_bytes(), folder)
     yield "asked at last", played(program, "ask", str(path), questions), told(questions)
 
 

@@ -51,8 +51,8 @@ def placed(count, floor, leader, price):
 
 def page(count):
     """The page of the item after so many bids of member 2 alone, the first of them 500."""
-    return answer(b"200 OK", b'{"buy_now":null,"category":1,"closed":null,"count":%d,"end":5000,'
-                  b'"floor":550,"item":1,"leader":2,"lot":"A1","met":null,"price":500,"seller":1,"start":500,'
+    return answer(b"200 OK", b'{"buy_now":null,"category":1,"closed":null,"count":%d,"edition":1,'
+                  b'"end":5000,"floor":550,"item":1,"leader":2,"lot":"A1","met":null,"price":500,"seller":1,"start":500,'
                   b'"state":"open","text":"","title":"Atlas"}' % count)
 
 
@@ -118,10 +118,12 @@ NO_OBJECTS = [b"", b" " * 16_384, b"[" * 200 + b"]" * 200, b"\r\n\r\n", b"0\r\n\
 
 
 # The public record of the house that `--preset` stands for.
-RECORD = (b'{"bands":[{"at":0,"step":5},{"at":100,"step":25},{"at":500,"step":50},{"at":2500,"step":100},'
-          b'{"at":10000,"step":250},{"at":25000,"step":500},{"at":50000,"step":1000},{"at":100000,"step":2500},'
-          b'{"at":250000,"step":5000},{"at":500000,"step":10000}],"categories":[{"category":1,"name":"Books"}],'
-          b'"clock":1000,"feedback":[],"items":[{"buy_now":null,"category":1,"closed":null,"count":0,"end":5000,'
+TABLE = (b'[{"at":0,"step":5},{"at":100,"step":25},{"at":500,"step":50},{"at":2500,"step":100},'
+         b'{"at":10000,"step":250},{"at":25000,"step":500},{"at":50000,"step":1000},{"at":100000,"step":2500},'
+         b'{"at":250000,"step":5000},{"at":500000,"step":10000}]')
+RECORD = (b'{"bands":%s,"categories":[{"category":1,"name":"Books"}],' % TABLE +
+          b'"clock":1000,"editions":[{"bands":%s,"edition":1}],"feedback":[],' % TABLE +
+          b'"items":[{"buy_now":null,"category":1,"closed":null,"count":0,"edition":1,"end":5000,'
           b'"floor":500,"item":1,"leader":null,"lot":"A1","met":null,"price":500,"seller":1,"start":500,'
           b'"state":"open","text":"","title":"Atlas"}],"members":[{"member":1,"name":"Ana"},{"member":2,"name":"Ben"},'
           b'{"member":3,"name":"Cid"}],"questions":[],"rate":1000,"zone":"UTC0"}\n')

@@ -1,7 +1,7 @@
 """Lists of messages with what each has to be answered, written by hand from the rules of the house and its formats.
 
 Where a body is given it is the one that the rules give; the head, and each body that is left out, is the one of
-tests/plain_site.py. `stored()` is the script of crates/run_tests and the transcript that it has to be.
+tests/plain_site.py. `stored()` is the script of crates/test_runs and the transcript that it has to be.
 """
 import dataclasses
 
@@ -10,11 +10,11 @@ from routes import answered, asked, bid, listed, rated
 from sent import Answer, Request, command, compact, lengthened, read
 from transcript import MARK
 
-ATLAS = ('{"buy_now":null,"category":1,"closed":%s,"count":%d,"end":5000,"floor":%s,"item":1,"leader":%s,"lot":"A1",'
-         '"met":null,"price":%d,"seller":1,"start":500,"state":"%s","text":"","title":"Atlas"}')
+ATLAS = ('{"buy_now":null,"category":1,"closed":%s,"count":%d,"edition":1,"end":5000,"floor":%s,"item":1,"leader":%s,'
+         '"lot":"A1","met":null,"price":%d,"seller":1,"start":500,"state":"%s","text":"","title":"Atlas"}')
 # An item with a reserve.
-GLOBE = ('{"buy_now":%s,"category":1,"closed":%s,"count":%d,"end":6000,"floor":%s,"item":2,"leader":%s,"lot":"B2",'
-         '"met":%s,"price":%d,"seller":1,"start":500,"state":"%s","text":"","title":"Globe"}')
+GLOBE = ('{"buy_now":%s,"category":1,"closed":%s,"count":%d,"edition":1,"end":6000,"floor":%s,"item":2,"leader":%s,'
+         '"lot":"B2","met":%s,"price":%d,"seller":1,"start":500,"state":"%s","text":"","title":"Globe"}')
 FIRST_BID = (b'POST /items/1/bids HTTP/1.1\r\nhost: h\r\nx-member: 2\r\nx-moment: 1001\r\ncontent-length: 15\r\n\r\n'
              b'{"maximum":500}')
 FORMS = ("in a database", "run", "run in a database")
@@ -185,6 +185,30 @@ def reserves():
                 (read("/me/reserves/52", 1), own_reserves([52]))])
 
 
+def sets(caller, *bands):
+    return command("/bands", caller, 1001, compact({"bands": [{"at": at, "step": step} for at, step in bands]}))
+
+
+def editions():
+    """Band tables that are set: an item goes by the newest at its listing, and keeps it."""
+    listing, wide = (listed(1, 1001, "B2", 6000), '{"item":2}'), '{"bands":[{"at":0,"step":100}]}'
+    first = [(sets(0, (0, 100)), '{"edition":2}'), listing, (bid(1, 2, 1001, 500), placed(1, 550, 2, 500)),
+             (bid(2, 2, 1001, 500), placed(1, 600, 2, 500))]
+    globe = (GLOBE % ("null", "null", 2, "700", "3", "null", 600, "open")).replace('"edition":1', '"edition":2')
+    yield Case("A band table is set, and an item is listed by it", first)
+    yield Case("Bids by either band table",
+               [*first, (bid(1, 3, 1001, 1000), placed(2, 600, 3, 550)), (bid(2, 3, 1001, 1000), placed(2, 700, 3, 600)),
+                (read("/items/1", 2), ATLAS % ("null", 2, "600", "3", 550, "open")), (read("/items/2", 2), globe),
+                (read("/bands", 2), wide), read("/bands/1", 2), (read("/bands/2", 2), wide),
+                (read("/bands/3", 2), refusal("Unknown", 4))])
+    yield Case("What is no band table, and who sets none",
+               [(sets(0), refusal("Range", 20)), (sets(0, (0, 5), (100, 4)), refusal("Range", 20)),
+                (sets(1, (0, 100)), refusal("HouseOnly", 2)), (read("/bands/2", 2), refusal("Unknown", 4))])
+    yield Case("Two band tables with no listing between",
+               [(sets(0, (0, 100)), '{"edition":2}'), (sets(0, (0, 200)), '{"edition":3}'), listing,
+                (bid(2, 2, 1001, 500), placed(1, 700, 2, 500))])
+
+
 def own_reserves(numbers):
     rows = ",".join('{"item":%d,"met":false,"reserve":%d}' % (number, number + 600) for number in numbers)
     return '{"reserves":[%s]}' % rows
@@ -269,7 +293,7 @@ def replays():
 
 
 def cases():
-    yield from (*bids(), *sales(), *reserves(), *talk(), *frames(), *whole(), *replays())
+    yield from (*bids(), *sales(), *reserves(), *editions(), *talk(), *frames(), *whole(), *replays())
 
 
 def is_new(site):

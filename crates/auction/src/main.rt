@@ -1,7 +1,7 @@
 //! The auction house's program: `auction init` makes a house in a file, `auction serve` answers
-//! connections over it, `auction import` lists the rows of a file in it, and `auction statement`
-//! prints what a member sold and bought. `auction upgrade` makes a house of version 1 one of version
-//! 2. `auction replay` answers the messages on its standard input over a new house in memory,
+//! connections over it, `auction import` lists the rows of a file in it, `auction bands` sets a band
+//! table in it, and `auction statement` prints what a member sold and bought. `auction upgrade` makes
+//! a house of version 1 one of version 2. `auction replay` answers the messages on its standard input over a new house in memory,
 //! `auction audit` compares two lists of messages as one member sees them, and `auction surplus` one
 //! list with itself after a sealed bid in it is raised.
 //!

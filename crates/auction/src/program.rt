@@ -12,16 +12,17 @@ use crate::houses::{KeepInFile, KeepInMemory};
 use crate::input::{open_input, open_source};
 use crate::listener::Listener;
 use auction_runs::{
-    Fault, Inquiry, Raise, Run, Trial, answer_each, audit_from_run, audit_run, ended, import_run,
-    init_run, replay_run, serve_run, statement_run, surplus_from_run, surplus_run, upgrade_run,
+    Fault, Inquiry, Raise, Run, Trial, answer_each, audit_from_run, audit_run, bands_run, ended,
+    import_run, init_run, replay_run, serve_run, statement_run, surplus_from_run, surplus_run,
+    upgrade_run,
 };
 use auction_words::{
-    AuditWords, Beginning, HouseWords, ImportWords, Replay, Serve, StatementWords, SurplusWords,
-    Task, read_settings, read_task, same_settings,
+    AuditWords, BandsWords, Beginning, HouseWords, ImportWords, Replay, Serve, StatementWords,
+    SurplusWords, Task, read_bands, read_settings, read_task, same_settings,
 };
 use clap::Error;
 use device::{Reading, Writing};
-use house_rows::{Ends, KeepFault};
+use house_rows::{Ends, KeepFault, Rows};
 use office::Lister;
 use site::Site;
 use sqlite::{File, FileStore};
@@ -87,6 +88,7 @@ fn start_over<F: KeepInFile, M: KeepInMemory>(
         Ok(Some(Task::Replay(house, asked))) => replay_input::<M>(rt, alloc, &house, asked),
         Ok(Some(Task::Import(path, asked))) => import_file::<F>(rt, alloc, path, asked),
         Ok(Some(Task::Statement(path, asked))) => statement_file::<F>(rt, alloc, path, &asked),
+        Ok(Some(Task::Bands(path, asked))) => bands_file::<F>(rt, alloc, path, asked),
         Ok(Some(Task::Upgrade(path))) => upgrade_file::<F>(rt, alloc, path),
         Ok(Some(Task::Audit(begun, asked))) => audit::<M>(rt, alloc, &begun, asked),
         Ok(Some(Task::Surplus(begun, asked))) => surplus::<M>(rt, alloc, &begun, asked),
@@ -273,6 +275,41 @@ fn statement_file<K: KeepInFile>(
             let mut sink = Writing::new(rt.stdout());
             statement_run(alloc, keep, asked, &mut sink, &mut errors)
         }
+        Err(fault) => ended(&mut errors, Err(fault)),
+    }
+}
+
+// The rows of a band table in a file, and then the house in another. A fault of the table is told
+// before one of the house.
+fn table_and_house<K: KeepInFile>(
+    rt: &HostRuntime,
+    alloc: Global,
+    path: &str,
+    csv: &str,
+) -> Result<(K, Rows<(u64, u64)>), Fault> {
+    let bands = match read_bands(rt, alloc, csv) {
+        Ok(bands) => bands,
+        Err(fault) => return Err(Fault::Bands(fault)),
+    };
+    let Ok(rows) = bands.rows().to_vec(alloc) else {
+        return Err(Fault::Memory);
+    };
+    let keep = K::open(rt, alloc, path)?;
+    Ok((keep, Rows::new(rows)))
+}
+
+// Sets a band table in the house in a file.
+fn bands_file<K: KeepInFile>(
+    rt: &HostRuntime,
+    alloc: Global,
+    path: &str,
+    asked: BandsWords<'_>,
+) -> u8
+    ensures { result ≤ 1 }
+{
+    let mut errors = rt.stderr();
+    match table_and_house::<K>(rt, alloc, path, asked.csv) {
+        Ok((keep, rows)) => bands_run(&mut rt.stdout(), &mut errors, keep, rows, asked.moment),
         Err(fault) => ended(&mut errors, Err(fault)),
     }
 }

@@ -10,3 +10,4 @@ pub mod RaisedFrom
 pub mod Replayed
 pub mod Setup
 pub mod Stated
+pub mod Tabled

@@ -1,10 +1,11 @@
 -- The lines on standard error.
 use Rattle.std.specs.Prelude.{ℕ, List, Option, Some, None, ◌++◌, codes, decimal}
 use Rattle.auction_runs.specs.declared.fault.Fault.{Fault}
-use Rattle.auction_runs.specs.declared.fault.Fault.TheVariants.{Memory, Store, Damaged, Bands, Zone, Read, Write, Socket, Date, Order, Member, Broken}
+use Rattle.auction_runs.specs.declared.fault.Fault.TheVariants.{Memory, Store, Damaged, Bands, Zone, Read, Write, Socket, Date, Order, Member, Refused, Broken}
 use Rattle.auction_runs.specs.declared.fault.Fault.TheVariants as lots
 use Rattle.auction_runs.specs.declared.fault.Side.{Side}
 use Rattle.auction_runs.specs.declared.fault.Side.TheVariants.{Left, Right, Only}
+use Rattle.house_rows.specs.Names.{refusal_name}
 use Rattle.steps.specs.Fault.{name_of}
 use Rattle.steps.specs.declared.fault.BandsFault.{BandsFault}
 use Rattle.steps.specs.declared.fault.BandsFault.TheVariants.{Csv, Head, Row, First, Order as OutOfOrder, Falls, TooMany, Device, Memory as NoMemory}
@@ -45,6 +46,7 @@ line_of Socket = codes "auction: socket"
 line_of Date = codes "auction: date"
 line_of Order = codes "auction: order"
 line_of Member = codes "auction: no member"
+line_of (Refused refusal) = codes "auction: refused " ++ refusal_name refusal
 line_of lots.Head = codes "auction: lots: Head"
 line_of lots.Csv = codes "auction: lots: Csv"
 line_of (Broken side) = codes "auction: " ++ side_name side ++ codes " is no list of messages"

@@ -22,6 +22,10 @@ upgraded_word false = codes "is version 2"
 abbrev pub upgraded_line : Bool → List ℕ
 upgraded_line upgraded = upgraded_word upgraded ++ 10 ∷ []
 
+-- a band table was set, as this edition
+abbrev pub edition_line : ℕ → List ℕ
+edition_line edition = codes "edition " ++ decimal edition ++ 10 ∷ []
+
 -- two runs are equal to a member, who got so many replies in each
 abbrev pub equal_line : ℕ → List ℕ
 equal_line count = codes "equal, " ++ decimal count ++ codes " replies" ++ 10 ∷ []

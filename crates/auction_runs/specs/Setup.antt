@@ -1,8 +1,8 @@
 -- The messages that `--preset` begins with, and what they leave.
 use Rattle.std.specs.Prelude.{◌≡◌, ℕ, List, [], ◌∷◌, ◌++◌, Bool, true, false, codes}
 use Rattle.std.specs.List.{FoldsTo}
-use Rattle.site_asks.specs.Asked.{IsAsked}
-use Rattle.site_asks.specs.declared.asked.Asked.{Asked}
+use Rattle.site_request.specs.Asked.{IsAsked}
+use Rattle.site_request.specs.declared.asked.Asked.{Asked}
 
 -- a command at moment 1000: its path, whose it is, and its body with the size of it
 abbrev pub order_text : List ℕ → List ℕ → List ℕ → List ℕ → List ℕ

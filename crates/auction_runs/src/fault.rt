@@ -4,7 +4,7 @@ ghost use Rattle.auction_runs.specs.Faults.{fault_of_audit, fault_of_import, fau
 ghost use Rattle.auction_runs.specs.Lines.{line_of, side_name};
 
 use auction_words::SettingsFault;
-use house_rows::KeepFault;
+use house_rows::{KeepFault, Refusal};
 use office::{ImportFault, StatementFault};
 use settle::SettleFault;
 use site_audit::AuditFault;
@@ -38,6 +38,8 @@ pub enum Fault {
     Order,
     /// Nobody has the member's number.
     Member,
+    /// The house refuses what it was asked for.
+    Refused(Refusal),
     /// A lot file has no head.
     Head,
     /// A record of a lot file has another number of fields than its head.
@@ -89,6 +91,7 @@ impl fmt::Display for Fault {
             Fault::Date => write!(f, "auction: date"),
             Fault::Order => write!(f, "auction: order"),
             Fault::Member => write!(f, "auction: no member"),
+            Fault::Refused(refusal) => write!(f, "auction: refused {}", refusal.name()),
             Fault::Head => write!(f, "auction: lots: Head"),
             Fault::Csv => write!(f, "auction: lots: Csv"),
             Fault::Broken(side) => write!(f, "auction: {} is no list of messages", side.name()),

@@ -1,6 +1,6 @@
 //! The runs of the auction house's program, each over any keep: a stream replayed, connections
-//! served, a lot file imported, a statement printed, a house in a file made or upgraded, two lists
-//! of messages audited, and one with a bid in it raised.
+//! served, a lot file imported, a band table set, a statement printed, a house in a file made or
+//! upgraded, two lists of messages audited, and one with a bid in it raised.
 //!
 //! Promised: a run ends with 0 only where it has written what its definition says, and has ended the
 //! keep of a house in a file. Else it ends with 1. Each fault has its line. What is answered is what
@@ -10,6 +10,7 @@
 
 mod audit;
 mod audit_from;
+mod bands;
 mod fault;
 mod import;
 mod init;
@@ -23,6 +24,7 @@ mod upgrade;
 
 pub use audit::{Run, audit_run};
 pub use audit_from::audit_from_run;
+pub use bands::bands_run;
 pub use fault::{Fault, Side, ended};
 pub use import::import_run;
 pub use init::init_run;

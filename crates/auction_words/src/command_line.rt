@@ -11,7 +11,7 @@ use settle::LAST_MOMENT;
 use std::alloc::Global;
 
 /// What a house is set up with, as the words name it.
-#[derive(Clone, Copy, Debug, PartialEq, Eq)]
+#[derive(Clone, Copy)]
 pub struct HouseWords<'a> {
     /// The file of the band table; without one it is the example table.
     pub bands: Option<&'a str>,
@@ -22,7 +22,7 @@ pub struct HouseWords<'a> {
 }
 
 /// What a replay is asked for.
-#[derive(Clone, Copy, Debug, PartialEq, Eq)]
+#[derive(Clone, Copy)]
 pub struct Replay {
     /// To begin with three members, a category and an item.
     pub preset: bool,
@@ -31,7 +31,7 @@ pub struct Replay {
 }
 
 /// What serving is asked for.
-#[derive(Clone, Copy, Debug, PartialEq, Eq)]
+#[derive(Clone, Copy)]
 pub struct Serve {
     /// The port, from 1 on.
     pub port: u16,
@@ -40,7 +40,7 @@ pub struct Serve {
 }
 
 /// What an import is asked for.
-#[derive(Clone, Copy, Debug, PartialEq, Eq)]
+#[derive(Clone, Copy)]
 pub struct ImportWords<'a> {
     /// The lot file.
     pub lots: &'a str,
@@ -50,8 +50,17 @@ pub struct ImportWords<'a> {
     pub moment: u64,
 }
 
+/// What setting a band table is asked for, as the words name it.
+#[derive(Clone, Copy)]
+pub struct BandsWords<'a> {
+    /// The file of the band table.
+    pub csv: &'a str,
+    /// The moment, up to 4102444800.
+    pub moment: u64,
+}
+
 /// What a statement is asked for, as the words name it.
-#[derive(Clone, Copy, Debug, PartialEq, Eq)]
+#[derive(Clone, Copy)]
 pub struct StatementWords<'a> {
     /// The member, from 1 to 100000.
     pub member: u64,
@@ -64,7 +73,7 @@ pub struct StatementWords<'a> {
 }
 
 /// What an audit is asked for.
-#[derive(Clone, Copy, Debug, PartialEq, Eq)]
+#[derive(Clone, Copy)]
 pub struct AuditWords<'a> {
     /// The file of one list of messages.
     pub left: &'a str,
@@ -75,7 +84,7 @@ pub struct AuditWords<'a> {
 }
 
 /// What a look at a surplus is asked for.
-#[derive(Clone, Copy, Debug, PartialEq, Eq)]
+#[derive(Clone, Copy)]
 pub struct SurplusWords<'a> {
     /// The file of the list of messages.
     pub list: &'a str,
@@ -88,7 +97,7 @@ pub struct SurplusWords<'a> {
 }
 
 /// What the runs of an audit begin with.
-#[derive(Clone, Copy, Debug, PartialEq, Eq)]
+#[derive(Clone, Copy)]
 pub enum Beginning<'a> {
     /// New houses in memory.
     New(HouseWords<'a>),
@@ -97,7 +106,7 @@ pub enum Beginning<'a> {
 }
 
 /// What the words ask for.
-#[derive(Clone, Copy, Debug, PartialEq, Eq)]
+#[derive(Clone, Copy)]
 pub enum Task<'a> {
     /// To make a house in a file.
     Init(&'a str, HouseWords<'a>),
@@ -109,6 +118,8 @@ pub enum Task<'a> {
     Import(&'a str, ImportWords<'a>),
     /// To print a statement from the house in a file.
     Statement(&'a str, StatementWords<'a>),
+    /// To set a band table in the house in a file.
+    Bands(&'a str, BandsWords<'a>),
     /// To make the house in a file one of the newest version.
     Upgrade(&'a str),
     /// To compare two runs.
@@ -211,6 +222,16 @@ fn statement_task<'a>(words: &ArgMatches<'a>) -> Result<Task<'a>, Refused>
     Ok(Task::Statement(file, asked))
 }
 
+// What the words of `bands` ask for.
+fn bands_task<'a>(words: &ArgMatches<'a>) -> Result<Task<'a>, Refused>
+    ensures { IfOk result IsWithin }
+{
+    let file = text(words, "file")?;
+    let csv = text(words, "csv")?;
+    let moment = number(words, "moment", 0, LAST_MOMENT)?;
+    Ok(Task::Bands(file, BandsWords { csv, moment }))
+}
+
 // What the words of `upgrade` ask for.
 fn upgrade_task<'a>(words: &ArgMatches<'a>) -> Result<Task<'a>, Refused>
     ensures { IfOk result IsWithin }
@@ -259,6 +280,7 @@ fn task_of<'a>(name: &str, words: &ArgMatches<'a>) -> Result<Task<'a>, Refused>
         "replay" => replay_task(words),
         "import" => import_task(words),
         "statement" => statement_task(words),
+        "bands" => bands_task(words),
         "upgrade" => upgrade_task(words),
         "audit" => audit_task(words),
         "surplus" => surplus_task(words),

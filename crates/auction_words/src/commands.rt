@@ -163,6 +163,20 @@ fn statement_command<'a>(alloc: Global) -> Result<Command<'a>, AllocError> {
         .arg(flag(alloc, "csv", "Print records of CSV, without the totals"))
 }
 
+// `bands`, which sets the table of a file at one moment.
+fn bands_command<'a>(alloc: Global) -> Result<Command<'a>, AllocError> {
+    Command::new(alloc, "bands")
+        .about("Sets a new band table in the house in a file")
+        .after_long_help(texts::SET_BANDS)
+        .arg(house(alloc))?
+        .arg(file(alloc, "csv", "CSV", "The band table, as CSV"))?
+        .arg(number(
+            alloc,
+            "moment",
+            "When, in seconds after 1970 began: 0 to 4102444800",
+        ))
+}
+
 // `upgrade`, which is told the file alone.
 fn upgrade_command<'a>(alloc: Global) -> Result<Command<'a>, AllocError> {
     Command::new(alloc, "upgrade")
@@ -228,6 +242,7 @@ pub fn subcommand<'a>(alloc: Global, name: &str) -> Result<Command<'a>, AllocErr
         "replay" => replay_command(alloc),
         "import" => import_command(alloc),
         "statement" => statement_command(alloc),
+        "bands" => bands_command(alloc),
         "upgrade" => upgrade_command(alloc),
         "audit" => audit_command(alloc),
         _ => surplus_command(alloc),
@@ -254,6 +269,7 @@ pub fn command<'a>(alloc: Global) -> Result<Command<'a>, AllocError> {
     let command = with_subcommand(command, replay_command(alloc))?;
     let command = with_subcommand(command, import_command(alloc))?;
     let command = with_subcommand(command, statement_command(alloc))?;
+    let command = with_subcommand(command, bands_command(alloc))?;
     let command = with_subcommand(command, upgrade_command(alloc))?;
     let command = with_subcommand(command, audit_command(alloc))?;
     with_subcommand(command, surplus_command(alloc))

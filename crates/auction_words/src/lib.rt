@@ -12,7 +12,7 @@ mod texts;
 mod values;
 
 pub use command_line::{
-    AuditWords, Beginning, HouseWords, ImportWords, Replay, Serve, StatementWords, SurplusWords,
-    Task, read_task,
+    AuditWords, BandsWords, Beginning, HouseWords, ImportWords, Replay, Serve, StatementWords,
+    SurplusWords, Task, read_task,
 };
-pub use settings::{SettingsFault, read_settings, same_settings};
+pub use settings::{SettingsFault, read_bands, read_settings, same_settings};

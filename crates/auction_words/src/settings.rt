@@ -27,17 +27,22 @@ pub enum SettingsFault {
     Memory,
 }
 
-// The band table of a file, or the example table.
-fn table<R: Files>(rt: &R, alloc: Global, path: Option<&str>) -> Result<Bands, BandsFault>
-    ensures { path.entry ≡ None → IfOk result (λ bands. bands ≡ example_table) }
-{
-    let Some(path) = path else {
-        return Bands::example(alloc);
-    };
+/// The band table of a file.
+pub fn read_bands<R: Files>(rt: &R, alloc: Global, path: &str) -> Result<Bands, BandsFault> {
     match File::open(rt, path) {
         Ok(file) => Bands::read(alloc, file),
         Err(error) if error.kind() == io::ErrorKind::OutOfMemory => Err(BandsFault::Memory),
         Err(_) => Err(BandsFault::Device),
+    }
+}
+
+// The band table of a file, or the example table.
+fn table<R: Files>(rt: &R, alloc: Global, path: Option<&str>) -> Result<Bands, BandsFault>
+    ensures { path.entry ≡ None → IfOk result (λ bands. bands ≡ example_table) }
+{
+    match path {
+        None => Bands::example(alloc),
+        Some(path) => read_bands(rt, alloc, path),
     }
 }
 

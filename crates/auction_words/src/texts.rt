@@ -39,7 +39,8 @@ The command date +%s prints the present one.";
 
 /// What else is told of `init`.
 pub const INIT: &str = "\
-A house keeps its band table, its rate and its zone for ever.\n\
+A house keeps its rate and its zone for ever. Its band table is edition 1, and\n\
+bands sets others.\n\
 \n\
 Example: auction init house --bands bands.csv --rate 1000 --zone UTC0";
 
@@ -86,6 +87,16 @@ Both days are in the period.\n\
 \n\
 Example: auction statement house --member 1 --from 2026-01-01 --to 2026-12-31";
 
+/// What else is told of `bands`.
+pub const SET_BANDS: &str = "\
+It prints edition and the number of the table, from 2 on. Items that come after\n\
+it go by it, and each item that is there keeps its own table. A house may have\n\
+100 editions, with the table that init gave it.\n\
+\n\
+The first record of CSV is at,step. 1 to 50 bands follow, as of init.\n\
+\n\
+Example: auction bands house bands.csv --moment 1767225600";
+
 /// What else is told of `upgrade`.
 pub const UPGRADE: &str = "\
 It prints upgraded, or is version 2 where there was nothing to do. Every row\n\
@@ -131,6 +142,7 @@ Examples:\n\
 \x20 auction serve house --port 8080 --count 100\n\
 \x20 auction import house lots.csv --member 1 --moment 1767225600\n\
 \x20 auction statement house --member 1 --from 2026-01-01 --to 2026-12-31\n\
+\x20 auction bands house bands.csv --moment 1767225600\n\
 \x20 auction upgrade house\n\
 \x20 auction replay --preset --record < messages.http > answers.http\n\
 \x20 auction audit left.http right.http --member 2\n\
@@ -152,6 +164,7 @@ A fault is one line on standard error:\n\
 \x20 auction: file: Damaged     the file is no house of version 2; or init found\n\
 \x20                            something there\n\
 \x20 auction: no member         nobody has the member's number\n\
+\x20 auction: refused NAME      the house refuses the table, for this reason\n\
 \x20 auction: lots: Head        the first record of the lot file is another\n\
 \x20 auction: lots: Csv         a row has another number of fields\n\
 \x20 auction: input: Read       an input can't be opened or read\n\

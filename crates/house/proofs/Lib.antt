@@ -1,5 +1,6 @@
 pub mod Found
 pub mod NewNames
+pub mod NewTables
 pub mod Items
 pub mod Unchanged
 pub mod OnItems

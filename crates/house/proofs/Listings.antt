@@ -24,7 +24,7 @@ use Rattle.house_rows.specs.History.{Entry, History, clock}
 use Rattle.house_rows.specs.Bids.{bids_on}
 use Rattle.house_rows.specs.Items.{Closing, Purchase, closing_in, closings, items_shown, purchases, settlement_in, settlements, shown_now}
 use Rattle.house_rows.specs.Limits.{last_moment, most_cents, most_items}
-use Rattle.house_rows.specs.Listings.{Listing, listing_at, listings}
+use Rattle.house_rows.specs.Listings.{Listing, listing_at, listings, newest_of, tables_set}
 use Rattle.house_rows.specs.People.{categories, members}
 use Rattle.house_rows.specs.Questions.{questions}
 use Rattle.house_rows.specs.Runs.{entry}
@@ -263,7 +263,7 @@ new_row : (settings : Settings) (h : History) (moment : ℕ) (item : NewItem) �
       start = item.start;
       buy_now = item.buy_now;
       end = item.end;
-      set = [];
+      set = tables_set h;
       reserve = item.reserve;
     })
 unfolding leader price second listed_at
@@ -275,7 +275,7 @@ new_row settings h moment item is =
     let taken : list_any (λ (c : Closing). nat_le i c.listed && nat_le item.end c.moment) (closings h) ≡ false =
     none_takes (length (listings h)) i item.end (closings h) above (closings_small h) in
     let settled : list_any (λ s. s == i) (settlements h) ≡ false = none_settled (length (listings h)) i (settlements h) above (settlements_small settings h is) in
-    simp append-nil (rw (bids, bought, taken, settled, price-none settings.bands (new_opening item)) refl)
+    simp append-nil (rw (bids, bought, taken, settled, price-none (newest_of settings.bands (tables_set h)) (new_opening item)) refl)
 
 row_still : (settings : Settings) (h : History) (moment : ℕ) (item : NewItem) (l : Listing) → row_now settings h l ≡ row_now settings (listed_at moment item ∷ h) l
 unfolding listed_at

@@ -7,7 +7,7 @@ use Rattle.std.proofs.lemmas.List.{append-nil}
 use Rattle.proxy.specs.Rules.{first_failing}
 use Rattle.house_rows.specs.declared.change.Change.TheVariants as change
 use Rattle.house_rows.specs.declared.command.Command.{Command}
-use Rattle.house_rows.specs.declared.command.Command.TheVariants.{Register, AddCategory, List as Listed, Bid, Buy, Close, Settle, Watch, Unwatch, Ask, Answer, Feedback}
+use Rattle.house_rows.specs.declared.command.Command.TheVariants.{Register, AddCategory, List as Listed, Bid, Buy, Close, Settle, Watch, Unwatch, Ask, Answer, Feedback, SetBands}
 use Rattle.house_rows.specs.declared.item.Terms.{Terms}
 use Rattle.house_rows.specs.declared.refusal.Refusal.{Refusal}
 use Rattle.house_rows.specs.declared.refusal.Refusal.TheVariants.{AlreadyAnswered, Ended, Limit, NotOpen, OwnItem, Range, SellerOnly, Unknown}
@@ -116,6 +116,7 @@ given_step settings h t c (Settle i) none are = record { questions = are.questio
 given_step settings h t c (Watch i) none are = record { questions = are.questions; answers = simp append-nil are.answers }
 given_step settings h t c (Unwatch i) none are = record { questions = are.questions; answers = simp append-nil are.answers }
 given_step settings h t c (Feedback i rating text) none are = record { questions = are.questions; answers = simp append-nil are.answers }
+given_step settings h t c (SetBands bands) none are = record { questions = are.questions; answers = simp append-nil are.answers }
 
 all_given : (settings : Settings) (h : History) → IsHistory settings h → AreGiven h
 all_given settings [] is = record { questions = tt; answers = tt }

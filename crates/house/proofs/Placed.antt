@@ -12,7 +12,7 @@ use Rattle.proxy.specs.declared.bid.Bid as bid
 use Rattle.proxy.specs.declared.bid.BidRefusal.TheVariants as no_bid
 use Rattle.house_rows.specs.declared.change.Change.TheVariants as change
 use Rattle.house_rows.specs.declared.command.Command.{Command}
-use Rattle.house_rows.specs.declared.command.Command.TheVariants.{Register, AddCategory, List as Listing_command, Bid, Buy, Close, Settle, Watch, Unwatch, Ask, Answer, Feedback}
+use Rattle.house_rows.specs.declared.command.Command.TheVariants.{Register, AddCategory, List as Listing_command, Bid, Buy, Close, Settle, Watch, Unwatch, Ask, Answer, Feedback, SetBands}
 use Rattle.house_rows.specs.declared.item.Terms.{Terms}
 use Rattle.house_rows.specs.declared.refusal.Refusal.{Refusal}
 use Rattle.house_rows.specs.declared.refusal.Refusal.TheVariants.{OwnItem, NotOpen, Ended, Range, NotHigher, Low, Limit, Unknown}
@@ -189,6 +189,7 @@ given_step h t c (Unwatch i) all = every_as _ _ (bid_rows h) (given_more h t c (
 given_step h t c (Ask i text) all = every_as _ _ (bid_rows h) (given_more h t c (Ask i text)) all
 given_step h t c (Answer i asker number text) all = every_as _ _ (bid_rows h) (given_more h t c (Answer i asker number text)) all
 given_step h t c (Feedback i rating text) all = every_as _ _ (bid_rows h) (given_more h t c (Feedback i rating text)) all
+given_step h t c (SetBands bands) all = every_as _ _ (bid_rows h) (given_more h t c (SetBands bands)) all
 
 all_given : (h : History) → AllByRecursion (λ row. row.bid.no ≤ length (bids_on h row.item)) (bid_rows h)
 all_given [] = tt

@@ -20,6 +20,7 @@ command_of (change.Unwatch member item) = command.Unwatch item
 command_of (change.Ask item asker number text) = command.Ask item text.now
 command_of (change.Answer moment item asker number text) = command.Answer item asker number text.now
 command_of (change.Feedback moment item from to rating text) = command.Feedback item (Some rating) text.now
+command_of (change.SetBands moment bands) = command.SetBands bands.now
 
 -- who called, where the change names it: neither one of the house nor the answer to a question does
 abbrev pub caller_of : Change → Option ℕ
@@ -35,6 +36,7 @@ caller_of (change.Unwatch member item) = Some member
 caller_of (change.Ask item asker number text) = Some asker
 caller_of (change.Answer moment item asker number text) = None
 caller_of (change.Feedback moment item from to rating text) = Some from
+caller_of (change.SetBands moment bands) = None
 
 -- when, where the change names it: it does where it moves the clock
 abbrev pub moment_of : Change → Option ℕ
@@ -50,6 +52,7 @@ moment_of (change.Unwatch member item) = None
 moment_of (change.Ask item asker number text) = None
 moment_of (change.Answer moment item asker number text) = Some moment
 moment_of (change.Feedback moment item from to rating text) = Some moment
+moment_of (change.SetBands moment bands) = Some moment
 
 -- the change is the command's
 pub record IsOf (moment caller : ℕ) (command : Command) (change : Change) : Type 0 where

@@ -10,6 +10,7 @@ ghost use Rattle.house.specs.Decided.{IfAccepted, IsDecided};
 ghost use Rattle.house.specs.Own.{IsOf};
 
 use crate::answers::answer;
+use crate::bands::set_bands;
 use crate::bidding::bid;
 use crate::closing::close;
 use crate::listing::{Offer, list};
@@ -81,5 +82,6 @@ pub fn decide<'c, K: Keep>(
         Command::Feedback { item, rating, text } => {
             feedback(keep, moment, caller, *item, *rating, text)
         }
+        Command::SetBands { bands } => set_bands(keep, moment, caller, bands),
     }
 }

@@ -9,6 +9,7 @@
 #![tactic(auto)]
 
 mod answers;
+mod bands;
 mod bidding;
 mod closing;
 mod common;
@@ -25,6 +26,7 @@ mod unwatching;
 mod watching;
 
 pub use answers::answer;
+pub use bands::set_bands;
 pub use bidding::bid;
 pub use closing::close;
 pub use decision::decide;

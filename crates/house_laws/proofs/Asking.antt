@@ -14,7 +14,7 @@ use Rattle.house_rows.specs.declared.talk.Question.{Question}
 use Rattle.house_rows.specs.Bids.{bids_on}
 use Rattle.house_rows.specs.History.{Entry, History, clock, is_less, put_by}
 use Rattle.house_rows.specs.Items.{closings, items_shown, leader_of, purchases, settlements}
-use Rattle.house_rows.specs.Listings.{Listing, is_seller, listing_at, listings}
+use Rattle.house_rows.specs.Listings.{Listing, is_seller, listing_at, listings, tables_set}
 use Rattle.house_rows.specs.People.{categories, members}
 use Rattle.house_rows.specs.Questions.{Asked, answer_to, answered, answers, ask_count, asked, asked_key, is_question, names, published, questions, waiting, with_question}
 use Rattle.house_rows.specs.Ratings.{feedback, party_against, with_feedback}
@@ -250,6 +250,7 @@ record Retold (i d n : ℕ) (h k : History) : Type 0 where
   clocks : clock h ≡ clock k
   people : members h ≡ members k
   kinds : categories h ≡ categories k
+  set : tables_set h ≡ tables_set k
   lots : listings h ≡ listings k
   bought : purchases h ≡ purchases k
   closed : closings h ≡ closings k
@@ -279,7 +280,8 @@ retold_step i d n h k e r = record {
   clocks = rw r.clocks refl;
   people = rw r.people refl;
   kinds = rw r.kinds refl;
-  lots = rw r.lots refl;
+  set = rw r.set refl;
+  lots = rw (r.lots, r.set) refl;
   bought = rw r.bought refl;
   closed = rw (r.closed, r.lots) refl;
   settled = rw r.settled refl;
@@ -301,6 +303,7 @@ retold_first t d i text other h = record {
   clocks = refl;
   people = refl;
   kinds = refl;
+  set = refl;
   lots = refl;
   bought = refl;
   closed = refl;
@@ -384,7 +387,7 @@ retold_alike settings i d n c h k none out r =
     let none' : (q : Asked) → HasKey i d n q → answer_to (answers k) q ≡ None = λ q key. ap (λ given. answer_to given q) (sym r.given) ∙ none q key in
     let seller : is_seller (listing_at (listings k) i) c ≡ false = ap (λ ls. is_seller (listing_at ls i) c) (sym r.lots) ∙ out.not_seller in
     record {
-      public = rw (r.clocks, r.people, r.kinds, retold_items settings i d n h k r, retold_published i d n h k none' r, r.rated) refl;
+      public = rw (r.clocks, r.people, r.kinds, retold_items settings i d n h k r, retold_published i d n h k none' r, r.rated, r.set) refl;
       own = retold_own i d n h k c out.not_asker r;
       waiting = retold_waiting i d n h k c seller r;
     }

@@ -14,7 +14,7 @@ use Rattle.house_rows.specs.declared.settings.Settings.{Settings}
 use Rattle.house_rows.specs.Bids.{bids_on}
 use Rattle.house_rows.specs.History.{History, clock}
 use Rattle.house_rows.specs.Items.{items_shown, shown_at}
-use Rattle.house_rows.specs.Listings.{Listing, listing_at, listings}
+use Rattle.house_rows.specs.Listings.{Listing, listing_at, listings, tables_set}
 use Rattle.house_rows.specs.People.{categories, members}
 use Rattle.house_rows.specs.Questions.{published, questions, waiting}
 use Rattle.house_rows.specs.Ratings.{feedback}
@@ -28,7 +28,7 @@ use Rattle.house_rows.proofs.Passed.{item_from, own_pass, shown_is}
 use Rattle.house_rows.proofs.Put.{by_test}
 use Rattle.house_laws.specs.Alike.{AreAlike}
 use Rattle.house_laws.proofs.Seen.{items_seen, seen}
-use Rattle.house_laws.proofs.Output.{categories_same, feedback_same, items_same, members_same, published_same}
+use Rattle.house_laws.proofs.Output.{categories_same, feedback_same, items_same, members_same, published_same, tables_same}
 
 -- an item, or what is shown in its place
 abbrev in_place : ℕ → Option ItemShown → ItemShown → ItemShown
@@ -104,8 +104,8 @@ bid_waiting h t d i m c = simp append-nil
 
 -- where the parts are the same, what is public is
 public_of : (settings : Settings) (h k : History) → clock h ≡ clock k → members h ≡ members k → categories h ≡ categories k → items_shown settings h ≡ items_shown settings k
-    → published h ≡ published k → feedback h ≡ feedback k → public_view settings h ≡ public_view settings k
-public_of settings h k clocks people kinds its talk rated = rw (clocks, people, kinds, its, talk, rated) refl
+    → published h ≡ published k → feedback h ≡ feedback k → tables_set h ≡ tables_set k → public_view settings h ≡ public_view settings k
+public_of settings h k clocks people kinds its talk rated set = rw (clocks, people, kinds, its, talk, rated, set) refl
 
 -- whoever didn't bid learns of two bids what everybody is shown of the item
 pub bids_alike : (settings : Settings) (c t left right i x y : ℕ) (h k : History) → AreAlike settings c h k → (left == c) ≡ false → (right == c) ≡ false
@@ -120,7 +120,8 @@ bids_alike settings c t left right i x y h k alike other also place =
           (bid_categories h t left i x ∙ categories_same settings h k alike.public ∙ sym (bid_categories k t right i y))
           (items_alike settings h k t left right i x y (items_same settings h k alike.public) place)
           (bid_published h t left i x ∙ published_same settings h k alike.public ∙ sym (bid_published k t right i y))
-          (feedback_same settings h k alike.public);
+          (feedback_same settings h k alike.public)
+          (tables_same settings h k alike.public);
       own = own_local c h (entry t left (Bid i x)) other ∙ alike.own ∙ sym (own_local c k (entry t right (Bid i y)) also);
       waiting = bid_waiting h t left i x c ∙ alike.waiting ∙ sym (bid_waiting k t right i y c);
     }

@@ -166,7 +166,7 @@ no_more_bids settings b h ms valid is accepted by =
     let each' : AreAccepted (bands_by settings l) (listed_opening l) (bids ++ one ∷ more.0) =
     subst (AreAccepted (bands_by settings l) (listed_opening l)) (ap (bids_on last) me ∙ all) each in
     let by' : top (bids ++ one ∷ more.0) ≡ x = rw all at by in
-    let none : bids_by w more.0 ≡ [] = is_last (bands_by settings l) (listed_opening l) w x (length bids + 1) bids more.0 (bands_valid settings last l valid listed') each' by' in
+    let none : bids_by w more.0 ≡ [] = is_last (bands_by settings l) (listed_opening l) w x (length bids + 1) bids more.0 (bands_valid settings last l valid history listed') each' by' in
     ap (λ bs. length (bids_by w bs)) all ∙ by_one w x (length bids + 1) bids more.0 none
 
 -- a run in two parts
@@ -237,7 +237,7 @@ covered_led meant settings c place y b xs other valid raises is =
     let whole' : history_of settings (map meant (raised place other xs)) ≡ history_from settings (next settings h (meant other)) (map meant is.later) =
     ap (λ zs. history_of settings (map meant zs)) changed ∙ run_parts meant settings is.before other is.later in
     let covered : IsCoveredBid settings y b h (history_from settings (next settings h (meant is.here)) (map meant is.later)) = subst (IsCoveredBid settings y b h) whole is.covered in
-    let follows = after_bid meant settings y b h is.here other is.later valid is.means raises covered in
+    let follows = after_bid meant settings y b h is.here other is.later valid (run_is_history settings [] (map meant is.before) tt) is.means raises covered in
     let near = last_near meant settings (bands_by settings covered.listing) covered.listing.reserve b.member b.item b.maximum y (next settings h (meant is.here)) (next settings h (meant other)) is.later follows.below follows.near follows.none follows.last in
     let s = near.surplus in
     let tops = surplus_tops (bands_by settings covered.listing) covered.listing.reserve b.member b.maximum y _ _ follows.below s in

@@ -15,7 +15,7 @@ use Rattle.proxy.proofs.Judged.{accepted_above}
 use Rattle.proxy.proofs.Leads.{leader_greatest, not_by-more_other}
 use Rattle.proxy.proofs.Surpluses.{first_or_above, others_covered, surplus_own}
 use Rattle.house_rows.specs.declared.command.Command.{Command}
-use Rattle.house_rows.specs.declared.command.Command.TheVariants.{Register, AddCategory, List as Listed, Bid, Buy, Close, Settle, Watch, Unwatch, Ask, Answer, Feedback}
+use Rattle.house_rows.specs.declared.command.Command.TheVariants.{Register, AddCategory, List as Listed, Bid, Buy, Close, Settle, Watch, Unwatch, Ask, Answer, Feedback, SetBands}
 use Rattle.house_rows.specs.declared.item.ItemShown.{ItemShown}
 use Rattle.house_rows.specs.declared.message.Message.{Message}
 use Rattle.house_rows.specs.declared.message.Message.TheVariants.{Broken, Order, Read}
@@ -28,10 +28,10 @@ use Rattle.house_rows.specs.Limits.{most_cents}
 use Rattle.house_rows.specs.Listings.{Listing, bands_by, listed_opening, listing_at, listings}
 use Rattle.house_rows.specs.People.{members}
 use Rattle.house_rows.specs.Runs.{AreTwins, AreTwinsFrom, entered, entry, history_from, history_of, is_of, next}
-use Rattle.house_rows.specs.Verdict.{Rule, bid_rules, common_rules, of_item, verdict}
+use Rattle.house_rows.specs.Verdict.{IsHistory, Rule, bid_rules, common_rules, of_item, verdict}
 use Rattle.house_rows.proofs.AcceptedBids.{bid_accepted}
 use Rattle.house_rows.proofs.GoesBy.{bands_valid}
-use Rattle.house_rows.proofs.Next.{next_accepted}
+use Rattle.house_rows.proofs.Next.{next_accepted, next_is_history}
 use Rattle.house_rows.proofs.Passed.{item_pass, own_pass}
 use Rattle.house_rows.proofs.Put.{by_test}
 use Rattle.house_rows.proofs.RangedTalk.{listing_is}
@@ -111,6 +111,7 @@ bid_counts w i h t d (Unwatch j) is = absurd (false_true is)
 bid_counts w i h t d (Ask j text) is = absurd (false_true is)
 bid_counts w i h t d (Answer j asker n text) is = absurd (false_true is)
 bid_counts w i h t d (Feedback j rating text) is = absurd (false_true is)
+bid_counts w i h t d (SetBands table) is = absurd (false_true is)
 
 -- so where in the end it has no more than now, none is accepted from now on
 no_more_next : {F : Type 0} (settings : Settings) (w i : ℕ) (h : History) (m : Message F) (ms : List (Message F)) → mine w i (history_from settings h (m ∷ ms)) ≡ mine w i h
@@ -187,6 +188,7 @@ its_bid_refused settings bands reserve w i x y h k t d (Unwatch j) le near is re
 its_bid_refused settings bands reserve w i x y h k t d (Ask j text) le near is refused = absurd (false_true is)
 its_bid_refused settings bands reserve w i x y h k t d (Answer j asker n text) le near is refused = absurd (false_true is)
 its_bid_refused settings bands reserve w i x y h k t d (Feedback j rating text) le near is refused = absurd (false_true is)
+its_bid_refused settings bands reserve w i x y h k t d (SetBands table) le near is refused = absurd (false_true is)
 
 -- an accepted bid of another is among the others' bids in the end
 bid_covered_by : (bands : List (ℕ × ℕ)) (w i x : ℕ) (h : History) (d number : ℕ) (command : Command) → is_bid_by w i d command ≡ false
@@ -209,6 +211,7 @@ bid_covered_by bands w i x h d number (Unwatch j) differ all = tt
 bid_covered_by bands w i x h d number (Ask j text) differ all = tt
 bid_covered_by bands w i x h d number (Answer j asker n text) differ all = tt
 bid_covered_by bands w i x h d number (Feedback j rating text) differ all = tt
+bid_covered_by bands w i x h d number (SetBands table) differ all = tt
 
 -- along the rest of the run
 message_covered : {F : Type 0} (settings : Settings) (bands : List (ℕ × ℕ)) (reserve : Option ℕ) (w i x y : ℕ) (h k : History) (m : Message F) (ms : List (Message F)) → x ≤ y → Near settings bands reserve w i x y h k
@@ -275,11 +278,11 @@ pub record Behind {A F : Type 0} (meant : A → Message F) (settings : Settings)
   pub last : AreCovered bands b.maximum (bids_not_by b.member (bids_on (history_from settings (next settings h (meant here)) (map meant later)) b.item))
   pub below : b.maximum ≤ y
 
-pub after_bid : {A F : Type 0} (meant : A → Message F) (settings : Settings) (y : ℕ) (b : Sealed) (h : History) (here other : A) (later : List A) → IsBandTable settings.bands
+pub after_bid : {A F : Type 0} (meant : A → Message F) (settings : Settings) (y : ℕ) (b : Sealed) (h : History) (here other : A) (later : List A) → IsBandTable settings.bands → IsHistory settings h
     → meant here ≡ bid_message b → meant other ≡ bid_message (with_maximum y b)
     → (covered : IsCoveredBid settings y b h (history_from settings h (map meant (here ∷ later))))
     → Behind meant settings (bands_by settings covered.listing) covered.listing.reserve y b h here other later
-after_bid {F = F} meant settings y b h here other later valid is raises covered =
+after_bid {F = F} meant settings y b h here other later valid history is raises covered =
     let w = b.member in
     let i = b.item in
     let x = b.maximum in
@@ -290,7 +293,7 @@ after_bid {F = F} meant settings y b h here other later valid is raises covered 
     let number : covered.listing.item ≡ i = listing_is h i covered.listing covered.listed in
     let own : listing_at (listings h) covered.listing.item ≡ Some covered.listing =
     subst (λ (j : ℕ). listing_at (listings h) j ≡ Some covered.listing) (sym number) covered.listed in
-    let fits : IsBandTable bands = bands_valid settings h covered.listing valid own in
+    let fits : IsBandTable bands = bands_valid settings h covered.listing valid history own in
     let le : x ≤ y = omega arith in
     let last : AreCovered bands x (bids_not_by w (bids_on (history_from settings h (map meant (here ∷ later))) i)) =
     others_covered bands w x (bids_on (history_from settings h (map meant (here ∷ later))) i) fits covered.leads covered.covers.0 in
@@ -309,12 +312,12 @@ after_bid {F = F} meant settings y b h here other later valid is raises covered 
     }
 
 -- from the bid on the runs are twins for everybody else
-from_bid : {A F : Type 0} (meant : A → Message F) (settings : Settings) (c y : ℕ) (b : Sealed) (h : History) (here other : A) (later : List A) → IsBandTable settings.bands
+from_bid : {A F : Type 0} (meant : A → Message F) (settings : Settings) (c y : ℕ) (b : Sealed) (h : History) (here other : A) (later : List A) → IsBandTable settings.bands → IsHistory settings h
     → meant here ≡ bid_message b → meant other ≡ bid_message (with_maximum y b) → (b.member == c) ≡ false
     → IsCoveredBid settings y b h (history_from settings h (map meant (here ∷ later)))
     → AreTwinsFrom meant settings c h h (here ∷ later) (other ∷ later)
-from_bid meant settings c y b h here other later valid is raises apart covered =
-    let follows = after_bid meant settings y b h here other later valid is raises covered in
+from_bid meant settings c y b h here other later valid history is raises apart covered =
+    let follows = after_bid meant settings y b h here other later valid history is raises covered in
     let here_not : is_of c (meant here) ≡ false = rw is apart in
     let other_not : is_of c (meant other) ≡ false = rw raises apart in (
       inr (here_not, other_not),
@@ -323,13 +326,13 @@ from_bid meant settings c y b h here other later valid is raises apart covered =
     )
 
 -- and before it
-before_bid : {A F : Type 0} (meant : A → Message F) (settings : Settings) (c y : ℕ) (b : Sealed) (h : History) (before : List A) (here other : A) (later : List A) → IsBandTable settings.bands
+before_bid : {A F : Type 0} (meant : A → Message F) (settings : Settings) (c y : ℕ) (b : Sealed) (h : History) (before : List A) (here other : A) (later : List A) → IsBandTable settings.bands → IsHistory settings h
     → meant here ≡ bid_message b → meant other ≡ bid_message (with_maximum y b) → (b.member == c) ≡ false
     → IsCoveredBid settings y b (history_from settings h (map meant before)) (history_from settings h (map meant (before ++ here ∷ later)))
     → AreTwinsFrom meant settings c h h (before ++ here ∷ later) (before ++ other ∷ later)
-before_bid meant settings c y b h [] here other later valid is raises apart covered = from_bid meant settings c y b h here other later valid is raises apart covered
-before_bid meant settings c y b h (m ∷ before) here other later valid is raises apart covered =
-    (inl refl, record { public = refl; waiting = refl }, before_bid meant settings c y b (next settings h (meant m)) before here other later valid is raises apart covered)
+before_bid meant settings c y b h [] here other later valid history is raises apart covered = from_bid meant settings c y b h here other later valid history is raises apart covered
+before_bid meant settings c y b h (m ∷ before) here other later valid history is raises apart covered =
+    (inl refl, record { public = refl; waiting = refl }, before_bid meant settings c y b (next settings h (meant m)) before here other later valid (next_is_history settings h (meant m) history) is raises apart covered)
 
 -- the list with another element in the place
 pub raised_is : {A : Type 0} (place : ℕ) (before : List A) (here other : A) (later : List A) → place ≡ length before + 1 → raised place other (before ++ here ∷ later) ≡ before ++ other ∷ later
@@ -346,6 +349,6 @@ covered_twins meant settings c place y b xs other valid is raises =
     let bid : IsCoveredBid settings y b (history_of settings (map meant is.before)) (history_of settings (map meant (is.before ++ is.here ∷ is.later))) =
     subst (λ (zs : _). IsCoveredBid settings y b (history_of settings (map meant is.before)) (history_of settings (map meant zs))) is.parts is.covered in
     let twins : AreTwins meant settings c (is.before ++ is.here ∷ is.later) (is.before ++ other ∷ is.later) =
-    before_bid meant settings c y b [] is.before is.here other is.later valid is.means raises is.apart bid in
+    before_bid meant settings c y b [] is.before is.here other is.later valid tt is.means raises is.apart bid in
     let e : raised place other xs ≡ is.before ++ other ∷ is.later = rw is.parts (raised_is place is.before is.here other is.later is.placed) in
     rw (e, is.parts) twins

@@ -19,3 +19,4 @@ pub mod BidsShown
 pub mod Asking
 pub mod AskedSeen
 pub mod Reserved
+pub mod Still

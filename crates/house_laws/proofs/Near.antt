@@ -8,7 +8,7 @@ use Rattle.proxy.specs.Bids.{bids_not_by, greatest, leader, met, price, top}
 use Rattle.proxy.specs.Surplus.{AreCovered, DifferInTop, IsSurplus}
 use Rattle.proxy.proofs.Surpluses.{surplus_first, surplus_greatest, surplus_more, surplus_tops, tops_met, tops_price}
 use Rattle.house_rows.specs.declared.command.Command.{Command}
-use Rattle.house_rows.specs.declared.command.Command.TheVariants.{Register, AddCategory, List as Listed, Bid, Buy, Close, Settle, Watch, Unwatch, Ask, Answer, Feedback}
+use Rattle.house_rows.specs.declared.command.Command.TheVariants.{Register, AddCategory, List as Listed, Bid, Buy, Close, Settle, Watch, Unwatch, Ask, Answer, Feedback, SetBands}
 use Rattle.house_rows.specs.declared.message.Message.{Message}
 use Rattle.house_rows.specs.declared.message.Message.TheVariants.{Broken, Order, Read}
 use Rattle.house_rows.specs.declared.refusal.Refusal.{Refusal}
@@ -17,7 +17,7 @@ use Rattle.house_rows.specs.declared.talk.Feedback as row
 use Rattle.house_rows.specs.Bids.{bid_in, bids_on}
 use Rattle.house_rows.specs.History.{Entry, History, clock}
 use Rattle.house_rows.specs.Items.{closings, items_shown, leader_of, purchases, settlements, shown_now}
-use Rattle.house_rows.specs.Listings.{Listing, bands_by, listed_opening, listing_at, listings}
+use Rattle.house_rows.specs.Listings.{Listing, bands_by, listed_opening, listing_at, listings, tables_set}
 use Rattle.house_rows.specs.People.{categories, members}
 use Rattle.house_rows.specs.Questions.{answers, asked, published, questions, waiting}
 use Rattle.house_rows.specs.Ratings.{feedback, party_against, with_feedback}
@@ -47,6 +47,7 @@ pub record Near (settings : Settings) (bands : List (ℕ × ℕ)) (reserve : Opt
   pub people : members h ≡ members k
   pub kinds : categories h ≡ categories k
   pub lots : listings h ≡ listings k
+  pub sets : tables_set h ≡ tables_set k
   pub bought : purchases h ≡ purchases k
   pub closed : closings h ≡ closings k
   pub settled : settlements h ≡ settlements k
@@ -146,7 +147,7 @@ near_waiting settings bands reserve w i x y h k c near = rw (near.asks, near.giv
 
 near_public : (settings : Settings) (bands : List (ℕ × ℕ)) (reserve : Option ℕ) (w i x y : ℕ) (h k : History) → x ≤ y → Near settings bands reserve w i x y h k → public_view settings h ≡ public_view settings k
 near_public settings bands reserve w i x y h k le near =
-    rw (near.clocks, near.people, near.kinds, near.rated, near_items settings bands reserve w i x y h k le near, near_published settings bands reserve w i x y h k near) refl
+    rw (near.clocks, near.people, near.kinds, near.rated, near.sets, near_items settings bands reserve w i x y h k le near, near_published settings bands reserve w i x y h k near) refl
 
 -- so they agree for everybody
 pub near_agrees : (settings : Settings) (bands : List (ℕ × ℕ)) (reserve : Option ℕ) (c w i x y : ℕ) (h k : History) → x ≤ y → Near settings bands reserve w i x y h k → Agrees settings c h k
@@ -196,6 +197,7 @@ near_verdict settings bands reserve w i x y h k t d (Answer j asker number text)
 ) refl
 near_verdict settings bands reserve w i x y h k t d (Feedback j rating text) le differ near =
     rw (near.clocks, near.people, near_items settings bands reserve w i x y h k le near, near.rated) refl
+near_verdict settings bands reserve w i x y h k t d (SetBands table) le differ near = rw (near.clocks, near.people, near.sets) refl
 
 -- one more entry, the same in both
 party_same : (settings : Settings) (bands : List (ℕ × ℕ)) (reserve : Option ℕ) (w i x y : ℕ) (h k : History) (o : Option Listing) (d : ℕ) → Near settings bands reserve w i x y h k → party_against h o d ≡ party_against k o d
@@ -218,6 +220,7 @@ rated_same settings bands reserve w i x y h k rows d (Watch j) near = refl
 rated_same settings bands reserve w i x y h k rows d (Unwatch j) near = refl
 rated_same settings bands reserve w i x y h k rows d (Ask j text) near = refl
 rated_same settings bands reserve w i x y h k rows d (Answer j asker number text) near = refl
+rated_same settings bands reserve w i x y h k rows d (SetBands table) near = refl
 
 surplus_stays : (bands : List (ℕ × ℕ)) (reserve : Option ℕ) (w i x y : ℕ) (h k : History) (number d : ℕ) (command : Command) → x ≤ y → is_bid_by w i d command ≡ false → BidCovered bands i x command
     → IsSurplus bands reserve w x y (bids_on h i) (bids_on k i) → IsSurplus bands reserve w x y (bids_on h i ++ bid_in i number d command) (bids_on k i ++ bid_in i number d command)
@@ -238,6 +241,7 @@ surplus_stays bands reserve w i x y h k number d (Unwatch j) le differ covered s
 surplus_stays bands reserve w i x y h k number d (Ask j text) le differ covered s = simp append-nil s
 surplus_stays bands reserve w i x y h k number d (Answer j asker n text) le differ covered s = simp append-nil s
 surplus_stays bands reserve w i x y h k number d (Feedback j rating text) le differ covered s = simp append-nil s
+surplus_stays bands reserve w i x y h k number d (SetBands table) le differ covered s = simp append-nil s
 
 pub near_step : (settings : Settings) (bands : List (ℕ × ℕ)) (reserve : Option ℕ) (w i x y : ℕ) (h k : History) (e : Entry) → x ≤ y → is_bid_by w i e.caller e.command ≡ false → BidCovered bands i x e.command
     → Near settings bands reserve w i x y h k → Near settings bands reserve w i x y (e ∷ h) (e ∷ k)
@@ -245,7 +249,8 @@ near_step settings bands reserve w i x y h k e le differ covered near = record {
   clocks = rw near.clocks refl;
   people = rw near.people refl;
   kinds = rw near.kinds refl;
-  lots = rw near.lots refl;
+  lots = rw (near.lots, near.sets) refl;
+  sets = rw near.sets refl;
   bought = rw near.bought refl;
   closed = rw (near.closed, near.lots) refl;
   settled = rw near.settled refl;
@@ -301,6 +306,7 @@ near_first settings bands reserve w i t x y h l listed goes asks met le lt all =
       people = refl;
       kinds = refl;
       lots = refl;
+      sets = refl;
       bought = refl;
       closed = refl;
       settled = refl;

@@ -10,9 +10,10 @@ use Rattle.std.proofs.lemmas.List.{length-map, map-append}
 use Rattle.std.proofs.lemmas.List.Elements.{filter-append}
 use Rattle.proxy.specs.Bids.{bids_by, greatest, greatest_of, maxima}
 use Rattle.house_rows.specs.declared.command.Command.{Command}
-use Rattle.house_rows.specs.declared.command.Command.TheVariants.{Register, AddCategory, List as Listed, Bid, Buy, Close, Settle, Watch, Unwatch, Ask, Answer, Feedback}
+use Rattle.house_rows.specs.declared.command.Command.TheVariants.{Register, AddCategory, List as Listed, Bid, Buy, Close, Settle, Watch, Unwatch, Ask, Answer, Feedback, SetBands}
 use Rattle.house_rows.specs.declared.settings.Settings.{Settings}
 use Rattle.house_rows.specs.History.{History, clock}
+use Rattle.house_rows.specs.Listings.{tables_set}
 use Rattle.house_rows.specs.People.{categories, members}
 use Rattle.house_rows.specs.Bids.{bid_in, bids_on}
 use Rattle.house_rows.specs.Items.{items_shown}
@@ -41,6 +42,9 @@ published_same settings h k e = ap (λ (p : Public). p.questions) e
 
 pub feedback_same : (settings : Settings) (h k : History) → public_view settings h ≡ public_view settings k → feedback h ≡ feedback k
 feedback_same settings h k e = ap (λ (p : Public). p.feedback) e
+
+pub tables_same : (settings : Settings) (h k : History) → public_view settings h ≡ public_view settings k → tables_set h ≡ tables_set k
+tables_same settings h k e = ap (λ (p : Public). p.tables) e
 
 -- the parts of the own view
 pub watches_same : (h k : History) (c : ℕ) → own_view h c ≡ own_view k c → own_watches h c ≡ own_watches k c
@@ -78,6 +82,7 @@ maxima_one i c number caller (Unwatch j) = refl
 maxima_one i c number caller (Ask j text) = refl
 maxima_one i c number caller (Answer j asker n text) = refl
 maxima_one i c number caller (Feedback j rating text) = refl
+maxima_one i c number caller (SetBands bands) = refl
 
 maxima_are : (h : History) (i c : ℕ) → maxima (bids_by c (bids_on h i)) ≡ maxima_on i (own_maxima h c)
 unfolding own_maxima
@@ -122,6 +127,8 @@ verdict_same settings c h k t (Answer i asker number text) alike =
     rw (clocks settings h k alike.public, members_same settings h k alike.public, items_same settings h k alike.public, published_same settings h k alike.public, alike.waiting) refl
 verdict_same settings c h k t (Feedback i rating text) alike =
     rw (clocks settings h k alike.public, members_same settings h k alike.public, items_same settings h k alike.public, feedback_same settings h k alike.public) refl
+verdict_same settings c h k t (SetBands bands) alike =
+    rw (clocks settings h k alike.public, members_same settings h k alike.public, tables_same settings h k alike.public) refl
 
 -- Output, for what an accepted command is told: by what is public before and after it, and the member's own view after it
 pub told_same : (settings : Settings) (c : ℕ) (h k after later : History) (t : ℕ) (command : Command)
@@ -139,3 +146,4 @@ told_same settings c h k after later t (Unwatch i) p q o = refl
 told_same settings c h k after later t (Ask i text) p q o = rw (questions_same after later c o) refl
 told_same settings c h k after later t (Answer i asker number text) p q o = refl
 told_same settings c h k after later t (Feedback i rating text) p q o = rw (items_same settings after later q) refl
+told_same settings c h k after later t (SetBands bands) p q o = rw (tables_same settings after later q) refl

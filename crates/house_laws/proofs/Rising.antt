@@ -82,7 +82,8 @@ price_then settings h (e ∷ later) l valid is listed =
 
 pub price_later : (settings : Settings) (h : History) (later : List Entry) (l : Listing) → IsBandTable settings.bands → IsHistory settings (later ++ h) → listing_at (listings h) l.item ≡ Some l
     → price_of (bands_by settings l) h l ≤ price_of (bands_by settings l) (later ++ h) l
-price_later settings h later l valid is listed = price_then settings h later l (bands_valid settings h l valid listed) is listed
+price_later settings h later l valid is listed =
+    price_then settings h later l (bands_valid settings (later ++ h) l valid is (listed_later h later l.item l listed)) is listed
 
 -- an accepted bid adds one
 pub count_rises : (h : History) (t c i m : ℕ) → length (bids_on (entry t c (Bid i m) ∷ h) i) ≡ length (bids_on h i) + 1

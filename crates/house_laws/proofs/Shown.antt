@@ -18,7 +18,7 @@ use Rattle.house_rows.specs.Pages.{own_bid, own_bids, page_of, reserves_shown, t
 use Rattle.house_rows.specs.Views.{own_questions, own_view}
 use Rattle.house_laws.specs.Alike.{AreAlike}
 use Rattle.house_rows.proofs.Put.{by_test}
-use Rattle.house_laws.proofs.Output.{categories_same, clocks, feedback_same, greatest_same, items_same, members_same, mine_same, published_same, questions_same, watches_same, reserves_same}
+use Rattle.house_laws.proofs.Output.{categories_same, clocks, feedback_same, greatest_same, items_same, members_same, mine_same, published_same, questions_same, tables_same, watches_same, reserves_same}
 
 -- the same item, asker and number
 abbrev is_same : Asked → Asked → Bool
@@ -167,7 +167,8 @@ pub page_same : (settings : Settings) (c : ℕ) (h k : History) (q : Query) → 
 unfolding page_of
 page_same settings c h k query.House alike =
     rw (members_same settings h k alike.public, categories_same settings h k alike.public, items_same settings h k alike.public, clocks settings h k alike.public) refl
-page_same settings c h k query.Bands alike = rw (members_same settings h k alike.public) refl
+page_same settings c h k query.Bands alike = rw (members_same settings h k alike.public, tables_same settings h k alike.public) refl
+page_same settings c h k (query.BandsOf edition) alike = rw (members_same settings h k alike.public, tables_same settings h k alike.public) refl
 page_same settings c h k query.Categories alike = rw (members_same settings h k alike.public, categories_same settings h k alike.public) refl
 page_same settings c h k (query.ItemsIn category from) alike =
     rw (members_same settings h k alike.public, categories_same settings h k alike.public, items_same settings h k alike.public) refl

@@ -7,7 +7,7 @@ use Rattle.std.proofs.lemmas.List.{append-nil}
 use Rattle.std.proofs.lemmas.List.Folds.{list_any-append}
 use Rattle.proxy.specs.Rules.{first_failing}
 use Rattle.house_rows.specs.declared.command.Command.{Command}
-use Rattle.house_rows.specs.declared.command.Command.TheVariants.{Register, AddCategory, List as Listed, Bid, Buy, Close, Settle, Watch, Unwatch, Ask, Answer, Feedback}
+use Rattle.house_rows.specs.declared.command.Command.TheVariants.{Register, AddCategory, List as Listed, Bid, Buy, Close, Settle, Watch, Unwatch, Ask, Answer, Feedback, SetBands}
 use Rattle.house_rows.specs.declared.refusal.Refusal.TheVariants.{NotSold}
 use Rattle.house_rows.specs.declared.settings.Settings.{Settings}
 use Rattle.house_rows.specs.declared.state.State.{State}
@@ -114,3 +114,4 @@ state_moves settings h t c (Unwatch j) l listed none = simp append-nil (stays (s
 state_moves settings h t c (Ask j text) l listed none = simp append-nil (stays (state_of h l))
 state_moves settings h t c (Answer j asker number text) l listed none = simp append-nil (stays (state_of h l))
 state_moves settings h t c (Feedback j rating text) l listed none = simp append-nil (stays (state_of h l))
+state_moves settings h t c (SetBands bands) l listed none = simp append-nil (stays (state_of h l))

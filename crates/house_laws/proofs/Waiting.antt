@@ -5,7 +5,7 @@ use Rattle.std.proofs.lemmas.Bool.Decides.{nat_tests}
 use Rattle.std.proofs.lemmas.List.{append-nil}
 use Rattle.proxy.specs.Rules.{first_failing}
 use Rattle.house_rows.specs.declared.command.Command.{Command}
-use Rattle.house_rows.specs.declared.command.Command.TheVariants.{Register, AddCategory, List as Listed, Bid, Buy, Close, Settle, Watch, Unwatch, Ask, Answer, Feedback}
+use Rattle.house_rows.specs.declared.command.Command.TheVariants.{Register, AddCategory, List as Listed, Bid, Buy, Close, Settle, Watch, Unwatch, Ask, Answer, Feedback, SetBands}
 use Rattle.house_rows.specs.declared.item.Terms.{Terms}
 use Rattle.house_rows.specs.declared.refusal.Refusal.TheVariants.{SellerOnly}
 use Rattle.house_rows.specs.declared.settings.Settings.{Settings}
@@ -108,3 +108,4 @@ waiting_local settings c h t d (Settle i) other none asks = rw (waiting_is (entr
 waiting_local settings c h t d (Watch i) other none asks = rw (waiting_is (entry t d (Watch i) ∷ h) c, waiting_is h c) (simp append-nil)
 waiting_local settings c h t d (Unwatch i) other none asks = rw (waiting_is (entry t d (Unwatch i) ∷ h) c, waiting_is h c) (simp append-nil)
 waiting_local settings c h t d (Feedback i rating text) other none asks = rw (waiting_is (entry t d (Feedback i rating text) ∷ h) c, waiting_is h c) (simp append-nil)
+waiting_local settings c h t d (SetBands bands) other none asks = rw (waiting_is (entry t d (SetBands bands) ∷ h) c, waiting_is h c) (simp append-nil)

@@ -93,6 +93,7 @@ CloseLeavesWhatWasBought =
         title = codes "Atlas";
         text = [];
       };
+      edition = 1;
       floor = None;
     }))
 

@@ -8,6 +8,8 @@ pub mod TwinRuns
 pub mod Covered
 pub mod SurplusRuns
 pub mod EdgeRows
+pub mod EditionRows
+pub mod Reads
 pub mod Watching
 pub mod Deals
 pub mod Statements

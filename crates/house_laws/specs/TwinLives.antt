@@ -56,6 +56,7 @@ atlas_at price leader count floor = record {
     title = codes "Atlas";
     text = [];
   };
+  edition = 1;
   floor = Some floor;
 }
 

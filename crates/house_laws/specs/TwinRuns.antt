@@ -56,6 +56,7 @@ TwinsGetTheseReplies F = replies_to {F = F} settings 2 (run_with 8000) ≡
         title = codes "Atlas";
         text = [];
       };
+      edition = 1;
       floor = Some 1100;
     })) ∷ []
 

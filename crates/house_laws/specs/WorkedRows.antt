@@ -45,6 +45,7 @@ ItemIsShown = page_of settings setup 2 (query.Item 1) ≡ OneItem (record {
     title = codes "Atlas";
     text = [];
   };
+  edition = 1;
   floor = Some 500;
 })
 

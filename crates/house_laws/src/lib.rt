@@ -6,6 +6,7 @@
 //! the others sealed. Read `isolation` first.
 #![tactic(auto)]
 
+mod bands;
 mod course;
 mod edges;
 mod prices;
@@ -17,6 +18,9 @@ mod surplus;
 mod twins;
 mod worked;
 
+pub use bands::{
+    editions_are_public, editions_of_tables, items_keep_their_tables, new_tables_leave_items,
+};
 pub use course::{
     accepted_bids_count, changes_keep_tables_sound, refused_commands_change_nothing,
     rows_of_a_history_fit, sales_balance, states_only_move_forward, unmet_reserves_are_not_sold,

@@ -1,13 +1,15 @@
--- Members, categories and items have the numbers from 1 on, in turn.
+-- Members, categories, items and editions have the numbers from 1 on, in turn.
 use Rattle.std.proofs.Common.{◌≡◌, ℕ, ◌+◌, List, [], ◌∷◌, ◌++◌, map, length, refl, ◌∙◌, arith}
 use Rattle.std.proofs.lemmas.List.{append-nil}
 use Rattle.house_rows.specs.declared.command.Command.{Command}
-use Rattle.house_rows.specs.declared.command.Command.TheVariants.{Register, AddCategory, List as Listed}
+use Rattle.house_rows.specs.declared.command.Command.TheVariants.{Register, AddCategory, List as Listed, SetBands}
+use Rattle.house_rows.specs.declared.edition.Edition.{Edition}
 use Rattle.house_rows.specs.declared.people.Category.{Category}
 use Rattle.house_rows.specs.declared.people.Member.{Member}
+use Rattle.house_rows.specs.Editions.{editions, with_edition}
 use Rattle.house_rows.specs.History.{History}
 use Rattle.house_rows.specs.Keeping.{AreInTurn}
-use Rattle.house_rows.specs.Listings.{Listing, listing_in, listings}
+use Rattle.house_rows.specs.Listings.{Listing, listing_in, listings, tables_set}
 use Rattle.house_rows.specs.People.{categories, category_in, member_in, members}
 
 -- one more, with the next number
@@ -37,10 +39,18 @@ pub categories_in_turn : (h : History) → AreInTurn (λ k. k.category) 1 (categ
 categories_in_turn [] = tt
 categories_in_turn (e ∷ h) = categories_step (categories h) e.command (categories_in_turn h)
 
-listings_step : (ls : List Listing) (caller : ℕ) (command : Command) → AreInTurn (λ l. l.item) 1 ls → AreInTurn (λ l. l.item) 1 (ls ++ listing_in (length ls + 1) caller command)
-listings_step ls caller (Listed category lot title text start buy_now end reserve) are = turn_more (λ (l : Listing). l.item) 1 ls _ are refl
-listings_step ls caller command are = simp append-nil are
+listings_step : (ls : List Listing) (set : List (List (ℕ × ℕ))) (caller : ℕ) (command : Command) → AreInTurn (λ l. l.item) 1 ls → AreInTurn (λ l. l.item) 1 (ls ++ listing_in (length ls + 1) set caller command)
+listings_step ls set caller (Listed category lot title text start buy_now end reserve) are = turn_more (λ (l : Listing). l.item) 1 ls _ are refl
+listings_step ls set caller command are = simp append-nil are
 
 pub listings_in_turn : (h : History) → AreInTurn (λ l. l.item) 1 (listings h)
 listings_in_turn [] = tt
-listings_in_turn (e ∷ h) = listings_step (listings h) e.caller e.command (listings_in_turn h)
+listings_in_turn (e ∷ h) = listings_step (listings h) (tables_set h) e.caller e.command (listings_in_turn h)
+
+editions_step : (es : List Edition) (next : ℕ) (command : Command) → AreInTurn (λ e. e.edition) 2 es → AreInTurn (λ e. e.edition) 2 (with_edition es next command)
+editions_step es next (SetBands bands) are = turn_more (λ (e : Edition). e.edition) 2 es _ are refl
+editions_step es next command are = are
+
+pub editions_in_turn : (h : History) → AreInTurn (λ e. e.edition) 2 (editions h)
+editions_in_turn [] = tt
+editions_in_turn (e ∷ h) = editions_step (editions h) (length (listings h) + 1) e.command (editions_in_turn h)

@@ -20,5 +20,6 @@ pub mod ChangedRows
 pub mod SoundAfter
 pub mod Lists
 pub mod ItemRows
+pub mod Rebuilt
 pub mod OwnBids
 pub mod Standing

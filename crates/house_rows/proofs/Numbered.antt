@@ -5,9 +5,9 @@ use Rattle.std.specs.List.{AllByRecursion}
 use Rattle.std.proofs.lemmas.Bool.Decides.{nat_tests}
 use Rattle.std.proofs.lemmas.List.{append-nil, length-append}
 use Rattle.house_rows.specs.declared.command.Command.{Command}
-use Rattle.house_rows.specs.declared.command.Command.TheVariants.{Register, AddCategory, List as Listed, Bid, Buy, Close, Settle, Watch, Unwatch, Ask, Answer, Feedback}
+use Rattle.house_rows.specs.declared.command.Command.TheVariants.{Register, AddCategory, List as Listed, Bid, Buy, Close, Settle, Watch, Unwatch, Ask, Answer, Feedback, SetBands}
 use Rattle.house_rows.specs.History.{History}
-use Rattle.house_rows.specs.Listings.{Listing, listing_at, listing_in, listings}
+use Rattle.house_rows.specs.Listings.{Listing, listing_at, listing_in, listings, tables_set}
 use Rattle.house_rows.proofs.Every.{every_as, every_more, found_more}
 use Rattle.house_rows.proofs.Put.{by_test}
 
@@ -29,20 +29,21 @@ one_more ls l at are = record {
       (none_above (length ls) l.item ls l are.small (omega arith) (grind (arith, nat_tests)));
 }
 
-step : (ls : List Listing) (caller : ℕ) (command : Command) → AreNumbered ls → AreNumbered (ls ++ listing_in (length ls + 1) caller command)
-step ls caller (Listed category lot title text start buy_now end reserve) are = one_more ls _ refl are
-step ls caller (Register name) are = simp append-nil are
-step ls caller (AddCategory name) are = simp append-nil are
-step ls caller (Bid i m) are = simp append-nil are
-step ls caller (Buy i) are = simp append-nil are
-step ls caller Close are = simp append-nil are
-step ls caller (Settle i) are = simp append-nil are
-step ls caller (Watch i) are = simp append-nil are
-step ls caller (Unwatch i) are = simp append-nil are
-step ls caller (Ask i text) are = simp append-nil are
-step ls caller (Answer i asker number text) are = simp append-nil are
-step ls caller (Feedback i rating text) are = simp append-nil are
+step : (ls : List Listing) (set : List (List (ℕ × ℕ))) (caller : ℕ) (command : Command) → AreNumbered ls → AreNumbered (ls ++ listing_in (length ls + 1) set caller command)
+step ls set caller (Listed category lot title text start buy_now end reserve) are = one_more ls _ refl are
+step ls set caller (Register name) are = simp append-nil are
+step ls set caller (AddCategory name) are = simp append-nil are
+step ls set caller (Bid i m) are = simp append-nil are
+step ls set caller (Buy i) are = simp append-nil are
+step ls set caller Close are = simp append-nil are
+step ls set caller (Settle i) are = simp append-nil are
+step ls set caller (Watch i) are = simp append-nil are
+step ls set caller (Unwatch i) are = simp append-nil are
+step ls set caller (Ask i text) are = simp append-nil are
+step ls set caller (Answer i asker number text) are = simp append-nil are
+step ls set caller (Feedback i rating text) are = simp append-nil are
+step ls set caller (SetBands bands) are = simp append-nil are
 
 pub numbered : (h : History) → AreNumbered (listings h)
 numbered [] = record { small = tt; own = tt }
-numbered (e ∷ h) = step (listings h) e.caller e.command (numbered h)
+numbered (e ∷ h) = step (listings h) (tables_set h) e.caller e.command (numbered h)

@@ -1,17 +1,17 @@
 -- What a member has of its own: no entry of another changes it, and an entry of its own changes it by itself.
 use Rattle.std.proofs.lemmas.List.Elements.{filter-append}
-use Rattle.house_rows.specs.Listings.{Listing, listing_in, listings, reserve_row, reserve_rows}
-use Rattle.std.proofs.Common.{◌≡◌, ℕ, ◌+◌, List, [], ◌∷◌, filter, true, false, not, refl, ◌∙◌, ap, sym, arith, ◌++◌, length, append_assoc}
+use Rattle.house_rows.specs.Listings.{Listing, listing_in, listings, reserve_row, reserve_rows, tables_set}
+use Rattle.std.proofs.Common.{◌≡◌, ℕ, ◌+◌, List, [], ◌∷◌, filter, true, false, not, refl, ◌∙◌, ap, sym, arith, inl, inr, ◌++◌, length, append_assoc}
 use Rattle.std.specs.Prelude.{◌==◌}
 use Rattle.std.proofs.lemmas.Bool.Decides.{nat_tests}
 use Rattle.std.proofs.lemmas.List.{append-nil}
 use Rattle.house_rows.specs.declared.command.Command.{Command}
-use Rattle.house_rows.specs.declared.command.Command.TheVariants.{Register, AddCategory, List as Listed, Bid, Buy, Close, Settle, Watch, Unwatch, Ask, Answer, Feedback}
+use Rattle.house_rows.specs.declared.command.Command.TheVariants.{Register, AddCategory, List as Listed, Bid, Buy, Close, Settle, Watch, Unwatch, Ask, Answer, Feedback, SetBands}
 use Rattle.house_rows.specs.History.{Entry, History, put_by}
 use Rattle.house_rows.specs.Questions.{Asked, ask_count, asked, asked_key, with_question}
 use Rattle.house_rows.specs.Views.{Own, own_maxima, own_maximum, own_questions, own_view, own_watches, own_listings, own_reserves}
 use Rattle.house_rows.specs.Watches.{WatchRow, is_watch, unwatched, watch_key, watches, with_watch}
-use Rattle.house_rows.proofs.Put.{IsInOrder, filter_in_order, filter_put, filter_put_other, filter_swap, put_in_order}
+use Rattle.house_rows.proofs.Put.{IsInOrder, by_test, filter_in_order, filter_put, filter_put_other, filter_swap, put_in_order}
 
 -- the tables that own views are taken from stand in the order of their keys
 questions_step : (qs : List Asked) (caller : ℕ) (command : Command) → IsInOrder asked_key qs → IsInOrder asked_key (with_question qs caller command)
@@ -27,6 +27,7 @@ questions_step qs caller (Watch i) order = order
 questions_step qs caller (Unwatch i) order = order
 questions_step qs caller (Answer i asker number text) order = order
 questions_step qs caller (Feedback i rating text) order = order
+questions_step qs caller (SetBands bands) order = order
 
 pub asked_in_order : (h : History) → IsInOrder asked_key (asked h)
 asked_in_order [] = tt
@@ -45,6 +46,7 @@ watches_step ws caller (Settle i) order = order
 watches_step ws caller (Ask i text) order = order
 watches_step ws caller (Answer i asker number text) order = order
 watches_step ws caller (Feedback i rating text) order = order
+watches_step ws caller (SetBands bands) order = order
 
 pub watches_in_order : (h : History) → IsInOrder watch_key (watches h)
 watches_in_order [] = tt
@@ -64,6 +66,7 @@ maximum_other c caller (Unwatch i) other = refl
 maximum_other c caller (Ask i text) other = refl
 maximum_other c caller (Answer i asker number text) other = refl
 maximum_other c caller (Feedback i rating text) other = refl
+maximum_other c caller (SetBands bands) other = refl
 
 -- taking another's watch away leaves a member's own
 unwatched_other : (c caller i : ℕ) (ws : List WatchRow) → (caller == c) ≡ false → filter (λ w. w.member == c) (unwatched caller i ws) ≡ filter (λ w. w.member == c) ws
@@ -84,6 +87,7 @@ watches_other c caller ws (Settle i) other = refl
 watches_other c caller ws (Ask i text) other = refl
 watches_other c caller ws (Answer i asker number text) other = refl
 watches_other c caller ws (Feedback i rating text) other = refl
+watches_other c caller ws (SetBands bands) other = refl
 
 questions_other : (c caller : ℕ) (qs : List Asked) (command : Command) → (caller == c) ≡ false → filter (λ q. q.asker == c) (with_question qs caller command) ≡ filter (λ q. q.asker == c) qs
 questions_other c caller qs (Ask i text) other = filter_put_other asked_key (λ q. q.asker == c) _ qs other
@@ -98,21 +102,23 @@ questions_other c caller qs (Watch i) other = refl
 questions_other c caller qs (Unwatch i) other = refl
 questions_other c caller qs (Answer i asker number text) other = refl
 questions_other c caller qs (Feedback i rating text) other = refl
+questions_other c caller qs (SetBands bands) other = refl
 
 -- what another lists leaves a member's own listings
-listings_other : (c number caller : ℕ) (command : Command) → (caller == c) ≡ false → filter (λ l. l.seller == c) (listing_in number caller command) ≡ []
-listings_other c number caller (Listed category lot title text start buy_now end reserve) other = rw other refl
-listings_other c number caller (Register name) other = refl
-listings_other c number caller (AddCategory name) other = refl
-listings_other c number caller (Bid i maximum) other = refl
-listings_other c number caller (Buy i) other = refl
-listings_other c number caller Close other = refl
-listings_other c number caller (Settle i) other = refl
-listings_other c number caller (Watch i) other = refl
-listings_other c number caller (Unwatch i) other = refl
-listings_other c number caller (Ask i text) other = refl
-listings_other c number caller (Answer i asker n text) other = refl
-listings_other c number caller (Feedback i rating text) other = refl
+listings_other : (c number : ℕ) (set : List (List (ℕ × ℕ))) (caller : ℕ) (command : Command) → (caller == c) ≡ false → filter (λ l. l.seller == c) (listing_in number set caller command) ≡ []
+listings_other c number set caller (Listed category lot title text start buy_now end reserve) other = rw other refl
+listings_other c number set caller (Register name) other = refl
+listings_other c number set caller (AddCategory name) other = refl
+listings_other c number set caller (Bid i maximum) other = refl
+listings_other c number set caller (Buy i) other = refl
+listings_other c number set caller Close other = refl
+listings_other c number set caller (Settle i) other = refl
+listings_other c number set caller (Watch i) other = refl
+listings_other c number set caller (Unwatch i) other = refl
+listings_other c number set caller (Ask i text) other = refl
+listings_other c number set caller (Answer i asker n text) other = refl
+listings_other c number set caller (Feedback i rating text) other = refl
+listings_other c number set caller (SetBands bands) other = refl
 
 reserves_append : (ls ks : List Listing) → reserve_rows (ls ++ ks) ≡ reserve_rows ls ++ reserve_rows ks
 reserves_append [] ks = refl
@@ -121,7 +127,7 @@ reserves_append (l ∷ ls) ks = rw (reserves_append ls ks) (sym (append_assoc (r
 reserves_other : (c : ℕ) (h : History) (e : Entry) → (e.caller == c) ≡ false → own_reserves (e ∷ h) c ≡ own_reserves h c
 unfolding own_reserves
 reserves_other c h e other =
-    rw (filter-append (λ (l : Listing). l.seller == c) (listings h) (listing_in (length (listings h) + 1) e.caller e.command), listings_other c (length (listings h) + 1) e.caller e.command other)
+    rw (filter-append (λ (l : Listing). l.seller == c) (listings h) (listing_in (length (listings h) + 1) (tables_set h) e.caller e.command), listings_other c (length (listings h) + 1) (tables_set h) e.caller e.command other)
     (simp append-nil)
 
 -- Local, for what is a member's own
@@ -155,6 +161,7 @@ watches_mine c ws vs (Settle i) order order' same = same
 watches_mine c ws vs (Ask i text) order order' same = same
 watches_mine c ws vs (Answer i asker number text) order order' same = same
 watches_mine c ws vs (Feedback i rating text) order order' same = same
+watches_mine c ws vs (SetBands bands) order order' same = same
 
 questions_mine : (c : ℕ) (qs rs : List Asked) (command : Command) → IsInOrder asked_key qs → IsInOrder asked_key rs → filter (λ q. q.asker == c) qs ≡ filter (λ q. q.asker == c) rs
     → filter (λ q. q.asker == c) (with_question qs c command) ≡ filter (λ q. q.asker == c) (with_question rs c command)
@@ -174,20 +181,29 @@ questions_mine c qs rs (Watch i) order order' same = same
 questions_mine c qs rs (Unwatch i) order order' same = same
 questions_mine c qs rs (Answer i asker number text) order order' same = same
 questions_mine c qs rs (Feedback i rating text) order order' same = same
+questions_mine c qs rs (SetBands bands) order order' same = same
+
+-- its reserve doesn't go by the band tables that were set
+reserves_alike : (c number caller : ℕ) (set other : List (List (ℕ × ℕ))) (command : Command)
+    → reserve_rows (filter (λ l. l.seller == c) (listing_in number set caller command)) ≡ reserve_rows (filter (λ l. l.seller == c) (listing_in number other caller command))
+reserves_alike c number caller set other (Listed category lot title text start buy_now end reserve) = elim (by_test (caller == c)) [ inl is ↦ rw is refl | inr not ↦ rw not refl ]
+reserves_alike c number caller set other command = refl
 
 -- a listing of its own adds the same reserve where there are as many items
 reserves_mine : (c : ℕ) (h k : History) (moment : ℕ) (command : Command) → length (listings h) ≡ length (listings k) → own_reserves h c ≡ own_reserves k c
     → own_reserves (record { moment = moment; caller = c; command = command } ∷ h) c ≡ own_reserves (record { moment = moment; caller = c; command = command } ∷ k) c
 unfolding own_reserves
 reserves_mine c h k moment command many same =
-    let more : List Listing = listing_in (length (listings k) + 1) c command in
+    let more : List Listing = listing_in (length (listings k) + 1) (tables_set k) c command in
+    let other : List Listing = listing_in (length (listings k) + 1) (tables_set h) c command in
     rw (
       many,
-      filter-append (λ (l : Listing). l.seller == c) (listings h) more,
+      filter-append (λ (l : Listing). l.seller == c) (listings h) other,
       filter-append (λ (l : Listing). l.seller == c) (listings k) more,
-      reserves_append (own_listings h c) (filter (λ l. l.seller == c) more),
+      reserves_append (own_listings h c) (filter (λ l. l.seller == c) other),
       reserves_append (own_listings k c) (filter (λ l. l.seller == c) more),
       same,
+      reserves_alike c (length (listings k) + 1) c (tables_set h) (tables_set k) command,
     ) refl
 
 -- Step: an entry of the member changes its own view equally, where there are as many items

@@ -7,7 +7,7 @@ use Rattle.std.proofs.lemmas.List.{append-nil, length-append, length-map}
 use Rattle.proxy.specs.Bids.{bids_by, greatest}
 use Rattle.proxy.specs.declared.bid.Bid as bid
 use Rattle.house_rows.specs.declared.command.Command.{Command}
-use Rattle.house_rows.specs.declared.command.Command.TheVariants.{Register, AddCategory, List as Listed, Bid, Buy, Close, Settle, Watch, Unwatch, Ask, Answer, Feedback}
+use Rattle.house_rows.specs.declared.command.Command.TheVariants.{Register, AddCategory, List as Listed, Bid, Buy, Close, Settle, Watch, Unwatch, Ask, Answer, Feedback, SetBands}
 use Rattle.house_rows.specs.declared.settings.Settings.{Settings}
 use Rattle.house_rows.specs.Bids.{BidRow, bid_in, bid_key, bid_rows, bids_on, with_bid}
 use Rattle.house_rows.specs.Found.{best_of}
@@ -74,6 +74,7 @@ one_more i h caller (Unwatch j) order are = rw (append-nil (bids_on h i)) are
 one_more i h caller (Ask j text) order are = rw (append-nil (bids_on h i)) are
 one_more i h caller (Answer j asker number text) order are = rw (append-nil (bids_on h i)) are
 one_more i h caller (Feedback j rating text) order are = rw (append-nil (bids_on h i)) are
+one_more i h caller (SetBands bands) order are = rw (append-nil (bids_on h i)) are
 
 order_step : (h : History) (caller : ℕ) (command : Command) → IsInOrder bid_key (bid_rows h) → IsInOrder bid_key (with_bid h (bid_rows h) caller command)
 order_step h caller (Bid j maximum) order = put_in_order bid_key _ (bid_rows h) order
@@ -88,6 +89,7 @@ order_step h caller (Unwatch j) order = order
 order_step h caller (Ask j text) order = order
 order_step h caller (Answer j asker number text) order = order
 order_step h caller (Feedback j rating text) order = order
+order_step h caller (SetBands bands) order = order
 
 in_order : (h : History) → IsInOrder bid_key (bid_rows h)
 in_order [] = tt

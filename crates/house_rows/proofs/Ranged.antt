@@ -6,7 +6,7 @@ use Rattle.std.proofs.lemmas.Bool.Decides.{nat_tests}
 use Rattle.std.proofs.lemmas.List.{append-nil, length-append, length-map}
 use Rattle.proxy.specs.Rules.{first_failing}
 use Rattle.house_rows.specs.declared.command.Command.{Command}
-use Rattle.house_rows.specs.declared.command.Command.TheVariants.{Register, AddCategory, List as Listed, Bid, Buy, Close, Settle, Watch, Unwatch, Ask, Answer, Feedback}
+use Rattle.house_rows.specs.declared.command.Command.TheVariants.{Register, AddCategory, List as Listed, Bid, Buy, Close, Settle, Watch, Unwatch, Ask, Answer, Feedback, SetBands}
 use Rattle.house_rows.specs.declared.people.Category.{Category}
 use Rattle.house_rows.specs.declared.people.Member.{Member}
 use Rattle.house_rows.specs.declared.refusal.Refusal.TheVariants.{Range, NameTaken, Limit, LotExists, Unknown}
@@ -15,7 +15,7 @@ use Rattle.house_rows.specs.Fits.{CategoryFits, IsItem, IsMember, IsMoment, IsWi
 use Rattle.house_rows.specs.History.{History}
 use Rattle.house_rows.specs.Items.{items_shown}
 use Rattle.house_rows.specs.Limits.{last_moment, most_categories, most_cents, most_items, most_members}
-use Rattle.house_rows.specs.Listings.{Listing, listings}
+use Rattle.house_rows.specs.Listings.{Listing, listings, tables_set}
 use Rattle.house_rows.specs.People.{categories, members}
 use Rattle.house_rows.specs.Text.{is_lot, is_text}
 use Rattle.house_rows.specs.Verdict.{IsHistory, are_terms, is_buy_now, verdict, is_at_most, is_reserve}
@@ -60,6 +60,7 @@ members_step settings h t c (Unwatch i) none fits = simp append-nil fits
 members_step settings h t c (Ask i text) none fits = simp append-nil fits
 members_step settings h t c (Answer i asker number text) none fits = simp append-nil fits
 members_step settings h t c (Feedback i rating text) none fits = simp append-nil fits
+members_step settings h t c (SetBands bands) none fits = simp append-nil fits
 
 pub members_fit : (settings : Settings) (h : History) → IsHistory settings h → MembersFit (members h)
 members_fit settings [] is = record { all = tt; room = omega arith }
@@ -95,6 +96,7 @@ categories_step settings h t c (Unwatch i) none fits = simp append-nil fits
 categories_step settings h t c (Ask i text) none fits = simp append-nil fits
 categories_step settings h t c (Answer i asker number text) none fits = simp append-nil fits
 categories_step settings h t c (Feedback i rating text) none fits = simp append-nil fits
+categories_step settings h t c (SetBands bands) none fits = simp append-nil fits
 
 pub categories_fit : (settings : Settings) (h : History) → IsHistory settings h → CategoriesFit (categories h)
 categories_fit settings [] is = record { all = tt; room = omega arith }
@@ -168,7 +170,7 @@ listings_step settings h t c (Listed category lot title text start buy_now end r
     let fits_category : IsWithin 1 most_categories category = rw at at known_fits in
     let caller_fits : IsMember c = caller_is settings h t c false is (common_pass settings h t c (Listed category lot title text start buy_now end reserve) none) refl in
     record {
-      all = every_more ListingRanges (listings h) (record { item = length (listings h) + 1; seller = c; category = category; lot = lot; title = title; text = text; start = start; buy_now = buy_now; end = end; set = []; reserve = reserve }) fits.all (record {
+      all = every_more ListingRanges (listings h) (record { item = length (listings h) + 1; seller = c; category = category; lot = lot; title = title; text = text; start = start; buy_now = buy_now; end = end; set = tables_set h; reserve = reserve }) fits.all (record {
         item = (omega arith, omega arith);
         seller = caller_fits;
         category = fits_category;
@@ -193,6 +195,7 @@ listings_step settings h t c (Unwatch i) is none fits = simp append-nil fits
 listings_step settings h t c (Ask i text) is none fits = simp append-nil fits
 listings_step settings h t c (Answer i asker number text) is none fits = simp append-nil fits
 listings_step settings h t c (Feedback i rating text) is none fits = simp append-nil fits
+listings_step settings h t c (SetBands bands) is none fits = simp append-nil fits
 
 pub listings_fit : (settings : Settings) (h : History) → IsHistory settings h → ListingsFit (listings h)
 listings_fit settings [] is = record { all = tt; room = omega arith }

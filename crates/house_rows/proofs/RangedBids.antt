@@ -9,7 +9,7 @@ use Rattle.proxy.specs.Bids.{first_at, greatest, greatest_if_any, greatest_of, i
 use Rattle.proxy.specs.Rules.{first_failing}
 use Rattle.proxy.specs.declared.bid.Bid as bid
 use Rattle.house_rows.specs.declared.command.Command.{Command}
-use Rattle.house_rows.specs.declared.command.Command.TheVariants.{Register, AddCategory, List as Listed, Bid, Buy, Close, Settle, Watch, Unwatch, Ask, Answer, Feedback}
+use Rattle.house_rows.specs.declared.command.Command.TheVariants.{Register, AddCategory, List as Listed, Bid, Buy, Close, Settle, Watch, Unwatch, Ask, Answer, Feedback, SetBands}
 use Rattle.house_rows.specs.declared.item.ItemShown.{ItemShown}
 use Rattle.house_rows.specs.declared.item.Terms.{Terms}
 use Rattle.house_rows.specs.declared.refusal.Refusal.{Refusal}
@@ -20,7 +20,7 @@ use Rattle.house_rows.specs.History.{Entry, History}
 use Rattle.house_rows.specs.Bids.{bids_on}
 use Rattle.house_rows.specs.Items.{Purchase, floor_of, is_open, purchases, state_of, terms_now}
 use Rattle.house_rows.specs.Limits.{most_bids, most_cents}
-use Rattle.house_rows.specs.Listings.{Listing, bands_by, listing_at, listing_in, listings}
+use Rattle.house_rows.specs.Listings.{Listing, bands_by, listing_at, listing_in, listings, tables_set}
 use Rattle.house_rows.specs.Runs.{entry}
 use Rattle.house_rows.specs.Verdict.{IsHistory, bid_rules, by_terms, purchase_rules, rules, verdict}
 use Rattle.house_rows.proofs.Every.{every_as, every_more, found_is, found_more}
@@ -33,7 +33,7 @@ apart_from a b not e = let f : (a == b) ≡ true = grind (arith, nat_tests) in l
 
 -- a listing that is there stays
 pub listed_more : (h : History) (e : Entry) (i : ℕ) (l : Listing) → listing_at (listings h) i ≡ Some l → listing_at (listings (e ∷ h)) i ≡ Some l
-listed_more h e i l found = found_more (λ l. l.item == i) (listings h) (listing_in (length (listings h) + 1) e.caller e.command) l found
+listed_more h e i l found = found_more (λ l. l.item == i) (listings h) (listing_in (length (listings h) + 1) (tables_set h) e.caller e.command) l found
 
 -- a bid on an item
 pub record BidIn (h : History) (i : ℕ) (b : bid.Bid) : Type 0 where
@@ -102,6 +102,7 @@ bids_step settings h t c i (Unwatch j) is none fits = simp append-nil (bids_more
 bids_step settings h t c i (Ask j text) is none fits = simp append-nil (bids_more h (entry t c (Ask j text)) i (bids_on h i) fits)
 bids_step settings h t c i (Answer j asker number text) is none fits = simp append-nil (bids_more h (entry t c (Answer j asker number text)) i (bids_on h i) fits)
 bids_step settings h t c i (Feedback j rating text) is none fits = simp append-nil (bids_more h (entry t c (Feedback j rating text)) i (bids_on h i) fits)
+bids_step settings h t c i (SetBands bands) is none fits = simp append-nil (bids_more h (entry t c (SetBands bands)) i (bids_on h i) fits)
 
 pub bids_fit : (settings : Settings) (h : History) (i : ℕ) → IsHistory settings h → BidsFit h i (bids_on h i)
 bids_fit settings [] i is = record { all = tt; room = omega arith }
@@ -150,6 +151,7 @@ purchases_step settings h t c (Unwatch i) is none all = simp append-nil (all_mor
 purchases_step settings h t c (Ask i text) is none all = simp append-nil (all_more h (entry t c (Ask i text)) (purchases h) all)
 purchases_step settings h t c (Answer i asker number text) is none all = simp append-nil (all_more h (entry t c (Answer i asker number text)) (purchases h) all)
 purchases_step settings h t c (Feedback i rating text) is none all = simp append-nil (all_more h (entry t c (Feedback i rating text)) (purchases h) all)
+purchases_step settings h t c (SetBands bands) is none all = simp append-nil (all_more h (entry t c (SetBands bands)) (purchases h) all)
 
 pub purchases_fit : (settings : Settings) (h : History) → IsHistory settings h → AllByRecursion (PurchaseIn h) (purchases h)
 purchases_fit settings [] is = tt

@@ -6,7 +6,7 @@ use Rattle.std.proofs.lemmas.Bool.Decides.{nat_tests}
 use Rattle.std.proofs.lemmas.List.{length-append}
 use Rattle.proxy.specs.declared.bid.Bid as bid
 use Rattle.house_rows.specs.declared.command.Command.{Command}
-use Rattle.house_rows.specs.declared.command.Command.TheVariants.{Register, AddCategory, List as Listed, Bid, Buy, Close, Settle, Watch, Unwatch, Ask, Answer, Feedback}
+use Rattle.house_rows.specs.declared.command.Command.TheVariants.{Register, AddCategory, List as Listed, Bid, Buy, Close, Settle, Watch, Unwatch, Ask, Answer, Feedback, SetBands}
 use Rattle.proxy.specs.Rules.{first_failing}
 use Rattle.house_rows.specs.declared.refusal.Refusal.TheVariants.{Limit}
 use Rattle.house_rows.specs.declared.settings.Settings.{Settings}
@@ -67,6 +67,7 @@ bids_step settings h t c (Unwatch i) is all = all
 bids_step settings h t c (Ask i text) is all = all
 bids_step settings h t c (Answer i asker number text) is all = all
 bids_step settings h t c (Feedback i rating text) is all = all
+bids_step settings h t c (SetBands bands) is all = all
 
 pub bid_rows_fit : (settings : Settings) (h : History) → IsHistory settings h → AllByRecursion BidRowFits (bid_rows h)
 bid_rows_fit settings [] is = tt
@@ -90,6 +91,7 @@ watches_step settings h t c (Settle i) is none all = all
 watches_step settings h t c (Ask i text) is none all = all
 watches_step settings h t c (Answer i asker number text) is none all = all
 watches_step settings h t c (Feedback i rating text) is none all = all
+watches_step settings h t c (SetBands bands) is none all = all
 
 pub watches_fit : (settings : Settings) (h : History) → IsHistory settings h → AllByRecursion WatchRowFits (watches h)
 watches_fit settings [] is = tt
@@ -146,6 +148,7 @@ few_of settings h t c m (Settle i) none few = few
 few_of settings h t c m (Ask i text) none few = few
 few_of settings h t c m (Answer i asker number text) none few = few
 few_of settings h t c m (Feedback i rating text) none few = few
+few_of settings h t c m (SetBands bands) none few = few
 
 no_watches : (m : ℕ) → length (own_watches [] m) ≤ most_watches
 unfolding own_watches

@@ -10,7 +10,7 @@ use Rattle.proxy.specs.Rules.{first_failing}
 use Rattle.proxy.specs.declared.bid.Bid as bid
 use Rattle.proxy.proofs.Leads.{somebody_leads}
 use Rattle.house_rows.specs.declared.command.Command.{Command}
-use Rattle.house_rows.specs.declared.command.Command.TheVariants.{Register, AddCategory, List as Listed, Bid, Buy, Close, Settle, Watch, Unwatch, Ask, Answer, Feedback}
+use Rattle.house_rows.specs.declared.command.Command.TheVariants.{Register, AddCategory, List as Listed, Bid, Buy, Close, Settle, Watch, Unwatch, Ask, Answer, Feedback, SetBands}
 use Rattle.house_rows.specs.declared.refusal.Refusal.TheVariants.{AlreadyAnswered, AlreadyGiven, Ended, Limit, NotOpen, NotParty, NotSold, OwnItem, Range, SellerOnly, Unknown}
 use Rattle.house_rows.specs.declared.settings.Settings.{Settings}
 use Rattle.house_rows.specs.declared.state.State.{State}
@@ -87,6 +87,7 @@ asked_step settings h t c (Watch i) is none all = all
 asked_step settings h t c (Unwatch i) is none all = all
 asked_step settings h t c (Answer i asker number text) is none all = all
 asked_step settings h t c (Feedback i rating text) is none all = all
+asked_step settings h t c (SetBands bands) is none all = all
 
 asked_fit : (settings : Settings) (h : History) → IsHistory settings h → AllByRecursion AskedFits (asked h)
 asked_fit settings [] is = tt
@@ -122,6 +123,7 @@ answers_step settings h t c (Watch i) none all = simp append-nil all
 answers_step settings h t c (Unwatch i) none all = simp append-nil all
 answers_step settings h t c (Ask i text) none all = simp append-nil all
 answers_step settings h t c (Feedback i rating text) none all = simp append-nil all
+answers_step settings h t c (SetBands bands) none all = simp append-nil all
 
 answers_fit : (settings : Settings) (h : History) → IsHistory settings h → AllByRecursion TextFits (answers h)
 answers_fit settings [] is = tt
@@ -271,6 +273,7 @@ settlements_step settings h t c (Unwatch i) none all = simp append-nil (all_sett
 settlements_step settings h t c (Ask i text) none all = simp append-nil (all_settled h (entry t c (Ask i text)) (settlements h) all)
 settlements_step settings h t c (Answer i asker number text) none all = simp append-nil (all_settled h (entry t c (Answer i asker number text)) (settlements h) all)
 settlements_step settings h t c (Feedback i rating text) none all = simp append-nil (all_settled h (entry t c (Feedback i rating text)) (settlements h) all)
+settlements_step settings h t c (SetBands bands) none all = simp append-nil (all_settled h (entry t c (SetBands bands)) (settlements h) all)
 
 settlements_fit : (settings : Settings) (h : History) → IsHistory settings h → AllByRecursion (SettledIn h) (settlements h)
 settlements_fit settings [] is = tt
@@ -330,6 +333,7 @@ feedback_step settings h t c (Watch i) is none all = all
 feedback_step settings h t c (Unwatch i) is none all = all
 feedback_step settings h t c (Ask i text) is none all = all
 feedback_step settings h t c (Answer i asker number text) is none all = all
+feedback_step settings h t c (SetBands bands) is none all = all
 
 pub feedback_fits : (settings : Settings) (h : History) → IsHistory settings h → AllByRecursion FeedbackFits (feedback h)
 feedback_fits settings [] is = tt

@@ -8,8 +8,8 @@ use Rattle.house_rows.specs.Found.{row_at}
 use Rattle.house_rows.specs.History.{History}
 use Rattle.house_rows.specs.Items.{items_shown, shown, shown_at}
 use Rattle.house_rows.specs.Listings.{Listing, listing_at, listings}
-use Rattle.house_rows.specs.Tables.{ItemRow, Tables, bands_for, row_now, tables_of}
-use Rattle.house_rows.proofs.GoesBy.{bands_kept}
+use Rattle.house_rows.specs.Tables.{ItemRow, Tables, bands_for, edition_for, row_now, tables_of}
+use Rattle.house_rows.proofs.GoesBy.{bands_kept, edition_kept}
 use Rattle.house_rows.proofs.Passed.{item_from, shown_is}
 use Rattle.house_rows.proofs.Put.{by_test}
 
@@ -24,9 +24,9 @@ pub row_found : (settings : Settings) (h : History) (i : ℕ)
 unfolding tables_of
 row_found settings h i = rows_found settings h i (listings h)
 
--- an item as its row shows it, by the band table that it has in the tables
+-- an item as its row shows it, by the edition and the band table that it has in the tables
 abbrev pub shown_row : Tables → ItemRow → ItemShown
-shown_row t row = shown (bands_for t row.item.terms.item) row.item
+shown_row t row = shown (edition_for t row.item.terms.item) (bands_for t row.item.terms.item) row.item
 
 -- what everybody sees of an item is what its row shows
 pub shown_by_row : (settings : Settings) (h : History) (i : ℕ)
@@ -35,4 +35,4 @@ shown_by_row settings h i =
     shown_is settings h i ∙ by_listing (listing_at (listings h) i) refl ∙ ap (option_map (shown_row (tables_of settings h))) (sym (row_found settings h i)) where
       by_listing : (o : Option Listing) → listing_at (listings h) i ≡ o → item_from settings h o ≡ option_map (shown_row (tables_of settings h)) (option_map (row_now settings h) o)
       by_listing None is = refl
-      by_listing (Some l) is = rw (bands_kept settings h i l is) refl
+      by_listing (Some l) is = rw (bands_kept settings h i l is, edition_kept settings h i l is) refl

@@ -7,7 +7,8 @@ use Rattle.house_rows.specs.Keeping.{AreSound}
 use Rattle.house_rows.specs.Listings.{Listing, listings}
 use Rattle.house_rows.specs.Tables.{ItemRow, row_now, tables_of}
 use Rattle.house_rows.specs.Verdict.{IsHistory}
-use Rattle.house_rows.proofs.InTurn.{categories_in_turn, listings_in_turn, members_in_turn, turn_map}
+use Rattle.house_rows.proofs.GoesBy.{editions_fit}
+use Rattle.house_rows.proofs.InTurn.{categories_in_turn, editions_in_turn, listings_in_turn, members_in_turn, turn_map}
 use Rattle.house_rows.proofs.Ranged.{categories_fit, listings_fit, members_fit}
 use Rattle.house_rows.proofs.RangedRows.{rows_fit}
 use Rattle.house_rows.proofs.RangedTables.{bid_rows_fit, clock_fits, few_rows, watches_fit}
@@ -31,4 +32,7 @@ rows_are_sound settings h is = record {
   few_watches = λ m. few_rows settings h m is;
   questions = questions_fit settings h is;
   feedback = feedback_fits settings h is;
+  editions = (editions_fit settings h is).all;
+  editions_in_turn = editions_in_turn h;
+  few_editions = (editions_fit settings h is).room;
 }

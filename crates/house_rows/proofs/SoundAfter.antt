@@ -8,27 +8,29 @@ use Rattle.proxy.specs.declared.bid.Bid as bid
 use Rattle.proxy.specs.Kept.{Kept}
 use Rattle.house_rows.specs.declared.change.Change.{Change}
 use Rattle.house_rows.specs.declared.change.NewItem.{NewItem}
-use Rattle.house_rows.specs.declared.change.Change.TheVariants.{Register, AddCategory, List as Listed, Bid, Buy, Close, Settle, Watch, Unwatch, Ask, Answer, Feedback}
+use Rattle.house_rows.specs.declared.change.Change.TheVariants.{Register, AddCategory, List as Listed, Bid, Buy, Close, Settle, Watch, Unwatch, Ask, Answer, Feedback, SetBands}
+use Rattle.house_rows.specs.declared.edition.Edition.{Edition}
 use Rattle.house_rows.specs.declared.people.Category.{Category}
 use Rattle.house_rows.specs.declared.people.Member.{Member}
 use Rattle.house_rows.specs.declared.rating.Rating.{Rating}
 use Rattle.house_rows.specs.declared.talk.Feedback as feedback
 use Rattle.house_rows.specs.declared.talk.Question.{Question}
-use Rattle.house_rows.specs.Asks.{AnswerFits, BidFits, ChangeFits, HasItem, HasMember, ListingFits, NameFits, PurchaseFits, QuestionAsked, RatingFits, SettlementFits, WatchFits}
+use Rattle.house_rows.specs.Asks.{AnswerFits, BidFits, ChangeFits, HasItem, HasMember, ListingFits, NameFits, PurchaseFits, QuestionAsked, RatingFits, SettlementFits, TableFits, WatchFits}
 use Rattle.house_rows.specs.Bids.{BidRow, bid_key}
 use Rattle.house_rows.specs.Changed.{changed, new_item, question_key, with_answer, with_close, with_purchase, with_settlement, with_standing}
-use Rattle.house_rows.specs.Fits.{BidRowFits, CategoryFits, FeedbackFits, IsItem, IsMember, IsMoment, IsWithin, MemberFits, QuestionFits, WatchRowFits}
+use Rattle.house_rows.specs.Fits.{BidRowFits, CategoryFits, EditionFits, FeedbackFits, IsItem, IsMember, IsMoment, IsWithin, MemberFits, QuestionFits, WatchRowFits}
 use Rattle.house_rows.specs.Found.{ask_count}
 use Rattle.house_rows.specs.History.{Key, counted, is_less, put_by}
-use Rattle.house_rows.specs.Keeping.{AreInTurn, AreSound, RowFits}
-use Rattle.house_rows.specs.Limits.{most_bids, most_categories, most_items, most_members, most_questions, most_watches}
+use Rattle.house_rows.specs.Keeping.{AreInTurn, AreSound, ItemRowFits, RowFits}
+use Rattle.house_rows.specs.Limits.{most_bids, most_categories, most_editions, most_items, most_members, most_questions, most_watches}
 use Rattle.house_rows.specs.Questions.{is_question}
 use Rattle.house_rows.specs.Ratings.{feedback_key, other_party}
 use Rattle.house_rows.specs.Tables.{ItemRow, Tables, bands_for, row_opening}
 use Rattle.house_rows.specs.Text.{is_text}
 use Rattle.house_rows.specs.Watches.{WatchRow, unwatched, watch_key}
 use Rattle.house_rows.proofs.ChangedRows.{close_fits, close_number, new_fits, fits_at, one_changed, purchase_fits, purchase_number, purchase_other, room_for, settlement_fits, settlement_number, settlement_other, standing_fits, standing_number, standing_other, there_fits, there_fits_by, there_is, there_numbered, there_within}
-use Rattle.house_rows.proofs.Every.{every_as, every_map, every_more, every_put}
+use Rattle.house_rows.proofs.GoesBy.{bands_more}
+use Rattle.house_rows.proofs.Every.{every_as, every_both, every_map, every_more, every_put}
 use Rattle.house_rows.proofs.InTurn.{turn_map, turn_more}
 use Rattle.house_rows.proofs.Put.{by_test, filter_put_other}
 use Rattle.house_rows.proofs.RangedTables.{every_filter}
@@ -52,6 +54,9 @@ clock_after t clock sound fits = record {
   few_watches = sound.few_watches;
   questions = sound.questions;
   feedback = sound.feedback;
+  editions = sound.editions;
+  editions_in_turn = sound.editions_in_turn;
+  few_editions = sound.few_editions;
 }
 
 members_after : (t : Tables) (members : List Member) → AreSound t → AllByRecursion MemberFits members → AreInTurn (λ m. m.member) 1 members → length members ≤ most_members → AreSound (record t { members = members })
@@ -71,6 +76,9 @@ members_after t members sound fit in_turn few = record {
   few_watches = sound.few_watches;
   questions = sound.questions;
   feedback = sound.feedback;
+  editions = sound.editions;
+  editions_in_turn = sound.editions_in_turn;
+  few_editions = sound.few_editions;
 }
 
 categories_after : (t : Tables) (categories : List Category) → AreSound t → AllByRecursion CategoryFits categories → AreInTurn (λ k. k.category) 1 categories → length categories ≤ most_categories
@@ -91,6 +99,9 @@ categories_after t categories sound fit in_turn few = record {
   few_watches = sound.few_watches;
   questions = sound.questions;
   feedback = sound.feedback;
+  editions = sound.editions;
+  editions_in_turn = sound.editions_in_turn;
+  few_editions = sound.few_editions;
 }
 
 items_after : (t : Tables) (items : List ItemRow) → AreSound t → AllByRecursion (RowFits t) items → AreInTurn (λ row. row.item.terms.item) 1 items → length items ≤ most_items
@@ -111,6 +122,9 @@ items_after t items sound fit in_turn few = record {
   few_watches = sound.few_watches;
   questions = sound.questions;
   feedback = sound.feedback;
+  editions = sound.editions;
+  editions_in_turn = sound.editions_in_turn;
+  few_editions = sound.few_editions;
 }
 
 bids_after : (t : Tables) (bids : List BidRow) → AreSound t → AllByRecursion BidRowFits bids → AreSound (record t { bids = bids })
@@ -130,6 +144,9 @@ bids_after t bids sound fit = record {
   few_watches = sound.few_watches;
   questions = sound.questions;
   feedback = sound.feedback;
+  editions = sound.editions;
+  editions_in_turn = sound.editions_in_turn;
+  few_editions = sound.few_editions;
 }
 
 watches_after : (t : Tables) (watches : List WatchRow) → AreSound t → AllByRecursion WatchRowFits watches → ((m : ℕ) → counted (λ w. w.member == m) watches ≤ most_watches) → AreSound (record t { watches = watches })
@@ -149,6 +166,9 @@ watches_after t watches sound fit few = record {
   few_watches = few;
   questions = sound.questions;
   feedback = sound.feedback;
+  editions = sound.editions;
+  editions_in_turn = sound.editions_in_turn;
+  few_editions = sound.few_editions;
 }
 
 questions_after : (t : Tables) (questions : List Question) → AreSound t → AllByRecursion QuestionFits questions → AreSound (record t { questions = questions })
@@ -168,6 +188,9 @@ questions_after t questions sound fit = record {
   few_watches = sound.few_watches;
   questions = fit;
   feedback = sound.feedback;
+  editions = sound.editions;
+  editions_in_turn = sound.editions_in_turn;
+  few_editions = sound.few_editions;
 }
 
 feedback_after : (t : Tables) (given : List feedback.Feedback) → AreSound t → AllByRecursion FeedbackFits given → AreSound (record t { feedback = given })
@@ -187,6 +210,32 @@ feedback_after t given sound fit = record {
   few_watches = sound.few_watches;
   questions = sound.questions;
   feedback = fit;
+  editions = sound.editions;
+  editions_in_turn = sound.editions_in_turn;
+  few_editions = sound.few_editions;
+}
+
+editions_after : (t : Tables) (editions : List Edition) → AreSound t → AllByRecursion EditionFits editions → AreInTurn (λ e. e.edition) 2 editions → length editions < most_editions
+    → AllByRecursion (RowFits (record t { editions = editions })) t.items → AreSound (record t { editions = editions })
+editions_after t editions sound fit in_turn few items = record {
+  clock = sound.clock;
+  members = sound.members;
+  members_in_turn = sound.members_in_turn;
+  few_members = sound.few_members;
+  categories = sound.categories;
+  categories_in_turn = sound.categories_in_turn;
+  few_categories = sound.few_categories;
+  items = items;
+  items_in_turn = sound.items_in_turn;
+  few_items = sound.few_items;
+  bids = sound.bids;
+  watches = sound.watches;
+  few_watches = sound.few_watches;
+  questions = sound.questions;
+  feedback = sound.feedback;
+  editions = fit;
+  editions_in_turn = in_turn;
+  few_editions = few;
 }
 
 -- who is there has a member's number
@@ -392,6 +441,26 @@ rating_after t moment item from to rating text sound fits =
       text = fits.text_fits;
     }))
 
+-- numbers in turn are small
+turn_small : {A : Type 0} (number : A → ℕ) (next : ℕ) (xs : List A) → AreInTurn number next xs → AllByRecursion (λ x. number x < next + length xs) xs
+turn_small number next [] are = tt
+turn_small number next (x ∷ xs) are =
+    ((let e = are.0 in omega arith), every_as (λ x. number x < next + 1 + length xs) (λ y. number y < next + length (x ∷ xs)) xs (λ y lt. omega arith) (turn_small number (next + 1) xs are.1))
+
+-- a band table that is set leaves those of the items that are there
+table_after : (t : Tables) (moment : ℕ) (bands : List (ℕ × ℕ)) → AreSound t → TableFits t moment bands
+    → AreSound (record t { clock = moment; editions = t.editions ++ record { edition = length t.editions + 2; first = length t.items + 1; bands = bands } ∷ [] })
+table_after t moment bands sound fits =
+    let e : Edition = record { edition = length t.editions + 2; first = length t.items + 1; bands = bands } in
+    let room : length t.editions + 1 < most_editions = fits.room in
+    editions_after (record t { clock = moment }) (t.editions ++ e ∷ []) (clock_after t moment sound fits.moment_fits)
+    (every_more EditionFits t.editions e sound.editions (record { edition = (omega arith, omega arith); bands = fits.valid }))
+    (turn_more (λ (e : Edition). e.edition) 2 t.editions e sound.editions_in_turn refl)
+    (simp length-append room)
+    (every_both (λ (row : ItemRow). row.item.terms.item < 1 + length t.items) (RowFits t) (RowFits (record t { editions = t.editions ++ e ∷ [] })) t.items
+    (λ row small row_fits. subst (λ (b : List (ℕ × ℕ)). ItemRowFits b row) (sym (bands_more t.settings.bands t.editions e row.item.terms.item (omega arith))) row_fits)
+    (turn_small (λ (row : ItemRow). row.item.terms.item) 1 t.items sound.items_in_turn) sound.items)
+
 -- sound tables stay sound with every change that fits them
 pub sound_after : (t : Tables) (change : Change) → AreSound t → ChangeFits t change → AreSound (changed t change)
 unfolding changed
@@ -407,3 +476,4 @@ sound_after t (Unwatch member item) sound fits = unwatch_after t member item sou
 sound_after t (Ask item asker number text) sound fits = question_after t item asker number text.now sound fits
 sound_after t (Answer moment item asker number text) sound fits = answer_after t moment item asker number text.now sound fits
 sound_after t (Feedback moment item from to rating text) sound fits = rating_after t moment item from to rating text.now sound fits
+sound_after t (SetBands moment bands) sound fits = table_after t moment bands.now sound fits

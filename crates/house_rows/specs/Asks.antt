@@ -1,19 +1,20 @@
 -- What a keep may ask of a change: that it fits the tables, each row of which fits. That its new key is free the keep finds out.
 use Rattle.std.specs.Prelude.{◌≡◌, ◌≢◌, ◌<◌, ◌≤◌, ◌+◌, ◌⊎◌, ◌==◌, ◌&&◌, not, ℕ, List, length, true, false, IfSome, is_some, Some, None}
 use Rattle.std.specs.List.{list_any}
+use Rattle.steps.specs.Table.{IsBandTable}
 use Rattle.proxy.specs.declared.bid.Bid as bid
 use Rattle.proxy.specs.Accepted.{AreAccepted}
 use Rattle.proxy.specs.Bids.{one_more, standing_of}
 use Rattle.proxy.specs.Kept.{Kept}
 use Rattle.house_rows.specs.declared.change.Change.{Change}
 use Rattle.house_rows.specs.declared.change.NewItem.{NewItem}
-use Rattle.house_rows.specs.declared.change.Change.TheVariants.{Register, AddCategory, List as Listed, Bid, Buy, Close, Settle, Watch, Unwatch, Ask, Answer, Feedback}
+use Rattle.house_rows.specs.declared.change.Change.TheVariants.{Register, AddCategory, List as Listed, Bid, Buy, Close, Settle, Watch, Unwatch, Ask, Answer, Feedback, SetBands}
 use Rattle.house_rows.specs.declared.state.State.TheVariants.{Open, Sold}
 use Rattle.house_rows.specs.declared.talk.Question.{Question}
 use Rattle.house_rows.specs.Fits.{IsMoment, IsWithin, ReserveFits}
 use Rattle.house_rows.specs.Found.{ask_count, category_at, category_named, is_given, item_with_lot, member_named, question_at, row_at}
 use Rattle.house_rows.specs.History.{counted}
-use Rattle.house_rows.specs.Limits.{most_cents, most_categories, most_items, most_members, most_questions, most_watches}
+use Rattle.house_rows.specs.Limits.{most_cents, most_categories, most_editions, most_items, most_members, most_questions, most_watches}
 use Rattle.house_rows.specs.Ratings.{other_party}
 use Rattle.house_rows.specs.Tables.{ItemRow, Tables, bands_for, row_opening}
 use Rattle.house_rows.specs.Verdict.{was_sold}
@@ -119,6 +120,12 @@ pub record RatingFits (t : Tables) (moment item from to : ℕ) (text : List ℕ)
   pub receiver : to ≡ other_party row.item.terms.seller row.item.terms.leader from
   pub text_fits : is_text 0 200 text ≡ true
 
+-- a valid band table, and room for it
+pub record TableFits (t : Tables) (moment : ℕ) (bands : List (ℕ × ℕ)) : Type 0 where
+  pub moment_fits : IsMoment moment
+  pub valid : IsBandTable bands
+  pub room : length t.editions + 1 < most_editions
+
 -- the change fits the tables
 abbrev pub ChangeFits : Tables → Change → Type 0
 ChangeFits t (Register moment name) = NameFits moment name.now (length t.members) most_members
@@ -133,6 +140,7 @@ ChangeFits t (Unwatch member item) = UnwatchFits t member item
 ChangeFits t (Ask item asker number text) = QuestionAsked t item asker number text.now
 ChangeFits t (Answer moment item asker number text) = AnswerFits t moment item asker number text.now
 ChangeFits t (Feedback moment item from to rating text) = RatingFits t moment item from to text.now
+ChangeFits t (SetBands moment bands) = TableFits t moment bands.now
 
 -- the new key of the change is free. A watch puts a row that may be there
 abbrev pub IsFree : Tables → Change → Type 0
@@ -148,3 +156,4 @@ IsFree t (Unwatch member item) = Unit {0}
 IsFree t (Ask item asker number text) = question_at t item asker number ≡ None
 IsFree t (Answer moment item asker number text) = Unit {0}
 IsFree t (Feedback moment item from to rating text) = is_given t item from ≡ false
+IsFree t (SetBands moment bands) = Unit {0}

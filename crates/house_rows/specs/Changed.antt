@@ -5,7 +5,7 @@ use Rattle.proxy.specs.Bids.{standing_of, met_by}
 use Rattle.proxy.specs.Kept.{Kept}
 use Rattle.house_rows.specs.declared.change.Change.{Change}
 use Rattle.house_rows.specs.declared.change.NewItem.{NewItem}
-use Rattle.house_rows.specs.declared.change.Change.TheVariants.{Register, AddCategory, List as Listed, Bid, Buy, Close, Settle, Watch, Unwatch, Ask, Answer, Feedback}
+use Rattle.house_rows.specs.declared.change.Change.TheVariants.{Register, AddCategory, List as Listed, Bid, Buy, Close, Settle, Watch, Unwatch, Ask, Answer, Feedback, SetBands}
 use Rattle.house_rows.specs.declared.item.Terms.{Terms}
 use Rattle.house_rows.specs.declared.state.State.TheVariants.{Open, Sold, Settled}
 use Rattle.house_rows.specs.declared.talk.Question.{Question}
@@ -127,4 +127,8 @@ changed t (Answer moment item asker number text) = record t {
 changed t (Feedback moment item from to rating text) = record t {
   clock = moment;
   feedback = put_by feedback_key (record { item = item; from = from; to = to; rating = rating; text = text.now }) t.feedback;
+}
+changed t (SetBands moment bands) = record t {
+  clock = moment;
+  editions = t.editions ++ record { edition = length t.editions + 2; first = length t.items + 1; bands = bands.now } ∷ [];
 }

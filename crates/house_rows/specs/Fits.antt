@@ -1,6 +1,8 @@
 -- Which rows fit: every number in its range, every text as its field takes it.
 use Rattle.std.specs.Prelude.{◌≡◌, ◌≢◌, ◌≤◌, ◌<◌, ℕ, Option, true, IfSome, is_some, Some}
+use Rattle.steps.specs.Table.{IsBandTable}
 use Rattle.proxy.specs.Kept.{Kept}
+use Rattle.house_rows.specs.declared.edition.Edition.{Edition}
 use Rattle.house_rows.specs.declared.item.Item.{Item}
 use Rattle.house_rows.specs.declared.item.OwnBid.{OwnBid}
 use Rattle.house_rows.specs.declared.item.OwnReserve.{OwnReserve}
@@ -9,7 +11,7 @@ use Rattle.house_rows.specs.declared.people.Category.{Category}
 use Rattle.house_rows.specs.declared.people.Member.{Member}
 use Rattle.house_rows.specs.declared.talk.Feedback.{Feedback}
 use Rattle.house_rows.specs.declared.talk.Question.{Question}
-use Rattle.house_rows.specs.Limits.{last_moment, most_bids, most_categories, most_cents, most_items, most_members, most_questions}
+use Rattle.house_rows.specs.Limits.{last_moment, most_bids, most_categories, most_cents, most_editions, most_items, most_members, most_questions}
 use Rattle.house_rows.specs.Bids.{BidRow}
 use Rattle.house_rows.specs.Text.{is_lot, is_text}
 use Rattle.house_rows.specs.Verdict.{was_sold}
@@ -110,3 +112,8 @@ pub record BidRowFits (b : BidRow) : Type 0 where
 pub record WatchRowFits (w : WatchRow) : Type 0 where
   pub member : IsMember w.member
   pub item : IsItem w.item
+
+-- an edition fits: its number, and its table
+pub record EditionFits (e : Edition) : Type 0 where
+  pub edition : IsWithin 2 most_editions e.edition
+  pub bands : IsBandTable e.bands

@@ -12,7 +12,7 @@ use Rattle.house_rows.specs.declared.settings.Settings.{Settings}
 use Rattle.house_rows.specs.declared.state.State.{State}
 use Rattle.house_rows.specs.declared.state.State.TheVariants.{Open, Sold, Unsold, Settled}
 use Rattle.house_rows.specs.History.{History}
-use Rattle.house_rows.specs.Listings.{Listing, bands_by, listed_opening, listings}
+use Rattle.house_rows.specs.Listings.{Listing, bands_by, edition_by, listed_opening, listings}
 use Rattle.house_rows.specs.Bids.{bids_on}
 
 -- who bought an item at once, and when
@@ -158,13 +158,13 @@ abbrev pub floor_of : List (ℕ × ℕ) → Terms → Option ℕ
 floor_of bands terms =
     if is_open terms.state then Some (if terms.count == 0 then terms.start else over bands terms.price) else None
 
--- an item as pages show it, by its band table
-abbrev pub shown : List (ℕ × ℕ) → Item → ItemShown
-shown bands it = record { item = it; floor = floor_of bands it.terms }
+-- an item as pages show it, by an edition and its band table
+abbrev pub shown : ℕ → List (ℕ × ℕ) → Item → ItemShown
+shown edition bands it = record { item = it; edition = edition; floor = floor_of bands it.terms }
 
--- a listed item as pages show it, by the band table of its listing
+-- a listed item as pages show it, by the edition of its listing
 abbrev pub shown_now : Settings → History → Listing → ItemShown
-shown_now settings h l = shown (bands_by settings l) (item_now settings h l)
+shown_now settings h l = shown (edition_by l) (bands_by settings l) (item_now settings h l)
 
 -- every item as pages show it, by number
 unfoldable pub items_shown : Settings → History → List ItemShown

@@ -1,6 +1,6 @@
 -- What every call of a keep promises beside its answer. A keep that rests on a disk promises of its rows only while the disk
 -- has returned what was written: while it is honest.
-use Rattle.std.specs.Prelude.{◌≡◌, ◌≤◌, ◌+◌, ◌⊎◌, length, ◌↔◌, ℕ, List, [], ◌∷◌, Bool, true, false, Option, Some, IfSome, Result, OnOk, IsErrOf, ◌==◌, filter, ◌≢◌, option_map}
+use Rattle.std.specs.Prelude.{◌≡◌, ◌≤◌, ◌<◌, ◌+◌, ◌⊎◌, length, ◌↔◌, ℕ, List, [], ◌∷◌, Bool, true, false, Option, Some, IfSome, Result, OnOk, IsErrOf, ◌==◌, filter, ◌≢◌, option_map}
 use Rattle.std.specs.List.{AllByRecursion}
 use Rattle.proxy.specs.Accepted.{AreAccepted}
 use Rattle.proxy.specs.Bids.{met_by, standing_of}
@@ -11,12 +11,12 @@ use Rattle.house_rows.specs.declared.item.Terms.{Terms}
 use Rattle.house_rows.specs.declared.fault.KeepFault.{KeepFault}
 use Rattle.house_rows.specs.declared.fault.KeepFault.TheVariants.{Store, Damaged}
 use Rattle.house_rows.specs.Asks.{IsFree}
-use Rattle.house_rows.specs.Fits.{BidRowFits, CategoryFits, FeedbackFits, IsMoment, ItemFits, MemberFits, QuestionFits, WatchRowFits, ReserveFits}
+use Rattle.house_rows.specs.Fits.{BidRowFits, CategoryFits, EditionFits, FeedbackFits, IsMoment, ItemFits, MemberFits, QuestionFits, WatchRowFits, ReserveFits}
 use Rattle.house_rows.specs.Editions.{BandTables, bands_in}
 use Rattle.house_rows.specs.Changed.{kept_met}
 use Rattle.house_rows.specs.Found.{terms_at}
 use Rattle.house_rows.specs.History.{counted}
-use Rattle.house_rows.specs.Limits.{most_bids, most_categories, most_cents, most_items, most_members, most_watches}
+use Rattle.house_rows.specs.Limits.{most_bids, most_categories, most_cents, most_editions, most_items, most_members, most_watches}
 use Rattle.house_rows.specs.Tables.{ItemRow, Tables, band_tables, row_opening}
 use Rattle.house_rows.specs.Verdict.{was_sold}
 
@@ -112,6 +112,9 @@ pub record AreSound (t : Tables) : Type 0 where
   pub few_watches : (m : ℕ) → counted (λ w. w.member == m) t.watches ≤ most_watches
   pub questions : AllByRecursion QuestionFits t.questions
   pub feedback : AllByRecursion FeedbackFits t.feedback
+  pub editions : AllByRecursion EditionFits t.editions
+  pub editions_in_turn : AreInTurn (λ e. e.edition) 2 t.editions
+  pub few_editions : length t.editions < most_editions
 
 -- the tables are sound, and these are their band tables
 pub record AreSoundBy (editions : BandTables) (t : Tables) : Type 0 where

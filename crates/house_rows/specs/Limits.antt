@@ -25,6 +25,10 @@ most_items = 1000000
 abbrev pub most_bids : ℕ
 most_bids = 10000
 
+-- editions of the band table
+abbrev pub most_editions : ℕ
+most_editions = 100
+
 -- of one member
 abbrev pub most_watches : ℕ
 most_watches = 200

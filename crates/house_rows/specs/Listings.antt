@@ -1,12 +1,22 @@
--- Items as they were listed.
+-- Items as they were listed, each by the newest band table.
 use Rattle.std.specs.Prelude.{ℕ, ◌+◌, List, [], ◌∷◌, ◌++◌, ◌==◌, Bool, false, length, find, Option, Some, None}
 use Rattle.proxy.specs.Opening.{Opening}
 use Rattle.house_rows.specs.declared.command.Command.{Command}
-use Rattle.house_rows.specs.declared.command.Command.TheVariants.{List as Listed}
+use Rattle.house_rows.specs.declared.command.Command.TheVariants.{List as Listed, SetBands}
 use Rattle.house_rows.specs.declared.settings.Settings.{Settings}
 use Rattle.house_rows.specs.History.{History}
 
--- the newest of band tables: the last of those that were set, or this one where there is none
+-- the band tables set so far, and the one that a command sets
+abbrev pub with_table : List (List (ℕ × ℕ)) → Command → List (List (ℕ × ℕ))
+with_table set (SetBands bands) = set ++ bands ∷ []
+with_table set _ = set
+
+-- the band tables that the house has set, in order
+abbrev pub tables_set : History → List (List (ℕ × ℕ))
+tables_set [] = []
+tables_set (e ∷ h) = with_table (tables_set h) e.command
+
+-- the newest table: the last of those that were set, or this one where there is none
 abbrev pub newest_of : List (ℕ × ℕ) → List (List (ℕ × ℕ)) → List (ℕ × ℕ)
 newest_of first [] = first
 newest_of first (bands ∷ set) = newest_of bands set
@@ -31,8 +41,8 @@ abbrev pub listed_opening : Listing → Opening
 listed_opening l = record { start = l.start; reserve = l.reserve }
 
 -- the listing that a command makes, if it is one
-abbrev pub listing_in : ℕ → ℕ → Command → List Listing
-listing_in number caller (Listed category lot title text start buy_now end reserve) = record {
+abbrev pub listing_in : ℕ → List (List (ℕ × ℕ)) → ℕ → Command → List Listing
+listing_in number set caller (Listed category lot title text start buy_now end reserve) = record {
   item = number;
   seller = caller;
   category = category;
@@ -42,17 +52,21 @@ listing_in number caller (Listed category lot title text start buy_now end reser
   start = start;
   buy_now = buy_now;
   end = end;
-  set = [];
+  set = set;
   reserve = reserve;
 } ∷ []
-listing_in number caller _ = []
+listing_in number set caller _ = []
 
 -- the listings, each with the next number
 abbrev pub listings : History → List Listing
 listings [] = []
-listings (e ∷ h) = listings h ++ listing_in (length (listings h) + 1) e.caller e.command
+listings (e ∷ h) = listings h ++ listing_in (length (listings h) + 1) (tables_set h) e.caller e.command
 
--- the band table by which what was listed goes: the newest of them, or the one that the house was set up with
+-- the edition by which what was listed goes: 1 more than the tables that were set before it
+abbrev pub edition_by : Listing → ℕ
+edition_by l = length l.set + 1
+
+-- and its band table: the newest of them, or the one that the house was set up with
 abbrev pub bands_by : Settings → Listing → List (ℕ × ℕ)
 bands_by settings l = newest_of settings.bands l.set
 

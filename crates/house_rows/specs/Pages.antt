@@ -19,8 +19,10 @@ use Rattle.house_rows.specs.declared.settings.Settings.{Settings}
 use Rattle.house_rows.specs.declared.talk.Feedback.{Feedback}
 use Rattle.house_rows.specs.Limits.{most_shown}
 use Rattle.house_rows.specs.History.{History, clock, counted}
+use Rattle.house_rows.specs.Listings.{newest_of, tables_set}
 use Rattle.house_rows.specs.People.{categories, members}
 use Rattle.house_rows.specs.Bids.{bids_on}
+use Rattle.house_rows.specs.Editions.{table_of}
 use Rattle.house_rows.specs.Items.{items_shown, shown_at}
 use Rattle.house_rows.specs.Questions.{published, questions, waiting}
 use Rattle.house_rows.specs.Ratings.{feedback, is_minus, is_plus, is_zero}
@@ -106,6 +108,11 @@ abbrev pub item_page : Option ItemShown → Page
 item_page None = Refused Unknown
 item_page (Some it) = OneItem it
 
+-- the page of a band table, if there is one
+abbrev pub table_page : Option (List (ℕ × ℕ)) → Page
+table_page None = Refused Unknown
+table_page (Some bands) = Bands bands
+
 -- the page of a member, if there is one, with how often it was rated
 abbrev pub member_page : Option Member → Ratings → Page
 member_page None ratings = Refused Unknown
@@ -120,7 +127,8 @@ unfoldable pub page_of : Settings → History → ℕ → Query → Page
 page_of settings h c query.House = for_all (members h) c (House
     (record { members = length (members h); categories = length (categories h); items = length (items_shown settings h) })
     (clock h) settings.rate settings.zone)
-page_of settings h c query.Bands = for_all (members h) c (Bands settings.bands)
+page_of settings h c query.Bands = for_all (members h) c (Bands (newest_of settings.bands (tables_set h)))
+page_of settings h c (query.BandsOf edition) = for_all (members h) c (table_page (table_of settings.bands (tables_set h) edition))
 page_of settings h c query.Categories = for_all (members h) c (Categories (categories h))
 page_of settings h c (query.ItemsIn category from) = for_all (members h) c (
     if_known (list_any (λ k. k.category == category) (categories h))

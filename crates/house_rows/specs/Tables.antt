@@ -1,8 +1,9 @@
 -- The tables that a history leaves: the rows of each, in the order of their keys.
-use Rattle.std.specs.Prelude.{ℕ, List, [], map}
+use Rattle.std.specs.Prelude.{ℕ, List, map}
 use Rattle.proxy.specs.Opening.{Opening}
 use Rattle.proxy.specs.Bids.{standing_of}
 use Rattle.proxy.specs.Kept.{Kept}
+use Rattle.house_rows.specs.declared.edition.Edition.{Edition}
 use Rattle.house_rows.specs.declared.item.Item.{Item}
 use Rattle.house_rows.specs.declared.people.Category.{Category}
 use Rattle.house_rows.specs.declared.people.Member.{Member}
@@ -11,7 +12,7 @@ use Rattle.house_rows.specs.declared.talk.Feedback.{Feedback}
 use Rattle.house_rows.specs.declared.talk.Question.{Question}
 use Rattle.house_rows.specs.History.{History, clock}
 use Rattle.house_rows.specs.People.{categories, members}
-use Rattle.house_rows.specs.Editions.{BandTables, bands_in}
+use Rattle.house_rows.specs.Editions.{BandTables, bands_in, edition_in, editions}
 use Rattle.house_rows.specs.Listings.{Listing, bands_by, listed_opening, listings}
 use Rattle.house_rows.specs.Bids.{BidRow, bid_rows, bids_on}
 use Rattle.house_rows.specs.Items.{item_now}
@@ -39,10 +40,15 @@ pub record Tables : Type 0 where
   pub watches : List WatchRow
   pub questions : List Question
   pub feedback : List Feedback
+  pub editions : List Edition
 
 -- all band tables
 abbrev pub band_tables : Tables → BandTables
-band_tables t = record { settings = t.settings; later = [] }
+band_tables t = record { settings = t.settings; later = t.editions }
+
+-- the edition of an item, by the tables
+abbrev pub edition_for : Tables → ℕ → ℕ
+edition_for t item = edition_in (band_tables t) item
 
 -- the band table of an item, by the tables
 abbrev pub bands_for : Tables → ℕ → List (ℕ × ℕ)
@@ -67,4 +73,5 @@ tables_of settings h = record {
   watches = watches h;
   questions = questions h;
   feedback = feedback h;
+  editions = editions h;
 }

@@ -1,5 +1,5 @@
 -- Which rows a look-up or a list of a keep takes: that these fit is enough for it not to be damaged.
-use Rattle.std.specs.Prelude.{◌≡◌, ◌==◌, ◌||◌, ◌&&◌, if◌then◌else◌, ℕ, List, Bool, true, Result, IsErrOf, nat_lt}
+use Rattle.std.specs.Prelude.{◌≡◌, ◌==◌, ◌||◌, ◌&&◌, if◌then◌else◌, ℕ, List, Bool, true, Result, IsErrOf, is_some, nat_le, nat_lt}
 use Rattle.std.specs.List.{AllByRecursion}
 use Rattle.proxy.specs.Bids.{is_leader}
 use Rattle.house_rows.specs.declared.fault.KeepFault.{KeepFault}
@@ -26,6 +26,12 @@ abbrev pub may_be_party : ℕ → ItemRow → Bool
 may_be_party member row =
     (member == 0)
     || ((row.item.terms.seller == member) || is_leader row.item.terms.leader member)
+
+-- whether a member sells an item, it has a reserve, and its number is not below another
+abbrev pub has_own_reserve : ℕ → ℕ → ItemRow → Bool
+has_own_reserve member from row =
+    (row.item.terms.seller == member)
+    && (is_some row.standing.reserve && nat_le from row.item.terms.item)
 
 -- where a list begins that is asked for from a number on: at the last number of 32 bits at most
 abbrev pub start_of : ℕ → ℕ

@@ -1,14 +1,15 @@
 -- What an accepted command is told.
-use Rattle.std.specs.Prelude.{ℕ, ◌-◌, true, false, not, ◌&&◌, length, Option, Some, None, unwrap_or}
+use Rattle.std.specs.Prelude.{ℕ, ◌+◌, ◌-◌, true, false, not, ◌&&◌, length, Option, Some, None, unwrap_or}
 use Rattle.settle.specs.Fee.{fee_of}
 use Rattle.house_rows.specs.declared.command.Command.{Command}
-use Rattle.house_rows.specs.declared.command.Command.TheVariants.{Register, AddCategory, List as Listed, Bid, Buy, Close, Settle, Watch, Unwatch, Ask, Answer, Feedback}
+use Rattle.house_rows.specs.declared.command.Command.TheVariants.{Register, AddCategory, List as Listed, Bid, Buy, Close, Settle, Watch, Unwatch, Ask, Answer, Feedback, SetBands}
 use Rattle.house_rows.specs.declared.item.ItemShown.{ItemShown}
 use Rattle.house_rows.specs.declared.rating.Rating.{Rating}
 use Rattle.house_rows.specs.declared.settings.Settings.{Settings}
 use Rattle.house_rows.specs.declared.told.Told.{Told}
-use Rattle.house_rows.specs.declared.told.Told.TheVariants.{Registered, Added, Listing, Placed, Bought, Closed, Settlement, Watched, Question, Rated, Nothing}
+use Rattle.house_rows.specs.declared.told.Told.TheVariants.{Registered, Added, Listing, Placed, Bought, Closed, Settlement, Watched, Question, Rated, Edition, Nothing}
 use Rattle.house_rows.specs.History.{History, counted}
+use Rattle.house_rows.specs.Listings.{tables_set}
 use Rattle.house_rows.specs.People.{categories, members}
 use Rattle.house_rows.specs.Items.{close_sells, is_due, items_shown, shown_at}
 use Rattle.house_rows.specs.Questions.{ask_count}
@@ -52,3 +53,4 @@ told settings after moment caller (Unwatch i) before = Watched i false
 told settings after moment caller (Ask i text) before = Question caller i (ask_count (own_questions after caller) caller i)
 told settings after moment caller (Answer i asker number text) before = Question asker i number
 told settings after moment caller (Feedback i rating text) before = told_rated caller rating (shown_at (items_shown settings after) i)
+told settings after moment caller (SetBands bands) before = Edition (length (tables_set after) + 1)

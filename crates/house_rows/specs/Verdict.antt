@@ -1,10 +1,11 @@
 -- The verdict on a command: the first rule that fails gives the refusal, and where none fails it is accepted.
-use Rattle.std.specs.Prelude.{◌≡◌, ℕ, List, [], ◌∷◌, ◌++◌, Bool, true, false, not, ◌==◌, ◌&&◌, ◌||◌, nat_le, nat_lt, length, Option, Some, None, is_none, unwrap_or}
+use Rattle.std.specs.Prelude.{◌≡◌, ℕ, ◌+◌, List, [], ◌∷◌, ◌++◌, Bool, true, false, not, ◌==◌, ◌&&◌, ◌||◌, nat_le, nat_lt, length, Option, Some, None, is_none, unwrap_or}
 use Rattle.std.specs.List.{list_any}
+use Rattle.steps.specs.Valid.{is_band_table}
 use Rattle.proxy.specs.Bids.{greatest, is_leader}
 use Rattle.proxy.specs.Rules.{first_failing}
 use Rattle.house_rows.specs.declared.command.Command.{Command}
-use Rattle.house_rows.specs.declared.command.Command.TheVariants.{Register, AddCategory, List as Listed, Bid, Buy, Close, Settle, Watch, Unwatch, Ask, Answer, Feedback}
+use Rattle.house_rows.specs.declared.command.Command.TheVariants.{Register, AddCategory, List as Listed, Bid, Buy, Close, Settle, Watch, Unwatch, Ask, Answer, Feedback, SetBands}
 use Rattle.house_rows.specs.declared.item.ItemShown.{ItemShown}
 use Rattle.house_rows.specs.declared.item.Terms.{Terms}
 use Rattle.house_rows.specs.declared.people.Category.{Category}
@@ -15,9 +16,10 @@ use Rattle.house_rows.specs.declared.refusal.Refusal.TheVariants.{NoCaller, Hous
 use Rattle.house_rows.specs.declared.settings.Settings.{Settings}
 use Rattle.house_rows.specs.declared.state.State.{State}
 use Rattle.house_rows.specs.declared.state.State.TheVariants.{Sold, Settled}
-use Rattle.house_rows.specs.Limits.{last_moment, most_bids, most_categories, most_cents, most_items, most_members, most_questions, most_watches}
+use Rattle.house_rows.specs.Limits.{last_moment, most_bids, most_categories, most_cents, most_editions, most_items, most_members, most_questions, most_watches}
 use Rattle.house_rows.specs.Text.{is_lot, is_text, same_text}
 use Rattle.house_rows.specs.History.{History, counted, clock}
+use Rattle.house_rows.specs.Listings.{tables_set}
 use Rattle.house_rows.specs.People.{categories, members}
 use Rattle.house_rows.specs.Bids.{bids_on}
 use Rattle.house_rows.specs.Items.{is_open, items_shown, shown_at}
@@ -36,6 +38,7 @@ is_house_command (Register name) = true
 is_house_command (AddCategory name) = true
 is_house_command Close = true
 is_house_command (Settle i) = true
+is_house_command (SetBands bands) = true
 is_house_command _ = false
 
 -- the rules that every command begins with
@@ -160,6 +163,10 @@ feedback_rules caller rating text is_given terms =
     ∷ (is_given, AlreadyGiven)
     ∷ (is_none rating || not (is_text 0 200 text), Range) ∷ []
 
+-- of a band table, by how many editions there are
+abbrev pub table_rules : List (ℕ × ℕ) → ℕ → List Rule
+table_rules bands editions = (not (is_band_table bands), Range) ∷ (nat_le most_editions editions, Limit) ∷ []
+
 -- each command's own rules, by what everybody sees, what the caller has of its own and what waits for it
 abbrev pub rules : Settings → History → ℕ → ℕ → Command → List Rule
 rules settings h moment caller (Register name) = register_rules name (members h)
@@ -185,6 +192,7 @@ rules settings h moment caller (Answer i asker number text) =
 rules settings h moment caller (Feedback i rating text) =
     of_item (shown_at (items_shown settings h) i) (by_terms (feedback_rules caller rating text
     (list_any (λ f. (f.item == i) && (f.from == caller)) (feedback h))))
+rules settings h moment caller (SetBands bands) = table_rules bands (length (tables_set h) + 1)
 
 -- the verdict: none where the command is accepted
 unfoldable pub verdict : Settings → History → ℕ → ℕ → Command → Option Refusal

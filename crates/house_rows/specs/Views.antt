@@ -9,6 +9,7 @@ use Rattle.house_rows.specs.declared.settings.Settings.{Settings}
 use Rattle.house_rows.specs.declared.talk.Feedback.{Feedback}
 use Rattle.house_rows.specs.declared.talk.Question.{Question}
 use Rattle.house_rows.specs.History.{History, clock}
+use Rattle.house_rows.specs.Listings.{tables_set}
 use Rattle.house_rows.specs.People.{categories, members}
 use Rattle.house_rows.specs.Listings.{Listing, ReserveRow, listings, reserve_rows}
 use Rattle.house_rows.specs.Items.{items_shown}
@@ -25,6 +26,8 @@ pub record Public : Type 0 where
   pub items : List ItemShown
   pub questions : List Question
   pub feedback : List Feedback
+  -- the band tables that were set, in order
+  pub tables : List (List (ℕ × ℕ))
 
 -- the public view of a history
 abbrev pub public_view : Settings → History → Public
@@ -36,6 +39,7 @@ public_view settings h = record {
   items = items_shown settings h;
   questions = published h;
   feedback = feedback h;
+  tables = tables_set h;
 }
 
 -- a member's own maximum on an item

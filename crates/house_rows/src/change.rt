@@ -102,4 +102,9 @@ pub enum Change<'c> {
         rating: Rating,
         text: &'c str,
     },
+    /// A band table comes, as the next edition. Each row is (at, step) in cents.
+    SetBands {
+        moment: u64,
+        bands: &'c [(u64, u64)],
+    },
 }

@@ -1,5 +1,6 @@
-//! The twelve commands.
+//! The commands.
 use crate::rating::Rating;
+use crate::rows::Rows;
 use crate::text::Text;
 
 /// What a caller asks the house to do. Numbers, amounts and texts are as they were asked for, in range or
@@ -90,5 +91,10 @@ pub enum Command {
         rating: Option<Rating>,
         /// The text.
         text: Text,
+    },
+    /// The house sets a new band table. Items that are listed keep theirs.
+    SetBands {
+        /// The rows, each as (at, step) in cents.
+        bands: Rows<(u64, u64)>,
     },
 }

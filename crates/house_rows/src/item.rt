@@ -51,6 +51,8 @@ pub struct Item {
 pub struct ItemShown {
     /// The item.
     pub item: Item,
+    /// The edition of its band table, that of its listing.
+    pub edition: u32,
     /// The least maximum that is taken of who doesn't lead, in cents; none unless the item is open.
     pub floor: Option<u64>,
 }

@@ -1,18 +1,19 @@
 //! Whatever keeps the tables of the house.
-ghost use Rattle.std.specs.Prelude.{◌≡◌, ◌≢◌, ◌≤◌, ◌==◌, ◌&&◌, ◌⊎◌, All, AllPairs, true, false, Bool, IfOk, IfSome, OnOk, OnErr, filter, is_some, length, nat_le, not, take};
+ghost use Rattle.std.specs.Prelude.{◌≡◌, ◌≢◌, ◌≤◌, ◌<◌, ◌^◌, ◌==◌, ◌&&◌, ◌⊎◌, All, AllPairs, true, false, Bool, IfOk, IfSome, OnOk, OnErr, filter, is_some, length, nat_le, not, option_map, take};
 ghost use Rattle.settle.specs.Statement.{IsSale, is_party};
 ghost use Rattle.std.specs.List.{AllByRecursion, list_any};
 ghost use Rattle.house_rows.specs.Asks.{ChangeFits};
 ghost use Rattle.house_rows.specs.Changed.{changed, is_item};
+ghost use Rattle.house_rows.specs.Editions.{bands_of, newest_in};
 ghost use Rattle.house_rows.specs.Fits.{BidRowFits, CategoryFits, FeedbackFits, IsItem, IsMember, IsMoment, IsWithin, ItemFits, MemberFits, OwnBidFits, OwnReserveFits, QuestionFits, StandingFits, TermsFit, WatchRowFits};
 ghost use Rattle.house_rows.specs.Found.{all_items, all_published, ask_count, best_of, category_at, category_named, counts_of, due_at, feedback_to, first_waiting, is_given, is_watched, item_at, item_with_lot, items_in, items_watched, member_named, own_bids, own_reserves, published_on, question_at, questions_of, reserve_at, row_at, sales_to, sells, standing_at, terms_at, waiting_for, watch_count};
 ghost use Rattle.house_rows.specs.Items.{is_due};
 ghost use Rattle.house_rows.specs.Keeping.{AllStand, AreSound, ChangeFaults, Faults, IsRead, RowFits, StandsAt, StandsIn};
-ghost use Rattle.house_rows.specs.Taken.{FirstFit, FitWhere, IsUndamaged, ItemsFitWhere, may_be_party, start_of};
+ghost use Rattle.house_rows.specs.Taken.{FirstFit, FitWhere, has_own_reserve, IsUndamaged, ItemsFitWhere, may_be_party, start_of};
 ghost use Rattle.house_rows.specs.Limits.{most_categories, most_items, most_shown};
 ghost use Rattle.house_rows.specs.Pages.{member_at, ratings_of, sale_of};
 ghost use Rattle.house_rows.specs.Reached.{FitsSoFar};
-ghost use Rattle.house_rows.specs.Tables.{Tables, band_tables};
+ghost use Rattle.house_rows.specs.Tables.{Tables, band_tables, edition_for};
 
 use crate::change::Change;
 use crate::editions::Editions;
@@ -24,6 +25,7 @@ use crate::talk::{Feedback, Question};
 use cents::Cents;
 use proxy::Standing;
 use settle::Sold;
+use steps::Bands;
 
 /// A keep of the tables. Look-ups and lists are exact, and leave the tables; `apply` makes a whole
 /// change or none.
@@ -55,6 +57,24 @@ pub trait Keep {
     /// The settings, and all band tables.
     fn editions(&self) -> Result<&Editions, KeepFault>
         ensures value { is_honest self.now → IfOk result (λ v. v.now ≡ band_tables (content self.now)) }
+        ensures faults { Faults result (is_honest self.now) (is_failed self.now) (content self.now) }
+        ensures damaged { is_honest self.now → IsUndamaged result };
+
+    /// The number of the newest edition of the band table.
+    fn newest(&self) -> Result<u32, KeepFault>
+        ensures value { is_honest self.now → IfOk result (λ v. v ≡ newest_in (band_tables (content self.now))) }
+        ensures faults { Faults result (is_honest self.now) (is_failed self.now) (content self.now) }
+        ensures damaged { is_honest self.now → IsUndamaged result };
+
+    /// The edition by which an item goes, or would go if it came next.
+    fn edition_of(&self, item: u64) -> Result<u32, KeepFault>
+        ensures value { is_honest self.now → IfOk result (λ v. v ≡ edition_for (content self.now) item) }
+        ensures faults { Faults result (is_honest self.now) (is_failed self.now) (content self.now) }
+        ensures damaged { is_honest self.now → IsUndamaged result };
+
+    /// The band table of an edition, if there is one.
+    fn bands_of(&self, edition: u64) -> Result<Option<&Bands>, KeepFault>
+        ensures value { is_honest self.now → IfOk result (λ v. option_map (λ b. b.now) v ≡ bands_of (band_tables (content self.now)) edition) }
         ensures faults { Faults result (is_honest self.now) (is_failed self.now) (content self.now) }
         ensures damaged { is_honest self.now → IsUndamaged result };
 
@@ -274,13 +294,17 @@ pub trait Keep {
             → ItemsFitWhere (is_item item) (content self.old) → IsUndamaged result }
         ensures read { IsRead content is_failed is_honest may_leave self.old self.new };
 
-    /// A member's reserves on what it sells, from an item on; at most fifty.
+    /// A member's reserves on what it sells, from an item on; at most fifty. The list takes the number
+    /// of each item that the member sells.
     fn reserves_of(&mut self, member: u64, from: u64) -> Result<Vec<OwnReserve>, KeepFault>
         ensures value { is_honest self.new → IfOk result (λ v. v.items ≡ own_reserves (content self.old) member from) }
         ensures fits { IfOk result (λ v. AllByRecursion OwnReserveFits v.items) }
         ensures faults { Faults result (is_honest self.new) (is_failed self.new) (content self.old) }
         ensures damaged { is_honest self.new
-            → ItemsFitWhere (λ row. row.item.terms.seller == member) (content self.old)
+            → FitWhere (λ row. row.item.terms.seller == member) (λ row. row.item.terms.item < 2 ^ 32)
+            (content self.old).items
+            → AllByRecursion (RowFits (content self.old)) (take most_shown
+            (filter (has_own_reserve member from) (content self.old).items))
             → IsUndamaged result }
         ensures read { IsRead content is_failed is_honest may_leave self.old self.new };
 

@@ -38,7 +38,8 @@ pub use fault::KeepFault;
 pub use item::{Due, Item, ItemShown, OwnBest, OwnBid, OwnReserve, Terms};
 pub use keep::Keep;
 pub use limits::{
-    MOST_CATEGORIES, MOST_ITEMS, MOST_MEMBERS, MOST_QUESTIONS, MOST_SHOWN, MOST_WATCHES,
+    MOST_CATEGORIES, MOST_EDITIONS, MOST_ITEMS, MOST_MEMBERS, MOST_QUESTIONS, MOST_SHOWN,
+    MOST_WATCHES,
 };
 pub use message::Message;
 pub use page::Page;

@@ -9,6 +9,9 @@ pub const MOST_CATEGORIES: u32 = 1_000;
 /// The greatest number of an item, so how many there may be.
 pub const MOST_ITEMS: u32 = 1_000_000;
 
+/// The greatest number of an edition of the band table, so how many there may be.
+pub const MOST_EDITIONS: u32 = 100;
+
 /// How many items a member may watch at a time.
 pub const MOST_WATCHES: u64 = 200;
 

@@ -25,7 +25,7 @@ pub enum Page {
         /// The rule of the zone by which days are counted.
         zone: Text,
     },
-    /// The band table, each row as (at, step) in cents.
+    /// A band table, each row as (at, step) in cents.
     Bands(Rows<(u64, u64)>),
     /// Categories, by number.
     Categories(Rows<Category>),

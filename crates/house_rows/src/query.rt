@@ -6,8 +6,13 @@ use settle::Day;
 pub enum Query {
     /// The house's counts, clock, rate and zone.
     House,
-    /// The band table.
+    /// The newest band table.
     Bands,
+    /// The band table of an edition.
+    BandsOf {
+        /// The number of the edition.
+        edition: u64,
+    },
     /// All categories.
     Categories,
     /// The items of a category, from a number on.

@@ -51,7 +51,7 @@ impl Rate {
 /// What a house is set up with. It never changes.
 #[derive(Debug, Drop)]
 pub struct Settings {
-    /// The band table.
+    /// The first band table.
     pub bands: Bands,
     /// The rate of the fee.
     pub rate: Rate,

@@ -81,6 +81,11 @@ pub enum Told {
         /// The number of the member that is rated.
         to: u32,
     },
+    /// A band table came.
+    Edition {
+        /// Its number.
+        edition: u32,
+    },
     /// There is no such item, or no such rating. An accepted command is never told so.
     Nothing,
 }

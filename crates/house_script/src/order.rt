@@ -69,6 +69,9 @@ fn command(words: &mut Words<'_>) -> Result<Command, Fault> {
         }),
         "list" => listing(words),
         "close" => Ok(Command::Close),
+        "set_bands" => Ok(Command::SetBands {
+            bands: words.pairs()?,
+        }),
         _ => on_an_item(words, name),
     }
 }

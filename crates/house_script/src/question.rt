@@ -129,7 +129,35 @@ fn on_feedback<K: Keep>(
         "ratings" => line(alloc, keep.ratings(first)),
         "feedback" => line(alloc, keep.feedback_for(first, second)),
         "all_feedback" => line(alloc, keep.all_feedback()),
+        _ => on_band_tables(alloc, keep, name, first),
+    }
+}
+
+fn on_band_tables<K: Keep>(
+    alloc: Global,
+    keep: &mut K,
+    name: &str,
+    number: u64,
+) -> Result<String, Fault>
+    ensures read { IsRead K.content K.is_failed K.is_honest K.may_leave keep.old keep.new }
+{
+    match name {
+        "newest" => line(alloc, keep.newest()),
+        "edition" => line(alloc, keep.edition_of(number)),
+        "bands" => line(alloc, bands(alloc, keep, number)),
         _ => Err(Fault::Script),
+    }
+}
+
+// The rows of the band table of an edition, if there is one.
+fn bands<K: Keep>(
+    alloc: Global,
+    keep: &K,
+    edition: u64,
+) -> Result<Option<Vec<(u64, u64)>>, KeepFault> {
+    match keep.bands_of(edition)? {
+        Some(bands) => Ok(Some(bands.rows().to_vec(alloc)?)),
+        None => Ok(None),
     }
 }
 

@@ -96,6 +96,14 @@ impl Shown for u32 {
     }
 }
 
+/// A row of a band table.
+impl Shown for (u64, u64) {
+    fn show(&self, line: &mut String) -> Result<(), AllocError> {
+        let (at, step) = *self;
+        write!(line, "at {at} step {step}")
+    }
+}
+
 impl Shown for bool {
     fn show(&self, line: &mut String) -> Result<(), AllocError> {
         write!(line, "{self}")

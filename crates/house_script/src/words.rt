@@ -2,7 +2,7 @@
 ghost use Rattle.std.specs.Prelude.{◌<◌};
 
 use crate::fault::Fault;
-use house_rows::{Rating, Text};
+use house_rows::{Rating, Rows, Text};
 use std::alloc::{AllocError, Global};
 use std::str::SplitWhitespace;
 
@@ -62,6 +62,20 @@ impl<'l> Words<'l> {
             None => Ok(None),
             Some(word) => Ok(Some(word.parse()?)),
         }
+    }
+
+    /// The pairs of numbers that all other words spell.
+    pub(crate) fn pairs(&mut self) -> Result<Rows<(u64, u64)>, Fault> {
+        let mut pairs = Vec::new(self.alloc);
+        for _ in 0..u64::MAX {
+            let Some(word) = self.next() else {
+                break;
+            };
+            let Ok(()) = pairs.push((word.parse()?, self.number()?)) else {
+                return Err(Fault::Memory);
+            };
+        }
+        Ok(Rows::new(pairs))
     }
 
     /// The rating that the next word spells, or none where it spells no rating.

@@ -20,6 +20,7 @@ pub record HaveSameTalk (t u : Tables) : Type 0 where
 -- everything public that may change is the same
 pub record HaveSameRows (t u : Tables) : Type 0 where
   pub people : HaveSamePeople t u
+  pub editions : t.editions ≡ u.editions
   pub items : all_items t ≡ all_items u
   pub talk : HaveSameTalk t u
 

@@ -1,7 +1,7 @@
 //! Whether two rows are the same, and two lists of them.
 ghost use Rattle.std.specs.Prelude.{◌≡◌, ◌↔◌, true};
 
-use house_rows::{Category, Feedback, Item, Member, Question, Terms, Text};
+use house_rows::{Category, Edition, Feedback, Item, Member, Question, Terms, Text};
 
 /// Values that can be compared as clauses see them.
 pub trait Same {
@@ -31,6 +31,14 @@ impl Same for Member {
 impl Same for Category {
     fn is_same(&self, other: &Category) -> bool {
         self.category == other.category && self.name.is_same(&other.name)
+    }
+}
+
+impl Same for Edition {
+    fn is_same(&self, other: &Edition) -> bool {
+        self.edition == other.edition
+            && self.first == other.first
+            && are_same(self.bands.rows(), other.bands.rows())
     }
 }
 

@@ -50,6 +50,18 @@ fn have_same_categories<K: Keep>(left: &mut K, right: &mut K) -> Result<bool, Ke
     Ok(are_same(&categories, &others))
 }
 
+// Whether the same band tables were set, each from the same item on.
+fn have_same_editions<K: Keep>(left: &K, right: &K) -> Result<bool, KeepFault>
+    ensures told { K.is_honest left.now → K.is_honest right.now → IfOk result (λ same.
+        (same ≡ true) ↔ ((K.content left.now).editions ≡ (K.content right.now).editions)) }
+    ensures faults { PairFaults result (K.is_honest left.now × K.is_honest right.now)
+        (K.is_failed left.now) (K.is_failed right.now) (K.content left.now) (K.content right.now) }
+{
+    let editions = left.editions()?;
+    let others = right.editions()?;
+    Ok(are_same(editions.later(), others.later()))
+}
+
 // Whether the items are the same.
 fn have_same_items<K: Keep>(left: &mut K, right: &mut K) -> Result<bool, KeepFault>
     ensures told { K.is_honest left.new → K.is_honest right.new → IfOk result (λ same.
@@ -157,6 +169,9 @@ pub(crate) fn have_same_rows<K: Keep>(left: &mut K, right: &mut K) -> Result<boo
     ensures right { IsRead K.content K.is_failed K.is_honest K.may_leave right.old right.new }
 {
     if !have_same_people(left, right)? {
+        return Ok(false);
+    }
+    if !have_same_editions(left, right)? {
         return Ok(false);
     }
     if !have_same_items(left, right)? {

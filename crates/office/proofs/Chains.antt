@@ -4,7 +4,7 @@ use Rattle.std.specs.Prelude.{if◌then◌else◌, nat_lt}
 use Rattle.std.specs.Io.KnownBytes.{Appends}
 use Rattle.std.specs.List.{FoldsTo}
 use Rattle.std.proofs.lemmas.Fn.{FoldsTo-push}
-use Rattle.site_asks.specs.declared.asked.Asked.{Asked}
+use Rattle.site_request.specs.declared.asked.Asked.{Asked}
 use Rattle.office.specs.declared.fault.ImportFault.{ImportFault}
 use Rattle.office.specs.declared.fault.ImportFault.TheVariants as importing
 use Rattle.office.specs.declared.lot.Lot.{Lot}

@@ -1,7 +1,7 @@
 -- How an import ends before the end of its file.
 use Rattle.std.proofs.Common.{◌≡◌, ℕ, ◌+◌, List, [], ◌∷◌, ◌++◌, Option, append_assoc, append-nil, refl, sym, ◌∙◌, inl, inr}
 use Rattle.csv.specs.declared.reader.Reader.{Reader}
-use Rattle.site_asks.specs.declared.asked.Asked.{Asked}
+use Rattle.site_request.specs.declared.asked.Asked.{Asked}
 use Rattle.steps.specs.Reading.{HasRead, records_of}
 use Rattle.steps.proofs.ReadLemmas.{read_first}
 use Rattle.office.specs.declared.fault.ImportFault.{ImportFault}

@@ -10,11 +10,11 @@ use Rattle.std.proofs.lemmas.Str.{digit_value_digit}
 use Rattle.std.proofs.lemmas.Str.Parse.{digits_value_short}
 use Rattle.csv.specs.Records.{field_at}
 use Rattle.pages_json.specs.Words.{object_of, text_of}
-use Rattle.site_asks.specs.Asked.{IsAsked, asked_of}
-use Rattle.site_asks.specs.declared.asked.Asked.{Asked}
+use Rattle.site_request.specs.Asked.{IsAsked, asked_of}
+use Rattle.site_request.specs.declared.asked.Asked.{Asked}
 use Rattle.site_digits.specs.Digits.{digits_behind}
-use Rattle.site_orders.specs.Commands.{command_of}
-use Rattle.site_orders.specs.declared.order.Order.TheVariants as order
+use Rattle.site_request.specs.Commands.{command_of}
+use Rattle.site_request.specs.declared.order.Order.TheVariants as order
 use Rattle.office.specs.Listings.{CanList, IsListable, IsOrderOf, listing_by, listing_of}
 use Rattle.office.specs.Lots.{IsChoiceAt, Spells, digits_in}
 use Rattle.office.specs.Orders.{body_of, message_of, order_text, tree_with}

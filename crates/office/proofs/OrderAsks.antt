@@ -7,22 +7,22 @@ use Rattle.house_rows.specs.Limits.{last_moment}
 use Rattle.house_rows.specs.declared.command.Command.{Command}
 use Rattle.house_rows.specs.declared.message.Message.TheVariants.{Order}
 use Rattle.site_digits.specs.Digits.{count_in}
-use Rattle.site_orders.specs.Commands.{command_of}
-use Rattle.site_orders.specs.declared.order.Order.TheVariants as order
-use Rattle.site_routes.specs.Routes.{route_of}
-use Rattle.site_routes.specs.declared.route.Route.TheVariants as route
+use Rattle.site_request.specs.Commands.{command_of}
+use Rattle.site_request.specs.declared.order.Order.TheVariants as order
+use Rattle.site_request.specs.Routes.{route_of}
+use Rattle.site_request.specs.declared.route.Route.TheVariants as route
 use Rattle.wire.specs.Fields.{ends_connection}
 use Rattle.wire.specs.Frame.{message_of as framed_of}
 use Rattle.wire.specs.Message.{Message as Framed}
-use Rattle.site_asks.specs.Asked.{IsAsked, asked_of, asks_of, called, message_of, ordered}
-use Rattle.site_asks.specs.Heads.{caller_in, moment_in, numbered, up_to_last}
+use Rattle.site_request.specs.Asked.{IsAsked, asked_of, asks_of, called, message_of, ordered}
+use Rattle.site_request.specs.Heads.{caller_in, moment_in, numbered, up_to_last}
 use Rattle.office.proofs.ReadNumbers.{count_read, digits_own}
 use Rattle.office.proofs.OrderFrames.{goes_on, member_field, moment_field, order_frame}
 use Rattle.office.proofs.OrderHeads.{order_bytes, order_head}
 use Rattle.office.proofs.OrderRoutes.{items_route}
 
 by_parts : (m : Framed) (member moment : ℕ) (c : Command) → caller_in m ≡ Some member → moment_in m ≡ Some moment
-    → route_of m.method m.target ≡ Ok route.List → command_of order.List m.body ≡ Ok c
+    → route_of m.method m.target ≡ Ok (route.Order order.List) → command_of order.List m.body ≡ Ok c
     → ends_connection m.minor m.fields ≡ false
     → asked_of (Ok m) ≡ record { closes = false; message = Order moment member c }
 unfolding asked_of message_of asks_of called ordered

@@ -22,9 +22,9 @@ use Rattle.house_rows.specs.declared.command.Command.TheVariants as command
 use Rattle.pages_json.specs.Words.{AreInOrder, keyed, object_of, put_all, text_of, whole}
 use Rattle.site_bodies.specs.Fields.{maybe_whole_at, text_at as body_text_at, whole_at}
 use Rattle.site_bodies.specs.Members.{body_of}
-use Rattle.site_orders.specs.Commands.{command_of, fields_in, listing_in, object_at, or_no_object}
-use Rattle.site_orders.specs.Fields.{◌>>=◌, number_at, optional_at, text_at}
-use Rattle.site_orders.specs.declared.order.Order.TheVariants as order
+use Rattle.site_request.specs.Commands.{command_of, fields_in, listing_in, object_at, or_no_object}
+use Rattle.site_request.specs.Fields.{◌>>=◌, number_at, optional_at, text_at}
+use Rattle.site_request.specs.declared.order.Order.TheVariants as order
 
 -- ---- values
 

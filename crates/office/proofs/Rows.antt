@@ -1,6 +1,6 @@
 -- What becomes of a row, from what becomes of its lot or of a field that can't be read.
 use Rattle.std.proofs.Common.{◌≡◌, ℕ, List, length, refl, None, Result, Ok, Err, IfErr, IfOk, OnOk, inl, inr}
-use Rattle.site_asks.specs.declared.asked.Asked.{Asked}
+use Rattle.site_request.specs.declared.asked.Asked.{Asked}
 use Rattle.office.specs.declared.column.Column.{Column}
 use Rattle.office.specs.declared.fault.ImportFault.{ImportFault}
 use Rattle.office.specs.declared.fault.ImportFault.TheVariants as importing

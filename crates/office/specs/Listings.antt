@@ -5,8 +5,8 @@ use Rattle.house_rows.specs.Limits.{last_moment}
 use Rattle.house_rows.specs.declared.command.Command.{Command}
 use Rattle.house_rows.specs.declared.command.Command.TheVariants as command
 use Rattle.house_rows.specs.declared.message.Message.TheVariants.{Order}
-use Rattle.site_asks.specs.Asked.{IsAsked}
-use Rattle.site_asks.specs.declared.asked.Asked.{Asked}
+use Rattle.site_request.specs.Asked.{IsAsked}
+use Rattle.site_request.specs.declared.asked.Asked.{Asked}
 use Rattle.site_digits.specs.Digits.{most_digits}
 use Rattle.office.specs.declared.lot.Lot.{Lot}
 use Rattle.office.specs.declared.order.Lister.{Lister}

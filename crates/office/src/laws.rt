@@ -1,6 +1,6 @@
 //! What the definitions mean. No code runs here.
 ghost use Rattle.std.specs.Prelude.{◌≡◌, ℕ, List, Some};
-ghost use Rattle.site_asks.specs.Asked.{IsAsked};
+ghost use Rattle.site_request.specs.Asked.{IsAsked};
 ghost use Rattle.office.specs.Listings.{CanList, IsListable, listing_by};
 ghost use Rattle.office.specs.Lots.{Spells};
 ghost use Rattle.office.specs.Orders.{message_of};

@@ -13,9 +13,14 @@ use std::alloc::{AllocError, Global};
 fn with_floor(editions: &Editions, item: Item) -> ItemShown
     ensures { result ≡ shown_among editions.now item }
 {
-    let bands = editions.bands_for(u64::from(item.terms.item));
-    let floor = floor(bands, &item.terms);
-    ItemShown { item, floor }
+    let number = u64::from(item.terms.item);
+    let edition = editions.edition_of(number);
+    let floor = floor(editions.bands_for(number), &item.terms);
+    ItemShown {
+        item,
+        edition,
+        floor,
+    }
 }
 
 // Items likewise.

@@ -11,7 +11,7 @@ ghost use Rattle.pages_text.specs.Fits.{PageFits};
 use crate::bidding::{bids, reserves, statement};
 use crate::items::{item, items_in, watches};
 use crate::people::{categories, feedback_to, member};
-use crate::settings::{bands, house};
+use crate::settings::{bands, bands_of, house};
 use crate::talk::{published, questions, waiting};
 use house_rows::{Keep, KeepFault, Page, Query, Refusal};
 use std::alloc::Global;
@@ -76,6 +76,7 @@ fn admitted<K: Keep>(
     match *query {
         Query::House => house(alloc, keep),
         Query::Bands => bands(alloc, keep),
+        Query::BandsOf { edition } => bands_of(alloc, keep, edition),
         Query::Categories => categories(keep),
         Query::ItemsIn { category, from } => items_in(alloc, keep, category, from),
         Query::Item { item: number } => item(keep, number),

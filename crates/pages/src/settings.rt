@@ -5,8 +5,9 @@ ghost use Rattle.house_rows.specs.Keeping.{Faults, IsRead};
 ghost use Rattle.pages_laws.specs.ByTables.{shown_by};
 ghost use Rattle.pages_text.specs.Fits.{PageFits};
 
-use house_rows::{Counts, Keep, KeepFault, Page, Rows, Settings, Text};
+use house_rows::{Counts, Keep, KeepFault, Page, Refusal, Rows, Settings, Text};
 use std::alloc::{AllocError, Global};
+use steps::Bands;
 
 // The page of the house with these settings, counts and clock.
 fn house_page(
@@ -27,11 +28,11 @@ fn house_page(
     })
 }
 
-// The page of the bands of settings.
-fn bands_page(alloc: Global, settings: &Settings) -> Result<Page, AllocError>
-    ensures { IfOk result (λ page. page ≡ Page.Bands settings.now.bands) }
+// The page of a band table.
+fn bands_page(alloc: Global, bands: &Bands) -> Result<Page, AllocError>
+    ensures { IfOk result (λ page. page ≡ Page.Bands bands.now) }
 {
-    let rows = settings.bands.rows().to_vec(alloc)?;
+    let rows = bands.rows().to_vec(alloc)?;
     Ok(Page::Bands(Rows::new(rows)))
 }
 
@@ -49,7 +50,7 @@ pub(crate) fn house<K: Keep>(alloc: Global, keep: &mut K) -> Result<Page, KeepFa
     Ok(house_page(alloc, keep.settings()?, counts, clock)?)
 }
 
-// The band table.
+// The newest band table.
 #[tactic(auto, unfolding(pages_laws::specs::ByTables::shown_by))]
 pub(crate) fn bands<K: Keep>(alloc: Global, keep: &mut K) -> Result<Page, KeepFault>
     ensures page { K.is_honest keep.new → IfOk result (λ page.
@@ -58,5 +59,24 @@ pub(crate) fn bands<K: Keep>(alloc: Global, keep: &mut K) -> Result<Page, KeepFa
     ensures faults { Faults result (K.is_honest keep.new) (K.is_failed keep.new) (K.content keep.old) }
     ensures read { IsRead K.content K.is_failed K.is_honest K.may_leave keep.old keep.new }
 {
-    Ok(bands_page(alloc, keep.settings()?)?)
+    Ok(bands_page(alloc, keep.editions()?.newest_bands())?)
+}
+
+// The band table of an edition.
+#[tactic(auto, unfolding(pages_laws::specs::ByTables::shown_by))]
+pub(crate) fn bands_of<K: Keep>(
+    alloc: Global,
+    keep: &mut K,
+    edition: u64,
+) -> Result<Page, KeepFault>
+    ensures page { K.is_honest keep.new → IfOk result (λ page.
+        page ≡ shown_by (K.content keep.old) 0 (query.BandsOf edition)) }
+    ensures fits { IfOk result PageFits }
+    ensures faults { Faults result (K.is_honest keep.new) (K.is_failed keep.new) (K.content keep.old) }
+    ensures read { IsRead K.content K.is_failed K.is_honest K.may_leave keep.old keep.new }
+{
+    match keep.bands_of(edition)? {
+        None => Ok(Page::Refused(Refusal::Unknown)),
+        Some(bands) => Ok(bands_page(alloc, bands)?),
+    }
 }

@@ -18,20 +18,22 @@ use Rattle.house_rows.specs.declared.query.Query.{Query}
 use Rattle.house_rows.specs.declared.query.Query.TheVariants as query
 use Rattle.house_rows.specs.declared.settings.Settings.{Settings}
 use Rattle.house_rows.specs.declared.talk.Question.{Question}
+use Rattle.house_rows.specs.Editions.{table_of}
 use Rattle.house_rows.specs.Found.{all_items, own_bid, row_at, sales_in, sells, reserves_in}
 use Rattle.house_rows.specs.History.{History, clock}
 use Rattle.house_rows.specs.declared.item.ItemShown.{ItemShown}
 use Rattle.house_rows.specs.Items.{items, items_shown, shown_at, shown_now, terms_now}
 use Rattle.house_rows.specs.Limits.{most_shown}
-use Rattle.house_rows.specs.Listings.{Listing, is_seller, listing_at, listings, ReserveRow, reserve_row, reserve_rows}
+use Rattle.house_rows.specs.Listings.{Listing, is_seller, listing_at, listings, newest_of, ReserveRow, reserve_row, reserve_rows}
 use Rattle.house_rows.specs.Pages as pages
 use Rattle.house_rows.specs.declared.page.Page.TheVariants as page
-use Rattle.house_rows.specs.Pages.{all_sales, for_all, for_member, if_known, item_page, page_of, reserve_told, told_reserve}
+use Rattle.house_rows.specs.Pages.{all_sales, for_all, for_member, if_known, item_page, page_of, reserve_told, table_page, told_reserve}
 use Rattle.house_rows.specs.People.{categories, members}
 use Rattle.house_rows.specs.Questions.{published, questions, waiting}
 use Rattle.house_rows.specs.Tables.{ItemRow, Tables, row_now, tables_of}
 use Rattle.house_rows.specs.Views.{own_watches, own_reserves}
 use Rattle.house_rows.specs.Watches.{WatchRow, is_watch, watches}
+use Rattle.house_rows.proofs.GoesBy.{sets_are}
 use Rattle.house_rows.proofs.ItemRows.{shown_are}
 use Rattle.house_rows.proofs.Passed.{item_from, shown_is}
 use Rattle.house_rows.proofs.Shown.{row_found, shown_by_row, shown_row}
@@ -172,7 +174,8 @@ statement_same settings h c from to =
 pub page_same : (settings : Settings) (h : History) (c : ℕ) (q : Query) → page_by (tables_of settings h) c q ≡ page_of settings h c q
 unfolding page_by shown_by page_of tables_of published
 page_same settings h c query.House = ap (for_all (members h) c) (house_same settings h c)
-page_same settings h c query.Bands = refl
+page_same settings h c query.Bands = ap (λ (set : List (List (ℕ × ℕ))). for_all (members h) c (page.Bands (newest_of settings.bands set))) (sets_are h)
+page_same settings h c (query.BandsOf edition) = ap (λ (set : List (List (ℕ × ℕ))). for_all (members h) c (table_page (table_of settings.bands set edition))) (sets_are h)
 page_same settings h c query.Categories = refl
 page_same settings h c (query.ItemsIn category from) = ap (for_all (members h) c) (items_in_same settings h c category from)
 page_same settings h c (query.Item i) = ap (for_all (members h) c) (item_same settings h c i)

@@ -1,21 +1,10 @@
 -- Members of an object, one after the other, as text and in a map.
-use Rattle.std.proofs.Common.{◌≡◌, ℕ, List, ◌++◌, ◌∙◌, take, drop, length, ap, refl, sym, append_assoc}
+use Rattle.std.proofs.Common.{◌≡◌, ℕ, List, ◌++◌, ◌∙◌, take, drop, length, ap, refl}
 use Rattle.house_rows.specs.Tables.{Tables}
-use Rattle.serde_json.specs.Data.{Data, Members, no_members, object}
+use Rattle.serde_json.specs.Data.{Members, no_members, object}
 use Rattle.pages_json.specs.Words.{AreInOrder, enclosed, members_text, put_all, text_of}
-use Rattle.pages_json.proofs.Texts.{members_append, object_enclosed}
-use Rattle.pages_record.specs.Record.{back_by, front_by, middle_by, questions_by, record_by, settings_by}
-
-pub two_members : (a b : List (List ℕ × Data)) (old : List ℕ)
-    → (old ++ members_text a) ++ members_text b ≡ old ++ members_text (a ++ b)
-two_members a b old = append_assoc old (members_text a) (members_text b)
-    ∙ ap (λ t. old ++ t) (sym (members_append a b))
-
--- questions are one member
-pub two_put : (t : Tables) (found : Members)
-    → put_all (settings_by t) (put_all (questions_by t) found) ≡ put_all (back_by t) found
-unfolding back_by
-two_put t found = refl
+use Rattle.pages_json.proofs.Texts.{object_enclosed}
+use Rattle.pages_record.specs.Record.{back_by, front_by, middle_by, record_by}
 
 -- the keys of the record stand in byte order
 in_order : (t : Tables) → AreInOrder (front_by t ++ (middle_by t ++ back_by t))

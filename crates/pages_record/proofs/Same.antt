@@ -14,4 +14,4 @@ text_same settings h k same = ap (λ (p : Public). text_of (record_tree p)) same
 pub view_same : (settings : Settings) (h k : History) → HaveSameLists settings h k
     → public_view settings h ≡ public_view settings k
 view_same settings h k same =
-    rw (same.clock, same.members, same.categories, same.items, same.questions, same.feedback) refl
+    rw (same.clock, same.members, same.categories, same.items, same.questions, same.feedback, same.tables) refl

@@ -9,8 +9,9 @@ ghost use Rattle.house_rows.specs.Tables.{tables_of};
 ghost use Rattle.house_rows.specs.Views.{public_view};
 ghost use Rattle.pages_json.specs.Words.{put_all, whole};
 ghost use Rattle.pages_text.specs.Faults.{PageFaults};
-ghost use Rattle.pages_record.specs.Record.{back_by, bands_by, categories_by, clock_by, feedback_by, front_by, items_by, members_by, middle_by, questions_by, record_by, record_tree, settings_by};
+ghost use Rattle.pages_record.specs.Record.{back_by, bands_by, categories_by, clock_by, editions_by, feedback_by, front_by, items_by, members_by, middle_by, questions_by, record_by, record_tree, settings_by};
 
+use crate::editions::{AsEditions, numbers_to};
 use house_rows::{Keep, Settings};
 use pages_json::{Field, grow_member_list, grow_members, key};
 use pages_text::{
@@ -35,7 +36,7 @@ fn grow_bands<K: Keep>(
         members,
         "bands",
         &AsBands,
-        keep.settings()?.bands.rows(),
+        keep.editions()?.newest_bands().rows(),
     )?;
     Ok(())
 }
@@ -87,6 +88,25 @@ fn grow_front<K: Keep>(
     grow_bands(alloc, keep, members)?;
     grow_categories(alloc, keep, members)?;
     grow_clock(alloc, keep, members)?;
+    Ok(())
+}
+
+fn grow_editions<K: Keep>(
+    alloc: Global,
+    keep: &mut K,
+    members: &mut Map<String, Value>,
+) -> Result<(), PageFault>
+    ensures grown { K.is_honest keep.new → OnOk result (members_view members.new.entries
+        ≡ put_all (editions_by (K.content keep.old)) (members_view members.old.entries)) }
+    ensures faults { PageFaults result (K.is_honest keep.new) (K.is_failed keep.new)
+        (K.content keep.old) }
+    ensures read { IsRead K.content K.is_failed K.is_honest K.may_leave keep.old keep.new }
+{
+    let form = AsEditions {
+        editions: keep.editions()?,
+    };
+    let numbers = numbers_to(alloc, form.editions.newest())?;
+    grow_member_list(alloc, members, "editions", &form, &numbers)?;
     Ok(())
 }
 
@@ -153,9 +173,9 @@ fn grow_middle<K: Keep>(
         (K.content keep.old) }
     ensures read { IsRead K.content K.is_failed K.is_honest K.may_leave keep.old keep.new }
 {
+    grow_editions(alloc, keep, members)?;
     grow_feedback(alloc, keep, members)?;
     grow_items(alloc, keep, members)?;
-    grow_all_members(alloc, keep, members)?;
     Ok(())
 }
 
@@ -210,7 +230,7 @@ fn grow_settings<K: Keep>(
     Ok(())
 }
 
-#[tactic(auto, using(crate::proofs::Parts::two_put), unfolding(crate::specs::Record::back_by))]
+#[tactic(auto, using(pages_json::proofs::Trees::put_parts), unfolding(crate::specs::Record::back_by))]
 fn grow_back<K: Keep>(
     alloc: Global,
     keep: &mut K,
@@ -222,6 +242,7 @@ fn grow_back<K: Keep>(
         (K.content keep.old) }
     ensures read { IsRead K.content K.is_failed K.is_honest K.may_leave keep.old keep.new }
 {
+    grow_all_members(alloc, keep, members)?;
     grow_questions(alloc, keep, members)?;
     grow_settings(alloc, keep, members)?;
     Ok(())

@@ -6,6 +6,7 @@
 //! `specs/Record.antt` first, and then `writing` and `growing`.
 #![tactic(auto)]
 
+mod editions;
 mod growing;
 mod laws;
 mod writing;

@@ -7,8 +7,9 @@ ghost use Rattle.house_rows.specs.Tables.{tables_of};
 ghost use Rattle.house_rows.specs.Keeping.{Faults, IsRead};
 ghost use Rattle.serde_json.specs.Data.{string};
 ghost use Rattle.pages_json.specs.Words.{members_text, text_of, whole};
-ghost use Rattle.pages_record.specs.Record.{back_by, bands_by, categories_by, clock_by, feedback_by, front_by, items_by, members_by, middle_by, questions_by, record_by, record_text, settings_by};
+ghost use Rattle.pages_record.specs.Record.{back_by, bands_by, categories_by, clock_by, editions_by, feedback_by, front_by, items_by, members_by, middle_by, questions_by, record_by, record_text, settings_by};
 
+use crate::editions::{AsEditions, numbers_to};
 use house_rows::{Keep, KeepFault, Settings};
 use pages_json::{Field, end_object, finish, key, put_member_list, put_members};
 use pages_text::{AsBands, AsCategories, AsFeedback, AsMembers, AsQuestions, ByEditions};
@@ -27,7 +28,7 @@ fn put_bands<K: Keep>(alloc: Global, keep: &mut K, out: &mut Vec<u8>) -> Result<
         out,
         key!("bands"),
         &AsBands,
-        keep.settings()?.bands.rows(),
+        keep.editions()?.newest_bands().rows(),
     )?;
     Ok(())
 }
@@ -70,6 +71,22 @@ fn put_front<K: Keep>(alloc: Global, keep: &mut K, out: &mut Vec<u8>) -> Result<
     put_bands(alloc, keep, out)?;
     put_categories(alloc, keep, out)?;
     put_clock(alloc, keep, out)?;
+    Ok(())
+}
+
+fn put_editions<K: Keep>(alloc: Global, keep: &mut K, out: &mut Vec<u8>) -> Result<(), KeepFault>
+    ensures text { K.is_honest keep.new → OnOk result
+        (out.new.items ≡ out.old.items ++ members_text (editions_by (K.content keep.old))) }
+    ensures front { StartsWith out.new.items out.old.items }
+    ensures faults { Faults result (K.is_honest keep.new) (K.is_failed keep.new)
+        (K.content keep.old) }
+    ensures read { IsRead K.content K.is_failed K.is_honest K.may_leave keep.old keep.new }
+{
+    let form = AsEditions {
+        editions: keep.editions()?,
+    };
+    let numbers = numbers_to(alloc, form.editions.newest())?;
+    put_member_list(alloc, out, key!("editions"), &form, &numbers)?;
     Ok(())
 }
 
@@ -165,13 +182,13 @@ fn put_middle<K: Keep>(alloc: Global, keep: &mut K, out: &mut Vec<u8>) -> Result
         (K.content keep.old) }
     ensures read { IsRead K.content K.is_failed K.is_honest K.may_leave keep.old keep.new }
 {
+    put_editions(alloc, keep, out)?;
     put_feedback(alloc, keep, out)?;
     put_items(alloc, keep, out)?;
-    put_all_members(alloc, keep, out)?;
     Ok(())
 }
 
-#[tactic(auto, using(crate::proofs::Parts::two_members, pages_json::proofs::Texts::front_then), unfolding(crate::specs::Record::back_by))]
+#[tactic(auto, using(pages_json::proofs::Texts::three_members, pages_json::proofs::Texts::front_then), unfolding(crate::specs::Record::back_by))]
 fn put_back<K: Keep>(alloc: Global, keep: &mut K, out: &mut Vec<u8>) -> Result<(), KeepFault>
     ensures text { K.is_honest keep.new → OnOk result
         (out.new.items ≡ out.old.items ++ members_text (back_by (K.content keep.old))) }
@@ -180,6 +197,7 @@ fn put_back<K: Keep>(alloc: Global, keep: &mut K, out: &mut Vec<u8>) -> Result<(
         (K.content keep.old) }
     ensures read { IsRead K.content K.is_failed K.is_honest K.may_leave keep.old keep.new }
 {
+    put_all_members(alloc, keep, out)?;
     put_questions(alloc, keep, out)?;
     put_settings(alloc, keep, out)?;
     Ok(())

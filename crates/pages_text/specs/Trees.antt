@@ -36,6 +36,7 @@ item_tree it = object_of (
     ∷ (codes "category", whole it.item.terms.category)
     ∷ (codes "closed", whole_or_null it.item.terms.closed)
     ∷ (codes "count", whole it.item.terms.count)
+    ∷ (codes "edition", whole it.edition)
     ∷ (codes "end", whole it.item.terms.end)
     ∷ (codes "floor", whole_or_null it.floor)
     ∷ (codes "item", whole it.item.terms.item)
@@ -251,4 +252,5 @@ told_tree (told.Rated item rating to) = object_of (
     ∷ (codes "rating", integer (rating_value rating))
     ∷ (codes "to", whole to) ∷ []
     )
+told_tree (told.Edition edition) = object_of ((codes "edition", whole edition) ∷ [])
 told_tree told.Nothing = object_of []

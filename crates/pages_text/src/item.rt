@@ -26,10 +26,10 @@ pub fn floor(bands: &Bands, terms: &Terms) -> Option<u64>
     Some(bands.over(terms.price))
 }
 
-// The keys of an item with the floor that is shown of it, and what they have.
-fn item_fields(item: &Item, floor: Option<u64>) -> [(&'static str, Field<'_>); 16]
+// The keys of an item with the edition and the floor that are shown of it, and what they have.
+fn item_fields(item: &Item, edition: u32, floor: Option<u64>) -> [(&'static str, Field<'_>); 17]
     ensures tree { object_of (map member_of result)
-        ≡ item_tree (record { item = item.now; floor = floor }) }
+        ≡ item_tree (record { item = item.now; edition = edition; floor = floor }) }
     ensures order { AreInOrder (map member_of result) }
     ensures keys { IsTrue (are_keys result) }
 {
@@ -42,6 +42,7 @@ fn item_fields(item: &Item, floor: Option<u64>) -> [(&'static str, Field<'_>); 1
         (key!("category"), Field::Number(u64::from(terms.category))),
         (key!("closed"), Field::Maybe(terms.closed)),
         (key!("count"), Field::Number(u64::from(terms.count))),
+        (key!("edition"), Field::Number(u64::from(edition))),
         (key!("end"), Field::Number(terms.end)),
         (key!("floor"), Field::Maybe(floor)),
         (key!("item"), Field::Number(u64::from(terms.item))),
@@ -57,7 +58,7 @@ fn item_fields(item: &Item, floor: Option<u64>) -> [(&'static str, Field<'_>); 1
     ]
 }
 
-/// Items with the floor that is shown of each.
+/// Items with the edition and the floor that are shown of each.
 #[derive(Clone, Copy)]
 pub struct AsItems;
 
@@ -67,17 +68,21 @@ impl Shows<ItemShown> for AsItems {
     ghost tree = { λ _ it. item_tree it };
 
     fn put(&self, alloc: Global, out: &mut Vec<u8>, shown: &ItemShown) -> Result<(), AllocError> {
-        put_object(alloc, out, &item_fields(&shown.item, shown.floor))
+        put_object(
+            alloc,
+            out,
+            &item_fields(&shown.item, shown.edition, shown.floor),
+        )
     }
 }
 
 impl Grows<ItemShown> for AsItems {
     fn grow(&self, alloc: Global, shown: &ItemShown) -> Result<Value, AllocError> {
-        grow_object(alloc, &item_fields(&shown.item, shown.floor))
+        grow_object(alloc, &item_fields(&shown.item, shown.edition, shown.floor))
     }
 }
 
-/// Items, each with the floor that its band table gives it.
+/// Items, each with its edition and the floor that its band table gives it.
 #[derive(Clone, Copy)]
 pub struct ByEditions<'e> {
     /// The band tables.
@@ -92,21 +97,23 @@ fn floor_by(editions: &Editions, terms: &Terms) -> Option<u64>
 }
 
 impl Shows<Item> for ByEditions<'_> {
-    ghost use Rattle.house_rows.specs.Editions.{bands_in};
+    ghost use Rattle.house_rows.specs.Editions.{bands_in, edition_in};
     ghost use Rattle.house_rows.specs.Items.{shown};
     ghost use Rattle.pages_text.specs.Trees.{item_tree};
 
-    ghost tree = { λ by it. item_tree (shown (bands_in by.editions.now it.terms.item) it) };
+    ghost tree = { λ by it. item_tree (shown (edition_in by.editions.now it.terms.item) (bands_in by.editions.now it.terms.item) it) };
 
     fn put(&self, alloc: Global, out: &mut Vec<u8>, item: &Item) -> Result<(), AllocError> {
+        let edition = self.editions.edition_of(u64::from(item.terms.item));
         let floor = floor_by(self.editions, &item.terms);
-        put_object(alloc, out, &item_fields(item, floor))
+        put_object(alloc, out, &item_fields(item, edition, floor))
     }
 }
 
 impl Grows<Item> for ByEditions<'_> {
     fn grow(&self, alloc: Global, item: &Item) -> Result<Value, AllocError> {
+        let edition = self.editions.edition_of(u64::from(item.terms.item));
         let floor = floor_by(self.editions, &item.terms);
-        grow_object(alloc, &item_fields(item, floor))
+        grow_object(alloc, &item_fields(item, edition, floor))
     }
 }

@@ -89,6 +89,11 @@ impl Shows<Told> for AsTold {
                     (key!("to"), number(to)),
                 ],
             ),
+            Told::Edition { edition } => put_object(
+                alloc,
+                out,
+                &[(key!("edition"), number(edition))],
+            ),
             Told::Nothing => put_object(alloc, out, &[]),
         }
     }

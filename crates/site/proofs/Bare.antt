@@ -1,14 +1,15 @@
--- Tables without a member, a category or an item whose clock is 0 are those of the empty history.
+-- Tables without a member, a category, an item or a later band table whose clock is 0 are those of the empty history.
 use Rattle.std.proofs.Common.{◌≡◌, ◌≤◌, ◌∙◌, ◌++◌, ◌∷◌, [], ℕ, ◌+◌, List, Bool, true, false, refl, ap, suc, arith, length, None}
 use Rattle.std.specs.Prelude.{◌↔◌}
 use Rattle.house_rows.specs.declared.command.Command.{Command}
-use Rattle.house_rows.specs.declared.command.Command.TheVariants.{Register, AddCategory, List as Listed, Bid, Buy, Close, Settle, Watch, Unwatch, Ask, Answer, Feedback}
+use Rattle.house_rows.specs.declared.command.Command.TheVariants.{Register, AddCategory, List as Listed, Bid, Buy, Close, Settle, Watch, Unwatch, Ask, Answer, Feedback, SetBands}
 use Rattle.house_rows.specs.declared.people.Counts.{Counts}
 use Rattle.house_rows.specs.declared.settings.Settings.{Settings}
 use Rattle.house_rows.specs.Bids.{bid_rows, with_bid}
+use Rattle.house_rows.specs.Editions.{editions}
 use Rattle.house_rows.specs.Found.{counts_of}
 use Rattle.house_rows.specs.History.{History, clock}
-use Rattle.house_rows.specs.Listings.{listing_in, listings}
+use Rattle.house_rows.specs.Listings.{listing_in, listings, tables_set}
 use Rattle.house_rows.specs.People.{categories, member_in, members}
 use Rattle.house_rows.specs.Questions.{asked, questions, with_question}
 use Rattle.house_rows.specs.Ratings.{feedback, with_feedback}
@@ -31,9 +32,9 @@ no_member settings h moment caller command accepted none other =
 not_empty : {A : Type 0} (x : A) (xs : List A) → x ∷ xs ≡ [] → ⊥
 not_empty x xs e = cc
 
--- an accepted command adds no row then, but of a category
+-- an accepted command adds no row then, but of a category or a band table
 record AddsNothing (h : History) (caller : ℕ) (command : Command) : Type 0 where
-  listings : (n : ℕ) → listing_in n caller command ≡ []
+  listings : (n : ℕ) (set : List (List (ℕ × ℕ))) → listing_in n set caller command ≡ []
   bids : with_bid h (bid_rows h) caller command ≡ bid_rows h
   watches : with_watch (watches h) caller command ≡ watches h
   asked : with_question (asked h) caller command ≡ asked h
@@ -46,7 +47,7 @@ adds_nothing : (settings : Settings) (h : History) (moment caller : ℕ) (comman
 adds_nothing settings h moment caller (Register name) accepted none quiet =
     absurd (not_empty _ _ quiet)
 adds_nothing settings h moment caller (AddCategory name) accepted none quiet =
-    record { listings = λ n. refl; bids = refl; watches = refl; asked = refl; feedback = refl }
+    record { listings = λ n set. refl; bids = refl; watches = refl; asked = refl; feedback = refl }
 adds_nothing settings h moment caller (Listed category lot title text start buy_now end reserve) accepted
     none quiet =
     absurd (no_member settings h moment caller (Listed category lot title text start buy_now end reserve)
@@ -56,9 +57,9 @@ adds_nothing settings h moment caller (Bid i maximum) accepted none quiet =
 adds_nothing settings h moment caller (Buy i) accepted none quiet =
     absurd (no_member settings h moment caller (Buy i) accepted none refl)
 adds_nothing settings h moment caller Close accepted none quiet =
-    record { listings = λ n. refl; bids = refl; watches = refl; asked = refl; feedback = refl }
+    record { listings = λ n set. refl; bids = refl; watches = refl; asked = refl; feedback = refl }
 adds_nothing settings h moment caller (Settle i) accepted none quiet =
-    record { listings = λ n. refl; bids = refl; watches = refl; asked = refl; feedback = refl }
+    record { listings = λ n set. refl; bids = refl; watches = refl; asked = refl; feedback = refl }
 adds_nothing settings h moment caller (Watch i) accepted none quiet =
     absurd (no_member settings h moment caller (Watch i) accepted none refl)
 adds_nothing settings h moment caller (Unwatch i) accepted none quiet =
@@ -69,8 +70,10 @@ adds_nothing settings h moment caller (Answer i asker number text) accepted none
     absurd (no_member settings h moment caller (Answer i asker number text) accepted none refl)
 adds_nothing settings h moment caller (Feedback i rating text) accepted none quiet =
     absurd (no_member settings h moment caller (Feedback i rating text) accepted none refl)
+adds_nothing settings h moment caller (SetBands bands) accepted none quiet =
+    record { listings = λ n set. refl; bids = refl; watches = refl; asked = refl; feedback = refl }
 
--- without members there is no row but of categories
+-- without members there is no row but of categories and band tables
 record IsBare (h : History) : Type 0 where
   listings : listings h ≡ []
   bids : bid_rows h ≡ []
@@ -94,8 +97,9 @@ is_bare settings (e ∷ h) (accepted, is) none =
     let bare = is_bare settings h is before in
     let adds = adds_nothing settings h e.moment e.caller e.command accepted before quiet in
     record {
-      listings = both_empty (listings h) (listing_in (length (listings h) + 1) e.caller e.command)
-          bare.listings (adds.listings (length (listings h) + 1));
+      listings = both_empty (listings h)
+          (listing_in (length (listings h) + 1) (tables_set h) e.caller e.command)
+          bare.listings (adds.listings (length (listings h) + 1) (tables_set h));
       bids = adds.bids ∙ bare.bids;
       watches = adds.watches ∙ bare.watches;
       asked = adds.asked ∙ bare.asked;
@@ -107,14 +111,15 @@ no_rows [] e = refl
 no_rows (x ∷ xs) e = absurd (let wrong : suc (length xs) ≡ 0 = e in omega arith)
 
 bare_tables : (settings : Settings) (h : History) → IsBare h → members h ≡ [] → categories h ≡ []
-    → clock h ≡ 0
+    → editions h ≡ [] → clock h ≡ 0
     → tables_of settings h ≡ tables_of settings []
 unfolding tables_of questions
-bare_tables settings h bare members categories clock =
+bare_tables settings h bare members categories editions clock =
     rw (
       clock,
       members,
       categories,
+      editions,
       bare.listings,
       bare.bids,
       bare.watches,
@@ -123,39 +128,41 @@ bare_tables settings h bare members categories clock =
     ) refl
 
 bare_if : (settings : Settings) (h : History) → IsHistory settings h
-    → length (tables_of settings h).members ≡ 0 → length (tables_of settings h).categories ≡ 0
+    → length (tables_of settings h).editions + 1 ≡ 1 → length (tables_of settings h).members ≡ 0
+    → length (tables_of settings h).categories ≡ 0
     → (tables_of settings h).clock ≡ 0 → tables_of settings h ≡ tables_of settings []
 unfolding tables_of
-bare_if settings h is no_members no_categories clock =
+bare_if settings h is alone no_members no_categories clock =
     let none = no_rows (members h) no_members in
+    let none_set : length (editions h) ≡ 0 = omega (arith, alone) in
     bare_tables settings h (is_bare settings h is none) none (no_rows (categories h) no_categories)
-    clock
+    (no_rows (editions h) none_set) clock
 
--- what holds of tables where counts and clock are 0
+-- what holds of tables where the first band table is the newest, and counts and clock are 0
 abbrev pub AreBlank : Tables → Type 0
-AreBlank t = (length t.members ≡ 0) × (length t.categories ≡ 0) × (length t.items ≡ 0)
-    × (t.clock ≡ 0)
+AreBlank t = (length t.editions + 1 ≡ 1) × (length t.members ≡ 0) × (length t.categories ≡ 0)
+    × (length t.items ≡ 0) × (t.clock ≡ 0)
 
 empty_blank : (settings : Settings) → AreBlank (tables_of settings [])
 unfolding tables_of
-empty_blank settings = (refl, refl, refl, refl)
+empty_blank settings = (refl, refl, refl, refl, refl)
 
 pub blank_told : (settings : Settings) (h : History) (t : Tables) (blank : Bool)
     → IsHistory settings h → t ≡ tables_of settings h
     → (blank ≡ true) ↔ AreBlank t → (blank ≡ true) ↔ (t ≡ tables_of settings [])
 blank_told settings h t blank is e told = (
-  λ yes. let (no_members, no_categories, no_items, clock) = rw e at (told.0 yes) in
-      rw e (bare_if settings h is no_members no_categories clock),
+  λ yes. let (alone, no_members, no_categories, no_items, clock) = rw e at (told.0 yes) in
+      rw e (bare_if settings h is alone no_members no_categories clock),
   λ same. told.1 (rw same (empty_blank settings)),
 )
 
--- counts and clock tell it, whichever call they are read by
-pub new_told : (settings : Settings) (h : History) (t mid : Tables) (counts : Counts) (moment : ℕ)
+-- the newest edition, counts and clock tell it, whichever call they are read by
+pub new_told : (settings : Settings) (h : History) (t mid : Tables) (newest : ℕ) (counts : Counts) (moment : ℕ)
     (blank : Bool) → IsHistory settings h → t ≡ tables_of settings h
-    → counts ≡ counts_of t → mid ≡ t → moment ≡ mid.clock
-    → (blank ≡ true) ↔ ((counts.members ≡ 0) × (counts.categories ≡ 0) × (counts.items ≡ 0)
+    → newest ≡ length t.editions + 1 → counts ≡ counts_of t → mid ≡ t → moment ≡ mid.clock
+    → (blank ≡ true) ↔ ((newest ≡ 1) × (counts.members ≡ 0) × (counts.categories ≡ 0) × (counts.items ≡ 0)
     × (moment ≡ 0))
     → (blank ≡ true) ↔ (t ≡ tables_of settings [])
-new_told settings h t mid counts moment blank is e counted same now told =
-    let told' : (blank ≡ true) ↔ AreBlank t = rw (now, same, counted) at told in
+new_told settings h t mid newest counts moment blank is e alone counted same now told =
+    let told' : (blank ≡ true) ↔ AreBlank t = rw (now, same, counted, alone) at told in
     blank_told settings h t blank is e told'

@@ -10,8 +10,8 @@ use Rattle.house_rows.specs.Runs.{rendered_from}
 use Rattle.house_rows.specs.Tables.{Tables, tables_of}
 use Rattle.house_rows.specs.Verdict.{IsHistory}
 use Rattle.settle.specs.declared.zone.Zone.{Zone}
-use Rattle.site_asks.specs.Asked.{IsAsked}
-use Rattle.site_asks.specs.declared.asked.Asked.{Asked}
+use Rattle.site_request.specs.Asked.{IsAsked}
+use Rattle.site_request.specs.declared.asked.Asked.{Asked}
 use Rattle.site_replies.specs.Texts.{IsServed}
 use Rattle.site_replies.proofs.StatusLemmas.{memory_told}
 use Rattle.site.specs.Answers.{IsStep, answer_of, next_of}

@@ -8,8 +8,8 @@ use Rattle.house_rows.specs.Tables.{Tables, tables_of}
 use Rattle.house_rows.specs.Verdict.{IsHistory}
 use Rattle.house_rows.proofs.Put.{by_test}
 use Rattle.settle.specs.declared.zone.Zone.{Zone}
-use Rattle.site_asks.specs.Asked.{IsAsked}
-use Rattle.site_asks.specs.declared.asked.Asked.{Asked}
+use Rattle.site_request.specs.Asked.{IsAsked}
+use Rattle.site_request.specs.declared.asked.Asked.{Asked}
 use Rattle.site_replies.specs.Texts.{is_failure, is_refusal_of_memory}
 use Rattle.site_replies.proofs.StatusLemmas.{memory_told, reply_served}
 use Rattle.site.specs.Answers.{IsStep, answer_of, next_of}

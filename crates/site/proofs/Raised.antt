@@ -7,8 +7,8 @@ use Rattle.house_laws.proofs.CoveredRuns.{covered_twins}
 use Rattle.house_rows.specs.declared.settings.Settings.{Settings}
 use Rattle.house_rows.specs.Tables.{Tables, tables_of}
 use Rattle.settle.specs.declared.zone.Zone.{Zone}
-use Rattle.site_asks.specs.Asked.{IsAsked}
-use Rattle.site_asks.specs.declared.asked.Asked.{Asked}
+use Rattle.site_request.specs.Asked.{IsAsked}
+use Rattle.site_request.specs.declared.asked.Asked.{Asked}
 use Rattle.site_replies.specs.Texts.{IsServed}
 use Rattle.site.specs.Answers.{IsStep}
 use Rattle.site.specs.Runs.{IsCoveredRun, IsHidden, Raises, TwinRuns, answers_to, meant}

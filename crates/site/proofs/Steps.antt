@@ -20,10 +20,10 @@ use Rattle.house_rows.proofs.Put.{by_test}
 use Rattle.pages_laws.specs.ByTables.{page_by}
 use Rattle.settle.specs.declared.zone.Zone.{Zone}
 use Rattle.site_acts.specs.Acted.{IfRead, IsActed, is_asking, is_entered}
-use Rattle.site_asks.specs.Asked.{asked_of, may_ask}
-use Rattle.site_asks.specs.declared.asked.Asked.{Asked}
-use Rattle.site_asks.specs.declared.fault.Fault.{Fault}
-use Rattle.site_asks.specs.declared.fault.Fault.TheVariants as fault
+use Rattle.site_request.specs.Asked.{asked_of, may_ask}
+use Rattle.site_request.specs.declared.asked.Asked.{Asked}
+use Rattle.site_request.specs.declared.fault.Fault.{Fault}
+use Rattle.site_request.specs.declared.fault.Fault.TheVariants as fault
 use Rattle.site_replies.specs.Texts.{digits_in, fault_text, is_failure, reply_text}
 use Rattle.site_replies.proofs.StatusLemmas.{reply_served, store_told}
 use Rattle.status.specs.Status.{phrase_of}

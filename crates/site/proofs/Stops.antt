@@ -8,8 +8,8 @@ use Rattle.house_rows.specs.Tables.{Tables, tables_of}
 use Rattle.house_rows.specs.Verdict.{IsHistory}
 use Rattle.house_rows.proofs.Put.{by_test}
 use Rattle.settle.specs.declared.zone.Zone.{Zone}
-use Rattle.site_asks.specs.Asked.{IsAsked}
-use Rattle.site_asks.specs.declared.asked.Asked.{Asked}
+use Rattle.site_request.specs.Asked.{IsAsked}
+use Rattle.site_request.specs.declared.asked.Asked.{Asked}
 use Rattle.site_replies.specs.Texts.{is_failure}
 use Rattle.site_replies.proofs.StatusLemmas.{reply_served, store_told}
 use Rattle.site.specs.Answers.{Answers, IsDown, IsFailed, IsStep, answer_of, next_of}

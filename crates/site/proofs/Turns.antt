@@ -15,9 +15,9 @@ use Rattle.house_rows.proofs.Next.{next_broken, next_is_history, next_read, next
 use Rattle.house_rows.proofs.Put.{by_test}
 use Rattle.settle.specs.declared.zone.Zone.{Zone}
 use Rattle.site_acts.specs.Acted.{is_entered}
-use Rattle.site_asks.specs.Asked.{IsAsked, asked_of}
-use Rattle.site_asks.specs.declared.asked.Asked.{Asked}
-use Rattle.site_asks.specs.declared.fault.Fault.{Fault}
+use Rattle.site_request.specs.Asked.{IsAsked, asked_of}
+use Rattle.site_request.specs.declared.asked.Asked.{Asked}
+use Rattle.site_request.specs.declared.fault.Fault.{Fault}
 use Rattle.site_replies.proofs.StatusLemmas.{store_told}
 use Rattle.wire.proofs.OneFrame.{one_frame}
 use Rattle.site.specs.Answers.{Answers, IsAnswered, IsStep, next_of}

@@ -16,9 +16,9 @@ use Rattle.pages_laws.specs.ByTables.{page_by}
 use Rattle.settle.specs.Zoned.{IsPlainText}
 use Rattle.settle.specs.declared.zone.Zone.{Zone}
 use Rattle.site_acts.specs.Acted.{IfRead, IsMade, IsTaken, TellsDone, is_asking, is_entered}
-use Rattle.site_asks.specs.Asked.{may_ask}
-use Rattle.site_asks.specs.declared.asked.Asked.{Asked}
-use Rattle.site_asks.specs.declared.fault.Fault.{Fault}
+use Rattle.site_request.specs.Asked.{may_ask}
+use Rattle.site_request.specs.declared.asked.Asked.{Asked}
+use Rattle.site_request.specs.declared.fault.Fault.{Fault}
 use Rattle.site_replies.specs.Texts.{fault_text, is_failure, reply_text}
 use Rattle.wire.specs.Answer.{answer_bytes, error_body}
 use Rattle.wire.specs.Fault.{status_of, word_of}

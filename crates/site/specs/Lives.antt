@@ -10,8 +10,8 @@ use Rattle.house_rows.specs.Runs.{AreTwinsFrom, history_from, rendered_from}
 use Rattle.house_rows.specs.Tables.{Tables, tables_of}
 use Rattle.house_rows.specs.Verdict.{IsHistory}
 use Rattle.settle.specs.declared.zone.Zone.{Zone}
-use Rattle.site_asks.specs.Asked.{IsAsked}
-use Rattle.site_asks.specs.declared.asked.Asked.{Asked}
+use Rattle.site_request.specs.Asked.{IsAsked}
+use Rattle.site_request.specs.declared.asked.Asked.{Asked}
 use Rattle.site_replies.specs.Texts.{fault_text, is_refusal_of_memory}
 use Rattle.site.specs.Runs.{AreDown, IsGoing, at_places, meant, rendered}
 

@@ -11,9 +11,9 @@ use Rattle.house_rows.specs.Tables.{Tables, tables_of}
 use Rattle.house_rows.specs.Verdict.{IsHistory}
 use Rattle.house_laws.specs.Covered.{IsCovered, Sealed, bid_message, raised, with_maximum}
 use Rattle.settle.specs.declared.zone.Zone.{Zone}
-use Rattle.site_asks.specs.Asked.{IsAsked}
-use Rattle.site_asks.specs.declared.asked.Asked.{Asked}
-use Rattle.site_asks.specs.declared.fault.Fault.{Fault}
+use Rattle.site_request.specs.Asked.{IsAsked}
+use Rattle.site_request.specs.declared.asked.Asked.{Asked}
+use Rattle.site_request.specs.declared.fault.Fault.{Fault}
 use Rattle.site_replies.specs.Texts.{fault_text, is_failure, reply_text}
 use Rattle.wire.specs.Frame.{IsFrame}
 use Rattle.wire.specs.declared.fault.WireFault.{WireFault}

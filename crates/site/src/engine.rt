@@ -10,8 +10,8 @@ ghost use Rattle.house_rows.specs.Verdict.{IsHistory};
 ghost use Rattle.pages_record.specs.Record.{record_text};
 ghost use Rattle.settle.specs.Zoned.{IsZoneOf};
 ghost use Rattle.steps.specs.Table.{IsBandTable};
-ghost use Rattle.site_asks.specs.Asked.{IsAsked, asked_of};
-ghost use Rattle.site_asks.specs.declared.asked.Asked.{Asked as TheAsked};
+ghost use Rattle.site_request.specs.Asked.{IsAsked, asked_of};
+ghost use Rattle.site_request.specs.declared.asked.Asked.{Asked as TheAsked};
 ghost use Rattle.site_replies.specs.Texts.{fault_text};
 ghost use Rattle.wire.specs.Frame.{IsFrame};
 ghost use Rattle.wire.specs.declared.fault.WireFault.{WireFault};
@@ -23,9 +23,8 @@ use json::Scratch;
 use pages_record::append_record;
 use settle::Zone;
 use site_acts::act;
-use site_asks::read_request;
 use site_replies::{ReplyWriter, fault_text};
-use site_routes::Routes;
+use site_request::{Routes, read_request};
 use std::alloc::Global;
 use std::borrow::CowSlice;
 use wire::{Request, broken_frame, whole};
@@ -79,12 +78,12 @@ fn unread_text<K: Keep>(keep: &K, closes: bool) -> &'static [u8]
     }
 }
 
-// Whether there is no row to count, and the clock hasn't moved.
-fn are_blank(counts: Counts, clock: u64) -> bool
-    ensures { (result ≡ true) ↔ ((counts.members ≡ 0) × (counts.categories ≡ 0)
+// Whether the first band table is the newest, there is no row to count, and the clock hasn't moved.
+fn are_blank(newest: u32, counts: Counts, clock: u64) -> bool
+    ensures { (result ≡ true) ↔ ((newest ≡ 1) × (counts.members ≡ 0) × (counts.categories ≡ 0)
         × (counts.items ≡ 0) × (clock ≡ 0)) }
 {
-    counts.members == 0 && counts.categories == 0 && counts.items == 0 && clock == 0
+    newest == 1 && counts.members == 0 && counts.categories == 0 && counts.items == 0 && clock == 0
 }
 
 impl<K: Keep + Drop> Site<K> {
@@ -209,8 +208,9 @@ impl<K: Keep + Drop> Site<K> {
             self.old.keep self.new.keep }
         ensures zone { zone_of self.new ≡ zone_of self.old }
     {
+        let newest = self.keep.newest()?;
         let counts = self.keep.counts()?;
         let clock = self.keep.clock()?;
-        Ok(are_blank(counts, clock))
+        Ok(are_blank(newest, counts, clock))
     }
 }

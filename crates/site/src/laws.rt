@@ -6,8 +6,8 @@ ghost use Rattle.house_laws.specs.Covered.{Sealed, raised};
 ghost use Rattle.house_rows.specs.declared.settings.Settings.{Settings};
 ghost use Rattle.settle.specs.declared.zone.Zone.{Zone};
 ghost use Rattle.site.specs.Runs.{IsCoveredRun, Raises, TwinRuns, answers_to};
-ghost use Rattle.site_asks.specs.Asked.{IsAsked};
-ghost use Rattle.site_asks.specs.declared.asked.Asked.{Asked};
+ghost use Rattle.site_request.specs.Asked.{IsAsked};
+ghost use Rattle.site_request.specs.declared.asked.Asked.{Asked};
 
 /// For every number, the house's 0 among them: where two runs of messages are twins for it, all
 /// answers to it are the same, byte for byte.

@@ -11,8 +11,8 @@ ghost use Rattle.house_rows.specs.Verdict.{IsHistory};
 ghost use Rattle.site.specs.Answers.{IsStep, zone_of};
 ghost use Rattle.site.specs.Lives.{LeavesALife, LivesOn};
 ghost use Rattle.site.specs.Runs.{AreDown, InTurn, IsCoveredRun, IsGoing, IsHidden, Raises, Ran, StaysDown, Stopped, TellsFault, TwinRuns, answers_to, at_places};
-ghost use Rattle.site_asks.specs.Asked.{IsAsked};
-ghost use Rattle.site_asks.specs.declared.asked.Asked.{Asked as TheAsked};
+ghost use Rattle.site_request.specs.Asked.{IsAsked};
+ghost use Rattle.site_request.specs.declared.asked.Asked.{Asked as TheAsked};
 ghost use Rattle.site_replies.specs.Texts.{IsServed};
 
 use crate::engine::{Reply, Site};

@@ -27,7 +27,7 @@ use Rattle.house_rows.proofs.Next.{next_accepted, reply_accepted}
 use Rattle.house_rows.proofs.Sound.{rows_are_sound}
 use Rattle.pages_laws.specs.ByTables.{page_by}
 use Rattle.settle.specs.declared.zone.Zone.{Zone}
-use Rattle.site_asks.specs.declared.fault.Fault.{Fault}
+use Rattle.site_request.specs.declared.fault.Fault.{Fault}
 use Rattle.site_replies.specs.Texts.{reply_text}
 use Rattle.site_acts.specs.Acted.{IfRead, IsActed, TellsDone, is_asking, is_entered}
 use Rattle.site_acts.specs.Entered.{IfTold, IsApplied}

@@ -16,7 +16,7 @@ use Rattle.house_rows.specs.Runs.{entry}
 use Rattle.house_rows.specs.Tables.{Tables, tables_of}
 use Rattle.house_rows.specs.Told.{told}
 use Rattle.house_rows.specs.Verdict.{IsHistory}
-use Rattle.site_asks.specs.declared.fault.Fault.{Fault}
+use Rattle.site_request.specs.declared.fault.Fault.{Fault}
 
 -- whether a reply shows a page
 abbrev pub is_page : Reply Fault → Bool

@@ -6,8 +6,8 @@ use crate::ordering::order;
 use crate::reading::read;
 use crate::writing::write;
 use house_rows::{Keep, KeepFault, Message, Reply};
-use site_asks::Asked;
 use site_replies::ReplyWriter;
+use site_request::Asked;
 
 /// Carries out what is asked, and appends the bytes of its answer. For a command that is the
 /// verdict, then the bytes, and the change last; nothing grows after it. After an `Err` the buffer

@@ -5,8 +5,8 @@ ghost use Rattle.site_acts.specs.Entered.{is_page};
 ghost use Rattle.site_replies.specs.Texts.{reply_text};
 
 use house_rows::{KeepFault, Rate, Reply};
-use site_asks::Fault;
 use site_replies::ReplyWriter;
+use site_request::Fault;
 
 // A rate, for a reply that tells no fee.
 fn any_rate() -> Rate {

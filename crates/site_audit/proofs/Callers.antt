@@ -5,11 +5,11 @@ use Rattle.house_rows.specs.declared.message.Message.{Message}
 use Rattle.house_rows.specs.declared.message.Message.TheVariants.{Order, Read, Broken}
 use Rattle.house_rows.specs.Runs.{is_caller, is_of}
 use Rattle.site.specs.Runs.{is_from}
-use Rattle.site_asks.specs.Asked.{IsAsked, asked_of, caller_of}
-use Rattle.site_asks.specs.Heads.{caller_in}
-use Rattle.site_asks.specs.declared.asked.Asked.{Asked}
-use Rattle.site_asks.specs.declared.fault.Fault.{Fault}
-use Rattle.site_asks.proofs.CallerLemmas.{message_is_of}
+use Rattle.site_request.specs.Asked.{IsAsked, asked_of, caller_of}
+use Rattle.site_request.specs.Heads.{caller_in}
+use Rattle.site_request.specs.declared.asked.Asked.{Asked}
+use Rattle.site_request.specs.declared.fault.Fault.{Fault}
+use Rattle.site_request.proofs.CallerLemmas.{message_is_of}
 use Rattle.wire.specs.Frame.{IsFrame}
 use Rattle.wire.specs.Message.{Message as Framed}
 use Rattle.wire.specs.declared.fault.WireFault.{WireFault}

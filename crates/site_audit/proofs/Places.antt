@@ -12,8 +12,8 @@ use Rattle.settle.specs.declared.zone.Zone.{Zone}
 use Rattle.site.specs.Answers.{Answers, IsStep, answer_of, next_of}
 use Rattle.site.specs.Runs.{is_from}
 use Rattle.wire.specs.Answer.{answer_bytes, head_start, status_line}
-use Rattle.site_asks.specs.Asked.{IsAsked, asked_of}
-use Rattle.site_asks.specs.declared.asked.Asked.{Asked}
+use Rattle.site_request.specs.Asked.{IsAsked, asked_of}
+use Rattle.site_request.specs.declared.asked.Asked.{Asked}
 use Rattle.wire.proofs.OneFrame.{one_frame}
 use Rattle.site_audit.specs.declared.fault.AuditFault.{AuditFault}
 use Rattle.site_audit.specs.declared.fault.AuditFault.TheVariants.{Memory, Store, NotNew}

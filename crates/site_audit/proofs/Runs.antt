@@ -16,8 +16,8 @@ use Rattle.site.specs.Lives.{TwinRunsFrom, answers_to_from}
 use Rattle.site.specs.Runs.{meant, rendered}
 use Rattle.house_laws.specs.Alike.{AreAlike}
 use Rattle.house_laws.proofs.Alike as laws
-use Rattle.site_asks.specs.declared.asked.Asked.{Asked}
-use Rattle.site_asks.specs.declared.fault.Fault.{Fault}
+use Rattle.site_request.specs.declared.asked.Asked.{Asked}
+use Rattle.site_request.specs.declared.fault.Fault.{Fault}
 use Rattle.site_audit.specs.declared.fault.AuditFault.{AuditFault}
 use Rattle.site_audit.specs.declared.fault.AuditFault.TheVariants.{Memory, Store, NotNew}
 use Rattle.site_audit.specs.declared.verdict.Verdict.{Verdict}

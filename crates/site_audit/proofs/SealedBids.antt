@@ -2,11 +2,11 @@
 use Rattle.std.proofs.Common.{◌≡◌, ◌∙◌, ◌<◌, ◌+◌, ◌++◌, ◌∷◌, [], ℕ, zero, suc, List, get_or, length, length-append, map, ap, refl, sym, arith, Option, Some, None, Result, Ok, Err}
 use Rattle.std.specs.List.{AllZip}
 use Rattle.house_laws.specs.Covered.{Sealed, bid_message, with_maximum}
-use Rattle.house_rows.specs.declared.command.Command.TheVariants.{Register, AddCategory, List as Listed, Bid, Buy, Close, Settle, Watch, Unwatch, Ask, Answer, Feedback}
+use Rattle.house_rows.specs.declared.command.Command.TheVariants.{Register, AddCategory, List as Listed, Bid, Buy, Close, Settle, Watch, Unwatch, Ask, Answer, Feedback, SetBands}
 use Rattle.house_rows.specs.declared.message.Message.{Message}
 use Rattle.house_rows.specs.declared.message.Message.TheVariants.{Order, Read, Broken}
-use Rattle.site_asks.specs.Asked.{IsAsked, asked_of}
-use Rattle.site_asks.specs.declared.asked.Asked.{Asked}
+use Rattle.site_request.specs.Asked.{IsAsked, asked_of}
+use Rattle.site_request.specs.declared.asked.Asked.{Asked}
 use Rattle.site_audit.specs.declared.fault.AuditFault.{AuditFault}
 use Rattle.site_audit.specs.declared.fault.AuditFault.TheVariants.{Memory, Store, NotNew}
 use Rattle.site_audit.specs.Places.{Heard, heard_message}
@@ -30,6 +30,7 @@ sealed_is (Order t d (Unwatch j)) b e = cc
 sealed_is (Order t d (Ask j text)) b e = cc
 sealed_is (Order t d (Answer j asker n text)) b e = cc
 sealed_is (Order t d (Feedback j rating text)) b e = cc
+sealed_is (Order t d (SetBands table)) b e = cc
 sealed_is (Read d query) b e = cc
 sealed_is (Broken caller fault) b e = cc
 

@@ -7,8 +7,8 @@ ghost use Rattle.house_rows.specs.History.{History};
 ghost use Rattle.house_rows.specs.Tables.{tables_of};
 ghost use Rattle.house_rows.specs.Verdict.{IsHistory};
 ghost use Rattle.site.specs.Answers.{zone_of};
-ghost use Rattle.site_asks.specs.Asked.{IsAsked};
-ghost use Rattle.site_asks.specs.declared.asked.Asked.{Asked as TheAsked};
+ghost use Rattle.site_request.specs.Asked.{IsAsked};
+ghost use Rattle.site_request.specs.declared.asked.Asked.{Asked as TheAsked};
 ghost use Rattle.site_audit.specs.Places.{IsAnswerTold, IsJudged, IsUsed, keep_of};
 ghost use Rattle.site_replies.specs.Texts.{digits_in};
 

@@ -2,8 +2,8 @@
 ghost use Rattle.std.specs.Prelude.{◌≡◌, ◌↔◌, ◌≤◌, List, true, IfOk, IfSome, IfErr, map, length};
 ghost use Rattle.std.specs.List.{AllZip};
 ghost use Rattle.house_laws.specs.Covered.{raised};
-ghost use Rattle.site_asks.specs.Asked.{IsAsked};
-ghost use Rattle.site_asks.specs.declared.asked.Asked.{Asked as TheAsked};
+ghost use Rattle.site_request.specs.Asked.{IsAsked};
+ghost use Rattle.site_request.specs.declared.asked.Asked.{Asked as TheAsked};
 ghost use Rattle.site_audit.specs.Places.{Heard, IsHeard};
 ghost use Rattle.site_audit.specs.SealedBids.{IsBidFound, IsBidRead, sealed_in};
 ghost use Rattle.site_bids.specs.Spelt.{IsSent, bid_text};
@@ -12,8 +12,7 @@ use crate::fault::AuditFault;
 use house_rows::{Command, Message};
 use json::Scratch;
 use settle::LAST_MOMENT;
-use site_asks::{Fault, read};
-use site_routes::Routes;
+use site_request::{Fault, Routes, read};
 use std::alloc::{AllocError, Global};
 use std::marker::Model;
 

@@ -1,16 +1,16 @@
 //! Whose a text is, and which texts may stand at one place.
 ghost use Rattle.std.specs.Prelude.{◌≡◌, ◌↔◌, true};
 ghost use Rattle.site.specs.Runs.{is_from};
-ghost use Rattle.site_asks.specs.Asked.{IsAsked, caller_of};
-ghost use Rattle.site_asks.specs.Heads.{caller_in};
-ghost use Rattle.site_asks.specs.declared.asked.Asked.{Asked as TheAsked};
+ghost use Rattle.site_request.specs.Asked.{IsAsked, caller_of};
+ghost use Rattle.site_request.specs.Heads.{caller_in};
+ghost use Rattle.site_request.specs.declared.asked.Asked.{Asked as TheAsked};
 ghost use Rattle.site_audit.specs.Places.{ArePaired, Heard, IsHeard};
 
 use site_digits::count;
 use wire::{Request, whole};
 
 // The number of the field `x-member`, where it stands exactly once.
-#[tactic(auto, unfolding(site_asks::specs::Heads::caller_in, site_asks::specs::Heads::numbered))]
+#[tactic(auto, unfolding(site_request::specs::Heads::caller_in, site_request::specs::Heads::numbered))]
 fn number_in(request: &Request<'_>) -> Option<u64>
     ensures { result ≡ caller_in request.now }
 {

@@ -20,20 +20,20 @@ use Rattle.house_laws.specs.Covered.{Sealed, bid_message}
 use Rattle.house_rows.specs.declared.command.Command.TheVariants as bidding
 use Rattle.house_rows.specs.declared.message.Message.TheVariants.{Order}
 use Rattle.house_rows.specs.Limits.{last_moment}
-use Rattle.site_asks.specs.Asked.{IsAsked, asked_of, asks_of, called, message_of, ordered}
-use Rattle.site_asks.specs.declared.asked.Asked.{Asked}
-use Rattle.site_asks.specs.Heads.{caller_in, moment_in, numbered}
+use Rattle.site_request.specs.Asked.{IsAsked, asked_of, asks_of, called, message_of, ordered}
+use Rattle.site_request.specs.declared.asked.Asked.{Asked}
+use Rattle.site_request.specs.Heads.{caller_in, moment_in, numbered}
 use Rattle.site_digits.specs.Digits.{number_in}
 use Rattle.site_bodies.specs.LoneNumber.{IsLone}
 use Rattle.site_bodies.specs.Members.{body_of}
 use Rattle.site_bodies.proofs.Alone.{whole_alone, whole_lone}
 use Rattle.site_bodies.proofs.Walked.{nothing_passed}
-use Rattle.site_orders.specs.Commands.{bid_in, command_of, fields_in, object_at, or_no_object}
-use Rattle.site_orders.specs.Fields.{◌>>=◌, number_at, or_wrong}
-use Rattle.site_orders.specs.declared.field.Field.TheVariants as field
-use Rattle.site_orders.specs.declared.order.Order.TheVariants as order
-use Rattle.site_routes.specs.Routes.{route_of}
-use Rattle.site_routes.specs.declared.route.Route.TheVariants as route
+use Rattle.site_request.specs.Commands.{bid_in, command_of, fields_in, object_at, or_no_object}
+use Rattle.site_request.specs.Fields.{◌>>=◌, number_at, or_wrong}
+use Rattle.site_request.specs.declared.field.Field.TheVariants as field
+use Rattle.site_request.specs.declared.order.Order.TheVariants as order
+use Rattle.site_request.specs.Routes.{route_of}
+use Rattle.site_request.specs.declared.route.Route.TheVariants as route
 use Rattle.wire.specs.Fields.{Pair, body_length, has_host, has_transfer, length_by, values_of}
 use Rattle.wire.specs.Frame as frame
 use Rattle.wire.specs.Frame.{IsFrame, IsFront, announced, fields_of, judged, with_body}
@@ -189,7 +189,7 @@ commands i y some few =
     rw (body_lone y some few, whole_lone (codes "maximum") y) refl
 
 -- its route, by the digits of the item
-routes : (item : List ℕ) (i : ℕ) → all_ascii_digits item ≡ true → 0 < length item → IsAscii item → number_in item ≡ Some i → route_of (codes "POST") (bid_target item) ≡ Ok (route.Bid i)
+routes : (item : List ℕ) (i : ℕ) → all_ascii_digits item ≡ true → 0 < length item → IsAscii item → number_in item ≡ Some i → route_of (codes "POST") (bid_target item) ≡ Ok (route.Order (order.Bid i))
 routes [] i all some ascii told = absurd (omega (arith, some))
 routes (d ∷ ds) i all some ascii told =
     let first = both (is_ascii_digit d) (all_ascii_digits ds) all in
@@ -222,7 +222,7 @@ unfolding message_of asks_of called ordered
 means b sent =
     let i = b.item in
     let small : i < 2 ^ 64 = (let few = sent.item.1 in omega arith) in
-    let route : route_of (codes "POST") (bid_target (decimal i)) ≡ Ok (route.Bid i) =
+    let route : route_of (codes "POST") (bid_target (decimal i)) ≡ Ok (route.Order (order.Bid i)) =
     routes (decimal i) i (are_digits i small) (decimal_nonempty i small) (IsAscii-decimal i small) (number_back i sent.item.0 sent.item.1) in
     rw (callers b sent.member, route, times b sent.moment, commands i b.maximum sent.maximum.0 sent.maximum.1) refl
 

@@ -13,9 +13,11 @@ mod flat;
 mod judged;
 mod lone;
 mod numeral;
+mod pairs;
 mod slots;
 mod tree;
 
 pub use body::Body;
 pub use fault::BodyFault;
 pub use lone::{lone_text, lone_whole};
+pub use pairs::read_pairs;

@@ -13,9 +13,9 @@ use Rattle.house_rows.specs.declared.told.Told.{Told}
 use Rattle.house_rows.specs.declared.told.Told.TheVariants as told
 use Rattle.house_rows.specs.Names.{refusal_status}
 use Rattle.settle.specs.declared.zone.Zone.{Zone}
-use Rattle.site_asks.specs.Faults.{status_of}
-use Rattle.site_asks.specs.declared.fault.Fault.{Fault}
-use Rattle.site_asks.specs.declared.fault.Fault.TheVariants as fault
+use Rattle.site_request.specs.Faults.{status_of}
+use Rattle.site_request.specs.declared.fault.Fault.{Fault}
+use Rattle.site_request.specs.declared.fault.Fault.TheVariants as fault
 use Rattle.site_replies.specs.Texts.{IsServed, digits_in, fault_text, is_failure, is_refusal_of_memory, page_status, reply_status, reply_text, told_status}
 use Rattle.status.specs.declared.Status.{Status}
 use Rattle.status.specs.declared.Status.TheVariants.{Success, Created, BadRequest, Forbidden, NotFound, MethodNotAllowed, Conflict, ContentTooLarge, InternalServerError, NotImplemented, ServiceUnavailable}
@@ -120,6 +120,7 @@ tolds (told.Settlement fee item net price) = (refl, refl)
 tolds (told.Watched item watched) = (refl, refl)
 tolds (told.Question asker item number) = (refl, refl)
 tolds (told.Rated item rating to) = (refl, refl)
+tolds (told.Edition edition) = (refl, refl)
 tolds told.Nothing = (refl, refl)
 
 pages : (p : Page) → Serves (page_status p)

@@ -14,8 +14,8 @@ use Rattle.pages_json.specs.Words.{text_of}
 use Rattle.pages_text.specs.Fits.{PageFits}
 use Rattle.pages_text.specs.Trees.{page_tree, refusal_tree, told_tree}
 use Rattle.settle.specs.declared.zone.Zone.{Zone}
-use Rattle.site_asks.specs.Faults.{allow_of, body_of, status_of}
-use Rattle.site_asks.specs.declared.fault.Fault.{Fault}
+use Rattle.site_request.specs.Faults.{allow_of, body_of, status_of}
+use Rattle.site_request.specs.declared.fault.Fault.{Fault}
 use Rattle.status.specs.declared.Status.{Status}
 use Rattle.status.specs.declared.Status.TheVariants.{Created, InternalServerError, ServiceUnavailable, Success}
 use Rattle.wire.specs.Answer.{answer_bytes, error_body}

@@ -3,7 +3,7 @@ ghost use Rattle.std.specs.Prelude.{◌≡◌, ℕ, Bool, true};
 ghost use Rattle.house_rows.specs.declared.fault.KeepFault.TheVariants.{Memory, Store, Damaged};
 ghost use Rattle.house_rows.specs.declared.reply.Reply.{Reply};
 ghost use Rattle.settle.specs.declared.zone.Zone.{Zone};
-ghost use Rattle.site_asks.specs.declared.fault.Fault.{Fault};
+ghost use Rattle.site_request.specs.declared.fault.Fault.{Fault};
 ghost use Rattle.site_replies.specs.Texts.{IsServed, fault_text, is_failure, is_refusal_of_memory, reply_text};
 
 /// No reply of the house is told with 500 or 503, and the texts of faults are told so.

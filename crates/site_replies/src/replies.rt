@@ -11,7 +11,7 @@ use house_rows::{Page, Rate, Reply};
 use pages_json::{Shows, append};
 use pages_text::{AsRefusals, AsTold, append_page};
 use settle::Zone;
-use site_asks::Fault;
+use site_request::Fault;
 use std::alloc::{AllocError, Global};
 use wire::{Answer, Status};
 

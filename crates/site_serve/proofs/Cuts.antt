@@ -10,7 +10,7 @@ use Rattle.wire.specs.Front.{EndsInBody, EndsInHead}
 use Rattle.wire.specs.declared.fault.WireFault.TheVariants as fault
 use Rattle.wire.proofs.Fronts.{ends_in_head, message_stays}
 use Rattle.site.specs.Runs.{InTurn}
-use Rattle.site_asks.specs.declared.asked.Asked.{Asked}
+use Rattle.site_request.specs.declared.asked.Asked.{Asked}
 use Rattle.site_serve.specs.Serving.{heard}
 
 -- whether the connection ends after a message

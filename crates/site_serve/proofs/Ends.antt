@@ -25,8 +25,8 @@ use Rattle.site.proofs.Isolated.{lives_on}
 use Rattle.site.proofs.Left.{leaves_a_life}
 use Rattle.site.proofs.Stops.{down_after, stays_down}
 use Rattle.site_acts.specs.Acted.{is_entered}
-use Rattle.site_asks.specs.declared.asked.Asked.{Asked}
-use Rattle.site_asks.specs.declared.fault.Fault.{Fault}
+use Rattle.site_request.specs.declared.asked.Asked.{Asked}
+use Rattle.site_request.specs.declared.fault.Fault.{Fault}
 use Rattle.wire.specs.Cut.{Cut, Stop, broken, closed, limit}
 use Rattle.wire.specs.Frame.{IsFront, IsMessageAt}
 use Rattle.wire.specs.Look.{IsFaultOf}

@@ -5,7 +5,7 @@ use Rattle.house_rows.specs.History.{History}
 use Rattle.house_rows.specs.Runs.{reply}
 use Rattle.settle.specs.declared.zone.Zone.{Zone}
 use Rattle.site.specs.Answers.{answer_of}
-use Rattle.site_asks.specs.Asked.{asked_of}
+use Rattle.site_request.specs.Asked.{asked_of}
 use Rattle.site_replies.specs.Texts.{reply_text}
 use Rattle.site_serve.specs.Serving.{fault_bytes}
 use Rattle.wire.specs.declared.fault.WireFault.{WireFault}

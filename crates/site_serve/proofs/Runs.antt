@@ -16,7 +16,7 @@ use Rattle.house_rows.specs.Tables.{Tables}
 use Rattle.settle.specs.declared.zone.Zone.{Zone}
 use Rattle.site.specs.Answers.{IsStep}
 use Rattle.site.specs.Runs.{InTurn}
-use Rattle.site_asks.specs.declared.asked.Asked.{Asked}
+use Rattle.site_request.specs.declared.asked.Asked.{Asked}
 use Rattle.wire.proofs.Fronts.{message_stays}
 use Rattle.site_serve.specs.declared.serving.Ending.TheVariants as ending
 use Rattle.site_serve.specs.declared.serving.Served.{Served}

@@ -11,7 +11,7 @@ use Rattle.house_rows.specs.Verdict.{IsHistory}
 use Rattle.settle.specs.declared.zone.Zone.{Zone}
 use Rattle.site.specs.Answers.{IsStep, next_of}
 use Rattle.site.specs.Runs.{AreDown, InTurn, IsRun, StaysDown}
-use Rattle.site_asks.specs.declared.asked.Asked.{Asked}
+use Rattle.site_request.specs.declared.asked.Asked.{Asked}
 use Rattle.site_replies.specs.Texts.{fault_text}
 use Rattle.wire.specs.Cut.{Cut, Stop}
 use Rattle.wire.specs.Message.{Message}

@@ -4,8 +4,8 @@ use Rattle.std.specs.Io.KnownBytes.{Appends, Consumes}
 use Rattle.std.specs.List.{concat}
 use Rattle.site.specs.Runs.{InTurn}
 use Rattle.site.specs.declared.engine.Site.{Site}
-use Rattle.site_asks.specs.Asked.{asked_of}
-use Rattle.site_asks.specs.declared.asked.Asked.{Asked}
+use Rattle.site_request.specs.Asked.{asked_of}
+use Rattle.site_request.specs.declared.asked.Asked.{Asked}
 use Rattle.wire.specs.Answer.{answer_bytes, error_body}
 use Rattle.wire.specs.Cut.{Cut, Stop, closed, limit, clean, broken}
 use Rattle.wire.specs.Fault.{status_of, word_of}

@@ -4,7 +4,7 @@ ghost use Rattle.house_rows.specs.declared.settings.Settings.{Settings};
 ghost use Rattle.house_rows.specs.History.{History};
 ghost use Rattle.settle.specs.declared.zone.Zone.{Zone};
 ghost use Rattle.site.specs.Answers.{answer_of};
-ghost use Rattle.site_asks.specs.Asked.{asked_of};
+ghost use Rattle.site_request.specs.Asked.{asked_of};
 ghost use Rattle.site_serve.specs.Serving.{fault_bytes};
 ghost use Rattle.wire.specs.declared.fault.WireFault.{WireFault};
 

@@ -3,7 +3,7 @@ ghost use Rattle.std.specs.Prelude.{◌≡◌, ◌⊎◌, ◌↔◌, ◌++◌, �
 ghost use Rattle.std.specs.Io.KnownBytes.{Appends, Consumes, IsAtEnd, Keeps};
 ghost use Rattle.device.specs.Given.{AppendsBeginning};
 ghost use Rattle.site.specs.Answers.{IsStep, zone_of};
-ghost use Rattle.site_asks.specs.Asked.{asked_of};
+ghost use Rattle.site_request.specs.Asked.{asked_of};
 ghost use Rattle.site_serve.specs.Ends.{HasEnded};
 ghost use Rattle.site_serve.specs.Lives.{HasLived, LeavesLives};
 ghost use Rattle.site_serve.specs.Serving.{HasRead, HasServed, HasWritten, IsFlushed, keep_of};

@@ -19,7 +19,7 @@ use Rattle.house_rows.specs.Changed.{changed, is_item, with_standing}
 use Rattle.house_rows.specs.Found.{row_at}
 use Rattle.house_rows.specs.History.{History}
 use Rattle.house_rows.specs.Items.{shown}
-use Rattle.house_rows.specs.Tables.{ItemRow, Tables, bands_for, row_opening, tables_of}
+use Rattle.house_rows.specs.Tables.{ItemRow, Tables, bands_for, edition_for, row_opening, tables_of}
 use Rattle.house_rows.specs.Told.{told_placed}
 use Rattle.house_rows.proofs.AcceptedBids.{floor_is}
 use Rattle.house_rows.proofs.ChangedRows.{standing_number, there_is, there_numbered}
@@ -33,10 +33,10 @@ unfolding changed
 row_after t at' i placed kept row found = row_changed i (with_standing i kept) row t.items (λ r. ap (λ n. n == i) (standing_number i kept r)) found
 
 -- what its row tells
-placed_now : (bands : List (ℕ × ℕ)) (i : ℕ) (kept : Kept) (row : ItemRow) (opening : Opening) (bids : List bid.Bid) → is_item i row ≡ true → row.item.terms.state ≡ Open
+placed_now : (edition : ℕ) (bands : List (ℕ × ℕ)) (i : ℕ) (kept : Kept) (row : ItemRow) (opening : Opening) (bids : List bid.Bid) → is_item i row ≡ true → row.item.terms.state ≡ Open
     → row.item.terms.start ≡ opening.start → kept ≡ standing_of bands opening bids
-    → told_placed (Some (shown bands (with_standing i kept row).item)) ≡ Placed kept.count (floor bands opening bids) kept.leader kept.price
-placed_now bands i kept row opening bids here opened same stands =
+    → told_placed (Some (shown edition bands (with_standing i kept row).item)) ≡ Placed kept.count (floor bands opening bids) kept.leader kept.price
+placed_now edition bands i kept row opening bids here opened same stands =
     rw (here, opened, same, stands) (rw (floor_is bands opening bids) refl)
 
 -- by the band table of its number
@@ -45,8 +45,8 @@ placed_by : (t : Tables) (i : ℕ) (kept : Kept) (row : ItemRow) (opening : Open
     → told_placed (Some (shown_row t (with_standing i kept row))) ≡ Placed kept.count (floor (bands_for t i) opening bids) kept.leader kept.price
 placed_by t i kept row opening bids there opened same stands =
     let numbered : (with_standing i kept row).item.terms.item ≡ i = standing_number i kept row ∙ there_numbered t i row there in
-    ap (λ (n : ℕ). told_placed (Some (shown (bands_for t n) (with_standing i kept row).item))) numbered
-    ∙ placed_now (bands_for t i) i kept row opening bids (there_is t i row there) opened same stands
+    ap (λ (n : ℕ). told_placed (Some (shown (edition_for t n) (bands_for t n) (with_standing i kept row).item))) numbered
+    ∙ placed_now (edition_for t i) (bands_for t i) i kept row opening bids (there_is t i row there) opened same stands
 
 -- a standing that a bid leaves is one of bids, and what it tells of them is told
 record IsTelling (settings : Settings) (h : History) (moment caller i maximum : ℕ) (kept : Kept) : Type 0 where

@@ -1,5 +1,5 @@
 -- What a registration, a new category and a listing are told: a number.
-use Rattle.std.proofs.Common.{Bor, ◌≡◌, ◌∷◌, ◌<◌, ◌+◌, ℕ, List, [], length, map, ◌∙◌, Option}
+use Rattle.std.proofs.Common.{Bor, ◌≡◌, ◌∷◌, ◌<◌, ◌+◌, ℕ, List, [], length, map, ◌∙◌, ◌++◌, ap, sym, arith, Option}
 use Rattle.std.specs.Prelude.{Result, IfOk}
 use Rattle.std.proofs.lemmas.List.{length-append, length-map}
 use Rattle.house.specs.Decided.{IsAccepted}
@@ -11,14 +11,16 @@ use Rattle.house_rows.specs.declared.command.Command.TheVariants as command
 use Rattle.house_rows.specs.declared.fault.KeepFault.{KeepFault}
 use Rattle.house_rows.specs.declared.settings.Settings.{Settings}
 use Rattle.house_rows.specs.declared.told.Told.{Told}
-use Rattle.house_rows.specs.declared.told.Told.TheVariants.{Registered, Added, Listing}
+use Rattle.house_rows.specs.declared.told.Told.TheVariants.{Registered, Added, Listing, Edition}
+use Rattle.house_rows.specs.Editions.{editions}
 use Rattle.house_rows.specs.History.{History}
 use Rattle.house_rows.specs.Items.{items_shown, shown_now}
-use Rattle.house_rows.specs.Limits.{most_categories, most_items, most_members}
-use Rattle.house_rows.specs.Listings.{listings}
+use Rattle.house_rows.specs.Limits.{most_categories, most_editions, most_items, most_members}
+use Rattle.house_rows.specs.Listings.{listings, tables_set}
 use Rattle.house_rows.specs.People.{categories, members}
 use Rattle.house_rows.specs.Runs.{entry}
 use Rattle.house_rows.specs.Tables.{Tables, row_now, tables_of}
+use Rattle.house_rows.proofs.GoesBy.{set_count}
 use Rattle.site_told.proofs.Seen.{IsTold, ok_as, told_as}
 
 member_told : (settings : Settings) (h : History) (moment caller : ℕ) (name : List ℕ) (r : Told)
@@ -60,7 +62,7 @@ unfolding tables_of
 item_told settings h moment caller category lot title text start buy_now end' reserve r is =
     let before : length (map (row_now settings h) (listings h)) ≡ length (listings h) = length-map (listings h) (row_now settings h) in
     rw (seen_count settings (entry moment caller (command.List category lot title text start buy_now end' reserve) ∷ h)) (
-    rw (length-append (listings h) (record { item = length (listings h) + 1; seller = caller; category = category; lot = lot; title = title; text = text; start = start; buy_now = buy_now; end = end'; set = []; reserve = reserve } ∷ []))
+    rw (length-append (listings h) (record { item = length (listings h) + 1; seller = caller; category = category; lot = lot; title = title; text = text; start = start; buy_now = buy_now; end = end'; set = tables_set h; reserve = reserve } ∷ []))
     (rw before at is))
 
 pub list_told : (t : Tables) (settings : Settings) (h : History) (moment caller : ℕ) (k : Command) (result : Result Told KeepFault) (at' : ℕ) (item : NewItem) → t ≡ tables_of settings h
@@ -70,4 +72,19 @@ list_told t settings h moment caller k result at' item e is own value =
     ok_as (λ r. r ≡ Listing (length (tables_of settings h).items + 1)) (IsTold settings h moment caller k) result
     (λ r v. told_as settings h moment caller (command.List item.category item.lot.now item.title.now item.text.now item.start item.buy_now item.end item.reserve) k r own.same_command
     (item_told settings h moment caller item.category item.lot.now item.title.now item.text.now item.start item.buy_now item.end item.reserve r v))
+    ((rw e at value) is.fits.room)
+
+table_told : (settings : Settings) (h : History) (moment caller : ℕ) (bands : List (ℕ × ℕ)) (r : Told)
+    → r ≡ Edition (length (tables_of settings h).editions + 2) → IsTold settings h moment caller (command.SetBands bands) r
+unfolding tables_of
+table_told settings h moment caller bands r is =
+    let one : length (tables_set h ++ bands ∷ []) + 1 ≡ length (editions h) + 2 = let more = length-append (tables_set h) (bands ∷ []) in let count = set_count h in omega arith in
+    is ∙ ap Edition (sym one)
+
+pub set_told : (t : Tables) (settings : Settings) (h : History) (moment caller : ℕ) (k : Command) (result : Result Told KeepFault) (at' : ℕ) (bands : Bor (List (ℕ × ℕ))) → t ≡ tables_of settings h
+    → IsAccepted settings h moment caller k (change.SetBands at' bands) → IsOf moment caller k (change.SetBands at' bands)
+    → (length t.editions + 1 < most_editions → IfOk result (λ r. r ≡ Edition (length t.editions + 2))) → IfOk result (IsTold settings h moment caller k)
+set_told t settings h moment caller k result at' bands e is own value =
+    ok_as (λ r. r ≡ Edition (length (tables_of settings h).editions + 2)) (IsTold settings h moment caller k) result
+    (λ r v. told_as settings h moment caller (command.SetBands bands.now) k r own.same_command (table_told settings h moment caller bands.now r v))
     ((rw e at value) is.fits.room)

@@ -5,6 +5,7 @@
 //! the numbers that a change doesn't carry.
 #![tactic(auto)]
 
+mod bands;
 mod bidding;
 mod closing;
 mod listing;

@@ -11,6 +11,7 @@ ghost use Rattle.house_rows.specs.Tables.{tables_of};
 ghost use Rattle.house_rows.specs.Told.{told};
 ghost use Rattle.house_rows.specs.Verdict.{IsHistory};
 
+use crate::bands::next_edition;
 use crate::bidding::placed;
 use crate::closing::closed;
 use crate::listing::listed;
@@ -79,5 +80,6 @@ pub fn tell<K: Keep>(keep: &mut K, change: &Change<'_>) -> Result<Told, KeepFaul
             rating: *rating,
             to: *to,
         }),
+        Change::SetBands { .. } => next_edition(keep),
     }
 }

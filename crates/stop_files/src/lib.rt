@@ -10,8 +10,6 @@ mod drive;
 mod pair;
 mod plate;
 mod record;
-#[cfg(test)]
-mod tests;
 
 pub use drive::{Drive, Stopping};
 pub use pair::{Image, Pair, Side};

@@ -7,7 +7,7 @@ use Rattle.house_rows.specs.Tables.{Tables, band_tables, tables_of}
 use Rattle.house_rows.specs.declared.people.Counts.{Counts}
 use Rattle.house_rows.specs.declared.settings.Settings.{Settings}
 use Rattle.store_rows.specs.Rows.{reserves_in}
-use Rattle.store_rows.specs.Tables.{settings_in, tables_in}
+use Rattle.store_rows.specs.Tables.{tables_in}
 use Rattle.store_rows.specs.declared.reserve.ReserveRow.{ReserveRow}
 use Rattle.store.specs.Kept.{IsKnown}
 
@@ -23,11 +23,10 @@ known_new editions settings reserves db alone new none empty = record {
 }
 
 -- of a house that was read
-pub known_read : (editions : BandTables) (settings : Settings) (reserves : List ReserveRow) (counts : Counts) (clock : ℕ) (db : Trees) → editions ≡ record { settings = settings; later = [] }
-    → settings_in db ≡ settings → reserves ≡ reserves_in db → counts_of (tables_in db) ≡ counts → (tables_in db).clock ≡ clock → IsKnown editions reserves counts clock db
-unfolding tables_in
-known_read editions settings reserves counts clock db alone set sealed counted moved = record {
-  editions_are = ap (λ (s : Settings). record { settings = s; later = [] }) set ∙ sym alone;
+pub known_read : (editions : BandTables) (reserves : List ReserveRow) (counts : Counts) (clock : ℕ) (db : Trees)
+    → band_tables (tables_in db) ≡ editions → reserves ≡ reserves_in db → counts_of (tables_in db) ≡ counts → (tables_in db).clock ≡ clock → IsKnown editions reserves counts clock db
+known_read editions reserves counts clock db tables sealed counted moved = record {
+  editions_are = tables;
   reserves_are = sealed;
   counts_are = counted;
   clock_is = moved;

@@ -1,6 +1,8 @@
 -- What a keep knows of the tables after a change.
-use Rattle.std.proofs.Common.{◌≡◌, ◌⊎◌, ◌+◌, ℕ, List, length, Bool, true, false, true≢false, Result, Ok, Err, refl, ap, sym, subst, ◌∙◌, inl, inr}
-use Rattle.std.specs.Prelude.{IsTrue, OnOk, is_err}
+use Rattle.std.proofs.Common.{◌≡◌, ◌⊎◌, ◌+◌, ℕ, List, length, Bool, true, false, true≢false, Result, Ok, Err, refl, ap, ap₂, sym, subst, ◌∙◌, inl, inr}
+use Rattle.std.specs.Prelude.{◌<◌, IfSome, IsTrue, None, OnOk, Option, Some, is_err}
+use Rattle.steps.specs.Table.{IsBandTable}
+use Rattle.house_rows.specs.Limits.{most_editions}
 use Rattle.std.proofs.lemmas.List.{length-append, length-map}
 use Rattle.sqlite_trees.specs.Tree.{Trees}
 use Rattle.sqlite.specs.Effect.{Database}
@@ -11,30 +13,31 @@ use Rattle.house_rows.specs.Fits.{IsMoment}
 use Rattle.house_rows.specs.Found.{counts_of}
 use Rattle.house_rows.specs.Tables.{Tables, band_tables}
 use Rattle.house_rows.specs.declared.change.Change.{Change}
-use Rattle.house_rows.specs.declared.change.Change.TheVariants.{Register, AddCategory, List as Listed, Bid, Buy, Close, Settle, Watch, Unwatch, Ask, Answer, Feedback}
+use Rattle.house_rows.specs.declared.change.Change.TheVariants.{Register, AddCategory, List as Listed, Bid, Buy, Close, Settle, Watch, Unwatch, Ask, Answer, Feedback, SetBands}
 use Rattle.house_rows.specs.declared.people.Counts.{Counts}
 use Rattle.house_rows.specs.Editions.{BandTables}
 use Rattle.store_rows.specs.ItemRows.{items_in}
 use Rattle.store_rows.specs.Rows.{reserves_in}
 use Rattle.store_rows.specs.Tables.{Changes, reserves_after, tables_in}
 use Rattle.store_rows.specs.declared.reserve.ReserveRow.{ReserveRow}
-use Rattle.store.specs.After.{clock_after, counts_after}
+use Rattle.store.specs.After.{IsSettable, bands_set, clock_after, counts_after, with_table}
 use Rattle.store.specs.Kept.{IsKnown}
 
-editions_stay : (t : Tables) (change : Change) → band_tables (changed t change) ≡ band_tables t
+editions_move : (t : Tables) (change : Change) → band_tables (changed t change) ≡ with_table (band_tables t) (counts_after (counts_of t) change).items (bands_set change)
 unfolding changed
-editions_stay t (Register moment name) = refl
-editions_stay t (AddCategory moment name) = refl
-editions_stay t (Listed moment item) = refl
-editions_stay t (Bid moment item placed standing) = refl
-editions_stay t (Buy moment item buyer price) = refl
-editions_stay t (Close moment) = refl
-editions_stay t (Settle moment item) = refl
-editions_stay t (Watch member item) = refl
-editions_stay t (Unwatch member item) = refl
-editions_stay t (Ask item asker number text) = refl
-editions_stay t (Answer moment item asker number text) = refl
-editions_stay t (Feedback moment item from to rating text) = refl
+editions_move t (Register moment name) = refl
+editions_move t (AddCategory moment name) = refl
+editions_move t (Listed moment item) = refl
+editions_move t (Bid moment item placed standing) = refl
+editions_move t (Buy moment item buyer price) = refl
+editions_move t (Close moment) = refl
+editions_move t (Settle moment item) = refl
+editions_move t (Watch member item) = refl
+editions_move t (Unwatch member item) = refl
+editions_move t (Ask item asker number text) = refl
+editions_move t (Answer moment item asker number text) = refl
+editions_move t (Feedback moment item from to rating text) = refl
+editions_move t (SetBands moment bands) = refl
 
 clock_moves : (t : Tables) (change : Change) → (changed t change).clock ≡ clock_after t.clock change
 unfolding changed
@@ -50,6 +53,7 @@ clock_moves t (Unwatch member item) = refl
 clock_moves t (Ask item asker number text) = refl
 clock_moves t (Answer moment item asker number text) = refl
 clock_moves t (Feedback moment item from to rating text) = refl
+clock_moves t (SetBands moment bands) = refl
 
 counts_move : (t : Tables) (change : Change) → counts_of (changed t change) ≡ counts_after (counts_of t) change
 unfolding changed
@@ -65,6 +69,7 @@ counts_move t (Unwatch member item) = refl
 counts_move t (Ask item asker number text) = refl
 counts_move t (Answer moment item asker number text) = refl
 counts_move t (Feedback moment item from to rating text) = refl
+counts_move t (SetBands moment bands) = refl
 
 so_many : (db : Trees) → (counts_of (tables_in db)).items ≡ length (items_in db)
 unfolding tables_in
@@ -85,12 +90,14 @@ next_number (Unwatch member item) reserves counts many same = refl
 next_number (Ask item asker number text) reserves counts many same = refl
 next_number (Answer moment item asker number text) reserves counts many same = refl
 next_number (Feedback moment item from to rating text) reserves counts many same = refl
+next_number (SetBands moment bands) reserves counts many same = refl
 
 -- what was known is known of the tables after the change
 pub known_after : (editions : BandTables) (reserves : List ReserveRow) (counts : Counts) (clock : ℕ) (change : Change) (old new : Database)
-    → IsKnown editions reserves counts clock old.trees → Changes change old new → IsKnown editions (reserves_after reserves (counts_after counts change).items change) (counts_after counts change) (clock_after clock change) new.trees
+    → IsKnown editions reserves counts clock old.trees → Changes change old new → IsKnown (with_table editions (counts_after counts change).items (bands_set change)) (reserves_after reserves (counts_after counts change).items change) (counts_after counts change) (clock_after clock change) new.trees
 known_after editions reserves counts clock change old new known made = let is = made.tables in record {
-  editions_are = ap band_tables is ∙ (editions_stay (tables_in old.trees) change ∙ known.editions_are);
+  editions_are = ap band_tables is ∙ editions_move (tables_in old.trees) change
+      ∙ ap₂ (λ (b : BandTables) (k : Counts). with_table b (counts_after k change).items (bands_set change)) known.editions_are known.counts_are;
   reserves_are = ap (λ (l : List ReserveRow). reserves_after l (counts_after counts change).items change) known.reserves_are
       ∙ next_number change (reserves_in old.trees) counts (length (items_in old.trees)) (sym (ap (λ (c : Counts). c.items) known.counts_are) ∙ so_many old.trees)
       ∙ sym made.reserves;
@@ -112,6 +119,27 @@ fits_moment t (Unwatch member item) clock is fits = is
 fits_moment t (Ask item asker number text) clock is fits = is
 fits_moment t (Answer moment item asker number text) clock is fits = fits.moment_fits
 fits_moment t (Feedback moment item from to rating text) clock is fits = fits.moment_fits
+fits_moment t (SetBands moment bands) clock is fits = fits.moment_fits
+
+-- a band table that fits can be set
+pub fits_settable : (t : Tables) (change : Change) → ChangeFits t change → IsSettable (band_tables t) change
+fits_settable t (Register moment name) fits = tt
+fits_settable t (AddCategory moment name) fits = tt
+fits_settable t (Listed moment item) fits = tt
+fits_settable t (Bid moment item placed standing) fits = tt
+fits_settable t (Buy moment item buyer price) fits = tt
+fits_settable t (Close moment) fits = tt
+fits_settable t (Settle moment item) fits = tt
+fits_settable t (Watch member item) fits = tt
+fits_settable t (Unwatch member item) fits = tt
+fits_settable t (Ask item asker number text) fits = tt
+fits_settable t (Answer moment item asker number text) fits = tt
+fits_settable t (Feedback moment item from to rating text) fits = tt
+fits_settable t (SetBands moment bands) fits = (fits.valid, fits.room)
+
+pub room_of : (o : Option (List (ℕ × ℕ))) (n : ℕ) → IfSome o (λ bands. IsBandTable bands × (n < most_editions)) → IfSome o (λ _. n < most_editions)
+room_of None n can = tt
+room_of (Some bands) n can = can.1
 
 -- what a crash may leave after a change that failed: what it could leave before, or the new tables where the keep failed
 pub left_after : (old mid : State) (change : Change) (failed : Bool) (db : Trees) → old.may_leave old.committed.trees → (IsTrue mid.is_open → db ≡ mid.committed.trees)

@@ -1,7 +1,10 @@
 -- What a change makes of what a keep knows.
-use Rattle.std.specs.Prelude.{ℕ, ◌+◌}
+use Rattle.std.specs.Prelude.{◌<◌, ◌+◌, ◌++◌, ◌∷◌, [], ℕ, List, Option, Some, None, IfSome, length}
+use Rattle.steps.specs.Table.{IsBandTable}
+use Rattle.house_rows.specs.Editions.{BandTables}
+use Rattle.house_rows.specs.Limits.{most_editions}
 use Rattle.house_rows.specs.declared.change.Change.{Change}
-use Rattle.house_rows.specs.declared.change.Change.TheVariants.{Register, AddCategory, List as Listed, Bid, Buy, Close, Settle, Watch, Unwatch, Ask, Answer, Feedback}
+use Rattle.house_rows.specs.declared.change.Change.TheVariants.{Register, AddCategory, List as Listed, Bid, Buy, Close, Settle, Watch, Unwatch, Ask, Answer, Feedback, SetBands}
 use Rattle.house_rows.specs.declared.people.Counts.{Counts}
 
 -- the counts after a change
@@ -18,6 +21,7 @@ counts_after counts (Unwatch member item) = counts
 counts_after counts (Ask item asker number text) = counts
 counts_after counts (Answer moment item asker number text) = counts
 counts_after counts (Feedback moment item from to rating text) = counts
+counts_after counts (SetBands moment bands) = counts
 
 -- the clock after a change
 abbrev pub clock_after : ℕ → Change → ℕ
@@ -33,3 +37,32 @@ clock_after clock (Unwatch member item) = clock
 clock_after clock (Ask item asker number text) = clock
 clock_after clock (Answer moment item asker number text) = moment
 clock_after clock (Feedback moment item from to rating text) = moment
+clock_after clock (SetBands moment bands) = moment
+
+-- the band table that a change sets, if it sets one
+abbrev pub bands_set : Change → Option (List (ℕ × ℕ))
+bands_set (Register moment name) = None
+bands_set (AddCategory moment name) = None
+bands_set (Listed moment item) = None
+bands_set (Bid moment item placed standing) = None
+bands_set (Buy moment item buyer price) = None
+bands_set (Close moment) = None
+bands_set (Settle moment item) = None
+bands_set (Watch member item) = None
+bands_set (Unwatch member item) = None
+bands_set (Ask item asker number text) = None
+bands_set (Answer moment item asker number text) = None
+bands_set (Feedback moment item from to rating text) = None
+bands_set (SetBands moment bands) = Some bands.now
+
+-- it is one, and there is room for it
+abbrev pub IsSettable : BandTables → Change → Type 0
+IsSettable b change = IfSome (bands_set change) (λ bands. IsBandTable bands × (length b.later + 1 < most_editions))
+
+-- with one band table more, if there is one, which begins with the item after so many
+abbrev pub with_table : BandTables → ℕ → Option (List (ℕ × ℕ)) → BandTables
+with_table b items None = b
+with_table b items (Some bands) = record {
+  settings = b.settings;
+  later = b.later ++ record { edition = length b.later + 2; first = items + 1; bands = bands } ∷ [];
+}

@@ -1,15 +1,22 @@
 //! What a keep knows of its tables after a change.
-ghost use Rattle.std.specs.Prelude.{◌≡◌, ◌+◌, ◌<◌, ◌≤◌, true, IfSome, OnOk, is_some};
+ghost use Rattle.std.specs.Prelude.{◌≡◌, ◌+◌, ◌<◌, ◌≤◌, length, true, IfOk, IfSome, IsErrOf, OnOk, is_some};
 ghost use Rattle.house_rows.specs.Asks.{ChangeFits};
 ghost use Rattle.house_rows.specs.Fits.{IsMoment};
 ghost use Rattle.house_rows.specs.Found.{counts_of};
+ghost use Rattle.house_rows.specs.Limits.{most_editions};
 ghost use Rattle.house_rows.specs.Tables.{Tables};
+ghost use Rattle.house_rows.specs.declared.fault.KeepFault.TheVariants.{Damaged, Store};
 ghost use Rattle.store_rows.specs.Tables.{reserves_after};
-ghost use Rattle.store.specs.After.{clock_after, counts_after};
+ghost use Rattle.store.specs.After.{IsSettable, bands_set, clock_after, counts_after, with_table};
 
-use house_rows::{Change, Counts, KeepFault, MOST_CATEGORIES, MOST_ITEMS, MOST_MEMBERS};
+use house_rows::{
+    Change, Counts, Editions, KeepFault, MOST_CATEGORIES, MOST_EDITIONS, MOST_ITEMS, MOST_MEMBERS,
+};
 use settle::LAST_MOMENT;
-use store_reserves::Reserves;
+use std::alloc::Global;
+use steps::Bands;
+use store_open::table_of;
+use store_reserves::{Reserves, Rules};
 
 // One more, if there is room.
 fn one_more(count: u32, most: u32) -> Option<u32>
@@ -38,6 +45,7 @@ fn moment_after(clock: u64, change: &Change<'_>) -> u64
         Change::Settle { moment, .. } => moment,
         Change::Answer { moment, .. } => moment,
         Change::Feedback { moment, .. } => moment,
+        Change::SetBands { moment, .. } => moment,
         Change::Watch { .. } => clock,
         Change::Unwatch { .. } => clock,
         Change::Ask { .. } => clock,
@@ -84,12 +92,19 @@ pub(crate) fn counts_after(counts: Counts, change: &Change<'_>) -> Option<Counts
     }
 }
 
-/// Adds the reserve of a listing, if it has one. The counts are those after the change.
-pub(crate) fn add_reserve(
-    reserves: &mut Reserves,
-    after: Counts,
-    change: &Change<'_>,
-) -> Result<(), KeepFault>
+/// Makes room for one reserve more and one band table more.
+pub(crate) fn make_room(rules: &mut Rules) -> Result<(), KeepFault>
+    ensures same { rules.new ≡ rules.old }
+{
+    rules.reserves.make_room()?;
+    match rules.editions.make_room() {
+        Ok(()) => Ok(()),
+        Err(_) => Err(KeepFault::Memory),
+    }
+}
+
+// Adds the reserve of a listing, if it has one. The counts are those after the change.
+fn add_reserve(reserves: &mut Reserves, after: Counts, change: &Change<'_>) -> Result<(), KeepFault>
     ensures value { OnOk result (reserves.new
         ≡ reserves_after reserves.old after.items change.now) }
 {
@@ -100,4 +115,61 @@ pub(crate) fn add_reserve(
         },
         _ => Ok(()),
     }
+}
+
+/// The band table that a change sets, if it sets one; `Damaged` where it is none, or where there are as
+/// many as there may be.
+pub(crate) fn table_set(
+    alloc: Global,
+    editions: &Editions,
+    change: &Change<'_>,
+) -> Result<Option<Bands>, KeepFault>
+    ensures value { IfOk result (λ table. table ≡ bands_set change.now) }
+    ensures settable { OnOk result (IsSettable editions.now change.now) }
+    ensures damaged { IsSettable editions.now change.now → ¬ (IsErrOf result Damaged) }
+    ensures working { ¬ (IsErrOf result Store) }
+{
+    match *change {
+        Change::SetBands { bands, .. } => {
+            if editions.newest() >= MOST_EDITIONS {
+                return Err(KeepFault::Damaged);
+            }
+            Ok(Some(table_of(alloc, bands)?))
+        }
+        _ => Ok(None),
+    }
+}
+
+// Adds a band table, if there is one, which begins with the item after so many.
+fn add_table(editions: &mut Editions, items: u32, table: Option<Bands>) -> Result<(), KeepFault>
+    requires room { IfSome table (λ _. length editions.old.later + 1 < most_editions) }
+    ensures value { OnOk result (editions.new ≡ with_table editions.old items table) }
+{
+    let Some(bands) = table else {
+        return Ok(());
+    };
+    let Some(first) = items.checked_add(1) else {
+        return Err(KeepFault::Damaged);
+    };
+    match editions.set(first, bands) {
+        Ok(()) => Ok(()),
+        Err(_) => Err(KeepFault::Memory),
+    }
+}
+
+/// Adds the reserve and the band table of a change, if it has one. The counts are those after it.
+pub(crate) fn add_rules(
+    rules: &mut Rules,
+    after: Counts,
+    change: &Change<'_>,
+    table: Option<Bands>,
+) -> Result<(), KeepFault>
+    requires room { IfSome table (λ _. length rules.old.editions.later + 1 < most_editions) }
+    ensures reserves { OnOk result (rules.new.reserves
+        ≡ reserves_after rules.old.reserves after.items change.now) }
+    ensures editions { OnOk result (rules.new.editions
+        ≡ with_table rules.old.editions after.items table) }
+{
+    add_reserve(&mut rules.reserves, after, change)?;
+    add_table(&mut rules.editions, after.items, table)
 }

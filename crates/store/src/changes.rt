@@ -6,7 +6,7 @@ ghost use Rattle.house_rows.specs.Keeping.{AreSound, ChangeFaults};
 ghost use Rattle.house_rows.specs.Tables.{Tables};
 ghost use Rattle.store.specs.Kept.{IsHonest, MayLeave, content, is_failed};
 
-use crate::after::{add_reserve, clock_after, counts_after};
+use crate::after::{add_rules, clock_after, counts_after, make_room, table_set};
 use crate::keep::SqlKeep;
 use crate::making::make_change;
 use crate::settled::told_fault;
@@ -46,7 +46,8 @@ impl<S: Alter> SqlKeep<S> {
         let Some(counts) = counts_after(self.counts, change) else {
             return Err(KeepFault::Damaged);
         };
-        if self.rules.reserves.make_room().is_err() {
+        let table = table_set(self.alloc, &self.rules.editions, change)?;
+        if make_room(&mut self.rules).is_err() {
             return Err(KeepFault::Memory);
         }
         match make_change(self.alloc, &mut self.conn, &self.rules, counts, change) {
@@ -55,7 +56,7 @@ impl<S: Alter> SqlKeep<S> {
                 self.clock = clock;
                 // There is room, so it doesn't fail: had it, the keep would know less than its
                 // tables.
-                if add_reserve(&mut self.rules.reserves, counts, change).is_err() {
+                if add_rules(&mut self.rules, counts, change, table).is_err() {
                     self.failed = true;
                     return Err(KeepFault::Store);
                 }

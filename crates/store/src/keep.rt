@@ -19,6 +19,7 @@ use settle::Sold;
 use sqlite::{Alter, Connection};
 use std::alloc::Global;
 use std::marker::Model;
+use steps::Bands;
 use store_bids::{own_best, own_bids};
 use store_items::{
     all_items, due, item_at, item_with_lot, items_in, reserves_of, sales_to, standing_at, terms_at,
@@ -114,6 +115,21 @@ impl<S: Alter> Keep for SqlKeep<S> {
     fn editions(&self) -> Result<&Editions, KeepFault> {
         self.serves()?;
         Ok(&self.rules.editions)
+    }
+
+    fn newest(&self) -> Result<u32, KeepFault> {
+        self.serves()?;
+        Ok(self.rules.editions.newest())
+    }
+
+    fn edition_of(&self, item: u64) -> Result<u32, KeepFault> {
+        self.serves()?;
+        Ok(self.rules.editions.edition_of(item))
+    }
+
+    fn bands_of(&self, edition: u64) -> Result<Option<&Bands>, KeepFault> {
+        self.serves()?;
+        Ok(self.rules.editions.bands_of(edition))
     }
 
     fn clock(&mut self) -> Result<u64, KeepFault> {

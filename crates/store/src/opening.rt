@@ -3,7 +3,7 @@ ghost use Rattle.std.specs.Prelude.{◌≡◌, ◌≢◌, ◌↔◌, ◌⊎◌, 
 ghost use Rattle.sqlite.specs.Held.{state};
 ghost use Rattle.sqlite.specs.State.{HasCleanDisk};
 ghost use Rattle.sqlite_trees.specs.View.{IsClean};
-ghost use Rattle.house_rows.specs.Tables.{Tables, tables_of};
+ghost use Rattle.house_rows.specs.Tables.{Tables, band_tables, tables_of};
 ghost use Rattle.house_rows.specs.Text.{is_plain};
 ghost use Rattle.house_rows.specs.declared.fault.KeepFault.TheVariants.{Damaged, Store};
 ghost use Rattle.house_rows.specs.Fits.{IsMoment};
@@ -11,8 +11,8 @@ ghost use Rattle.house_rows.specs.Found.{counts_of};
 ghost use Rattle.store_rows.specs.Fitting.{HouseRowFits};
 ghost use Rattle.store_rows.specs.Schema.{no_schema};
 ghost use Rattle.store_rows.specs.Rows.{reserves_in};
-ghost use Rattle.store_rows.specs.Tables.{IsAtRest, house_row_in, settings_in, tables_in};
-ghost use Rattle.store_open.specs.Opening.{AreNumbered, Follows, FollowsOrGrows, IsBackOrNew, IsSoundFirst, IsSoundHouse, Upgrades, first_tables_in};
+ghost use Rattle.store_rows.specs.Tables.{IsAtRest, house_row_in, tables_in};
+ghost use Rattle.store_open.specs.Opening.{AreNumbered, AreSet, Follows, FollowsOrGrows, IsBackOrNew, IsSoundFirst, IsSoundHouse, Upgrades, first_tables_in};
 ghost use Rattle.store.specs.Kept.{IsHonest, MayLeave, content};
 ghost use Rattle.store.specs.Opening.{Leaves, LeavesMade, LeavesStore, LeavesUpgraded};
 
@@ -97,7 +97,8 @@ impl<S: Alter + Drop> SqlKeep<S> {
 
     /// The keep of the house that a connection holds. What the connection has not committed is undone.
     ///
-    /// `Damaged` where it holds no house of this version, or one whose settings, numbers or reserves don't fit.
+    /// `Damaged` where it holds no house of this version, or one whose settings, numbers, reserves or
+    /// editions don't fit.
     /// After an error the store is given back as it was: a crash finds what it could find before.
     pub fn open_or_return(alloc: Global, conn: Connection<S>) -> Result<SqlKeep<S>, (KeepFault, S)>
         ensures same { IfOk result (λ k. IsHonest S.Store k
@@ -110,6 +111,8 @@ impl<S: Alter + Drop> SqlKeep<S> {
             → HouseRowFits (house_row_in (state S.Store k.conn).now.trees)) }
         ensures numbered { IfOk result (λ k. IsHonest S.Store k
             → AreNumbered (state S.Store k.conn).now.trees) }
+        ensures set { IfOk result (λ k. IsHonest S.Store k
+            → AreSet (state S.Store k.conn).now.trees) }
         ensures left { IfErr result (λ e. Follows S.Store conn e.1) }
         ensures damaged { IfErr result (λ e. e.0 ≡ Damaged → IsClean (S.Store.view e.1)
             → ¬ (IsSoundHouse (state S.Store conn).committed)) }
@@ -130,6 +133,8 @@ impl<S: Alter + Drop> SqlKeep<S> {
             → HouseRowFits (house_row_in (state S.Store k.conn).now.trees)) }
         ensures numbered { IfOk result (λ k. IsHonest S.Store k
             → AreNumbered (state S.Store k.conn).now.trees) }
+        ensures set { IfOk result (λ k. IsHonest S.Store k
+            → AreSet (state S.Store k.conn).now.trees) }
         ensures left { OnErr result (LeavesStore S.Store conn) }
         ensures damaged { IsErrOf result Damaged
             → Leaves S.Store conn (¬ (IsSoundHouse (state S.Store conn).committed)) }
@@ -144,7 +149,8 @@ impl<S: Alter + Drop> SqlKeep<S> {
     /// and whether it was. What the connection has not committed is undone. A house of this version is
     /// not changed.
     ///
-    /// `Damaged` where it holds no house of either version, or one whose settings, numbers or reserves don't fit.
+    /// `Damaged` where it holds no house of either version, or one whose settings, numbers, reserves or
+    /// editions don't fit.
     /// After an error the store is given back. After `Memory` and `Damaged` it is as it was, and a crash
     /// finds what it could find before. After `Store` a crash may find the house upgraded.
     pub fn upgrade_or_return(
@@ -165,6 +171,8 @@ impl<S: Alter + Drop> SqlKeep<S> {
             → HouseRowFits (house_row_in (state S.Store r.0.conn).now.trees)) }
         ensures numbered { IfOk result (λ r. IsHonest S.Store r.0
             → AreNumbered (state S.Store r.0.conn).now.trees) }
+        ensures set { IfOk result (λ r. IsHonest S.Store r.0
+            → AreSet (state S.Store r.0.conn).now.trees) }
         ensures left { IfErr result (λ e. e.0 ≢ Store → Follows S.Store conn e.1) }
         ensures grown { IfErr result (λ e. FollowsOrGrows S.Store conn e.1) }
         ensures damaged { IfErr result (λ e. e.0 ≡ Damaged → IsClean (S.Store.view e.1)
@@ -191,6 +199,8 @@ impl<S: Alter + Drop> SqlKeep<S> {
             → HouseRowFits (house_row_in (state S.Store r.0.conn).now.trees)) }
         ensures numbered { IfOk result (λ r. IsHonest S.Store r.0
             → AreNumbered (state S.Store r.0.conn).now.trees) }
+        ensures set { IfOk result (λ r. IsHonest S.Store r.0
+            → AreSet (state S.Store r.0.conn).now.trees) }
         ensures left { IfErr result (LeavesUpgraded S.Store conn) }
         ensures damaged { IsErrOf result Damaged
             → Leaves S.Store conn ((¬ (IsSoundHouse (state S.Store conn).committed))
@@ -208,8 +218,8 @@ impl<S: Alter + Drop> SqlKeep<S> {
         requires moment { IsMoment house.clock }
         requires rests { HasCleanDisk (state S.Store house.conn)
             → IsAtRest (state S.Store house.conn) }
-        requires settings { HasCleanDisk (state S.Store house.conn)
-            → settings_in (state S.Store house.conn).now.trees ≡ house.settings }
+        requires editions { HasCleanDisk (state S.Store house.conn)
+            → band_tables (tables_in (state S.Store house.conn).now.trees) ≡ house.editions }
         requires reserves { HasCleanDisk (state S.Store house.conn)
             → house.reserves ≡ reserves_in (state S.Store house.conn).now.trees }
         requires counts { HasCleanDisk (state S.Store house.conn)
@@ -223,7 +233,7 @@ impl<S: Alter + Drop> SqlKeep<S> {
             alloc,
             conn: house.conn,
             rules: Rules {
-                editions: Editions::new(alloc, house.settings),
+                editions: house.editions,
                 reserves: house.reserves,
             },
             counts: house.counts,

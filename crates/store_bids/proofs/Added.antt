@@ -20,13 +20,17 @@ bid_added bid old new numbered w =
     let questions : new.trees 12 ≡ old.trees 12 = w.others.1.1.1.1.1.1.1.0 (λ e. omega (arith, e)) in
     let feedback : new.trees 14 ≡ old.trees 14 = w.others.1.1.1.1.1.1.1.1.0 (λ e. omega (arith, e)) in
     let reserves : new.trees 23 ≡ old.trees 23 = w.others.1.1.1.1.1.1.1.1.1.0 (λ e. omega (arith, e)) in
+    let editions : new.trees 24 ≡ old.trees 24 = w.others.1.1.1.1.1.1.1.1.1.1.0 (λ e. omega (arith, e)) in
+    let later_bands : new.trees 25 ≡ old.trees 25 = w.others.1.1.1.1.1.1.1.1.1.1.1.0 (λ e. omega (arith, e)) in
     record {
-      tables = rw (house, bands, members, categories, items, reserves, adds_bid_sorted bid old new w, watches, questions, feedback) refl;
+      tables = rw (house, bands, members, categories, items, reserves, adds_bid_sorted bid old new w, watches, questions, feedback, editions, later_bands) refl;
       numbered = record {
         house = rw house numbered.house;
         members = rw members numbered.members;
         categories = rw categories numbered.categories;
         items = rw (items, reserves) numbered.items;
         reserves = rw (items, reserves) numbered.reserves;
+        editions = rw editions numbered.editions;
+        later_bands = rw (editions, later_bands) numbered.later_bands;
       };
     }

@@ -27,6 +27,8 @@ items_set f old new same numbered w =
     let questions : new.trees 12 ≡ old.trees 12 = w.others.1.1.1.1.1.1.1.0 (λ e. omega (arith, e)) in
     let feedback : new.trees 14 ≡ old.trees 14 = w.others.1.1.1.1.1.1.1.1.0 (λ e. omega (arith, e)) in
     let reserves : new.trees 23 ≡ old.trees 23 = w.others.1.1.1.1.1.1.1.1.1.0 (λ e. omega (arith, e)) in
+    let editions : new.trees 24 ≡ old.trees 24 = w.others.1.1.1.1.1.1.1.1.1.1.0 (λ e. omega (arith, e)) in
+    let later_bands : new.trees 25 ≡ old.trees 25 = w.others.1.1.1.1.1.1.1.1.1.1.1.0 (λ e. omega (arith, e)) in
     let were = All-weaker (λ (row : ItemRow). row.item.terms.item ≤ length (items_in old.trees)) (λ (row : ItemRow). (f row).item.terms.item ≤ length (items_in old.trees)) (λ row le. rw (same row) le) (items_in old.trees) numbered.items in
     let numbers : All (λ (row : ItemRow). row.item.terms.item ≤ length (map f (items_in old.trees))) (map f (items_in old.trees)) =
     subst (λ (n : ℕ). All (λ (row : ItemRow). row.item.terms.item ≤ n) (map f (items_in old.trees))) (sym (length-map (items_in old.trees) f))
@@ -35,12 +37,14 @@ items_set f old new same numbered w =
     subst (λ (n : ℕ). All (λ (r : ReserveRow). r.item ≤ n) (reserves_in new.trees)) (sym (length-map (items_in old.trees) f))
     (subst (λ (rows : List Row). All (λ (r : ReserveRow). r.item ≤ length (items_in old.trees)) (map reserve_in rows)) (sym reserves) numbered.reserves) in
     record {
-      tables = rw (house, bands, members, categories, w.items, bids, watches, questions, feedback) refl;
+      tables = rw (house, bands, members, categories, w.items, bids, watches, questions, feedback, editions, later_bands) refl;
       numbered = record {
         house = rw house numbered.house;
         members = rw members numbered.members;
         categories = rw categories numbered.categories;
         items = subst (λ (l : List ItemRow). All (λ (row : ItemRow). row.item.terms.item ≤ length l) l) (sym w.items) numbers;
         reserves = subst (λ (l : List ItemRow). All (λ (r : ReserveRow). r.item ≤ length l) (reserves_in new.trees)) (sym w.items) sealed;
+        editions = rw editions numbered.editions;
+        later_bands = rw (editions, later_bands) numbered.later_bands;
       };
     }

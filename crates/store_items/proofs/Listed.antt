@@ -39,6 +39,8 @@ adds_item row old new was next none w =
     let v = w.others.1.1.1.1.1.1.0 (other 10 6 refl) in
     let q = w.others.1.1.1.1.1.1.1.0 (other 12 6 refl) in
     let f = w.others.1.1.1.1.1.1.1.1.0 (other 14 6 refl) in
+    let es = w.others.1.1.1.1.1.1.1.1.1.1.0 (other 24 6 refl) in
+    let ls = w.others.1.1.1.1.1.1.1.1.1.1.1.0 (other 25 6 refl) in
     let same : reserves_in new.trees ≡ reserves_in old.trees = kept_reserves old new w.others in
     let rows = w.items (all_below (λ r. r.item.terms.item) (items_in old.trees) row next was.items) (free row.item.terms.item old was next) in
     let all = still_numbered (λ r. r.item.terms.item) (items_in old.trees) row next was.items in
@@ -53,8 +55,10 @@ adds_item row old new was next none w =
         reserves = subst (λ (l : List ItemRow). All (λ (r : ReserveRow). r.item ≤ length l) (reserves_in new.trees)) (sym rows)
             (subst (λ (rs : List ReserveRow). All (λ (r : ReserveRow). r.item ≤ length (items_in old.trees ++ row ∷ [])) rs) (sym same)
             (All-weaker (λ (r : ReserveRow). r.item ≤ length (items_in old.trees)) (λ (r : ReserveRow). r.item ≤ length (items_in old.trees ++ row ∷ [])) (λ r le. omega (arith, le, long)) (reserves_in old.trees) was.reserves));
+        editions = rw es was.editions;
+        later_bands = rw (es, ls) was.later_bands;
       };
-      tables = rw (h, b, m, k, d, v, q, f, rows) refl;
+      tables = rw (h, b, m, k, d, v, q, f, es, ls, rows) refl;
       reserves = same ∙ ap (λ (o : Option ℕ). with_reserve row.item.terms.item o (reserves_in old.trees)) (sym none);
     }
   where
@@ -91,6 +95,8 @@ adds_reserved number amount item old mid new was next one two =
     let v = two.others.1.1.1.1.1.1.0 (other 10 23 refl) in
     let q = two.others.1.1.1.1.1.1.1.0 (other 12 23 refl) in
     let f = two.others.1.1.1.1.1.1.1.1.0 (other 14 23 refl) in
+    let es = two.others.1.1.1.1.1.1.1.1.1.1.0 (other 24 23 refl) in
+    let ls = two.others.1.1.1.1.1.1.1.1.1.1.1.0 (other 25 23 refl) in
     let same : rs ≡ reserves_in old.trees = kept_reserves old mid one.others in
     let below : All (λ (r : ReserveRow). r.item < number) rs = subst (λ (l : List ReserveRow). All (λ (r : ReserveRow). r.item < number) l) (sym same) (free number old was next) in
     let more : reserves_in new.trees ≡ rs ++ x ∷ [] = two.reserves below in
@@ -113,8 +119,10 @@ adds_reserved number amount item old mid new was next one two =
             (All-push (λ (r : ReserveRow). r.item ≤ length (items_in new.trees)) rs x
             (All-weaker (λ (r : ReserveRow). r.item < number) (λ (r : ReserveRow). r.item ≤ length (items_in new.trees)) (λ r less. omega (arith, less, next, long)) rs below)
             (omega (arith, next, long)));
+        editions = rw es put.numbered.editions;
+        later_bands = rw (es, ls) put.numbered.later_bands;
       };
-      tables = rw (h, b, m, k, d, v, q, f, items) (ap (λ (t : Tables). record t { items = items_in old.trees ++ new_item number (record item { reserve = Some amount }) ∷ [] }) put.tables);
+      tables = rw (h, b, m, k, d, v, q, f, es, ls, items) (ap (λ (t : Tables). record t { items = items_in old.trees ++ new_item number (record item { reserve = Some amount }) ∷ [] }) put.tables);
       reserves = more ∙ ap (λ (l : List ReserveRow). l ++ x ∷ []) same;
     }
   where

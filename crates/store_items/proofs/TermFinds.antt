@@ -1,6 +1,7 @@
 -- What the lists of items without their texts find.
-use Rattle.std.proofs.Common.{◌≡◌, ◌==◌, ◌<◌, ◌^◌, ◌&&◌, ℕ, pos, Bool, true, List, [], ◌∷◌, map, filter, drop, Some, eqb, refl, ap, sym, subst, ◌∙◌, inl, inr, arith, nat_le}
+use Rattle.std.proofs.Common.{◌≡◌, ◌==◌, ◌<◌, ◌^◌, ◌&&◌, ℕ, pos, Bool, true, List, [], ◌∷◌, map, filter, drop, take, Some, eqb, refl, ap, sym, subst, ◌∙◌, inl, inr, arith, nat_le}
 use Rattle.std.specs.List.{AllByRecursion}
+use Rattle.std.proofs.lemmas.List.{take-map}
 use Rattle.sqlite_value.specs.declared.value.Value.{Value}
 use Rattle.sqlite_value.specs.declared.value.Value.TheVariants.{Null, Int}
 use Rattle.sqlite_value.specs.declared.keys.Collation.TheVariants.{Binary}
@@ -15,7 +16,7 @@ use Rattle.sqlite_sql.specs.Ops.{binary, is_true}
 use Rattle.sqlite_sql.specs.Program.{overlay}
 use Rattle.sqlite_sql.specs.Term.{Term}
 use Rattle.sqlite_trees.specs.View.{is_int}
-use Rattle.sqlite_keyed.proofs.ListLemmas.{all_both, all_map, all_weaker}
+use Rattle.sqlite_keyed.proofs.ListLemmas.{all_both, all_map, all_unmap, all_weaker, filter-map}
 use Rattle.sqlite_keyed.proofs.RuleLemmas.{first_of_both}
 use Rattle.sqlite.specs.Effect.{Database}
 use Rattle.sqlite.specs.State.{State, Shown}
@@ -34,8 +35,9 @@ use Rattle.store_rows.specs.ItemRows.{item_row_in, items_in, state_in, terms_by}
 use Rattle.store_rows.specs.Plain.{passes, shown_by}
 use Rattle.store_rows.specs.Rows.{number_in, reserves_in}
 use Rattle.store_rows.proofs.ColumnLemmas.{holds_all}
-use Rattle.store_rows.proofs.RowLemmas.{int_if, equals_number, alone, passing_fit}
+use Rattle.store_rows.proofs.RowLemmas.{int_if, equals_number, alone, filter_same_on, passing_fit}
 use Rattle.store_rows.proofs.Select.{by_rowid, equals, in_order, listed, typed_part}
+use Rattle.store_rows.proofs.Tested.{filter_both}
 use Rattle.store_rows.proofs.Update.{IsStrict}
 use Rattle.store_items.specs.Standing.{TermsHold}
 use Rattle.store_items.proofs.Holding.{rows_hold, terms_row}
@@ -108,6 +110,36 @@ module _ (sql : List ℕ) (test : List Term) (is : AsksTerms sql test) (params :
       let order = in_order test terms_shown params rows answer house.shaped.1.1.1.1.0.0 (listed 6 test terms_shown by_rowid (overlay old.now.trees []) params answer (read.answer Null)) in
       let each = passing_fit make (FitsBy editions) keep IsRow (passes test params) tests rows (are_rows old.now house) fit in
       subst (AllByRecursion (TermsHold editions R)) (sym order) (all_map (TermsHold editions R) show kept (all_weaker (λ r. FitsBy editions (make r)) (λ r. TermsHold editions R (show r)) (terms_row editions R params) kept each))
+
+  -- where the items that the query keeps have numbers of ours, it shows such
+  pub terms_numbered : (keep : ItemRow → Bool) → ((r : Row) → IsRow r → passes test params r ≡ keep (make r)) → FitWhere keep (λ row. row.item.terms.item < 2 ^ 32) (items_in old.now.trees)
+      → AllByRecursion (λ r. number_in (column r 0) < 2 ^ 32) answer
+  terms_numbered keep tests low =
+      let rows = old.now.trees 6 in
+      let kept = filter (passes test params) rows in
+      let show = shown_by terms_shown params in
+      let read = reads_as sql params old new house_schema house.schema _ is.0 is.2 is.1 answer h in
+      let order = in_order test terms_shown params rows answer house.shaped.1.1.1.1.0.0 (listed 6 test terms_shown by_rowid (overlay old.now.trees []) params answer (read.answer Null)) in
+      let each = passing_fit make (λ (row : ItemRow). row.item.terms.item < 2 ^ 32) keep IsRow (passes test params) tests rows (are_rows old.now house) low in
+      subst (AllByRecursion (λ r. number_in (column r 0) < 2 ^ 32)) (sym order)
+      (all_map (λ r. number_in (column r 0) < 2 ^ 32) show kept (all_weaker (λ r. (make r).item.terms.item < 2 ^ 32) (λ r. number_in (column (show r) 0) < 2 ^ 32) (λ r small. small) kept each))
+
+  -- where the first items that the query keeps and that pass a further test fit
+  pub first_kept : (keep : ItemRow → Bool) (further : Row → Bool) → ((r : Row) → IsRow r → (passes test params r && further (shown_by terms_shown params r)) ≡ keep (make r)) → (editions : BandTables) (many : ℕ)
+      → AllByRecursion (FitsBy editions) (take many (filter keep (items_in old.now.trees))) → AllByRecursion (TermsHold editions R) (take many (filter further answer))
+  first_kept keep further tests editions many fit =
+      let rows = old.now.trees 6 in
+      let show = shown_by terms_shown params in
+      let both = λ (r : Row). passes test params r && further (show r) in
+      let kept = filter both rows in
+      let read = reads_as sql params old new house_schema house.schema _ is.0 is.2 is.1 answer h in
+      let order = in_order test terms_shown params rows answer house.shaped.1.1.1.1.0.0 (listed 6 test terms_shown by_rowid (overlay old.now.trees []) params answer (read.answer Null)) in
+      let typed : filter keep (map make rows) ≡ map make kept = filter-map keep make rows ∙ ap (map make) (sym (filter_same_on IsRow both (λ r. keep (make r)) tests rows (are_rows old.now house))) in
+      let front = all_unmap (FitsBy editions) make (take many kept) (subst (AllByRecursion (FitsBy editions)) (ap (take many) typed ∙ take-map make many kept) fit) in
+      let held = all_map (TermsHold editions R) show (take many kept) (all_weaker (λ r. FitsBy editions (make r)) (λ r. TermsHold editions R (show r)) (terms_row editions R params) (take many kept) front) in
+      let shown : filter further answer ≡ map show kept =
+      ap (filter further) order ∙ filter-map further show (filter (passes test params) rows) ∙ ap (map show) (filter_both (passes test params) (λ r. further (show r)) rows) in
+      subst (AllByRecursion (TermsHold editions R)) (sym (ap (take many) shown ∙ take-map show many kept)) held
 
 -- ---- the tests
 

@@ -105,8 +105,8 @@ fn sealed(
     Ok(terms)
 }
 
-// The terms that a row tells, which stand by their band table. What is sealed comes after them.
-fn terms_read(rules: &Rules, row: &Row) -> Result<Terms, KeepFault>
+/// The terms that a row tells, which stand by their band table. What is sealed comes after them.
+pub(crate) fn terms_read(rules: &Rules, row: &Row) -> Result<Terms, KeepFault>
     ensures value { IfOk result (λ it. it ≡ terms_by rules.now.reserves row.now) }
     ensures fits { IfOk result TermsFit }
     ensures stands { IfOk result (StandsBy rules.now.editions) }

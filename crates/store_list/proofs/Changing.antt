@@ -1,5 +1,5 @@
 -- What is kept stays so, and what a change promises once it is made.
-use Rattle.std.proofs.Common.{◌≡◌, List, [], ◌∙◌, ap, ap₂, sym, subst, Result, Ok, Err}
+use Rattle.std.proofs.Common.{◌≡◌, ◌∙◌, ap, sym, subst, Result, Ok, Err}
 use Rattle.std.specs.Prelude.{IsErrAnd, OnOk}
 use Rattle.house_rows.specs.declared.change.Change.{Change}
 use Rattle.house_rows.specs.declared.fault.KeepFault.{KeepFault}
@@ -7,10 +7,7 @@ use Rattle.house_rows.specs.declared.fault.KeepFault.TheVariants.{Store, Damaged
 use Rattle.house_rows.specs.Asks.{ChangeFits, IsFree}
 use Rattle.house_rows.specs.Changed.{changed}
 use Rattle.house_rows.specs.Keeping.{AreSound}
-use Rattle.house_rows.specs.declared.edition.Edition.{Edition}
-use Rattle.house_rows.specs.declared.settings.Settings.{Settings}
-use Rattle.house_rows.specs.Editions.{BandTables}
-use Rattle.house_rows.specs.Tables.{Tables, band_tables}
+use Rattle.house_rows.specs.Tables.{Tables}
 use Rattle.store_list.specs.Kept.{IsKept}
 use Rattle.list_rows.specs.Makes.{Makes}
 use Rattle.house_rows.proofs.SoundAfter.{sound_after}
@@ -20,9 +17,8 @@ use Rattle.store_list.proofs.Led.{led_after}
 pub fits_here : (old t : Tables) (change : Change) → t ≡ old → AreSound t → (AreSound old → ChangeFits old change) → ChangeFits t change
 fits_here old t change same sound fits = subst (λ (x : Tables). ChangeFits x change) (sym same) (fits (subst AreSound same sound))
 
-pub kept_after : {later : List Edition} (old t u : Tables) (change : Change) → t ≡ old → IsKept later t → (AreSound old → ChangeFits old change) → IsFree t change → u ≡ changed t change → IsKept later u
-kept_after {later} old t u change same kept fits free made = subst (IsKept later) (sym made) (record {
-  alone = kept.alone;
+pub kept_after : (old t u : Tables) (change : Change) → t ≡ old → IsKept t → (AreSound old → ChangeFits old change) → IsFree t change → u ≡ changed t change → IsKept u
+kept_after old t u change same kept fits free made = subst IsKept (sym made) (record {
   sound = sound_after t change kept.sound (fits_here old t change same kept.sound fits);
   led = led_after t change kept.sound kept.led (fits_here old t change same kept.sound fits);
 })
@@ -72,13 +68,7 @@ makes_in f (Err e) x y z old change same made makes = subst (λ (v : Tables). Ma
 })
 
 -- and it stays kept
-pub kept_in : {X : Type 0} {later : List Edition} (f : X → Tables) (r : Result (Unit {0}) KeepFault) (x y z : X) (old : Tables) (change : Change) → f x ≡ old → IsKept later (f x) → (AreSound old → ChangeFits old change) → f z ≡ changed (f x) change
-    → Makes r x y z (IsFree (f x) change) → IsKept later (f y)
+pub kept_in : {X : Type 0} (f : X → Tables) (r : Result (Unit {0}) KeepFault) (x y z : X) (old : Tables) (change : Change) → f x ≡ old → IsKept (f x) → (AreSound old → ChangeFits old change) → f z ≡ changed (f x) change
+    → Makes r x y z (IsFree (f x) change) → IsKept (f y)
 kept_in f (Ok done) x y z old change same kept fits made makes = kept_after old (f x) (f y) change same kept fits makes.free (ap f makes.ok ∙ made)
-kept_in {later = later} f (Err e) x y z old change same kept fits made makes = subst (IsKept later) (sym (ap f makes.err)) kept
-
--- the band tables that a keep holds are all that its tables have
-pub first_alone : (editions : BandTables) (t u : Tables) → t ≡ u → t.settings ≡ editions.settings → editions.later ≡ [] → editions ≡ band_tables u
-first_alone editions t u same settings alone =
-    let both : Settings → List Edition → BandTables = λ s l. record { settings = s; later = l } in
-    ap₂ both (sym settings ∙ ap (λ (x : Tables). x.settings) same) alone
+kept_in f (Err e) x y z old change same kept fits made makes = subst IsKept (sym (ap f makes.err)) kept

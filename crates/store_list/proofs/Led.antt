@@ -9,7 +9,7 @@ use Rattle.proxy.specs.Bids.{leader, one_more, top}
 use Rattle.proxy.specs.Kept.{Kept}
 use Rattle.proxy.proofs.Leads.{leader_above, leader_kept, somebody_leads}
 use Rattle.house_rows.specs.declared.change.Change.{Change}
-use Rattle.house_rows.specs.declared.change.Change.TheVariants.{Register, AddCategory, List as Listed, Bid, Buy, Close, Settle, Watch, Unwatch, Ask, Answer, Feedback}
+use Rattle.house_rows.specs.declared.change.Change.TheVariants.{Register, AddCategory, List as Listed, Bid, Buy, Close, Settle, Watch, Unwatch, Ask, Answer, Feedback, SetBands}
 use Rattle.house_rows.specs.Asks.{BidFits, ChangeFits}
 use Rattle.house_rows.specs.Bids.{BidRow, bid_key}
 use Rattle.house_rows.specs.Changed.{changed, is_item, new_item, with_close, with_purchase, with_settlement, with_standing}
@@ -142,6 +142,7 @@ led_after t (Unwatch member item) sound led fits = led
 led_after t (Ask item asker number text) sound led fits = led
 led_after t (Answer moment item asker number text) sound led fits = led
 led_after t (Feedback moment item from to rating text) sound led fits = led
+led_after t (SetBands moment bands) sound led fits = led
 
 -- the items that a member leads are among those on which it has bid
 

@@ -5,6 +5,7 @@ ghost use Rattle.house_rows.specs.Keeping.{AreSound};
 ghost use Rattle.list_rows.specs.Makes.{Applies};
 
 use crate::keep::ListKeep;
+use crate::tables::set_table;
 use cents::Cents;
 use house_rows::{Change, KeepFault, NewItem, Rating};
 use proxy::{Bid, Standing};
@@ -57,6 +58,7 @@ impl ListKeep {
                 rating,
                 text,
             } => self.give(moment, item, from, to, rating, text),
+            Change::SetBands { moment, bands } => self.set_bands(moment, bands),
         }
     }
 
@@ -192,6 +194,16 @@ impl ListKeep {
     {
         self.feedback
             .give(self.alloc, item, from, to, rating, text)?;
+        self.clock = moment;
+        Ok(())
+    }
+
+    fn set_bands(&mut self, moment: u64, bands: &[(u64, u64)]) -> Result<(), KeepFault>
+        requires fits { AreSound self.old → ChangeFits self.old (change.SetBands moment bands) }
+        ensures { Applies result self.old self.new (change.SetBands moment bands.entry) }
+    {
+        let first = self.items.rows().len() as u32 + 1;
+        set_table(self.alloc, &mut self.editions, first, bands)?;
         self.clock = moment;
         Ok(())
     }

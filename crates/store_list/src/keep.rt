@@ -19,12 +19,13 @@ use proxy::Standing;
 use settle::Sold;
 use std::alloc::Global;
 use std::marker::Model;
+use steps::Bands;
 
 /// The tables of a house, each in the order of its keys. Clauses see the `Tables`, which are sound.
 #[derive(Debug, Drop)]
 pub struct ListKeep {
     pub(crate) alloc: Global,
-    // With the settings.
+    // With the settings, and the band tables that were set.
     pub(crate) editions: Editions,
     pub(crate) clock: u64,
     pub(crate) members: Members,
@@ -53,9 +54,10 @@ impl Model for ListKeep {
       watches = k.watches;
       questions = k.questions;
       feedback = k.feedback;
+      editions = k.editions.later;
     } };
 
-    ghost invariant = { λ k. IsKept k.editions.later (record {
+    ghost invariant = { λ k. IsKept (record {
       settings = k.editions.settings;
       clock = k.clock;
       members = k.members;
@@ -65,6 +67,7 @@ impl Model for ListKeep {
       watches = k.watches;
       questions = k.questions;
       feedback = k.feedback;
+      editions = k.editions.later;
     }) };
 }
 
@@ -107,6 +110,18 @@ impl Keep for ListKeep {
 
     fn editions(&self) -> Result<&Editions, KeepFault> {
         Ok(&self.editions)
+    }
+
+    fn newest(&self) -> Result<u32, KeepFault> {
+        Ok(self.editions.newest())
+    }
+
+    fn edition_of(&self, item: u64) -> Result<u32, KeepFault> {
+        Ok(self.editions.edition_of(item))
+    }
+
+    fn bands_of(&self, edition: u64) -> Result<Option<&Bands>, KeepFault> {
+        Ok(self.editions.bands_of(edition))
     }
 
     fn clock(&mut self) -> Result<u64, KeepFault> {

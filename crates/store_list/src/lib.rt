@@ -8,6 +8,7 @@
 mod bids;
 mod changes;
 mod keep;
+mod tables;
 mod watches;
 
 pub use keep::ListKeep;

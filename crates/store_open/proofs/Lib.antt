@@ -1,3 +1,4 @@
+pub mod EditionLemmas
 pub mod NewHouse
 pub mod NumberLemmas
 pub mod NumbersMeaning

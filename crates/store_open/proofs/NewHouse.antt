@@ -15,10 +15,15 @@ use Rattle.house_rows.specs.Text.{is_plain}
 use Rattle.house_rows.specs.declared.settings.Settings.{Settings}
 use Rattle.store_rows.specs.declared.band.BandRow.{BandRow}
 use Rattle.store_rows.specs.declared.house.HouseRow.{HouseRow}
-use Rattle.store_rows.specs.Fitting.{HouseRowFits, ReserveRowFits}
+use Rattle.house_rows.specs.Keeping.{AreInTurn}
+use Rattle.house_rows.specs.Limits.{most_editions}
+use Rattle.house_rows.specs.declared.edition.Edition.{Edition}
+use Rattle.store_rows.specs.declared.edition.EditionRow.{EditionRow}
+use Rattle.store_rows.specs.declared.edition.LaterBandRow.{LaterBandRow}
+use Rattle.store_rows.specs.Fitting.{EditionRowFits, HouseRowFits, LaterBandRowFits, ReserveRowFits}
 use Rattle.store_rows.specs.House.{IsHouse}
 use Rattle.store_rows.specs.ItemRows.{item_row_in, items_by, items_in}
-use Rattle.store_rows.specs.Rows.{band_in, bands_in, bid_in, category_in, house_in, houses_in, member_in, one_feedback_in, question_in, reserve_in, reserves_in, watch_in}
+use Rattle.store_rows.specs.Rows.{band_in, bands_in, bid_in, category_in, edition_row_in, edition_rows_in, house_in, houses_in, later_band_in, later_bands_in, member_in, one_feedback_in, question_in, reserve_in, reserves_in, watch_in}
 use Rattle.store_rows.specs.declared.reserve.ReserveRow.{ReserveRow}
 use Rattle.store_rows.specs.Schema.{house_schema}
 use Rattle.house_rows.specs.Bids.{bid_key}
@@ -26,8 +31,8 @@ use Rattle.house_rows.specs.Changed.{question_key}
 use Rattle.house_rows.specs.Ratings.{feedback_key}
 use Rattle.house_rows.specs.Watches.{watch_key}
 use Rattle.store_rows.specs.Sorted.{sorted_by}
-use Rattle.store_rows.specs.Tables.{house_row_in, settings_in, tables_in}
-use Rattle.store_open.specs.Opening.{IsSoundHouse}
+use Rattle.store_rows.specs.Tables.{editions_by, house_row_in, settings_in, tables_in}
+use Rattle.store_open.specs.Opening.{AreSet, IsSoundHouse}
 use Rattle.store_open.specs.Putting.{AddsBand, AddsHouse, IsBanded, IsStarted, band_row, new_house}
 
 -- ---- the bands
@@ -75,8 +80,8 @@ same_bands [] = refl
 same_bands (b ∷ bands) = ap (λ l. b ∷ l) (same_bands bands)
 
 -- the tables of these rows
-abbrev from_rows : List HouseRow → List BandRow → List Row → List Row → List Row → List ReserveRow → List Row → List Row → List Row → List Row → Tables
-from_rows houses bands members categories items reserves bids watches questions feedback =
+abbrev from_rows : List HouseRow → List BandRow → List Row → List Row → List Row → List ReserveRow → List Row → List Row → List Row → List Row → List LaterBandRow → List Row → Tables
+from_rows houses bands members categories items reserves bids watches questions feedback later editions =
     let house = Rattle.std.proofs.Common.unwrap_or (find (λ (h : HouseRow). h.id == 1) houses) (record { id = 0; version = 0; clock = 0; rate = 0; zone = [] }) in
     record {
       settings = record { bands = map (λ (b : BandRow). (b.from, b.step)) bands; rate = house.rate; zone = house.zone };
@@ -88,20 +93,34 @@ from_rows houses bands members categories items reserves bids watches questions 
       watches = sorted_by watch_key (map watch_in watches);
       questions = sorted_by question_key (map question_in questions);
       feedback = sorted_by feedback_key (map one_feedback_in feedback);
+      editions = editions_by later (map edition_row_in editions);
     }
 
-from_trees : (db : Trees) → tables_in db ≡ from_rows (houses_in db) (bands_in db) (db 2) (db 4) (db 6) (reserves_in db) (db 8) (db 10) (db 12) (db 14)
+from_trees : (db : Trees) → tables_in db ≡ from_rows (houses_in db) (bands_in db) (db 2) (db 4) (db 6) (reserves_in db) (db 8) (db 10) (db 12) (db 14) (later_bands_in db) (db 24)
 unfolding tables_in settings_in house_row_in
 from_trees db = refl
 
-from_settings : (settings : Settings) → from_rows (new_house settings.rate settings.zone ∷ []) (map band_row settings.bands) [] [] [] [] [] [] [] [] ≡ tables_of settings []
+from_settings : (settings : Settings) (later : List LaterBandRow) → from_rows (new_house settings.rate settings.zone ∷ []) (map band_row settings.bands) [] [] [] [] [] [] [] [] later [] ≡ tables_of settings []
 unfolding tables_of questions sorted_by
-from_settings settings = ap (λ (bands : List (ℕ × ℕ)). record (tables_of settings []) { settings = record settings { bands = bands } }) (same_bands settings.bands)
+from_settings settings later = ap (λ (bands : List (ℕ × ℕ)). record (tables_of settings []) { settings = record settings { bands = bands } }) (same_bands settings.bands)
+
+-- no edition was set
+pub none_set_yet : (db : Trees) → db 24 ≡ [] → later_bands_in db ≡ [] → AreSet db
+none_set_yet db none no_later =
+    let rows : edition_rows_in db ≡ [] = ap (map edition_row_in) none in
+    record {
+      fit = subst (AllByRecursion EditionRowFits) (sym rows) tt;
+      few = subst (λ (l : List EditionRow). length l < most_editions) (sym rows) (omega arith);
+      in_turn = subst (AreInTurn (λ (r : EditionRow). r.edition) 2) (sym rows) tt;
+      bands_fit = subst (AllByRecursion LaterBandRowFits) (sym no_later) tt;
+      tables = subst (λ (l : List EditionRow). AllByRecursion (λ (e : Edition). IsBandTable e.bands) (editions_by (later_bands_in db) l)) (sym rows) tt;
+      within = subst (AllByRecursion (λ (b : LaterBandRow). IsWithin 2 (length (edition_rows_in db) + 1) b.edition)) (sym no_later) tt;
+    }
 
 -- a house of these rows is one that an opening takes
 new_is_sound : (settings : Settings) (new : Database) → IsHouse new → IsBandTable settings.bands → settings.rate ≤ 2000 → houses_in new.trees ≡ new_house settings.rate settings.zone ∷ [] → bands_in new.trees ≡ map band_row settings.bands
-    → new.trees 2 ≡ [] → new.trees 4 ≡ [] → new.trees 6 ≡ [] → reserves_in new.trees ≡ [] → is_plain settings.zone ≡ true → IsSoundHouse new
-new_is_sound settings new house valid rate houses bands members categories items sealed plain = record {
+    → new.trees 2 ≡ [] → new.trees 4 ≡ [] → new.trees 6 ≡ [] → reserves_in new.trees ≡ [] → new.trees 24 ≡ [] → later_bands_in new.trees ≡ [] → is_plain settings.zone ≡ true → IsSoundHouse new
+new_is_sound settings new house valid rate houses bands members categories items sealed none_set no_later plain = record {
   house = house;
   set_up = record {
     house = subst (λ (l : List HouseRow). is_some (find (λ h. h.id == 1) l) ≡ true) (sym houses) refl;
@@ -120,6 +139,7 @@ new_is_sound settings new house valid rate houses bands members categories items
     fit = subst (AllByRecursion ReserveRowFits) (sym sealed) tt;
     within = subst (AllByRecursion (λ (r : ReserveRow). r.item ≤ length (items_by [] new.trees))) (sym sealed) tt;
   };
+  set = none_set_yet new.trees none_set no_later;
 }
 
 pub house_started : (settings : Settings) (old new : Database) → IsBandTable settings.bands → settings.rate ≤ 2000 → IsBanded settings.bands old → AddsHouse settings.rate settings.zone old new → IsStarted settings new
@@ -138,6 +158,8 @@ house_started settings old new valid rate was added =
     let asked : db 12 ≡ [] = others.1.1.1.1.1.1.1.0 (λ e. absurd (omega (arith, e))) ∙ was.empty.1.1.1.1.1.1.1.0 (λ e. absurd (omega (arith, e))) in
     let given : db 14 ≡ [] = others.1.1.1.1.1.1.1.1.0 (λ e. absurd (omega (arith, e))) ∙ was.empty.1.1.1.1.1.1.1.1.0 (λ e. absurd (omega (arith, e))) in
     let sealed : reserves_in db ≡ [] = ap (map reserve_in) (others.1.1.1.1.1.1.1.1.1.0 (λ e. absurd (omega (arith, e))) ∙ was.empty.1.1.1.1.1.1.1.1.1.0 (λ e. absurd (omega (arith, e)))) in
+    let none_set : db 24 ≡ [] = others.1.1.1.1.1.1.1.1.1.1.0 (λ e. absurd (omega (arith, e))) ∙ was.empty.1.1.1.1.1.1.1.1.1.1.0 (λ e. absurd (omega (arith, e))) in
+    let no_later : later_bands_in db ≡ [] = ap (map later_band_in) (others.1.1.1.1.1.1.1.1.1.1.1.0 (λ e. absurd (omega (arith, e))) ∙ was.empty.1.1.1.1.1.1.1.1.1.1.1.0 (λ e. absurd (omega (arith, e)))) in
     let hs = new_house settings.rate settings.zone ∷ [] in
     let bs = map band_row settings.bands in
     record {
@@ -148,19 +170,22 @@ house_started settings old new valid rate was added =
         categories = subst (λ rows. All (λ (k : _). k.category ≤ length (map category_in rows)) (map category_in rows)) (sym categories) (All-nil _);
         items = subst (λ rows. All (λ (row : _). row.item.terms.item ≤ length (map (item_row_in (reserves_in db)) rows)) (map (item_row_in (reserves_in db)) rows)) (sym items) (All-nil _);
         reserves = subst (All (λ (r : ReserveRow). r.item ≤ length (items_in db))) (sym sealed) (All-nil _);
+        editions = subst (λ (l : List EditionRow). All (λ (e : EditionRow). e.edition ≤ length l + 1) l) (sym (ap (map edition_row_in) none_set)) (All-nil _);
+        later_bands = subst (All (λ (b : LaterBandRow). b.edition ≤ length (edition_rows_in db) + 1)) (sym no_later) (All-nil _);
       };
       tables = from_trees db
-          ∙ ap (λ l. from_rows l (bands_in db) (db 2) (db 4) (db 6) (reserves_in db) (db 8) (db 10) (db 12) (db 14)) houses
-          ∙ ap (λ l. from_rows hs l (db 2) (db 4) (db 6) (reserves_in db) (db 8) (db 10) (db 12) (db 14)) bands
-          ∙ ap (λ l. from_rows hs bs l (db 4) (db 6) (reserves_in db) (db 8) (db 10) (db 12) (db 14)) members
-          ∙ ap (λ l. from_rows hs bs [] l (db 6) (reserves_in db) (db 8) (db 10) (db 12) (db 14)) categories
-          ∙ ap (λ l. from_rows hs bs [] [] l (reserves_in db) (db 8) (db 10) (db 12) (db 14)) items
-          ∙ ap (λ l. from_rows hs bs [] [] [] l (db 8) (db 10) (db 12) (db 14)) sealed
-          ∙ ap (λ l. from_rows hs bs [] [] [] [] l (db 10) (db 12) (db 14)) bids
-          ∙ ap (λ l. from_rows hs bs [] [] [] [] [] l (db 12) (db 14)) watches
-          ∙ ap (λ l. from_rows hs bs [] [] [] [] [] [] l (db 14)) asked
-          ∙ ap (λ l. from_rows hs bs [] [] [] [] [] [] [] l) given
-          ∙ from_settings settings;
+          ∙ ap (λ l. from_rows l (bands_in db) (db 2) (db 4) (db 6) (reserves_in db) (db 8) (db 10) (db 12) (db 14) (later_bands_in db) (db 24)) houses
+          ∙ ap (λ l. from_rows hs l (db 2) (db 4) (db 6) (reserves_in db) (db 8) (db 10) (db 12) (db 14) (later_bands_in db) (db 24)) bands
+          ∙ ap (λ l. from_rows hs bs l (db 4) (db 6) (reserves_in db) (db 8) (db 10) (db 12) (db 14) (later_bands_in db) (db 24)) members
+          ∙ ap (λ l. from_rows hs bs [] l (db 6) (reserves_in db) (db 8) (db 10) (db 12) (db 14) (later_bands_in db) (db 24)) categories
+          ∙ ap (λ l. from_rows hs bs [] [] l (reserves_in db) (db 8) (db 10) (db 12) (db 14) (later_bands_in db) (db 24)) items
+          ∙ ap (λ l. from_rows hs bs [] [] [] l (db 8) (db 10) (db 12) (db 14) (later_bands_in db) (db 24)) sealed
+          ∙ ap (λ l. from_rows hs bs [] [] [] [] l (db 10) (db 12) (db 14) (later_bands_in db) (db 24)) bids
+          ∙ ap (λ l. from_rows hs bs [] [] [] [] [] l (db 12) (db 14) (later_bands_in db) (db 24)) watches
+          ∙ ap (λ l. from_rows hs bs [] [] [] [] [] [] l (db 14) (later_bands_in db) (db 24)) asked
+          ∙ ap (λ l. from_rows hs bs [] [] [] [] [] [] [] l (later_bands_in db) (db 24)) given
+          ∙ ap (λ l. from_rows hs bs [] [] [] [] [] [] [] [] (later_bands_in db) l) none_set
+          ∙ from_settings settings (later_bands_in db);
       reserves = sealed;
-      sound = new_is_sound settings new added.house valid rate houses bands members categories items sealed;
+      sound = new_is_sound settings new added.house valid rate houses bands members categories items sealed none_set no_later;
     }

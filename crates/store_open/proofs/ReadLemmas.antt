@@ -1,5 +1,5 @@
 -- What was read of a house says what it is.
-use Rattle.std.proofs.Common.{◌≡◌, ◌≤◌, ◌==◌, ℕ, true, List, map, find, is_some, length, All, Option, Some, unwrap_or, [], ◌∷◌, refl, sym, ap, subst, ◌∙◌, IsTrue, arith}
+use Rattle.std.proofs.Common.{◌≡◌, ◌≤◌, ◌+◌, ◌==◌, ℕ, true, List, map, find, is_some, length, All, Option, Some, unwrap_or, [], ◌∷◌, refl, sym, ap, subst, ◌∙◌, IsTrue, arith}
 use Rattle.std.specs.List.{AllByRecursion}
 use Rattle.std.proofs.lemmas.List.{length-map}
 use Rattle.std.proofs.lemmas.List.Elements.{All-from_recursion}
@@ -10,7 +10,9 @@ use Rattle.sqlite.specs.State.{State, IsUnchanged}
 use Rattle.steps.specs.Table.{IsBand}
 use Rattle.house_rows.specs.Fits.{IsWithin}
 use Rattle.house_rows.specs.Found.{counts_of}
-use Rattle.house_rows.specs.Tables.{ItemRow}
+use Rattle.house_rows.specs.Editions.{BandTables}
+use Rattle.house_rows.specs.Tables.{ItemRow, band_tables}
+use Rattle.house_rows.specs.declared.edition.Edition.{Edition}
 use Rattle.house_rows.specs.declared.people.Category.{Category}
 use Rattle.house_rows.specs.declared.people.Counts.{Counts}
 use Rattle.house_rows.specs.declared.people.Member.{Member}
@@ -20,10 +22,12 @@ use Rattle.store_rows.specs.declared.house.HouseRow.{HouseRow}
 use Rattle.store_rows.specs.Fitting.{BandRowFits, HouseRowFits}
 use Rattle.store_rows.specs.House.{IsHouse}
 use Rattle.store_rows.specs.ItemRows.{item_row_in, items_by, items_in}
-use Rattle.store_rows.specs.Rows.{bands_in, categories_in, houses_in, members_in, reserves_in}
+use Rattle.store_rows.specs.Rows.{bands_in, categories_in, edition_rows_in, houses_in, later_bands_in, members_in, reserves_in}
+use Rattle.store_rows.specs.declared.edition.LaterBandRow.{LaterBandRow}
 use Rattle.store_rows.specs.declared.reserve.ReserveRow.{ReserveRow}
 use Rattle.store_rows.specs.Tables.{IsAtRest, IsNumbered, house_row_in, settings_in, tables_in}
-use Rattle.store_open.specs.Opening.{AreNumbered, HasReserves, HasSettings, HaveNumbers}
+use Rattle.store_open.specs.Opening.{AreNumbered, AreSet, HasEditions, HasReserves, HasSettings, HaveNumbers}
+use Rattle.store_open.proofs.EditionLemmas.{are_numbered, are_tables, none_over}
 
 abbrev pairs : List BandRow → List (ℕ × ℕ)
 pairs = map (λ b. (b.from, b.step))
@@ -71,8 +75,8 @@ count_by reserves others rows = length-map rows (item_row_in reserves) ∙ sym (
 pub so_many : (db : Trees) → length (items_by [] db) ≡ length (items_in db)
 so_many db = count_by [] (reserves_in db) (db 6)
 
-numbered : (db : Trees) (s : Settings) (clock : ℕ) (reserves : List ReserveRow) → HasSettings db s clock → AreNumbered db → HasReserves db reserves → IsNumbered db
-numbered db s clock reserves set are sealed = record {
+numbered : (db : Trees) (s : Settings) (clock : ℕ) (reserves : List ReserveRow) (later : List Edition) → HasSettings db s clock → AreNumbered db → HasReserves db reserves → HasEditions db later → IsNumbered db
+numbered db s clock reserves later set are sealed editions = record {
   house = set.house;
   members = within (λ (m : Member). m.member) _ (members_in db) are.members;
   categories = within (λ (k : Category). k.category) _ (categories_in db) are.categories;
@@ -80,6 +84,8 @@ numbered db s clock reserves set are sealed = record {
       (subst (λ n. AllByRecursion (λ (row : ItemRow). IsWithin 1 n row.item.terms.item) (items_in db)) (so_many db) (numbers_by [] (reserves_in db) (length (items_by [] db)) (db 6) are.items));
   reserves = All-from_recursion (λ (r : ReserveRow). r.item ≤ length (items_in db)) (reserves_in db)
       (subst (λ n. AllByRecursion (λ (r : ReserveRow). r.item ≤ n) (reserves_in db)) (so_many db) sealed.within);
+  editions = are_numbered (edition_rows_in db) editions.set.in_turn;
+  later_bands = All-from_recursion (λ (b : LaterBandRow). b.edition ≤ length (edition_rows_in db) + 1) (later_bands_in db) (none_over (length (edition_rows_in db) + 1) (later_bands_in db) editions.set.within);
 }
 
 counts_are : (db : Trees) (counts : Counts) → HaveNumbers db counts → counts_of (tables_in db) ≡ counts
@@ -94,33 +100,36 @@ unfolding tables_in
 clock_of db = refl
 
 -- a house that was read, and is as it was
-pub record WasRead (was is : State) (s : Settings) (clock : ℕ) (counts : Counts) (reserves : List ReserveRow) : Type 0 where
+pub record WasRead (was is : State) (editions : BandTables) (clock : ℕ) (counts : Counts) (reserves : List ReserveRow) : Type 0 where
   pub rests : IsAtRest is
-  pub settings_are : settings_in is.now.trees ≡ s
+  pub editions_are : band_tables (tables_in is.now.trees) ≡ editions
   pub counts_are : counts_of (tables_in is.now.trees) ≡ counts
   pub clock_is : (tables_in is.now.trees).clock ≡ clock
   pub reserves_are : reserves ≡ reserves_in is.now.trees
   pub row : HouseRowFits (house_row_in is.now.trees)
   pub numbered : AreNumbered is.now.trees
+  pub set : AreSet is.now.trees
   pub same : is.now ≡ was.now
   pub committed : is.committed ≡ is.now
 
-pub was_read : (was is : State) (s : Settings) (clock : ℕ) (counts : Counts) (reserves : List ReserveRow) → IsTrue was.is_open × IsHouse was.now → was.now ≡ was.committed → IsUnchanged was is
-    → HasSettings was.now.trees s clock → HaveNumbers was.now.trees counts → HasReserves was.now.trees reserves → WasRead was is s clock counts reserves
-was_read was is s clock counts reserves house settled unchanged set have sealed =
+pub was_read : (was is : State) (editions : BandTables) (clock : ℕ) (counts : Counts) (reserves : List ReserveRow) → IsTrue was.is_open × IsHouse was.now → was.now ≡ was.committed → IsUnchanged was is
+    → HasSettings was.now.trees editions.settings clock → HasEditions was.now.trees editions.later → HaveNumbers was.now.trees counts → HasReserves was.now.trees reserves → WasRead was is editions clock counts reserves
+was_read was is editions clock counts reserves house settled unchanged set later have sealed =
     let now = unchanged.0.now_is in
     let committed = unchanged.0.committed_is in
-    let set_now = subst (λ (d : Database). HasSettings d.trees s clock) (sym now) set in
+    let set_now = subst (λ (d : Database). HasSettings d.trees editions.settings clock) (sym now) set in
+    let later_now = subst (λ (d : Database). HasEditions d.trees editions.later) (sym now) later in
     let sealed_now = subst (λ (d : Database). HasReserves d.trees reserves) (sym now) sealed in
     let have_now = subst (λ (d : Database). HaveNumbers d.trees counts) (sym now) have in
     record {
-      rests = record { is_open = unchanged.0.is_open; house = subst IsHouse (sym now) house.1; settled = now ∙ settled ∙ sym committed; numbered = numbered is.now.trees s clock reserves set_now have_now.numbered sealed_now };
-      settings_are = set_now.settings_are;
+      rests = record { is_open = unchanged.0.is_open; house = subst IsHouse (sym now) house.1; settled = now ∙ settled ∙ sym committed; numbered = numbered is.now.trees editions.settings clock reserves editions.later set_now have_now.numbered sealed_now later_now };
+      editions_are = are_tables is.now.trees editions set_now.settings_are later_now;
       counts_are = counts_are is.now.trees counts have_now;
       clock_is = clock_of is.now.trees ∙ set_now.clock_is;
       reserves_are = sealed_now.reserves_are;
       row = set_now.row;
       numbered = have_now.numbered;
+      set = later_now.set;
       same = now;
       committed = committed ∙ sym settled ∙ sym now;
     }

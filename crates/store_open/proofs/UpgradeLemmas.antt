@@ -10,18 +10,19 @@ use Rattle.sqlite.specs.Held.{Held, state}
 use Rattle.sqlite.specs.State.{HasCleanDisk, State, Survives}
 use Rattle.sqlite.proofs.StateLemmas.{survives_then, survives_weaker}
 use Rattle.sqlite_schema.specs.declared.schema.Schema.{Schema}
+use Rattle.store_open.proofs.NewHouse.{none_set_yet}
 use Rattle.store_open.proofs.OpenLemmas.{one_schema}
 use Rattle.steps.specs.Table.{IsBandTable}
 use Rattle.house_rows.proofs.Put.{by_test}
 use Rattle.store_rows.specs.Fitting.{FirstRowFits, HouseRowFits, ReserveRowFits}
 use Rattle.store_rows.specs.House.{AddsTables, IsFirstHouse, IsHouse, SetsVersion, with_version}
-use Rattle.store_rows.specs.Rows.{band_in, house_in, houses_in, reserve_in, reserves_in}
+use Rattle.store_rows.specs.Rows.{band_in, house_in, houses_in, later_band_in, reserve_in, reserves_in}
 use Rattle.store_rows.specs.ItemRows.{items_by}
 use Rattle.store_rows.specs.declared.reserve.ReserveRow.{ReserveRow}
 use Rattle.store_rows.specs.Schema.{first_schema, house_schema}
 use Rattle.store_rows.specs.Tables.{house_row_in, settings_in, tables_in}
 use Rattle.store_rows.specs.declared.house.HouseRow.{HouseRow}
-use Rattle.store_open.specs.Opening.{AreNumbered, AreReserved, Follows, FollowsOrGrows, IsFirstSetUp, IsSetUp, IsSoundFirst, IsSoundHouse, Upgraded, Upgrades, first_tables_in}
+use Rattle.store_open.specs.Opening.{AreNumbered, AreReserved, AreSet, Follows, FollowsOrGrows, IsFirstSetUp, IsSetUp, IsSoundFirst, IsSoundHouse, Upgraded, Upgrades, first_tables_in}
 
 -- ---- the two writes
 
@@ -91,7 +92,8 @@ module _ (old : Trees) (new : Database) (w : Upgrades old new) where
       let q : new.trees 12 ≡ old 12 = w.others.1.1.1.1.1.1.1.0 (λ e. absurd (omega (arith, e))) in
       let f : new.trees 14 ≡ old 14 = w.others.1.1.1.1.1.1.1.1.0 (λ e. absurd (omega (arith, e))) in
       let r = w.reserves in
-      rw (b, m, k, i, r, d, v, q, f, row) refl
+      let s = w.editions in
+      rw (b, m, k, i, r, d, v, q, f, s, row) refl
 
   pub upgraded_set_up : IsFirstSetUp old → IsSetUp new.trees
   upgraded_set_up was =
@@ -125,6 +127,10 @@ module _ (old : Trees) (new : Database) (w : Upgrades old new) where
         fit = subst (AllByRecursion ReserveRowFits) (sym none) tt;
         within = subst (AllByRecursion (λ (r : ReserveRow). r.item ≤ length (items_by [] new.trees))) (sym none) tt;
       }
+
+  -- no band table was set
+  pub upgraded_set : AreSet new.trees
+  upgraded_set = none_set_yet new.trees w.editions (ap (map later_band_in) w.later_bands)
 
 -- the version that a house to be upgraded tells
 version_of_found : (found : Option HouseRow) → is_some found ≡ true → IfSome found FirstRowFits → option_map (λ (h : HouseRow). h.version) found ≡ Some 1
@@ -236,4 +242,4 @@ pub sound_first_at : (db held : Database) → IsFirstHouse db → db.trees ≡ h
 sound_first_at db held first trees sound = record { house = first; set_up = subst IsFirstSetUp (sym trees) sound.set_up; numbered = subst AreNumbered (sym trees) sound.numbered }
 
 pub sound_house_at : (db held : Database) → IsHouse db → db.trees ≡ held.trees → IsSoundHouse held → IsSoundHouse db
-sound_house_at db held house trees sound = record { house = house; set_up = subst IsSetUp (sym trees) sound.set_up; numbered = subst AreNumbered (sym trees) sound.numbered; reserved = subst AreReserved (sym trees) sound.reserved }
+sound_house_at db held house trees sound = record { house = house; set_up = subst IsSetUp (sym trees) sound.set_up; numbered = subst AreNumbered (sym trees) sound.numbered; reserved = subst AreReserved (sym trees) sound.reserved; set = subst AreSet (sym trees) sound.set }

@@ -1,5 +1,5 @@
 -- What is read of a house as it is opened, and which houses are taken.
-use Rattle.std.specs.Prelude.{◌≡◌, ◌≢◌, ◌⊎◌, ◌≤◌, ◌<◌, ◌^◌, ◌==◌, ℕ, List, [], IfSome, IsTrue, Some, false, true, find, is_some, length, map, option_map}
+use Rattle.std.specs.Prelude.{◌≡◌, ◌≢◌, ◌⊎◌, ◌≤◌, ◌<◌, ◌+◌, ◌^◌, ◌==◌, ℕ, List, [], IfSome, IsTrue, Some, false, true, find, is_some, length, map, option_map}
 use Rattle.std.specs.List.{AllByRecursion}
 use Rattle.sqlite_trees.specs.declared.store.Store.{Ghosts}
 use Rattle.sqlite_trees.specs.Tree.{Trees}
@@ -12,14 +12,17 @@ use Rattle.house_rows.specs.Fits.{IsWithin}
 use Rattle.house_rows.specs.declared.people.Counts.{Counts}
 use Rattle.house_rows.specs.Tables.{Tables, tables_of}
 use Rattle.house_rows.specs.declared.settings.Settings.{Settings}
-use Rattle.store_rows.specs.Fitting.{FirstRowFits, HouseRowFits, ReserveRowFits}
+use Rattle.house_rows.specs.Keeping.{AreInTurn}
+use Rattle.house_rows.specs.Limits.{most_editions}
+use Rattle.house_rows.specs.declared.edition.Edition.{Edition}
+use Rattle.store_rows.specs.Fitting.{EditionRowFits, FirstRowFits, HouseRowFits, LaterBandRowFits, ReserveRowFits}
 use Rattle.store_rows.specs.House.{IsFirstHouse, IsHouse, with_version}
 use Rattle.store_rows.specs.ItemRows.{items_by}
-use Rattle.store_rows.specs.Rows.{bands_in, categories_in, houses_in, members_in, reserves_in}
+use Rattle.store_rows.specs.Rows.{bands_in, categories_in, edition_rows_in, houses_in, later_bands_in, members_in, reserves_in}
 use Rattle.store_rows.specs.declared.reserve.ReserveRow.{ReserveRow}
 use Rattle.store_rows.specs.Commits.{IsBack}
 use Rattle.store_rows.specs.Schema.{first_schema}
-use Rattle.store_rows.specs.Tables.{house_row_in, settings_in, tables_in}
+use Rattle.store_rows.specs.Tables.{editions_in, house_row_in, settings_in, tables_in}
 
 -- members, categories and items have numbers from 1 to how many there are, which has 32 bits; that is so whatever reserves there are
 pub record AreNumbered (db : Trees) : Type 0 where
@@ -47,6 +50,21 @@ pub record HasReserves (db : Trees) (reserves : List ReserveRow) : Type 0 where
   pub reserves_are : reserves ≡ reserves_in db
   pub within : AllByRecursion (λ r. r.item ≤ length (items_by [] db)) (reserves_in db)
 
+-- The editions of the band table fit, are fewer than there may be with the first and numbered in turn from 2, and each has bands
+-- that are a table. The bands fit, and each is of one of these editions.
+pub record AreSet (db : Trees) : Type 0 where
+  pub fit : AllByRecursion EditionRowFits (edition_rows_in db)
+  pub few : length (edition_rows_in db) < most_editions
+  pub in_turn : AreInTurn (λ row. row.edition) 2 (edition_rows_in db)
+  pub bands_fit : AllByRecursion LaterBandRowFits (later_bands_in db)
+  pub tables : AllByRecursion (λ e. IsBandTable e.bands) (editions_in db)
+  pub within : AllByRecursion (λ b. IsWithin 2 (length (edition_rows_in db) + 1) b.edition) (later_bands_in db)
+
+-- the house has these editions
+pub record HasEditions (db : Trees) (later : List Edition) : Type 0 where
+  pub editions_are : later ≡ editions_in db
+  pub set : AreSet db
+
 -- the house has its row, which fits, and is set up like this
 pub record HasSettings (db : Trees) (settings : Settings) (clock : ℕ) : Type 0 where
   pub house : is_some (find (λ h. h.id == 1) (houses_in db)) ≡ true
@@ -68,6 +86,7 @@ pub record IsSoundHouse (db : Database) : Type 0 where
   pub set_up : IsSetUp db.trees
   pub numbered : AreNumbered db.trees
   pub reserved : AreReserved db.trees
+  pub set : AreSet db.trees
 
 -- what a crash finds is a house to which nothing has happened yet
 abbrev pub NewHouse : Settings → Trees → Type 0
@@ -87,9 +106,9 @@ pub record IsSoundFirst (db : Database) : Type 0 where
   pub set_up : IsFirstSetUp db.trees
   pub numbered : AreNumbered db.trees
 
--- the tables of a house of version 1, in which no item has a reserve
+-- the tables of a house of version 1, in which no item has a reserve and no band table was set
 abbrev pub first_tables_in : Trees → Tables
-first_tables_in db = record (tables_in db) { items = items_by [] db }
+first_tables_in db = record (tables_in db) { items = items_by [] db; editions = [] }
 
 -- A house of version 1 is made one of version 2: its row tells the version, the three new tables have no row, and the others
 -- have those that they had.

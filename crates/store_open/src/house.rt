@@ -1,6 +1,6 @@
 //! What an opening hands out.
 
-use house_rows::{Counts, Settings};
+use house_rows::{Counts, Editions};
 use sqlite::{Alter, Connection};
 use store_reserves::Reserves;
 
@@ -9,8 +9,8 @@ use store_reserves::Reserves;
 pub struct Opened<S: Alter> {
     /// The connection, which holds a house.
     pub conn: Connection<S>,
-    /// What it is set up with.
-    pub settings: Settings,
+    /// What it is set up with, and its band tables.
+    pub editions: Editions,
     /// Its reserves.
     pub reserves: Reserves,
     /// How many members, categories and items it has.

@@ -6,23 +6,25 @@ ghost use Rattle.sqlite_trees.specs.Tree.{Trees};
 ghost use Rattle.sqlite_trees.specs.View.{IsClean};
 ghost use Rattle.house_rows.specs.Fits.{IsMoment};
 ghost use Rattle.house_rows.specs.Found.{counts_of};
+ghost use Rattle.house_rows.specs.Tables.{band_tables};
 ghost use Rattle.house_rows.specs.declared.fault.KeepFault.TheVariants.{Damaged};
 ghost use Rattle.steps.specs.Table.{IsBandTable};
 ghost use Rattle.store_rows.specs.Fitting.{HouseRowFits};
 ghost use Rattle.store_rows.specs.House.{Serves};
 ghost use Rattle.store_rows.specs.Rows.{reserves_in};
-ghost use Rattle.store_rows.specs.Tables.{IsAtRest, house_row_in, settings_in, tables_in};
-ghost use Rattle.store_open.specs.Opening.{AreNumbered, AreReserved, Follows, HasReserves, HasSettings, HaveNumbers, IsSetUp, IsSoundHouse};
+ghost use Rattle.store_rows.specs.Tables.{IsAtRest, house_row_in, tables_in};
+ghost use Rattle.store_open.specs.Opening.{AreNumbered, AreReserved, AreSet, Follows, HasEditions, HasReserves, HasSettings, HaveNumbers, IsSetUp, IsSoundHouse};
 ghost use Rattle.store_rows.specs.Frames.{OnlyReads};
 
 use crate::anew::house_anew;
+use crate::editions::{read_editions, table_of};
 use crate::house::Opened;
 use crate::numbers::read_counts;
 use crate::reserves::read_reserves;
-use house_rows::{Counts, KeepFault, Rate, Settings};
+use house_rows::{Counts, Editions, KeepFault, Rate, Settings};
 use sqlite::{Alter, Connection};
 use std::alloc::Global;
-use steps::{Bands, BandsFault};
+use steps::Bands;
 use store_reserves::Reserves;
 use store_rows::{BandRow, HouseRow, all_bands, house_row};
 
@@ -48,11 +50,7 @@ fn bands_of(alloc: Global, rows: &[BandRow]) -> Result<Bands, KeepFault>
         → ¬ (IsErrOf result Damaged) }
 {
     let pairs = pairs(alloc, rows)?;
-    match Bands::of_rows(alloc, &pairs) {
-        Ok(bands) => Ok(bands),
-        Err(fault) if fault == BandsFault::Memory => Err(KeepFault::Memory),
-        Err(_) => Err(KeepFault::Damaged),
-    }
+    table_of(alloc, &pairs)
 }
 
 // What the house is set up with, by its row and its bands; Damaged where the rate is none.
@@ -96,15 +94,18 @@ fn read_settings<S: Alter>(
     Ok((settings, clock))
 }
 
-/// All that is read of a house as it is opened; `Damaged` where what it is set up with, a number or a
-/// reserve doesn't fit.
+/// All that is read of a house as it is opened; `Damaged` where what it is set up with, a number, a
+/// reserve or an edition doesn't fit.
 pub(crate) fn read_house<S: Alter>(
     alloc: Global,
     conn: &mut Connection<S>,
-) -> Result<(Settings, u64, Counts, Reserves), KeepFault>
+) -> Result<(Editions, u64, Counts, Reserves), KeepFault>
     requires { Serves (state S.Store conn.old) }
     ensures settings { HasCleanDisk (state S.Store conn.new)
-        → IfOk result (λ read. HasSettings (state S.Store conn.old).now.trees read.0 read.1) }
+        → IfOk result (λ read. HasSettings (state S.Store conn.old).now.trees read.0.settings
+        read.1) }
+    ensures editions { HasCleanDisk (state S.Store conn.new)
+        → IfOk result (λ read. HasEditions (state S.Store conn.old).now.trees read.0.later) }
     ensures moment { IfOk result (λ read. IsMoment read.1) }
     ensures counts { HasCleanDisk (state S.Store conn.new)
         → IfOk result (λ read. HaveNumbers (state S.Store conn.old).now.trees read.2) }
@@ -114,35 +115,41 @@ pub(crate) fn read_house<S: Alter>(
         → IsSetUp (state S.Store conn.old).now.trees
         → AreNumbered (state S.Store conn.old).now.trees
         → AreReserved (state S.Store conn.old).now.trees
+        → AreSet (state S.Store conn.old).now.trees
         → ¬ (IsErrOf result Damaged) }
     ensures read { OnlyReads (state S.Store conn.old) (state S.Store conn.new) result }
 {
     let (settings, clock) = read_settings(alloc, conn)?;
     let counts = read_counts(conn)?;
     let reserves = read_reserves(alloc, conn, counts.items)?;
-    Ok((settings, clock, counts, reserves))
+    let editions = read_editions(alloc, conn, settings)?;
+    Ok((editions, clock, counts, reserves))
 }
 
 /// Opens the house that a connection holds. What it has not committed is undone.
 ///
 /// `Damaged` where it holds no house of version 2: other tables than those of a house, a row of the
 /// house or bands that don't fit, a member, a category or an item with a number that is 0 or over how
-/// many there are, or a reserve that doesn't fit or whose item's number is over how many items there
-/// are. After an error the store is given back as it was: nothing was written.
+/// many there are, a reserve that doesn't fit or whose item's number is over how many items there are,
+/// editions of the band table that don't fit, that are not numbered in turn from 2 to 100 at most or
+/// whose bands are no table, or bands of another edition. After an error the store is given back as it
+/// was: nothing was written.
 pub fn open_house<S: Alter + Drop>(
     alloc: Global,
     conn: Connection<S>,
 ) -> Result<Opened<S>, (KeepFault, S)>
     ensures rests { IfOk result (λ o. HasCleanDisk (state S.Store o.conn)
         → IsAtRest (state S.Store o.conn)) }
-    ensures settings { IfOk result (λ o. HasCleanDisk (state S.Store o.conn)
-        → settings_in (state S.Store o.conn).now.trees ≡ o.settings) }
+    ensures editions { IfOk result (λ o. HasCleanDisk (state S.Store o.conn)
+        → band_tables (tables_in (state S.Store o.conn).now.trees) ≡ o.editions) }
     ensures counts { IfOk result (λ o. HasCleanDisk (state S.Store o.conn)
         → counts_of (tables_in (state S.Store o.conn).now.trees) ≡ o.counts) }
     ensures reserves { IfOk result (λ o. HasCleanDisk (state S.Store o.conn)
         → o.reserves ≡ reserves_in (state S.Store o.conn).now.trees) }
     ensures numbered { IfOk result (λ o. HasCleanDisk (state S.Store o.conn)
         → AreNumbered (state S.Store o.conn).now.trees) }
+    ensures set { IfOk result (λ o. HasCleanDisk (state S.Store o.conn)
+        → AreSet (state S.Store o.conn).now.trees) }
     ensures clock { IfOk result (λ o. HasCleanDisk (state S.Store o.conn)
         → (tables_in (state S.Store o.conn).now.trees).clock ≡ o.clock) }
     ensures moment { IfOk result (λ o. IsMoment o.clock) }
@@ -160,9 +167,9 @@ pub fn open_house<S: Alter + Drop>(
 {
     let mut conn = house_anew(alloc, conn)?;
     match read_house(alloc, &mut conn) {
-        Ok((settings, clock, counts, reserves)) => Ok(Opened {
+        Ok((editions, clock, counts, reserves)) => Ok(Opened {
             conn,
-            settings,
+            editions,
             reserves,
             counts,
             clock,

@@ -9,18 +9,19 @@ ghost use Rattle.sqlite_trees.specs.Tree.{Trees};
 ghost use Rattle.sqlite_trees.specs.View.{IsClean};
 ghost use Rattle.house_rows.specs.Fits.{IsMoment};
 ghost use Rattle.house_rows.specs.Found.{counts_of};
+ghost use Rattle.house_rows.specs.Tables.{band_tables};
 ghost use Rattle.house_rows.specs.declared.fault.KeepFault.TheVariants.{Damaged, Store};
 ghost use Rattle.store_rows.specs.Fitting.{HouseRowFits};
 ghost use Rattle.store_rows.specs.House.{IsFirstHouse, IsInside, Serves};
 ghost use Rattle.store_rows.specs.Frames.{OnlyReads};
 ghost use Rattle.store_rows.specs.Rows.{houses_in, reserves_in};
-ghost use Rattle.store_rows.specs.Tables.{IsAtRest, house_row_in, settings_in, tables_in};
-ghost use Rattle.store_open.specs.Opening.{AreNumbered, Follows, FollowsOrGrows, HasReserves, HasSettings, HaveNumbers, IsFirstSetUp, IsSoundFirst, IsSoundHouse, Upgraded, Upgrades, first_tables_in};
+ghost use Rattle.store_rows.specs.Tables.{IsAtRest, house_row_in, tables_in};
+ghost use Rattle.store_open.specs.Opening.{AreNumbered, AreSet, Follows, FollowsOrGrows, HasEditions, HasReserves, HasSettings, HaveNumbers, IsFirstSetUp, IsSoundFirst, IsSoundHouse, Upgraded, Upgrades, first_tables_in};
 
 use crate::anew::either_anew;
 use crate::house::Opened;
 use crate::open::{open_house, read_house};
-use house_rows::{Counts, KeepFault, Settings};
+use house_rows::{Counts, Editions, KeepFault};
 use sqlite::{Alter, Connection};
 use sqlite_trees::store::Store;
 use std::alloc::Global;
@@ -94,7 +95,7 @@ fn finish<S: Alter>(conn: &mut Connection<S>) -> Result<(), KeepFault>
 fn upgrade_read<S: Alter>(
     alloc: Global,
     conn: &mut Connection<S>,
-) -> Result<(Settings, u64, Counts, Reserves), KeepFault>
+) -> Result<(Editions, u64, Counts, Reserves), KeepFault>
     requires first { HasCleanDisk (state S.Store conn.old)
         → IsTrue (state S.Store conn.old).is_open × IsFirstHouse (state S.Store conn.old).now }
     ensures upgraded { HasCleanDisk (state S.Store conn.new)
@@ -103,7 +104,10 @@ fn upgrade_read<S: Alter>(
         → OnOk result (IsTrue (state S.Store conn.new).is_open
         × ((state S.Store conn.new).now ≡ (state S.Store conn.new).committed)) }
     ensures settings { HasCleanDisk (state S.Store conn.new)
-        → IfOk result (λ read. HasSettings (state S.Store conn.new).now.trees read.0 read.1) }
+        → IfOk result (λ read. HasSettings (state S.Store conn.new).now.trees read.0.settings
+        read.1) }
+    ensures editions { HasCleanDisk (state S.Store conn.new)
+        → IfOk result (λ read. HasEditions (state S.Store conn.new).now.trees read.0.later) }
     ensures moment { IfOk result (λ read. IsMoment read.1) }
     ensures counts { HasCleanDisk (state S.Store conn.new)
         → IfOk result (λ read. HaveNumbers (state S.Store conn.new).now.trees read.2) }
@@ -139,14 +143,16 @@ fn upgrade_first<S: Alter + Drop>(
         → (state S.Store conn).now ≡ (state S.Store conn).committed }
     ensures rests { IfOk result (λ o. HasCleanDisk (state S.Store o.conn)
         → IsAtRest (state S.Store o.conn)) }
-    ensures settings { IfOk result (λ o. HasCleanDisk (state S.Store o.conn)
-        → settings_in (state S.Store o.conn).now.trees ≡ o.settings) }
+    ensures editions { IfOk result (λ o. HasCleanDisk (state S.Store o.conn)
+        → band_tables (tables_in (state S.Store o.conn).now.trees) ≡ o.editions) }
     ensures counts { IfOk result (λ o. HasCleanDisk (state S.Store o.conn)
         → counts_of (tables_in (state S.Store o.conn).now.trees) ≡ o.counts) }
     ensures reserves { IfOk result (λ o. HasCleanDisk (state S.Store o.conn)
         → o.reserves ≡ reserves_in (state S.Store o.conn).now.trees) }
     ensures numbered { IfOk result (λ o. HasCleanDisk (state S.Store o.conn)
         → AreNumbered (state S.Store o.conn).now.trees) }
+    ensures set { IfOk result (λ o. HasCleanDisk (state S.Store o.conn)
+        → AreSet (state S.Store o.conn).now.trees) }
     ensures clock { IfOk result (λ o. HasCleanDisk (state S.Store o.conn)
         → (tables_in (state S.Store o.conn).now.trees).clock ≡ o.clock) }
     ensures moment { IfOk result (λ o. IsMoment o.clock) }
@@ -166,9 +172,9 @@ fn upgrade_first<S: Alter + Drop>(
 {
     let mut conn = conn;
     match upgrade_read(alloc, &mut conn) {
-        Ok((settings, clock, counts, reserves)) => Ok(Opened {
+        Ok((editions, clock, counts, reserves)) => Ok(Opened {
             conn,
-            settings,
+            editions,
             reserves,
             counts,
             clock,
@@ -195,14 +201,16 @@ pub fn upgrade_house<S: Alter + Drop>(
 ) -> Result<(Opened<S>, bool), (KeepFault, S)>
     ensures rests { IfOk result (λ r. HasCleanDisk (state S.Store r.0.conn)
         → IsAtRest (state S.Store r.0.conn)) }
-    ensures settings { IfOk result (λ r. HasCleanDisk (state S.Store r.0.conn)
-        → settings_in (state S.Store r.0.conn).now.trees ≡ r.0.settings) }
+    ensures editions { IfOk result (λ r. HasCleanDisk (state S.Store r.0.conn)
+        → band_tables (tables_in (state S.Store r.0.conn).now.trees) ≡ r.0.editions) }
     ensures counts { IfOk result (λ r. HasCleanDisk (state S.Store r.0.conn)
         → counts_of (tables_in (state S.Store r.0.conn).now.trees) ≡ r.0.counts) }
     ensures reserves { IfOk result (λ r. HasCleanDisk (state S.Store r.0.conn)
         → r.0.reserves ≡ reserves_in (state S.Store r.0.conn).now.trees) }
     ensures numbered { IfOk result (λ r. HasCleanDisk (state S.Store r.0.conn)
         → AreNumbered (state S.Store r.0.conn).now.trees) }
+    ensures set { IfOk result (λ r. HasCleanDisk (state S.Store r.0.conn)
+        → AreSet (state S.Store r.0.conn).now.trees) }
     ensures clock { IfOk result (λ r. HasCleanDisk (state S.Store r.0.conn)
         → (tables_in (state S.Store r.0.conn).now.trees).clock ≡ r.0.clock) }
     ensures moment { IfOk result (λ r. IsMoment r.0.clock) }

@@ -24,6 +24,8 @@ adds_member number name old new was next w =
     let q = w.others.1.1.1.1.1.1.1.0 (other 12 2 refl) in
     let f = w.others.1.1.1.1.1.1.1.1.0 (other 14 2 refl) in
     let r = w.others.1.1.1.1.1.1.1.1.1.0 (other 23 2 refl) in
+    let es = w.others.1.1.1.1.1.1.1.1.1.1.0 (other 24 2 refl) in
+    let ls = w.others.1.1.1.1.1.1.1.1.1.1.1.0 (other 25 2 refl) in
     let rows = w.members (all_below (λ m. m.member) (members_in old.trees) x next was.members) in
     record {
       house = w.house;
@@ -33,8 +35,10 @@ adds_member number name old new was next w =
         categories = rw k was.categories;
         items = rw (i, r) was.items;
         reserves = rw (i, r) was.reserves;
+        editions = rw es was.editions;
+        later_bands = rw (es, ls) was.later_bands;
       };
-      tables = rw (h, b, k, i, r, d, v, q, f, rows, next) refl;
+      tables = rw (h, b, k, i, r, d, v, q, f, es, ls, rows, next) refl;
     }
 
 pub adds_category : (number : ℕ) (name : List ℕ) (old new : Database) → IsNumbered old.trees → number ≡ length (categories_in old.trees) + 1 → AddsCategory number name old new
@@ -51,6 +55,8 @@ adds_category number name old new was next w =
     let q = w.others.1.1.1.1.1.1.1.0 (other 12 4 refl) in
     let f = w.others.1.1.1.1.1.1.1.1.0 (other 14 4 refl) in
     let r = w.others.1.1.1.1.1.1.1.1.1.0 (other 23 4 refl) in
+    let es = w.others.1.1.1.1.1.1.1.1.1.1.0 (other 24 4 refl) in
+    let ls = w.others.1.1.1.1.1.1.1.1.1.1.1.0 (other 25 4 refl) in
     let rows = w.categories (all_below (λ k. k.category) (categories_in old.trees) x next was.categories) in
     record {
       house = w.house;
@@ -60,8 +66,10 @@ adds_category number name old new was next w =
         categories = rw rows (still_numbered (λ k. k.category) (categories_in old.trees) x next was.categories);
         items = rw (i, r) was.items;
         reserves = rw (i, r) was.reserves;
+        editions = rw es was.editions;
+        later_bands = rw (es, ls) was.later_bands;
       };
-      tables = rw (h, b, m, i, r, d, v, q, f, rows, next) refl;
+      tables = rw (h, b, m, i, r, d, v, q, f, es, ls, rows, next) refl;
     }
 
 pub registers : (number moment : ℕ) (name : Bor (List ℕ)) (old mid new : Database) → IsNumbered old.trees → number ≡ length (members_in old.trees) + 1 → AddsMember number name.now old mid → SetsClock moment mid new

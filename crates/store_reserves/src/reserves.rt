@@ -80,13 +80,6 @@ impl Reserves {
         }
     }
 
-    /// The rows.
-    pub fn rows(&self) -> &[ReserveRow]
-        ensures { result.now ≡ self.now }
-    {
-        &self.rows
-    }
-
     // Where that of an item is, or where it would go.
     fn search(&self, item: u64) -> Result<usize, usize>
         ensures found { IfOk result (IsAt self.now item) }

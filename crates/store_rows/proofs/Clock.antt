@@ -44,13 +44,17 @@ clock_set moment old new was w =
     let q : new.trees 12 ≡ old.trees 12 = w.others.1.1.1.1.1.1.1.0 (λ e. omega (arith, e)) in
     let f : new.trees 14 ≡ old.trees 14 = w.others.1.1.1.1.1.1.1.1.0 (λ e. omega (arith, e)) in
     let r : new.trees 23 ≡ old.trees 23 = w.others.1.1.1.1.1.1.1.1.1.0 (λ e. omega (arith, e)) in
+    let s : new.trees 24 ≡ old.trees 24 = w.others.1.1.1.1.1.1.1.1.1.1.0 (λ e. omega (arith, e)) in
+    let l : new.trees 25 ≡ old.trees 25 = w.others.1.1.1.1.1.1.1.1.1.1.1.0 (λ e. omega (arith, e)) in
     record {
-      tables = rw (b, m, k, i, r, d, v, q, f, row) refl;
+      tables = rw (b, m, k, i, r, d, v, q, f, s, l, row) refl;
       numbered = record {
         house = ap is_some found ∙ still_some moment (find (λ h. h.id == 1) (houses_in old.trees)) was.house;
         members = rw m was.members;
         categories = rw k was.categories;
         items = rw (i, r) was.items;
         reserves = rw (i, r) was.reserves;
+        editions = rw s was.editions;
+        later_bands = rw (s, l) was.later_bands;
       };
     }

@@ -6,7 +6,7 @@ use Rattle.sqlite.specs.Effect.{Database}
 use Rattle.house_rows.specs.Tables.{Tables}
 use Rattle.store_rows.specs.House.{IsHouse, KeepsOthers, SetsClock}
 use Rattle.store_rows.specs.Rows.{reserve_in, reserves_in}
-use Rattle.store_rows.specs.Tables.{IsNumbered, house_row_in, settings_in, tables_in}
+use Rattle.store_rows.specs.Tables.{IsNumbered, editions_in, house_row_in, settings_in, tables_in}
 use Rattle.store_rows.specs.Sorted.{sorted_bids, sorted_feedback, sorted_questions, sorted_watches}
 use Rattle.store_rows.proofs.Clock.{clock_set}
 
@@ -51,6 +51,15 @@ sets_clock moment old new was w = let it = clock_set moment old new was w in rec
 pub same_reserves : (tree : ℕ) (old new : Database) → tree < 23 → KeepsOthers tree old new → reserves_in new.trees ≡ reserves_in old.trees
 same_reserves tree old new under others = ap (map reserve_in) (others.1.1.1.1.1.1.1.1.1.0 (λ e. absurd (omega (arith, under, e))))
 
+-- ---- the editions
+
+-- a write of a table before theirs leaves them
+pub same_editions : (tree : ℕ) (old new : Database) → tree < 24 → KeepsOthers tree old new → editions_in new.trees ≡ editions_in old.trees
+same_editions tree old new under others =
+    let s : new.trees 24 ≡ old.trees 24 = others.1.1.1.1.1.1.1.1.1.1.0 (λ e. absurd (omega (arith, under, e))) in
+    let l : new.trees 25 ≡ old.trees 25 = others.1.1.1.1.1.1.1.1.1.1.1.0 (λ e. absurd (omega (arith, under, e))) in
+    rw (s, l) refl
+
 -- ---- the tables of what members do, which no number counts
 
 module _ (tree : ℕ) (old new : Database) (apart : (6 < tree) × (tree < 23)) (was : IsNumbered old.trees) (others : KeepsOthers tree old new) where
@@ -63,7 +72,17 @@ module _ (tree : ℕ) (old new : Database) (apart : (6 < tree) × (tree < 23)) (
       let k = others.1.1.1.0 (λ e. absurd (omega arith)) in
       let i = others.1.1.1.1.0 (λ e. absurd (omega arith)) in
       let r = others.1.1.1.1.1.1.1.1.1.0 (λ e. absurd (omega arith)) in
-      record { house = rw h was.house; members = rw m was.members; categories = rw k was.categories; items = rw (i, r) was.items; reserves = rw (i, r) was.reserves }
+      let s = others.1.1.1.1.1.1.1.1.1.1.0 (λ e. absurd (omega arith)) in
+      let l = others.1.1.1.1.1.1.1.1.1.1.1.0 (λ e. absurd (omega arith)) in
+      record {
+        house = rw h was.house;
+        members = rw m was.members;
+        categories = rw k was.categories;
+        items = rw (i, r) was.items;
+        reserves = rw (i, r) was.reserves;
+        editions = rw s was.editions;
+        later_bands = rw (s, l) was.later_bands;
+      }
 
   pub same_people : tables_in new.trees ≡ record (tables_in old.trees) { bids = sorted_bids new.trees; watches = sorted_watches new.trees; questions = sorted_questions new.trees; feedback = sorted_feedback new.trees }
   unfolding house_row_in settings_in tables_in
@@ -76,4 +95,6 @@ module _ (tree : ℕ) (old new : Database) (apart : (6 < tree) × (tree < 23)) (
       let k = others.1.1.1.0 (λ e. absurd (omega arith)) in
       let i = others.1.1.1.1.0 (λ e. absurd (omega arith)) in
       let r = others.1.1.1.1.1.1.1.1.1.0 (λ e. absurd (omega arith)) in
-      rw (h, b, m, k, i, r) refl
+      let s = others.1.1.1.1.1.1.1.1.1.1.0 (λ e. absurd (omega arith)) in
+      let l = others.1.1.1.1.1.1.1.1.1.1.1.0 (λ e. absurd (omega arith)) in
+      rw (h, b, m, k, i, r, s, l) refl

@@ -7,6 +7,8 @@ use Rattle.house_rows.specs.Text.{is_plain}
 use Rattle.store_rows.specs.declared.house.HouseRow.{HouseRow}
 use Rattle.store_rows.specs.declared.band.BandRow.{BandRow}
 use Rattle.store_rows.specs.declared.reserve.ReserveRow.{ReserveRow}
+use Rattle.store_rows.specs.declared.edition.EditionRow.{EditionRow}
+use Rattle.store_rows.specs.declared.edition.LaterBandRow.{LaterBandRow}
 
 -- a bid without its item
 pub record BidFits (b : Bid) : Type 0 where
@@ -21,6 +23,15 @@ pub record BandRowFits (b : BandRow) : Type 0 where
 pub record ReserveRowFits (r : ReserveRow) : Type 0 where
   pub item : r.item < 2 ^ 32
   pub amount : r.amount ≤ most_cents
+
+pub record EditionRowFits (e : EditionRow) : Type 0 where
+  pub edition : e.edition < 2 ^ 32
+  pub first : e.first < 2 ^ 32
+
+pub record LaterBandRowFits (b : LaterBandRow) : Type 0 where
+  pub edition : b.edition < 2 ^ 32
+  pub from : b.from < 2 ^ 32
+  pub step : b.step < 2 ^ 32
 
 -- the only row of the house, of version 2 of the tables
 pub record HouseRowFits (h : HouseRow) : Type 0 where

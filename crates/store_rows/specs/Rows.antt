@@ -11,6 +11,8 @@ use Rattle.house_rows.specs.declared.people.Member.{Member}
 use Rattle.store_rows.specs.declared.house.HouseRow.{HouseRow}
 use Rattle.store_rows.specs.declared.band.BandRow.{BandRow}
 use Rattle.store_rows.specs.declared.reserve.ReserveRow.{ReserveRow}
+use Rattle.store_rows.specs.declared.edition.EditionRow.{EditionRow}
+use Rattle.store_rows.specs.declared.edition.LaterBandRow.{LaterBandRow}
 use Rattle.house_rows.specs.declared.rating.Rating.{Rating}
 use Rattle.house_rows.specs.declared.rating.Rating.TheVariants.{Minus, Zero, Plus}
 use Rattle.house_rows.specs.declared.talk.Question.{Question}
@@ -73,6 +75,16 @@ band_of r = record { from = number_in (column r 0); step = number_in (column r 1
 abbrev pub reserve_of : Row → ReserveRow
 reserve_of r = record { item = number_in (column r 0); amount = number_in (column r 1) }
 
+abbrev pub edition_row_of : Row → EditionRow
+edition_row_of r = record { edition = number_in (column r 0); first = number_in (column r 1) }
+
+abbrev pub later_band_of : Row → LaterBandRow
+later_band_of r = record {
+  edition = number_in (column r 0);
+  from = number_in (column r 1);
+  step = number_in (column r 2);
+}
+
 abbrev pub member_of : Row → Member
 member_of r = record { member = number_in (column r 0); name = text_in (column r 1) }
 
@@ -122,6 +134,12 @@ band_in r = band_of (column r 0 ∷ column r 2 ∷ [])
 abbrev pub reserve_in : Row → ReserveRow
 reserve_in r = reserve_of (column r 0 ∷ column r 2 ∷ [])
 
+abbrev pub edition_row_in : Row → EditionRow
+edition_row_in r = edition_row_of (column r 0 ∷ column r 2 ∷ [])
+
+abbrev pub later_band_in : Row → LaterBandRow
+later_band_in r = later_band_of (column r 1 ∷ column r 2 ∷ column r 3 ∷ [])
+
 abbrev pub member_in : Row → Member
 member_in r = member_of (column r 0 ∷ column r 2 ∷ [])
 
@@ -150,6 +168,12 @@ bands_in db = map band_in (db 1)
 
 abbrev pub reserves_in : Trees → List ReserveRow
 reserves_in db = map reserve_in (db 23)
+
+abbrev pub edition_rows_in : Trees → List EditionRow
+edition_rows_in db = map edition_row_in (db 24)
+
+abbrev pub later_bands_in : Trees → List LaterBandRow
+later_bands_in db = map later_band_in (db 25)
 
 abbrev pub members_in : Trees → List Member
 members_in db = map member_in (db 2)

@@ -1,18 +1,21 @@
 -- The tables of the house that a database holds.
-use Rattle.std.specs.Prelude.{◌≡◌, ◌≤◌, ◌+◌, ◌==◌, true, ℕ, List, [], ◌∷◌, ◌++◌, Option, Some, None, map, find, length, All, is_some, unwrap_or, IsTrue}
+use Rattle.std.specs.Prelude.{◌≡◌, ◌≤◌, ◌+◌, ◌==◌, true, ℕ, List, [], ◌∷◌, ◌++◌, Option, Some, None, map, filter, find, length, All, is_some, unwrap_or, IsTrue}
 use Rattle.sqlite_trees.specs.Tree.{Trees}
 use Rattle.sqlite.specs.Effect.{Database}
 use Rattle.sqlite.specs.State.{State, HasCleanDisk}
 use Rattle.house_rows.specs.Changed.{changed}
 use Rattle.house_rows.specs.Tables.{Tables}
 use Rattle.house_rows.specs.declared.change.Change.{Change}
-use Rattle.house_rows.specs.declared.change.Change.TheVariants.{Register, AddCategory, List as Listed, Bid, Buy, Close, Settle, Watch, Unwatch, Ask, Answer, Feedback}
+use Rattle.house_rows.specs.declared.change.Change.TheVariants.{Register, AddCategory, List as Listed, Bid, Buy, Close, Settle, Watch, Unwatch, Ask, Answer, Feedback, SetBands}
+use Rattle.house_rows.specs.declared.edition.Edition.{Edition}
 use Rattle.house_rows.specs.declared.settings.Settings.{Settings}
 use Rattle.store_rows.specs.declared.house.HouseRow.{HouseRow}
 use Rattle.store_rows.specs.declared.reserve.ReserveRow.{ReserveRow}
+use Rattle.store_rows.specs.declared.edition.EditionRow.{EditionRow}
+use Rattle.store_rows.specs.declared.edition.LaterBandRow.{LaterBandRow}
 use Rattle.store_rows.specs.House.{IsHouse}
 use Rattle.store_rows.specs.ItemRows.{items_in}
-use Rattle.store_rows.specs.Rows.{bands_in, categories_in, houses_in, members_in, reserves_in}
+use Rattle.store_rows.specs.Rows.{bands_in, categories_in, edition_rows_in, houses_in, later_bands_in, members_in, reserves_in}
 use Rattle.store_rows.specs.Sorted.{sorted_bids, sorted_feedback, sorted_questions, sorted_watches}
 
 -- the row of the house, or none of ours
@@ -26,6 +29,18 @@ settings_in db = record {
   zone = (house_row_in db).zone;
 }
 
+-- the bands of an edition among those of all, as they were written
+abbrev pub bands_at : ℕ → List LaterBandRow → List (ℕ × ℕ)
+bands_at edition bands = map (λ b. (b.from, b.step)) (filter (λ b. b.edition == edition) bands)
+
+-- editions with their bands
+abbrev pub editions_by : List LaterBandRow → List EditionRow → List Edition
+editions_by bands rows = map (λ r. record { edition = r.edition; first = r.first; bands = bands_at r.edition bands }) rows
+
+-- the editions of the band table that the house has set, by number
+abbrev pub editions_in : Trees → List Edition
+editions_in db = editions_by (later_bands_in db) (edition_rows_in db)
+
 -- the tables, each in the order of its keys
 unfoldable pub tables_in : Trees → Tables
 tables_in db = record {
@@ -38,15 +53,19 @@ tables_in db = record {
   watches = sorted_watches db;
   questions = sorted_questions db;
   feedback = sorted_feedback db;
+  editions = editions_in db;
 }
 
--- the house has its row, and no member, category or item has a number over how many there are, nor has a reserve
+-- The house has its row, and no member, category or item has a number over how many there are, nor has a reserve. No edition has
+-- one over how many there are with the first, nor has a band of one.
 pub record IsNumbered (db : Trees) : Type 0 where
   pub house : is_some (find (λ h. h.id == 1) (houses_in db)) ≡ true
   pub members : All (λ m. m.member ≤ length (members_in db)) (members_in db)
   pub categories : All (λ k. k.category ≤ length (categories_in db)) (categories_in db)
   pub items : All (λ row. row.item.terms.item ≤ length (items_in db)) (items_in db)
   pub reserves : All (λ r. r.item ≤ length (items_in db)) (reserves_in db)
+  pub editions : All (λ e. e.edition ≤ length (edition_rows_in db) + 1) (edition_rows_in db)
+  pub later_bands : All (λ b. b.edition ≤ length (edition_rows_in db) + 1) (later_bands_in db)
 
 -- the connection is open, and a numbered house is committed
 pub record IsAtRest (s : State) : Type 0 where
@@ -78,6 +97,7 @@ reserves_after reserves next (Unwatch member item) = reserves
 reserves_after reserves next (Ask item asker number text) = reserves
 reserves_after reserves next (Answer moment item asker number text) = reserves
 reserves_after reserves next (Feedback moment item from to rating text) = reserves
+reserves_after reserves next (SetBands moment bands) = reserves
 
 -- what a change makes of the house
 pub record Changes (change : Change) (old new : Database) : Type 0 where

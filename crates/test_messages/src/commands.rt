@@ -3,9 +3,10 @@ use house_rows::{Command, Rating, Text};
 use std::alloc::AllocError;
 use std::fmt::Write;
 
-/// Adds a command: its name, with the rating of feedback, its numbers and then its texts, in the order in which they
-/// stand in `Command`, but for the price at which a listing may be bought, which comes last of the numbers, and its
-/// reserve, which comes after them with its word.
+/// Adds a command: its name, with the rating of feedback, its numbers, the rows of a band table and
+/// then its texts, in the order in which they stand in `Command`, but for the price at which a listing
+/// may be bought, which comes last of the numbers, and its reserve, which comes after them with its
+/// word.
 pub(crate) fn push(line: &mut String, command: &Command) -> Result<(), AllocError> {
     line.push_str(name(command))?;
     for number in numbers(command).iter().flatten() {
@@ -17,6 +18,11 @@ pub(crate) fn push(line: &mut String, command: &Command) -> Result<(), AllocErro
     } = command
     {
         write!(line, " reserve {reserve}")?;
+    }
+    if let Command::SetBands { bands } = command {
+        for (at, step) in bands.as_slice() {
+            write!(line, " {at} {step}")?;
+        }
     }
     for text in texts(command).iter().flatten() {
         write!(line, " {:?}", text.as_str())?;
@@ -38,6 +44,7 @@ fn name(command: &Command) -> &'static str {
         Command::Ask { .. } => "Ask",
         Command::Answer { .. } => "Answer",
         Command::Feedback { rating, .. } => feedback(*rating),
+        Command::SetBands { .. } => "SetBands",
     }
 }
 
@@ -72,7 +79,10 @@ fn numbers(command: &Command) -> [Option<u64>; 4] {
         | Command::Unwatch { item }
         | Command::Ask { item, .. }
         | Command::Feedback { item, .. } => [Some(*item), None, None, None],
-        Command::Register { .. } | Command::AddCategory { .. } | Command::Close => [None; 4],
+        Command::Register { .. }
+        | Command::AddCategory { .. }
+        | Command::Close
+        | Command::SetBands { .. } => [None; 4],
     }
 }
 

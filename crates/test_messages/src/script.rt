@@ -5,7 +5,7 @@
 use crate::asks::Asks;
 use crate::frames::Frames;
 use crate::{asks, frames, routes};
-use site_routes::Routes;
+use site_request::Routes;
 use std::alloc::{AllocError, Global};
 use thiserror::Error;
 

@@ -5,7 +5,7 @@
 //! fail, how often a writer is called, and that the clauses mean what people were promised and write. `stdin` has
 //! the script, `stdout` its transcript, in which what has to be answered stands after each line, worked out by
 //! hand, but for the days of moments, which are the C library's. Read `script` first, which says what a line may
-//! be, after the mark of `transcript`. Commands, changes and rows are made by `store_tests`.
+//! be, after the mark of `transcript`. Commands, changes and rows are made by `test_store`.
 #![tactic(auto)]
 
 mod accounts;

@@ -15,6 +15,9 @@ export class Refusal extends Error {
   }
 }
 
+// Whether the house told that what was asked for is not there.
+export const isUnknown = refusal => refusal instanceof Refusal && refusal.told.error === "Unknown";
+
 async function exchange(path, options) {
   const sent = performance.now();
   let answer;

@@ -22,7 +22,8 @@ const facts = told => [
 
 function steps(bands) {
   const rows = bands.map(({ at, step }) => [shown(at), shown(step)]);
-  return make("div", { class: "small" }, table("By how much prices rise", [["From", AMOUNT], ["Step", AMOUNT]], rows));
+  const holds = make("p", { class: "soft" }, "For items that are listed from now on. Each item keeps the steps of its listing.");
+  return make("div", { class: "small" }, table("By how much prices rise", [["From", AMOUNT], ["Step", AMOUNT]], rows), holds);
 }
 
 function adding(refill) {

@@ -1,5 +1,5 @@
 // The public record, which the interface tells in parts: as `auction replay --record` writes it, its keys in byte order.
-import { each, read, whole } from "./api.js";
+import { each, isUnknown, read, whole } from "./api.js";
 import { categories } from "./known.js";
 
 const numbers = count => Array.from({ length: count }, (_, place) => place + 1);
@@ -21,6 +21,21 @@ async function questionsOn(items) {
   return found.flat().sort(by("item", "asker", "number"));
 }
 
+// The band tables by their numbers from 1. How many there are shows where one is not there.
+async function editions() {
+  const found = [];
+  for (let edition = 1; ; edition += 1) {
+    try {
+      found.push({ ...await read(`/bands/${edition}`), edition });
+    } catch (refusal) {
+      if (isUnknown(refusal)) {
+        return found;
+      }
+      throw refusal;
+    }
+  }
+}
+
 // The text of the record, and whether no command came while it was read.
 export async function publicRecord() {
   const before = await read("/house");
@@ -29,8 +44,8 @@ export async function publicRecord() {
   const people = await each(numbers(before.members), number => read(`/members/${number}`));
   const items = await itemsOf(list);
   const record = {
-    bands, categories: list, clock: before.clock, feedback: await feedbackTo(people), items,
-    members: people.map(({ member, name }) => ({ member, name })), questions: await questionsOn(items),
+    bands, categories: list, clock: before.clock, editions: await editions(), feedback: await feedbackTo(people),
+    items, members: people.map(({ member, name }) => ({ member, name })), questions: await questionsOn(items),
     rate: before.rate, zone: before.zone,
   };
   const isOfOneMoment = JSON.stringify(before) === JSON.stringify(await read("/house"));

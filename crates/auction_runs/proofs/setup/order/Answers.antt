@@ -2,7 +2,7 @@ use Rattle.std.proofs.Common.{subst}
 use Rattle.std.specs.Cow.{cow_slice_items}
 use Rattle.auction_runs.specs.Setup.{IsCreated}
 use Rattle.auction_runs.proofs.Outcomes.{on_ok_then}
-use Rattle.site_asks.specs.Asked.{IsAsked}
+use Rattle.site_request.specs.Asked.{IsAsked}
 use Rattle.auction_runs.proofs.setup.order.Goals as goal
 
 pub returns-clause-taken : goal.returns-clause-taken

@@ -1,6 +1,6 @@
 use Rattle.std.proofs.Common.{◌≡◌, ◌∙◌, ◌+◌, ◌-◌, ◌<◌, ap, arith, length, map, subst, sym}
 use Rattle.std.proofs.lemmas.List.{length-map}
-use Rattle.site_asks.specs.Asked.{IsAsked}
+use Rattle.site_request.specs.Asked.{IsAsked}
 use Rattle.site_audit.specs.Places.{IsHeard}
 use Rattle.site_audit.proofs.Lists.{zip_length}
 use Rattle.site_audit.proofs.SealedBids.{found_at, none_at, parted_map}

@@ -1,5 +1,5 @@
 use Rattle.std.proofs.Common.{◌∙◌, ap}
-use Rattle.site_asks.specs.declared.asked.Asked.{Asked}
+use Rattle.site_request.specs.declared.asked.Asked.{Asked}
 use Rattle.site_audit.specs.SealedBids.{sealed_in}
 use Rattle.site_audit.proofs.SealedBids.{one_meaning}
 use Rattle.site_audit.proofs.bids.read_bid.Goals as goal

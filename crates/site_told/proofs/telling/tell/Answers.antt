@@ -1,5 +1,5 @@
 use Rattle.site_told.proofs.Bids.{bid_told}
-use Rattle.site_told.proofs.Numbers.{add_told, list_told, register_told}
+use Rattle.site_told.proofs.Numbers.{add_told, list_told, register_told, set_told}
 use Rattle.site_told.proofs.Sales.{buy_told, close_told, settle_told}
 use Rattle.site_told.proofs.Talk.{ask_told, feedback_told}
 use Rattle.site_told.proofs.telling.tell.Goals as goal
@@ -47,3 +47,8 @@ pub returns-in-Feedback-clause-told : goal.returns-in-Feedback-clause-told
 returns-in-Feedback-clause-told g c = λ honest settings h valid e moment caller command is own.
     feedback_told settings h moment caller command c.in-Feedback.moment c.in-Feedback.item c.in-Feedback.from c.in-Feedback.to c.in-Feedback.rating c.in-Feedback.text
     (rw c.in-Feedback.is at is) (rw c.in-Feedback.is at own)
+
+pub returns-in-SetBands-clause-told : goal.returns-in-SetBands-clause-told
+returns-in-SetBands-clause-told g c = λ honest settings h valid e moment caller command is own.
+    set_told (g.K.Keep.content c.args.keep.now) settings h moment caller command c.next_edition.result c.in-SetBands.moment c.in-SetBands.bands e
+    (rw c.in-SetBands.is at is) (rw c.in-SetBands.is at own) (c.next_edition.ensures.value honest)

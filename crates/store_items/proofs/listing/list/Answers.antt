@@ -1,21 +1,18 @@
 use Rattle.std.proofs.Common.{◌≡◌, is_some, true, false, rules, subst, arith, ℕ}
 use Rattle.sqlite.specs.Held.{state}
 use Rattle.sqlite.specs.State.{Survives}
-use Rattle.sqlite_keyed.proofs.ListLemmas.{all_weaker}
-use Rattle.house_rows.specs.Fits.{ItemFits}
-use Rattle.house_rows.specs.Keeping.{ItemRowFits}
-use Rattle.house_rows.specs.Tables.{ItemRow}
 use Rattle.house_rows.specs.declared.change.Change.TheVariants.{List}
 use Rattle.store_rows.specs.Tables.{tables_in}
 use Rattle.store_rows.specs.Commits.{MadeBy}
 use Rattle.store_rows.proofs.Keys.{none_there, on_ok, some_there}
 use Rattle.store_rows.proofs.CommitSteps.{survives_change}
+use Rattle.store_rows.proofs.Sound.{items_fit}
 use Rattle.store_items.proofs.listing.list.Goals as goal
 
 pub returns-in_err-item_with_lot-clause-damaged : goal.returns-in_err-item_with_lot-clause-damaged
 unfolding tables_in
 returns-in_err-item_with_lot-clause-damaged g c clean sound fits free is =
-    c.in_err-item_with_lot.ensures.damaged clean (all_weaker (ItemRowFits _) (λ (row : ItemRow). ItemFits row.item) (λ row all. all.item) _ sound.items) (search rules)
+    c.in_err-item_with_lot.ensures.damaged clean (items_fit (state g.S.Store c.args.conn.now).now.trees sound) (search rules)
 
 pub returns-then-is_some-clause-damaged : goal.returns-then-is_some-clause-damaged
 unfolding tables_in

@@ -1,34 +1,70 @@
-use Rattle.std.proofs.Common.{◌≤◌, ◌++◌, ◌∙◌, ap, arith, drop, flat_map, length, refl, take}
+use Rattle.std.proofs.Common.{◌≡◌, ◌≤◌, ◌<◌, ◌-◌, ◌+◌, ◌^◌, ◌++◌, ◌∙◌, true, ap, arith, drop, filter, flat_map, get_or, length, refl, rules, subst, sym, take}
+use Rattle.std.specs.Prelude.{is_some}
+use Rattle.std.specs.List.{AllByRecursion}
+use Rattle.std.proofs.lemmas.List.{drop_more, length-append}
+use Rattle.sqlite_value.specs.Order.{Row, column}
 use Rattle.house_rows.specs.Limits.{most_shown}
-use Rattle.house_rows.specs.declared.item.Terms.{Terms}
+use Rattle.store_rows.specs.ItemRows.{terms_by}
+use Rattle.store_rows.specs.Rows.{number_in}
 use Rattle.store_rows.proofs.Steps.{first_found_all, first_found_full, found_more}
-use Rattle.store_items.specs.OwnReserves.{reserve_from}
+use Rattle.store_items.specs.OwnReserves.{reserve_in, reserve_shown}
+use Rattle.store_items.specs.Standing.{TermsHold}
+use Rattle.store_items.proofs.OwnReserves.{next_held, told_few}
+use Rattle.store_items.proofs.Stands.{row_has}
 use Rattle.store_items.proofs.own_reserves.first_reserves.Goals as goal
 
-pub loop-terms-preserved : goal.loop-terms-preserved
-loop-terms-preserved c =
-    let F = reserve_from c.args.rules.now.reserves c.args.from in
-    let own = c.args.own.now in
-    let i = c.loop-terms.terms-index in
-    let held = c.loop-terms.invariant in
+pub loop-row-preserved : goal.loop-row-preserved
+loop-row-preserved c =
+    let R = c.args.rules.now.reserves in
+    let F = reserve_shown R c.args.from in
+    let Holds = TermsHold c.args.rules.now.editions R in
+    let shows = λ (r : Row). is_some (reserve_in R c.args.from r) in
+    let rows = c.args.rows.now in
+    let i = c.loop-row.row-index in
+    let x = get_or rows i c.row-item.result in
+    let held = c.loop-row.invariant in
+    let whole = c.loop-row.found.ok.0 in
+    let room : length c.loop-row.found.items < most_shown = omega (arith, whole) in
+    let one : c.add_reserve.new.found.items ≡ c.loop-row.found.items ++ F x = c.in_ok-add_reserve.ensures.value ∙ ap (λ (r : Row). c.loop-row.found.items ++ F r) c.row-item.is in
     record {
       found =
-          ap (take most_shown) (found_more F own i c.terms-item.result c.loop-terms.found.items c.add_reserve.new.found.items (c.loop-terms.found.items ++ flat_map F (drop i own)) c.loop-terms-test.true refl
-          (c.in_ok-add_reserve.ensures.value ∙ ap (λ (t : Terms). c.loop-terms.found.items ++ F t) c.terms-item.is))
+          ap (take most_shown) (found_more F rows i c.row-item.result c.loop-row.found.items c.add_reserve.new.found.items (c.loop-row.found.items ++ flat_map F (drop i rows)) c.loop-row-test.true refl one)
           ∙ held.found;
-      few = (let more = c.in_ok-add_reserve.ensures.few in omega (arith, more));
+      few = (let long = ap length one ∙ length-append c.loop-row.found.items (F x) in
+          let more = told_few (terms_by R x) (reserve_in R c.args.from x) in
+          omega (arith, long, more, room));
+      fits = c.in_ok-add_reserve.ensures.fits held.fits;
+      held = λ fit. (let now = subst (λ l. AllByRecursion Holds (take (most_shown - length c.loop-row.found.items) (filter shows l))) (drop_more rows i c.row-item.result c.loop-row-test.true) (held.held fit) in
+          let next = next_held Holds (reserve_in R c.args.from) (terms_by R) most_shown c.loop-row.found.items x (drop (i + 1) rows) room now in
+          subst (λ l. AllByRecursion Holds (take (most_shown - length l) (filter shows (drop (i + 1) rows)))) (sym one) next.1);
     }
 
 pub returns-then-len-ge-MOST_SHOWN-clause-value : goal.returns-then-len-ge-MOST_SHOWN-clause-value
 returns-then-len-ge-MOST_SHOWN-clause-value c =
-    let F = reserve_from c.args.rules.now.reserves c.args.from in
-    let held = c.loop-terms.invariant in
-    let whole = c.loop-terms.found.ok.0 in
-    let many : most_shown ≤ length c.loop-terms.found.items = omega (arith, whole) in
-    first_found_full most_shown c.loop-terms.found.items (flat_map F (drop c.loop-terms.terms-index c.args.own.now)) _ held.few many held.found
+    let F = reserve_shown c.args.rules.now.reserves c.args.from in
+    let held = c.loop-row.invariant in
+    let whole = c.loop-row.found.ok.0 in
+    let many : most_shown ≤ length c.loop-row.found.items = omega (arith, whole) in
+    first_found_full most_shown c.loop-row.found.items (flat_map F (drop c.loop-row.row-index c.args.rows.now)) _ held.few many held.found
 
 pub returns-clause-value : goal.returns-clause-value
 returns-clause-value c =
-    let F = reserve_from c.args.rules.now.reserves c.args.from in
-    let held = c.loop-terms.invariant in
-    first_found_all most_shown F c.args.own.now c.loop-terms.terms-index c.loop-terms.found.items _ held.few c.loop-terms-test.false held.found
+    let F = reserve_shown c.args.rules.now.reserves c.args.from in
+    let held = c.loop-row.invariant in
+    first_found_all most_shown F c.args.rows.now c.loop-row.row-index c.loop-row.found.items _ held.few c.loop-row-test.false held.found
+
+pub returns-in_err-add_reserve-clause-damaged : goal.returns-in_err-add_reserve-clause-damaged
+returns-in_err-add_reserve-clause-damaged c low fit is =
+    let R = c.args.rules.now.reserves in
+    let Holds = TermsHold c.args.rules.now.editions R in
+    let shows = λ (r : Row). is_some (reserve_in R c.args.from r) in
+    let rows = c.args.rows.now in
+    let i = c.loop-row.row-index in
+    let x = get_or rows i c.row-item.result in
+    let whole = c.loop-row.found.ok.0 in
+    let room : length c.loop-row.found.items < most_shown = omega (arith, whole) in
+    let now = subst (λ l. AllByRecursion Holds (take (most_shown - length c.loop-row.found.items) (filter shows l))) (drop_more rows i c.row-item.result c.loop-row-test.true) (c.loop-row.invariant.held fit) in
+    let next = next_held Holds (reserve_in R c.args.from) (terms_by R) most_shown c.loop-row.found.items x (drop (i + 1) rows) room now in
+    let small = row_has (λ (r : Row). number_in (column r 0) < 2 ^ 32) rows i c.row-item.result (omega (arith, c.loop-row-test.true)) low in
+    c.in_err-add_reserve.ensures.damaged (subst (λ (r : Row). number_in (column r 0) < 2 ^ 32) (sym c.row-item.is) small)
+    (subst (λ (r : Row). is_some (reserve_in R c.args.from r) ≡ true → Holds r) (sym c.row-item.is) next.0) (search rules)

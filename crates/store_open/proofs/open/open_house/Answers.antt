@@ -3,7 +3,7 @@ use Rattle.std.proofs.lemmas.Result.{err_from_is_err_and}
 use Rattle.sqlite.specs.Effect.{Database}
 use Rattle.sqlite.specs.Held.{state}
 use Rattle.sqlite.specs.State.{HasCleanDisk}
-use Rattle.store_open.specs.Opening.{AreNumbered, AreReserved, IsSetUp}
+use Rattle.store_open.specs.Opening.{AreNumbered, AreReserved, AreSet, IsSetUp}
 use Rattle.store_open.proofs.OpenLemmas.{gives_back, leads_made, leads_on}
 use Rattle.store_open.proofs.ReadLemmas.{WasRead, was_read}
 use Rattle.store_open.proofs.open.open_house.Goals as goal
@@ -14,18 +14,19 @@ returns-in-Ok g c =
     let is = state g.S.Store c.read_house.new.conn in
     let read = c.in-Ok.ensures in
     let first : HasCleanDisk is → HasCleanDisk was = λ clean. omega (arith, c.read_house.ensures.read.crash.clean, clean) in
-    let found : HasCleanDisk is → WasRead was is c.in-Ok.settings c.in-Ok.clock c.in-Ok.counts c.in-Ok.reserves = λ clean.
+    let found : HasCleanDisk is → WasRead was is c.in-Ok.editions c.in-Ok.clock c.in-Ok.counts c.in-Ok.reserves = λ clean.
     was_read was is _ _ _ _ (c.in_ok-conn.ensures.house (first clean)) (c.in_ok-conn.ensures.rests (first clean))
-    (read.read.same clean) (read.settings clean) (read.counts clean) (read.reserves clean) in
+    (read.read.same clean) (read.settings clean) (read.editions clean) (read.counts clean) (read.reserves clean) in
     let made = c.in_ok-conn in
     let leads = leads_on g.S.Store c.args.conn made.conn c.read_house.new.conn (leads_made g.S.Store c.args.conn made.conn made.ensures.follows made.ensures.rests)
     c.read_house.ensures.read.crash (λ clean. inl (read.read.same clean)) in
     record {
       rests = λ clean. (found clean).rests;
-      settings = λ clean. (found clean).settings_are;
+      editions = λ clean. (found clean).editions_are;
       counts = λ clean. (found clean).counts_are;
       reserves = λ clean. (found clean).reserves_are;
       numbered = λ clean. (found clean).numbered;
+      set = λ clean. (found clean).set;
       clock = λ clean. (found clean).clock_is;
       moment = read.moment;
       row = λ clean. (found clean).row;
@@ -63,4 +64,4 @@ returns-in-Err-clause-damaged g c is clean sound =
     let second : HasCleanDisk (state g.S.Store c.read_house.new.conn) = omega (arith, c.into_store.ensures.quiet.clean, clean) in
     let first : HasCleanDisk (state g.S.Store c.in_ok-conn.conn) = omega (arith, c.read_house.ensures.read.crash.clean, second) in
     let same = sym (c.in_ok-conn.ensures.same first) in
-    c.read_house.ensures.damaged second (subst IsSetUp same sound.set_up) (subst AreNumbered same sound.numbered) (subst AreReserved same sound.reserved) (search rules)
+    c.read_house.ensures.damaged second (subst IsSetUp same sound.set_up) (subst AreNumbered same sound.numbered) (subst AreReserved same sound.reserved) (subst AreSet same sound.set) (search rules)

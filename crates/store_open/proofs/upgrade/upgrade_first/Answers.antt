@@ -14,14 +14,15 @@ pub returns-in-Ok : goal.returns-in-Ok
 returns-in-Ok g c =
     let last = state g.S.Store c.upgrade_read.new.conn in
     let read = c.in-Ok.ensures in
-    let found : HasCleanDisk last → WasRead last last c.in-Ok.settings c.in-Ok.clock c.in-Ok.counts c.in-Ok.reserves = λ clean.
-    was_read last last _ _ _ _ ((read.rests clean).0, (read.upgraded clean).house) (read.rests clean).1 (unchanged last (read.rests clean).0) (read.settings clean) (read.counts clean) (read.reserves clean) in
+    let found : HasCleanDisk last → WasRead last last c.in-Ok.editions c.in-Ok.clock c.in-Ok.counts c.in-Ok.reserves = λ clean.
+    was_read last last _ _ _ _ ((read.rests clean).0, (read.upgraded clean).house) (read.rests clean).1 (unchanged last (read.rests clean).0) (read.settings clean) (read.editions clean) (read.counts clean) (read.reserves clean) in
     record {
       rests = λ clean. (found clean).rests;
-      settings = λ clean. (found clean).settings_are;
+      editions = λ clean. (found clean).editions_are;
       counts = λ clean. (found clean).counts_are;
       reserves = λ clean. (found clean).reserves_are;
       numbered = λ clean. (found clean).numbered;
+      set = λ clean. (found clean).set;
       clock = λ clean. (found clean).clock_is;
       moment = read.moment;
       row = λ clean. (found clean).row;

@@ -2,8 +2,8 @@ use Rattle.std.proofs.Common.{◌∙◌, ap, subst, sym, arith, refl, rules}
 use Rattle.sqlite.specs.Effect.{Database}
 use Rattle.sqlite.specs.Held.{state}
 use Rattle.sqlite.specs.State.{HasCleanDisk}
-use Rattle.store_open.specs.Opening.{HasReserves, HasSettings, HaveNumbers, Upgraded, Upgrades}
-use Rattle.store_open.proofs.UpgradeLemmas.{nothing_committed, set_up_version, survives_end, survives_none, survives_two, upgraded_numbered, upgraded_reserved, upgraded_set_up}
+use Rattle.store_open.specs.Opening.{HasEditions, HasReserves, HasSettings, HaveNumbers, Upgraded, Upgrades}
+use Rattle.store_open.proofs.UpgradeLemmas.{nothing_committed, set_up_version, survives_end, survives_none, survives_two, upgraded_numbered, upgraded_reserved, upgraded_set, upgraded_set_up}
 use Rattle.store_open.proofs.upgrade.upgrade_read.Goals as goal
 
 pub read_house-requires : goal.read_house-requires
@@ -29,7 +29,8 @@ returns g c =
     record {
       upgraded = λ clean. subst (Upgrades old.now.trees) (sym (same clean)) (c.in_ok-grow.ensures.ok (first clean));
       rests = λ clean. ((shown clean).is_open, (shown clean).now_is ∙ sym (shown clean).committed_is);
-      settings = λ clean. subst (λ (d : Database). HasSettings d.trees c.in_ok-read.read.0 c.in_ok-read.read.1) (sym (same clean)) (c.in_ok-read.ensures.settings (second clean));
+      settings = λ clean. subst (λ (d : Database). HasSettings d.trees c.in_ok-read.read.0.settings c.in_ok-read.read.1) (sym (same clean)) (c.in_ok-read.ensures.settings (second clean));
+      editions = λ clean. subst (λ (d : Database). HasEditions d.trees c.in_ok-read.read.0.later) (sym (same clean)) (c.in_ok-read.ensures.editions (second clean));
       moment = c.in_ok-read.ensures.moment;
       counts = λ clean. subst (λ (d : Database). HaveNumbers d.trees c.in_ok-read.read.2) (sym (same clean)) (c.in_ok-read.ensures.counts (second clean));
       reserves = λ clean. subst (λ (d : Database). HasReserves d.trees c.in_ok-read.read.3) (sym (same clean)) (c.in_ok-read.ensures.reserves (second clean));
@@ -72,7 +73,7 @@ returns-in_err-read-clause-damaged g c clean set numbered =
     let made = c.in_ok-grow.ensures.ok early in
     let old = (state g.S.Store c.args.conn.now).now.trees in
     let grown = (state g.S.Store c.grow.new.conn).now in
-    let calm = c.in_err-read.ensures.damaged clean (upgraded_set_up old grown made set) (upgraded_numbered old grown made numbered) (upgraded_reserved old grown made) in
+    let calm = c.in_err-read.ensures.damaged clean (upgraded_set_up old grown made set) (upgraded_numbered old grown made numbered) (upgraded_reserved old grown made) (upgraded_set old grown made) in
     search rules
 
 pub returns-in_err-finish-clause-crash : goal.returns-in_err-finish-clause-crash

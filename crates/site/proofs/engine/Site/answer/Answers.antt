@@ -1,5 +1,5 @@
 use Rattle.std.proofs.Common.{◌∙◌, ap, refl, Ok, Err}
-use Rattle.site_asks.specs.Asked.{asked_of}
+use Rattle.site_request.specs.Asked.{asked_of}
 use Rattle.site.specs.Answers.{broken_text}
 use Rattle.site.proofs.Steps.{not_broken, one_fault, step_broken}
 use Rattle.site.proofs.Stops.{down_text}

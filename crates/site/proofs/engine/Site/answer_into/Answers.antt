@@ -1,5 +1,5 @@
 use Rattle.std.proofs.Common.{refl, Ok}
-use Rattle.site_asks.specs.Asked.{asked_of}
+use Rattle.site_request.specs.Asked.{asked_of}
 use Rattle.site.proofs.Steps.{step_acted, step_unread}
 use Rattle.site.proofs.engine.Site.answer_into.Goals as goal
 

@@ -8,9 +8,10 @@ returns-clause-told g c = λ honest settings h is e.
     let first = c.in_ok-counts.ensures in
     let second = c.in_ok-clock.ensures in
     let before = second.read.honest honest in
+    let start = first.read.honest before in
     new_told settings h (k.content c.args.self.now.keep) (k.content c.counts.new.self)
-    c.in_ok-counts.counts c.in_ok-clock.clock c.are_blank.result is e
-    (first.value before)
+    c.in_ok-newest.newest c.in_ok-counts.counts c.in_ok-clock.clock c.are_blank.result is e
+    (c.in_ok-newest.ensures.value start) (first.value before)
     (still_there c.in_ok-counts.counts k.content k.is_failed k.is_honest k.may_leave
     c.args.self.now.keep c.counts.new.self first.faults first.read before)
     (second.value honest) c.are_blank.ensures

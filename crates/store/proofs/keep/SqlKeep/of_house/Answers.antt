@@ -6,5 +6,5 @@ invariant_of-result g c = record {
   idle = c.requires.idle;
   moment = c.requires.moment;
   rests = λ going honest. c.requires.rests honest;
-  known = λ going honest. known_read _ _ _ _ _ _ c.new.ensures (c.requires.settings honest) (c.requires.reserves honest) (c.requires.counts honest) (c.requires.clock honest);
+  known = λ going honest. known_read _ _ _ _ _ (c.requires.editions honest) (c.requires.reserves honest) (c.requires.counts honest) (c.requires.clock honest);
 }

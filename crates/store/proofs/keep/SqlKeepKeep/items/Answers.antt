@@ -2,7 +2,8 @@ use Rattle.std.proofs.Common.{ap, arith}
 use Rattle.std.specs.Prelude.{Err}
 use Rattle.sqlite.specs.Held.{state}
 use Rattle.sqlite.specs.State.{HasCleanDisk}
-use Rattle.store.proofs.Known.{items_stand, known_rows, known_serves, told_sound, works}
+use Rattle.store_rows.specs.Tables.{tables_in}
+use Rattle.store.proofs.Known.{items_stand, known_list, known_rows, known_serves, not_told, told_sound, works}
 use Rattle.store.proofs.keep.SqlKeepKeep.items.Goals as goal
 
 pub all_items-requires : goal.all_items-requires
@@ -19,3 +20,11 @@ pub returns-in-Ok-clause-stands : goal.returns-in-Ok-clause-stands
 returns-in-Ok-clause-stands g c = λ honest.
     let before : HasCleanDisk (state g.S.Store c.self.inside.conn) = omega (arith, c.in-Ok.ensures.read.crash.clean, honest) in
     rw (← c.self.view_is) (items_stand _ _ _ _ _ (c.self.invariant.known (works _ _ c.self.view_is c.in_ok-serves.ensures.ok) before) _ c.in-Ok.ensures.stands)
+
+pub returns-in-Err-clause-damaged : goal.returns-in-Err-clause-damaged
+unfolding tables_in
+returns-in-Err-clause-damaged g c = rw (← c.self.view_is)
+    (λ honest fits. not_told _ _ _ c.told_fault.ensures.fault c.told_fault.ensures.store (λ is.
+    let clean : HasCleanDisk (state g.S.Store c.all_items.new.conn) = omega (arith, c.told_fault.ensures.crash.clean, honest) in
+    let before : HasCleanDisk (state g.S.Store c.self.inside.conn) = omega (arith, c.in-Err.ensures.read.crash.clean, clean) in
+    c.in-Err.ensures.damaged clean (known_list _ _ _ _ _ (c.self.invariant.known (works _ _ c.self.view_is c.in_ok-serves.ensures.ok) before) _ fits) (ap Err is)))

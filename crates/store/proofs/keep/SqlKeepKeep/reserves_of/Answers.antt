@@ -1,12 +1,15 @@
-use Rattle.std.proofs.Common.{◌≡◌, ap, arith, rules, subst, sym, ℕ}
+use Rattle.std.proofs.Common.{◌≡◌, ◌<◌, ◌^◌, ap, arith, filter, rules, subst, sym, take, ℕ}
 use Rattle.std.specs.Prelude.{Err, ◌==◌}
+use Rattle.std.specs.List.{AllByRecursion}
 use Rattle.sqlite.specs.Held.{state}
 use Rattle.sqlite.specs.State.{HasCleanDisk}
 use Rattle.house_rows.specs.Keeping.{FitsBy}
-use Rattle.house_rows.specs.Taken.{FitWhere}
+use Rattle.house_rows.specs.Limits.{most_shown}
+use Rattle.house_rows.specs.Taken.{FitWhere, has_own_reserve}
 use Rattle.house_rows.specs.Tables.{ItemRow}
 use Rattle.store_rows.specs.ItemRows.{items_in}
-use Rattle.store.proofs.Known.{known_rows, known_serves, known_where, not_told, told_sound, works}
+use Rattle.store_rows.specs.Tables.{tables_in}
+use Rattle.store.proofs.Known.{known_list, known_rows, known_serves, not_told, told_sound, works}
 use Rattle.store.proofs.keep.SqlKeepKeep.reserves_of.Goals as goal
 
 pub reserves_of-requires : goal.reserves_of-requires
@@ -20,11 +23,14 @@ returns-in-Err-clause-faults g c = rw (← c.self.view_is)
     c.in-Err.ensures.damaged clean (known_rows _ _ _ _ _ (c.self.invariant.known (works _ _ c.self.view_is c.in_ok-serves.ensures.ok) before) sound) (ap Err is)))
 
 pub returns-in-Err-clause-damaged : goal.returns-in-Err-clause-damaged
+unfolding tables_in
 returns-in-Err-clause-damaged g c = rw (← c.self.view_is)
-    (λ honest fits. not_told _ _ _ c.told_fault.ensures.fault c.told_fault.ensures.store (λ is.
+    (λ honest numbered fits. not_told _ _ _ c.told_fault.ensures.fault c.told_fault.ensures.store (λ is.
     let clean : HasCleanDisk (state g.S.Store c.reserves_of.new.conn) = omega (arith, c.told_fault.ensures.crash.clean, honest) in
     let before : HasCleanDisk (state g.S.Store c.self.inside.conn) = omega (arith, c.in-Err.ensures.read.crash.clean, clean) in
     let same : c.in-Ok.member ≡ c.args.member = search rules in
-    let db = (state g.S.Store c.self.inside.conn).now.trees in
-    let sold = λ (member : ℕ). FitWhere (λ (row : ItemRow). row.item.terms.seller == member) (FitsBy c.self.inside.rules.editions) (items_in db) in
-    c.in-Err.ensures.here clean (subst sold (sym same) (known_where _ _ _ _ _ (c.self.invariant.known (works _ _ c.self.view_is c.in_ok-serves.ensures.ok) before) _ fits)) (ap Err is)))
+    let rows = items_in (state g.S.Store c.self.inside.conn).now.trees in
+    let sold = λ (member : ℕ). FitWhere (λ (row : ItemRow). row.item.terms.seller == member) (λ (row : ItemRow). row.item.terms.item < 2 ^ 32) rows in
+    let shown = λ (member : ℕ). AllByRecursion (FitsBy c.self.inside.rules.editions) (take most_shown (filter (has_own_reserve member c.args.from) rows)) in
+    let known = c.self.invariant.known (works _ _ c.self.view_is c.in_ok-serves.ensures.ok) before in
+    c.in-Err.ensures.here clean (subst sold (sym same) numbered) (subst shown (sym same) (known_list _ _ _ _ _ known _ fits)) (ap Err is)))

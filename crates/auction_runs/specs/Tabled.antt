@@ -1,0 +1,65 @@
+-- A band table was set in a house, or why it wasn't.
+use Rattle.std.specs.Prelude.{◌≡◌, ◌⊎◌, ℕ, List, ◌∷◌, Option, Some, None}
+use Rattle.std.specs.Io.KnownBytes.{Appends}
+use Rattle.house_rows.specs.declared.command.Command.{Command}
+use Rattle.house_rows.specs.declared.refusal.Refusal.{Refusal}
+use Rattle.house_rows.specs.declared.settings.Settings.{Settings}
+use Rattle.house_rows.specs.Editions.{newest_in}
+use Rattle.house_rows.specs.History.{History}
+use Rattle.house_rows.specs.Runs.{entry}
+use Rattle.house_rows.specs.Tables.{Tables, band_tables, tables_of}
+use Rattle.house_rows.specs.Verdict.{IsHistory, verdict}
+use Rattle.auction_runs.specs.Faults.{IsOfKeep}
+use Rattle.auction_runs.specs.Printed.{edition_line}
+use Rattle.auction_runs.specs.declared.fault.Fault.{Fault}
+use Rattle.auction_runs.specs.declared.fault.Fault.TheVariants.{Refused, Write}
+
+-- the house's command was accepted over the tables of a history, the new tables are those with it,
+-- and this is its edition. No crash takes it back
+pub record IsTabled {K : Type 0} (content : K → Tables) (may_leave : K → Tables → Type 0)
+    (moment : ℕ) (command : Command) (old new : K) (edition : ℕ) : Type 0 where
+  pub newest : edition ≡ newest_in (band_tables (content new))
+  pub by_history : (settings : Settings) (h : History) → IsHistory settings h
+      → content old ≡ tables_of settings h
+      → (verdict settings h moment 0 command ≡ None)
+      × (content new ≡ tables_of settings (entry moment 0 command ∷ h))
+  pub kept : (t : Tables) → may_leave new t → t ≡ content new
+
+-- the house refused its command over the tables of a history, by its verdict, and stays as it was
+pub record IsRefused {K : Type 0} (content : K → Tables) (is_honest : K → Type 0) (moment : ℕ)
+    (command : Command) (old new : K) (fault : Fault) : Type 0 where
+  pub refusal : Refusal
+  pub told : fault ≡ Refused refusal
+  pub by_history : is_honest new → (settings : Settings) (h : History) → IsHistory settings h
+      → content old ≡ tables_of settings h → verdict settings h moment 0 command ≡ Some refusal
+  pub same : is_honest new → content new ≡ content old
+
+-- why a keep didn't do what the command asks for: it told so itself, or the command is refused
+abbrev pub IsUndone : {K : Type 0} → (K → Tables) → (K → Type 0) → ℕ → Command → K → K → Fault
+    → Type 0
+IsUndone content is_honest moment command old new fault =
+    IsOfKeep fault ⊎ IsRefused content is_honest moment command old new fault
+
+-- the keep that was given took the command as this edition, and was ended
+pub record HasSet {K : Type 0} (content : K → Tables) (is_honest : K → Type 0)
+    (may_leave : K → Tables → Type 0) (is_ended : K → Type 0) (moment : ℕ) (command : Command)
+    (given : K) (edition : ℕ) : Type 0 where
+  pub left : K
+  pub tabled : is_honest left → IsTabled content may_leave moment command given left edition
+  pub ended : is_ended left
+
+-- and its edition was printed
+pub record HasTabled {K : Type 0} (content : K → Tables) (is_honest : K → Type 0)
+    (may_leave : K → Tables → Type 0) (is_ended : K → Type 0) (moment : ℕ) (command : Command)
+    (before after : Option (List ℕ)) (given : K) : Type 0 where
+  pub edition : ℕ
+  pub set : HasSet content is_honest may_leave is_ended moment command given edition
+  pub printed : Appends before after (edition_line edition)
+
+-- why no edition was printed: no table was set, the keep's end failed, or the output did
+abbrev pub IsUnprinted : {K : Type 0} → (K → Tables) → (K → Type 0) → (K → Tables → Type 0)
+    → (K → Type 0) → ℕ → Command → K → Fault → Type 0
+IsUnprinted {K} content is_honest may_leave is_ended moment command given fault =
+    ((left : K) × IsUndone content is_honest moment command given left fault)
+    ⊎ (((edition : ℕ) × HasSet content is_honest may_leave is_ended moment command given edition)
+    × (fault ≡ Write))

@@ -1,2 +1,0 @@
-pub mod DayLemmas
-pub mod CallerLemmas

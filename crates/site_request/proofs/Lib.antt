@@ -1,0 +1,5 @@
+pub mod DayLemmas
+pub mod CallerLemmas
+mod Apart
+mod LoneFields
+mod TableBodies

@@ -1,0 +1,23 @@
+use Rattle.std.specs.Prelude.{◌≡◌, true}
+use Rattle.std.specs.Str.{is_utf8}
+use Rattle.std.proofs.Common.{refl, inl, inr}
+use Rattle.std.proofs.lemmas.Bool.{cases_Bool}
+use Rattle.std.proofs.lemmas.Str.{IsUtf8-from_is_utf8, is_utf8-from_IsUtf8}
+use Rattle.site_request.specs.Routes.{path_in}
+use Rattle.site_request.proofs.routes.Routes.path_in.Goals as goal
+
+pub returns-in-Ok : goal.returns-in-Ok
+unfolding path_in
+returns-in-Ok c =
+    let text = c.in-Ok.ensures.cases in
+    let test : is_utf8 c.args.target.now ≡ true = is_utf8-from_IsUtf8 c.args.target.now text.1 in
+    rw (c.path_of.ensures, text.0, test) refl
+
+pub returns-in-Err : goal.returns-in-Err
+unfolding path_in
+returns-in-Err c =
+    let text = c.in-Err.ensures.cases in
+    elim (cases_Bool (is_utf8 c.args.target.now)) [
+      | inl good ↦ absurd (text.0 (IsUtf8-from_is_utf8 c.args.target.now good))
+      | inr bad ↦ rw bad refl
+    ]

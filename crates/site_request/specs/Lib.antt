@@ -1,0 +1,12 @@
+pub mod Asked
+pub mod Table
+pub mod Segments
+pub mod Numbers
+pub mod Routes
+pub mod Fits
+pub mod Commands
+pub mod Fields
+pub mod Heads
+pub mod Days
+pub mod Faults
+pub mod Reading

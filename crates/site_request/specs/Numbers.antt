@@ -1,0 +1,89 @@
+-- The route of each path, with the numbers that stand in the segments of a target.
+use Rattle.std.specs.Prelude.{ℕ, List, Option, Some, None}
+use Rattle.house_rows.specs.declared.query.Query.TheVariants as query
+use Rattle.site_request.specs.Segments.{number_at, segment_at}
+use Rattle.site_request.specs.declared.order.Order.{Order as TheOrder}
+use Rattle.site_request.specs.declared.order.Order.TheVariants as order
+use Rattle.site_request.specs.declared.path.Read.{Read as TheRead}
+use Rattle.site_request.specs.declared.path.Read.TheVariants as read
+use Rattle.site_request.specs.declared.route.Route.{Route}
+use Rattle.site_request.specs.declared.route.Route.TheVariants.{Order, Read, Statement}
+
+infixl 10 ◌>>=◌
+abbrev pub ◌>>=◌ : {A B : Type 0} → Option A → (A → Option B) → Option B
+None >>= f = None
+(Some x) >>= f = f x
+
+-- the route of a command's path; none where no number stands in the place of one
+unfoldable pub order_in : TheOrder → List ℕ → Option Route
+order_in order.Register target = Some (Order order.Register)
+order_in order.AddCategory target = Some (Order order.AddCategory)
+order_in order.List target = Some (Order order.List)
+order_in (order.Bid _) target = do
+  item ← number_at 2 target
+  Some (Order (order.Bid item))
+order_in (order.Buy _) target = do
+  item ← number_at 2 target
+  Some (Order (order.Buy item))
+order_in order.Close target = Some (Order order.Close)
+order_in (order.Settle _) target = do
+  item ← number_at 2 target
+  Some (Order (order.Settle item))
+order_in (order.Watch _) target = do
+  item ← number_at 2 target
+  Some (Order (order.Watch item))
+order_in (order.Unwatch _) target = do
+  item ← number_at 2 target
+  Some (Order (order.Unwatch item))
+order_in (order.Ask _) target = do
+  item ← number_at 2 target
+  Some (Order (order.Ask item))
+order_in (order.Answer _ _ _) target = do
+  item ← number_at 2 target
+  asker ← number_at 4 target
+  number ← number_at 5 target
+  Some (Order (order.Answer item asker number))
+order_in (order.Feedback _) target = do
+  item ← number_at 2 target
+  Some (Order (order.Feedback item))
+order_in order.SetBands target = Some (Order order.SetBands)
+
+-- the route of a read's path; none where no number stands in the place of one
+unfoldable pub read_in : TheRead → List ℕ → Option Route
+read_in read.House target = Some (Read query.House)
+read_in read.BandsOf target = do
+  edition ← number_at 2 target
+  Some (Read (query.BandsOf edition))
+read_in read.ItemsIn target = do
+  category ← number_at 2 target
+  from ← number_at 4 target
+  Some (Read (query.ItemsIn category from))
+read_in read.Item target = do
+  item ← number_at 2 target
+  Some (Read (query.Item item))
+read_in read.Questions target = do
+  item ← number_at 2 target
+  from ← number_at 4 target
+  Some (Read (query.Questions item from))
+read_in read.Member target = do
+  member ← number_at 2 target
+  Some (Read (query.Member member))
+read_in read.FeedbackTo target = do
+  member ← number_at 2 target
+  from ← number_at 4 target
+  Some (Read (query.FeedbackTo member from))
+read_in read.MyBids target = do
+  from ← number_at 3 target
+  Some (Read (query.MyBids from))
+read_in read.MyReserves target = do
+  from ← number_at 3 target
+  Some (Read (query.MyReserves from))
+read_in read.MyWatches target = Some (Read query.MyWatches)
+read_in read.MyQuestions target = do
+  from ← number_at 3 target
+  Some (Read (query.MyQuestions from))
+read_in read.MyWaiting target = Some (Read query.MyWaiting)
+read_in read.MyStatement target = do
+  from ← segment_at 3 target
+  to ← segment_at 4 target
+  Some (Statement from to)

@@ -1,0 +1,19 @@
+//! What a message asks, with what else its answer needs.
+use crate::fault::Fault;
+use house_rows::Message;
+
+/// What a message asks, and the one thing beside it that its answer shows.
+#[derive(Drop)]
+pub struct Asked {
+    /// Whether the connection ends after the answer.
+    pub closes: bool,
+    /// What is asked.
+    pub message: Message<Fault>,
+}
+
+/// Memory was refused while a message was read.
+#[derive(Clone, Copy, Debug)]
+pub struct NoMemory {
+    /// Whether the connection ends after the answer.
+    pub closes: bool,
+}

@@ -1,0 +1,108 @@
+//! The routes of the house.
+ghost use Rattle.std.specs.Prelude.{◌≡◌};
+ghost use Rattle.site_request.specs.Routes.{by_both, by_method, path_in, route_of};
+ghost use Rattle.site_request.specs.Table.{path_of, rows};
+
+use crate::numbers::{order_in, read_in};
+use crate::order::Order;
+use crate::path::Path;
+use crate::route::Route;
+use crate::table::router;
+use crate::unrouted::RouteFault;
+use house_rows::Query;
+use matchit::Router;
+use std::alloc::{AllocError, Global};
+use std::str::from_utf8;
+use wire::Methods;
+
+const GET: &[u8] = b"GET";
+
+const POST: &[u8] = b"POST";
+
+/// The routes of the house, in a table that is made once.
+#[derive(Drop)]
+pub struct Routes {
+    router: Router<Path>,
+    ghost whole: { router ≡ rows },
+}
+
+// A route, if the method is its own. With none the target has no path.
+fn by_method<'t>(
+    route: Option<Route<'t>>,
+    is_method: bool,
+    methods: Methods,
+) -> Result<Route<'t>, RouteFault>
+    ensures { result ≡ by_method route.entry is_method methods }
+{
+    match route {
+        None => Err(RouteFault::Path),
+        Some(route) => if is_method {
+            Ok(route)
+        } else {
+            Err(RouteFault::Method(methods))
+        },
+    }
+}
+
+// The route of a path with both methods.
+fn by_both<'t>(query: Query, order: Order, method: &[u8]) -> Result<Route<'t>, RouteFault>
+    ensures { result ≡ by_both query order method.now }
+{
+    if method == GET {
+        Ok(Route::Read(query))
+    } else {
+        by_method(
+            Some(Route::Order(order)),
+            method == POST,
+            Methods::GetAndPost,
+        )
+    }
+}
+
+impl Routes {
+    /// The table. This call alone takes memory.
+    pub fn new(alloc: Global) -> Result<Routes, AllocError> {
+        match router(alloc) {
+            Ok(router) => Ok(Routes { router }),
+            Err(_) => Err(AllocError),
+        }
+    }
+
+    // The path whose pattern a text fits.
+    #[tactic(auto, unfolding(crate::specs::Table::path_of))]
+    fn path_of(&self, text: &str) -> Option<Path>
+        ensures { result ≡ path_of text.now }
+    {
+        match self.router.at(text) {
+            Ok(found) => Some(*found.value),
+            Err(_) => None,
+        }
+    }
+
+    // The path of a target.
+    fn path_in(&self, target: &[u8]) -> Option<Path>
+        ensures { result ≡ path_in target.now }
+    {
+        match from_utf8(target) {
+            Ok(text) => self.path_of(text),
+            Err(_) => None,
+        }
+    }
+
+    /// The route of a method and a target, byte by byte: nothing in a target is decoded. The path
+    /// and its numbers are judged before the method.
+    #[tactic(auto, unfolding(crate::specs::Routes::route_of))]
+    pub fn find<'t>(&self, method: &[u8], target: &'t [u8]) -> Result<Route<'t>, RouteFault>
+        ensures { result ≡ route_of method.now target.now }
+    {
+        match self.path_in(target) {
+            None => Err(RouteFault::Path),
+            Some(Path::Get(read)) => by_method(read_in(read, target), method == GET, Methods::Get),
+            Some(Path::Post(order)) => {
+                by_method(order_in(order, target), method == POST, Methods::Post)
+            }
+            Some(Path::Categories) => by_both(Query::Categories, Order::AddCategory, method),
+            Some(Path::Bands) => by_both(Query::Bands, Order::SetBands, method),
+        }
+    }
+}

@@ -1,5 +1,0 @@
-pub mod Table
-pub mod Segments
-pub mod Numbers
-pub mod Routes
-pub mod Fits

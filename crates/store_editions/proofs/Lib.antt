@@ -1,0 +1,4 @@
+mod Meaning
+mod Lemmas
+mod More
+mod Written
