@@ -23,9 +23,9 @@ CONNECTIONS = 7
 
 def page(count, floor, leader, price):
     """The item, after some bids."""
-    return {"buy_now": None, "category": 1, "closed": None, "count": count, "end": 5000, "floor": floor, "item": 1,
-            "leader": leader, "lot": "A1", "met": None, "price": price, "seller": 1, "start": 500, "state": "open",
-            "text": "", "title": "Atlas"}
+    return {"buy_now": None, "category": 1, "closed": None, "count": count, "edition": 1, "end": 5000, "floor": floor,
+            "item": 1, "leader": leader, "lot": "A1", "met": None, "price": price, "seller": 1, "start": 500,
+            "state": "open", "text": "", "title": "Atlas"}
 
 
 def placed(count, floor, leader, price):
