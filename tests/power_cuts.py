@@ -11,8 +11,8 @@ each house of version 1 that is kept: what is left is the house as it was or as 
 or finds it of version 2. The last line is 'N calls, C cuts, F pairs of files, M of them with one command more than answered,
 W wrong'.
 
-Seen on the proved program: 380 calls, 400 cuts, 1,070 pairs of files, 515 of them with one command more than was
-answered; with EVERY 12 51 cuts and 288 pairs. None was wrong. With syncs that do nothing in the
+Seen on the proved program: 393 calls, 414 cuts, 1,164 pairs of files, 516 of them with one command more than was
+answered; with EVERY 12 53 cuts and 309 pairs. None was wrong. With syncs that do nothing in the
 model, the commands that were answered are lost, and told so. The model takes a sync at its word, and a device to
 finish each sector of 512 bytes that it begins; no power was cut, and no device was tested.
 """
