@@ -7,7 +7,7 @@ DESCRIBED = editions surplus-with-reserves
 
 # How many messages the fuzz sends at least, how many answers spoiled ones have to get, how many pairs of lists are audited
 # that are equal and that are apart, how often a server is killed, how many rows a lot file has, and the seed that chooses
-# them; that each EVERYth call on files stops, or has a power cut behind it; the crates whose wrong bodies make wrong
+# them; that each EVERYth call on files stops, or has a power cut after it; the crates whose wrong bodies make wrong
 # tries, all where there are none; and the bodies that make giving puts in, eight where there are none.
 MESSAGES ?= 5000
 MUTATED ?= 100000
@@ -69,7 +69,7 @@ help:
 	@echo "  make counts    counts the statements that a bid and pages make of a house in a file (needs valgrind)"
 	@echo "  make stalls    has clients that send or read nothing hold up one that asks, for up to two minutes"
 	@echo
-	@echo "What stands around the program, from examples/"
+	@echo "What is around the program, from examples/"
 	@echo "  make packages  installs Debian's packages that these need, as root"
 	@echo "  make gateway   has clients ask and bid through nginx and haproxy for PERIOD, and the house start anew RESTARTS times"
 	@echo "  make page      plays an auction on the page of the gateway in Chromium, by the house and three members, in five minutes"
@@ -151,11 +151,11 @@ cases:
 	done
 
 rows:
-	python3 tests/rows.py crates/test_runs/out/test_runs $(CASES)/editions
+	python3 tests/rows.py crates/test_store/out/test_store $(CASES)/editions
 
 fuzz:
 	python3 tests/fuzz.py crates/auction/out/auction $(MESSAGES) $(SEED)
-	python3 tests/plain_pages.py < crates/test_pages/stdin | cmp - crates/test_pages/stdout
+	python3 tests/plain_pages.py
 
 mutated:
 	python3 tests/mutated.py crates/auction/out/auction $(MUTATED) $(SEED)
@@ -173,17 +173,17 @@ memory:
 	python3 tests/refused_asks.py crates/test_messages/out/test_messages
 	python3 tests/refused_inbox.py crates/bench_wire/out/bench_wire
 	python3 tests/refused_house.py crates/test_store/out/test_store 1 memory
-	python3 tests/refused_house.py crates/test_store/out/test_store 4
-	python3 tests/refused_pages.py crates/test_pages/out/test_pages
+	python3 tests/refused_house.py crates/test_store/out/test_store 4 sqlite
+	python3 tests/refused_pages.py crates/test_site/out/test_site
 	python3 tests/refused_store.py crates/test_store/out/test_store 4 1
-	python3 tests/refused_rows.py crates/test_runs/out/test_runs 1
+	python3 tests/refused_rows.py crates/test_store/out/test_store 1
 	python3 tests/refused_device.py crates/test_values/out/test_values
 	python3 tests/refused_bands.py crates/test_values/out/test_values
 
 allocations:
-	python3 tests/refused_rows.py crates/test_runs/out/test_runs 1
+	python3 tests/refused_rows.py crates/test_store/out/test_store 1
 	python3 tests/refused_store.py crates/test_store/out/test_store 1 1
-	python3 tests/refused_house.py crates/test_store/out/test_store 1
+	python3 tests/refused_house.py crates/test_store/out/test_store 1 sqlite
 	python3 tests/refused_routes.py crates/auction/out/auction 1 1 1
 	python3 tests/refused_office.py crates/auction/out/auction 1 1 1 1
 
@@ -193,9 +193,9 @@ statement:
 random:
 	python3 tests/random_house.py crates/test_store/out/test_store memory
 	python3 tests/long_lists.py crates/test_store/out/test_store memory
-	python3 tests/random_house.py crates/test_store/out/test_store
-	python3 tests/long_lists.py crates/test_store/out/test_store
-	crates/test_store/out/test_store memory < crates/test_store/stdin | cmp - crates/test_store/stdout
+	python3 tests/random_house.py crates/test_store/out/test_store sqlite
+	python3 tests/long_lists.py crates/test_store/out/test_store sqlite
+	python3 tests/stored_house.py crates/test_store/out/test_store
 
 file:
 	python3 tests/store_file.py crates/test_store/out/test_store

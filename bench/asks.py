@@ -67,8 +67,8 @@ def nanoseconds(programs, what, message):
     sums = set()
 
     def once(run):
-        time, told = seconds(*run(what, message, ROUNDS))
-        sums.add(told)
+        time, printed = seconds(*run(what, message, ROUNDS))
+        sums.add(printed)
         return time / ROUNDS * 1e9
 
     found = medians(in_turn(programs, once))

@@ -22,8 +22,8 @@ def instructions(program, what):
     counts = []
     for rounds in (1000, 2000):
         command = ["valgrind", "--tool=callgrind", "--callgrind-out-file=/dev/null", program, what, str(rounds)]
-        told = subprocess.run(command, check=True, capture_output=True, text=True).stderr
-        counts.append(int(re.search(r"Collected : (\d+)", told).group(1)))
+        report = subprocess.run(command, check=True, capture_output=True, text=True).stderr
+        counts.append(int(re.search(r"Collected : (\d+)", report).group(1)))
     return (counts[1] - counts[0]) / 1000 / AT_A_TIME
 
 

@@ -119,7 +119,7 @@ class House:
                     yield f"{MOMENT} {busy} answer {busy} {asker} 1 Answer"
 
     def touched(self):
-        """The last members act on the last items: tables that grow with a number have grown before times are told."""
+        """The last members act on the last items: tables that grow with a number have grown before times are asked for."""
         for member, item in (self.members - 1, self.items), (self.members, self.items - 1):
             yield f"{MOMENT} {member} bid {item} 600"
             yield f"{MOMENT} {member} watch {item}"
@@ -193,7 +193,7 @@ ASKED = {
     "feedback": (LISTS, lambda house: f"? feedback {house.busy()} 0"),
     "sales": (LISTS, lambda house: f"? sales {house.busy()}"),
 }
-# The one line of this kind closes all items, and what is told is by item.
+# The one line of this kind closes all items, and its figure is by item.
 CLOSE = "close, by item"
 GIVEN = {
     "bid": (LINES, bid),

@@ -21,10 +21,10 @@ def script(items):
     """The lines that make a house of so many items, and those of each kind between two that tell the time."""
     made = house.House(items, house.NAMED)
     yield from made.made()
-    yield from told(made, house.KINDS)
+    yield from timed(made, house.KINDS)
 
 
-def told(made, kinds):
+def timed(made, kinds):
     """The lines of each kind between two that tell the time."""
     for count, line in kinds.values():
         yield "time"
@@ -54,7 +54,7 @@ def counted(command, lines, kinds, items):
         # The dump before the second time of a kind has that kind's lines.
         sums = [totals(dump) for dump in dumps[1::2]]
     if len(sums) < len(kinds):
-        sys.exit("a time was not told")
+        sys.exit("a time was not printed")
     return {kind: [count / (items if kind == house.CLOSE else LINES.get(often, often)) for count in counts]
             for (kind, (often, _)), counts in zip(kinds.items(), sums)}
 

@@ -8,6 +8,12 @@ import tempfile
 
 RUNS = 7
 
+# What plain Rust's answers lack: an item's edition, whether its reserve is met, and so the same lengths.
+LACKING = re.compile(rb'"edition":\d+,|"met":(?:null|true|false),|(?<=content-length: )\d+')
+
+# What was shown, for who writes a table of it: what, by whom so much, in which unit.
+FIGURES = []
+
 
 def counted(words, stream=b"", folder=None):
     """How many instructions a run takes; in a folder, what valgrind wrote stays there as `dump`."""
@@ -21,9 +27,14 @@ def counted(words, stream=b"", folder=None):
 def seconds(words, stream=b""):
     """The processor time of a run, and what it wrote."""
     before = resource.getrusage(resource.RUSAGE_CHILDREN)
-    told = subprocess.run(list(map(str, words)), input=stream, stdout=subprocess.PIPE, check=True).stdout
+    output = subprocess.run(list(map(str, words)), input=stream, stdout=subprocess.PIPE, check=True).stdout
     after = resource.getrusage(resource.RUSAGE_CHILDREN)
-    return after.ru_utime + after.ru_stime - before.ru_utime - before.ru_stime, told
+    return after.ru_utime + after.ru_stime - before.ru_utime - before.ru_stime, output
+
+
+def without_lacking(text):
+    """Answers without what plain Rust's lack."""
+    return LACKING.sub(b"", text)
 
 
 def in_turn(programs, once, runs=RUNS):
@@ -41,6 +52,7 @@ def medians(found):
 
 def shown(what, found, unit, digits=0):
     """A line: ours, plain Rust's where it is there, and ours over plain Rust's."""
+    FIGURES.append((what, found, unit))
     line = f"{what:28} {found['ours']:12,.{digits}f} {unit}"
     if "plain" in found:
         line += f", {found['plain']:12,.{digits}f} by plain Rust, ratio {found['ours'] / found['plain']:.2f}"

@@ -2,11 +2,11 @@
 
 `pages.py PROGRAM [PLAIN]` measures the program that `make test` leaves, or `make auction`, on houses of 1,000 and 100,000
 items. A page is what `auction replay` takes for a message more, by the difference of two streams, and the record what it
-takes with `--record` more than without. Beside it stands what a house in plain Rust takes for the same message (PLAIN, which takes
-the words `replay --preset`, and has no record). The text alone is a page less an empty one; beside it stands
+takes with `--record` more than without. Beside it is what a house in plain Rust takes for the same message (PLAIN, which takes
+the words `replay --preset`, and has no record). The text alone is a page less an empty one; beside it is
 what `bench/plain`, by `serde_json` and `derive`, takes to make the same text from the same rows, which it reads from the
 record. All texts are compared. Times are medians of runs of both in turn by processor time; of the record of the smaller house
-none is told, since it is within a run's noise. It needs `valgrind`, and `cargo` with Debian's packages, as `wire.sh` says.
+none is shown, since it is within a run's noise. It needs `valgrind`, and `cargo` with Debian's packages, as `wire.sh` says.
 """
 import dataclasses
 import os
@@ -17,7 +17,7 @@ import sys
 ROOT = pathlib.Path(__file__).resolve().parent.parent
 sys.path.insert(0, str(ROOT / "tests"))
 import workload  # noqa: E402
-from measured import counted, in_turn, medians, seconds, shown  # noqa: E402
+from measured import counted, in_turn, medians, seconds, shown, without_lacking  # noqa: E402
 from sent import Request, command, compact, read  # noqa: E402
 
 SIZES = [1_000, 100_000]
@@ -45,7 +45,7 @@ class More:
 
 
 def made(items):
-    """A house of so many items behind the preset's, in twenty categories, of which each tenth has two bids."""
+    """A house of so many items after the preset's, in twenty categories, of which each tenth has two bids."""
     texts = [command("/categories", 0, MOMENT, compact({"name": f"C{number}"})) for number in range(2, CATEGORIES + 1)]
     for number in range(2, items + 1):
         row = {"category": number % CATEGORIES + 1, "end": workload.FAR, "lot": f"L{number}", "start": 500,
@@ -77,7 +77,7 @@ def nanoseconds(runs):
 UNITS = {"instructions": (instructions, "tallied"), "ns": (nanoseconds, "timed")}
 
 
-def told(program, stream, *more):
+def output(program, stream, *more):
     return subprocess.run([program, *WORDS, *more], input=stream, capture_output=True, check=True).stdout
 
 
@@ -105,10 +105,10 @@ def by_plain(words, record, count):
 
 def shows(programs, stream, kind, record):
     """The programs that show a page as ours does; what plain Rust makes of the rows has to be the same."""
-    bodies = {name: last(told(program, stream + kind.request.text())) for name, program in programs.items()}
+    bodies = {name: last(output(program, stream + kind.request.text())) for name, program in programs.items()}
     if kind.words:
         same(seconds(*by_plain(kind.words, record, 1).few)[1], bodies["ours"])
-    return {name: program for name, program in programs.items() if bodies[name] == bodies["ours"]}
+    return {name: program for name, program in programs.items() if without_lacking(bodies[name]) == without_lacking(bodies["ours"])}
 
 
 def pages(programs, items, stream, record):
@@ -141,7 +141,7 @@ def records(program, items, stream, record):
 
 def measured(programs, items):
     stream = made(items)
-    answered, whole = told(programs["ours"], stream), told(programs["ours"], stream, "--record")
+    answered, whole = output(programs["ours"], stream), output(programs["ours"], stream, "--record")
     if answered.count(b"HTTP/1.1 201 ") != stream.count(b" HTTP/1.1\r\n"):
         sys.exit("pages.py: a house is not made")
     record = whole[len(answered):-1]

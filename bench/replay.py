@@ -14,11 +14,11 @@ import sys
 
 sys.path.insert(0, str(pathlib.Path(__file__).resolve().parent.parent / "tests"))
 import workload  # noqa: E402
-from measured import counted, in_turn, medians, seconds, shown  # noqa: E402
+from measured import counted, in_turn, medians, seconds, shown, without_lacking  # noqa: E402
 from sent import answers_in, command, compact, read  # noqa: E402
 
 MORE = 1_000
-# By stream, of how many messages times are told and instructions are counted.
+# By stream, of how many messages times are shown and instructions are counted.
 STREAMS = {"bids": (200_000, 3_000), "mixed": (100_000, 3_000)}
 OPEN_TO, MOMENT = 4_000_000_000, 1_001
 
@@ -61,18 +61,18 @@ def text(requests):
 
 def answered(programs, stream):
     """What our program answers to a stream, which has to be what plain Rust's answers."""
-    told = {name: subprocess.run([program, *WORDS], input=stream, capture_output=True, check=True).stdout
+    outputs = {name: subprocess.run([program, *WORDS], input=stream, capture_output=True, check=True).stdout
             for name, program in programs.items()}
-    if len(set(told.values())) != 1:
+    if len(set(map(without_lacking, outputs.values()))) != 1:
         sys.exit("replay.py: the programs answer differently")
-    return told["ours"]
+    return outputs["ours"]
 
 
 def checked(programs, stream, count, status):
     """Whether the last so many answers have the status that the kind should have."""
-    told, _ = answers_in(answered(programs, stream))
-    wrong = [answer for answer in told[-count:] if not answer.startswith(b"HTTP/1.1 %d " % status)]
-    if wrong or len(told) < count:
+    answers, _ = answers_in(answered(programs, stream))
+    wrong = [answer for answer in answers[-count:] if not answer.startswith(b"HTTP/1.1 %d " % status)]
+    if wrong or len(answers) < count:
         sys.exit(f"replay.py: a stream is not answered {status}: {wrong[:1]}")
 
 
@@ -86,9 +86,9 @@ def kinds(programs):
     # Room grows by doubling: both streams of a kind begin where it has grown.
     before = text(listed() + bids(MORE))
     for kind, (status, messages) in KINDS.items():
-        # Behind those before, so that each bid is over the last.
-        few, many = (before + text(messages(MORE + behind)[MORE if messages is bids else 0:])
-                     for behind in (MORE, 2 * MORE))
+        # After those before, so that each bid is over the last.
+        few, many = (before + text(messages(MORE + further)[MORE if messages is bids else 0:])
+                     for further in (MORE, 2 * MORE))
         checked(programs, many, MORE, status)
         shown(kind, more(programs, few, many, MORE), "instructions")
 

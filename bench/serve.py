@@ -2,7 +2,7 @@
 
 `serve.py PROGRAM [PLAIN]` measures the program that `make test` leaves, or `make auction`, and beside it PLAIN: a house in
 plain Rust that takes the same words, `serve FILE --port P --count N`, makes the file where there is none, and is sent
-the same messages. A bid is accepted, committed and answered before the next is sent; beside it stand commits of one row
+the same messages. A bid is accepted, committed and answered before the next is sent; beside it are commits of one row
 by Python's `sqlite3` on the same disk, with the same log and `synchronous=FULL`. Reads, and the mixed stream of
 `workload.py`, are sent all at once over one connection. Each figure is the median of some runs of both programs in turn: by
 the clock, so that it is one of an idle machine or of none, and of what is sent at once also by the server's processor
@@ -24,7 +24,7 @@ import time
 ROOT = pathlib.Path(__file__).resolve().parent.parent
 sys.path.insert(0, str(ROOT / "tests"))
 import workload  # noqa: E402
-from measured import in_turn, medians, shown  # noqa: E402
+from measured import in_turn, medians, shown, without_lacking  # noqa: E402
 from sent import command, compact, read  # noqa: E402
 from served import PRESET, Program  # noqa: E402
 
@@ -75,19 +75,19 @@ def exchanged(port, texts):
             connection.shutdown(socket.SHUT_WR)
         sender = threading.Thread(target=send)
         sender.start()
-        told = b"".join(iter(lambda: connection.recv(1 << 20), b""))
+        received = b"".join(iter(lambda: connection.recv(1 << 20), b""))
         sender.join()
-    if told.count(b"HTTP/1.1 ") != len(texts):
+    if received.count(b"HTTP/1.1 ") != len(texts):
         sys.exit("serve.py: a message is not answered")
-    return told
+    return received
 
 
 def asked_at_once(server, texts):
     """Messages a second, all sent while the answers come, by the clock and by the server's processor time; and the answers."""
     began, spent = time.monotonic(), seconds_of(server.process)
-    told = exchanged(server.port, texts)
+    answers = exchanged(server.port, texts)
     taken, spent = time.monotonic() - began, seconds_of(server.process) - spent
-    return len(texts) / taken, len(texts) / spent, told
+    return len(texts) / taken, len(texts) / spent, answers
 
 
 def commits(folder):
@@ -125,7 +125,7 @@ def served(programs):
     """Bids in turn, reads at once and the mixed stream, over houses in new files."""
     before, mixed = workload.made("mixed", MIXED, MIXED_ITEMS)
     reads = [read("/items/1", 2).text()] * READS
-    told = {}
+    answers = {}
 
     def once(of):
         name, program = of
@@ -140,11 +140,11 @@ def served(programs):
         with program.serving("house", 2, 600) as server:
             exchanged(server.port, PRESET + before)
             mixed_so = asked_at_once(server, mixed)
-        told.setdefault(name, set()).update((read_so[2][-1000:], mixed_so[2]))
+        answers.setdefault(name, set()).update((without_lacking(read_so[2])[-1000:], without_lacking(mixed_so[2])))
         return (*bids, *read_so[:2], *mixed_so[:2], held)
 
     found = in_turn({name: (name, program) for name, program in programs.items()}, once, RUNS)
-    if len(set(map(frozenset, told.values()))) != 1:
+    if len(set(map(frozenset, answers.values()))) != 1:
         sys.exit("serve.py: the programs answer differently")
     return {name: [statistics.median(column) for column in zip(*runs)] for name, runs in found.items()}
 
@@ -171,7 +171,7 @@ def large(programs, folder, items):
             ready, spent = time.monotonic() - began, seconds_of(server.process)
             exchanged(server.port, pages)
             held = most_held(server.process)
-            # It ends behind its last connection.
+            # It ends after its last connection.
             exchanged(server.port, pages[:1])
         return 1e3 * ready, 1e3 * spent, held
 

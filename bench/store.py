@@ -19,14 +19,14 @@ import house
 SIZES = [1_000, 10_000, 100_000]
 COMMITS = 2_000
 RUNS = 3
-ITEM = ("id, seller, category, start, buy_now, ending, state, closed, price, leader, count, lot, title, body")
+TERMS = "id, seller, category, start, buy_now, ending, state, closed, price, leader, count"
+ITEM = f"{TERMS}, lot, title, body"
 # What a line asks that is one statement, with what is bound to it.
 STATEMENTS = {
     "member": ("SELECT id, name FROM member WHERE id = ?1 ORDER BY id", lambda h: (h.member(),)),
     "member of a name": ("SELECT id, name FROM member WHERE name = ?1 ORDER BY id", lambda h: (f"M{h.member()}",)),
     "item": (f"SELECT {ITEM} FROM item WHERE id = ?1 ORDER BY id", lambda h: (h.item(),)),
-    "standing": ("SELECT start, price, leader, top, second, count, id FROM item WHERE id = ?1 ORDER BY id",
-                 lambda h: (h.item(),)),
+    "standing": (f"SELECT {TERMS}, top, second FROM item WHERE id = ?1 ORDER BY id", lambda h: (h.item(),)),
     "item of a lot": ("SELECT id FROM item WHERE seller = ?1 AND lot = ?2 ORDER BY id",
                       lambda h: (h.member(), f"L{h.item()}")),
     "watched": ("SELECT item FROM watch WHERE member = ?1 AND item = ?2", lambda h: (h.member(), h.item())),

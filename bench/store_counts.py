@@ -20,7 +20,7 @@ def measured(program, items):
         path = f"{folder}/house"
         subprocess.run([program, "make", path], input="\n".join(made.made()), text=True, check=True,
                        stdout=subprocess.DEVNULL)
-        lines = house_counts.told(made, house.ASKED)
+        lines = house_counts.timed(made, house.ASKED)
         return house_counts.counted([program, "ask", path], lines, house.ASKED, items)
 
 

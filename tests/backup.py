@@ -32,9 +32,9 @@ HOUSE = message("GET", "/house", 0)
 
 
 def script(name, *words):
-    told = subprocess.run([sys.executable if name.endswith(".py") else "sh", SCRIPTS / name, *words], capture_output=True,
+    result = subprocess.run([sys.executable if name.endswith(".py") else "sh", SCRIPTS / name, *words], capture_output=True,
                           text=True, timeout=PATIENCE)
-    return told.returncode, told.stdout.strip(), told.stderr.strip()
+    return result.returncode, result.stdout.strip(), result.stderr.strip()
 
 
 class Sender(threading.Thread):
@@ -89,8 +89,8 @@ def locked(folder, sender):
     """What SQLite says of a served house, and that commands are taken meanwhile."""
     before = sender.answered
     for words in ("SELECT count(*) FROM member", ".backup other", "VACUUM INTO 'another'", "PRAGMA wal_checkpoint"):
-        told = subprocess.run(["sqlite3", "house", words], cwd=folder, capture_output=True, text=True, timeout=PATIENCE)
-        check(f"sqlite3 {words}", LOCKED in told.stdout + told.stderr, True)
+        result = subprocess.run(["sqlite3", "house", words], cwd=folder, capture_output=True, text=True, timeout=PATIENCE)
+        check(f"sqlite3 {words}", LOCKED in result.stdout + result.stderr, True)
     deadline = time.monotonic() + PATIENCE
     while sender.answered == before and time.monotonic() < deadline:
         time.sleep(0.01)
@@ -116,18 +116,18 @@ def copies(program, folder, count):
 
 def restored(program, folder):
     """The copy is the house again, and what was there is kept."""
-    told = {}
+    answers = {}
     for name in ("house", "kept"):
         with program.serving(name, 1) as server:
-            told[name] = exchange(server.port, HOUSE)
-    check("more was taken after the copy", told["house"] != told["kept"], True)
+            answers[name] = exchange(server.port, HOUSE)
+    check("more was taken after the copy", answers["house"] != answers["kept"], True)
     (folder / "spoiled").write_bytes((folder / "kept").read_bytes()[:20_000])
     check("a spoiled copy", script("restore_house.py", folder / "spoiled", folder / "house")[0], 1)
     check("restored", script("restore_house.py", folder / "kept", folder / "house"), (0, "restored", ""))
     check("restored again", script("restore_house.py", folder / "kept", folder / "house")[0], 1)
     for name, wanted in (("house", "kept"), ("house.before", "house")):
         with program.serving(name, 1) as server:
-            check(f"{name} is {wanted}", exchange(server.port, HOUSE), told[wanted])
+            check(f"{name} is {wanted}", exchange(server.port, HOUSE), answers[wanted])
 
 
 @contextlib.contextmanager

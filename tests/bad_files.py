@@ -171,8 +171,8 @@ class Files:
         changed("INSERT INTO member VALUES (4, 'Dan'), (5, 'Eve')", "INSERT INTO category VALUES (2, 'Maps')")(self.whole, path)
         with contextlib.closing(sqlite3.connect(path)) as tables:
             tables.execute("INSERT INTO member VALUES (6, 'Flo')")
-        told, ending = self.program.answers("bad", [read("/house", 0).text()])
-        shown = value_of(told[0].split(b"\r\n\r\n", 1)[1])
+        replies, ending = self.program.answers("bad", [read("/house", 0).text()])
+        shown = value_of(replies[0].split(b"\r\n\r\n", 1)[1])
         check("rows added", [shown[name] for name in ("members", "categories", "items")], [5, 2, 1])
         check("rows added: serve", ending, served(1))
 
@@ -232,7 +232,7 @@ class Files:
             rows = tables.execute(statement)
             rows.fetchone()
             for words in (*commands("bad"), making("bad")):
-                # Python would let go of the lock if it read the file, so the bytes are looked at behind it.
+                # Python would let go of the lock if it read the file, so the bytes are looked at afterwards.
                 check(f"{statement}: {words[0]}", self.program.ended(*words), STORE)
             tables.close()
             check(f"{statement}, the file", path.read_bytes(), self.whole.read_bytes())
@@ -240,8 +240,8 @@ class Files:
 
     def is_there(self, file, what):
         """Checks that a house shows its item."""
-        told, ending = self.program.answers(file, [read("/items/1", 2).text()])
-        check(f"{what}, and then served", (told[0][:15], ending), (b"HTTP/1.1 200 OK", served(1)))
+        replies, ending = self.program.answers(file, [read("/items/1", 2).text()])
+        check(f"{what}, and then served", (replies[0][:15], ending), (b"HTTP/1.1 200 OK", served(1)))
 
     def lends(self):
         """A house that is served is locked for SQLite, which gets it back."""

@@ -2,7 +2,7 @@
 """Civil days as the C library gives them, for the script of crates/test_values: `days.py asked|told`.
 
 The lines that it writes end the section `accounts` of that crate's `stdin`, with the word `asked`, or `stdout`, with
-`told`: there each has its answer behind it.
+`told`: there each has its answer after it.
 
 For each of six zone rules 200 moments: the seconds round the first midnights and the last ones,
 round the changes of daylight saving time of three years and the midnights of those days, and

@@ -103,13 +103,13 @@ def words_of(text):
 
 def helps(program):
     """The files and options of each command, each with its range, as the help tells them."""
-    def told(*words):
+    def help_of(*words):
         return subprocess.run([program, *words], capture_output=True, text=True, timeout=60, check=True).stdout
 
-    listed = told("-h").split("Commands:\n")[1].split("\n\n")[0]
+    listed = help_of("-h").split("Commands:\n")[1].split("\n\n")[0]
     for command in re.findall(r"^  (\w+)", listed, re.M):
         if command != "help":
-            rows = HELPED.findall(told(command, "-h"))
+            rows = HELPED.findall(help_of(command, "-h"))
             yield command, {(option, value): RANGE.findall(text) for option, value, text in rows if option != "help"}
 
 

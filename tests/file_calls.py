@@ -39,7 +39,7 @@ def torn(old, new, first):
 
 
 def put(content, kind, place, data):
-    """A file's content behind one call."""
+    """A file's content after one call."""
     filled = content[:place] + bytes(max(0, place - len(content)))
     return filled if kind == "length" else filled + data + content[place + len(data):]
 
@@ -123,9 +123,9 @@ class Calls:
         _, ending = self.program.answers("state", [b"".join(COMMANDS[:count])])
         check("ended", ending, served(1))
         files = self.contents("state")
-        told, ending = self.program.answers("state", [b"".join(SIGHTS)])
+        replies, ending = self.program.answers("state", [b"".join(SIGHTS)])
         check("ended again", ending, served(1))
-        return files, rows(self.folder, "state"), told[0]
+        return files, rows(self.folder, "state"), replies[0]
 
     def look(self, contents):
         """How many commands are found in two files, by the program and by SQLite, or NONE where a house can be made; the

@@ -78,7 +78,7 @@ def plain_rows():
 
 def item_row(house, item):
     """The columns of an item; a purchase leaves no maxima."""
-    standing = house.stands(item)
+    standing = house.standing_of(item)
     return (item.number, item.seller, item.category, item.lot, item.title, item.text, item.start, item.buy_now, item.end,
             STATES.index(item.state), item.closed, house.price(item), house.leader(item), standing.top, standing.second,
             standing.count)

@@ -11,8 +11,8 @@ byte. One stream in EVERY, 5 without it and none where it is 0, is sent over TCP
 answered the same, and the house that is served again has to show every page as the plain site does. The last line is 'N
 messages, M accepted, K wrong'; COUNT messages are sent at least, 5,000 without it.
 
-Seed 2026, on the proved program: 5,044 messages, of which 1,803 were accepted; every refusal was told; 32 pairs of twin
-runs, with 3,116 answers compared. None was wrong. A stand-in for the program that told another price,
+Seed 2026, on the proved program: 5,044 messages, of which 1,803 were accepted; every refusal was given; 32 pairs of twin
+runs, with 3,116 answers compared. None was wrong. A stand-in for the program that answered another price,
 a key by another name, another phrase, no `connection: close`, another clock in the record, or a floor over the leader's
 maximum to who bid too low, was found wrong each time, the last by twin runs alone too. plain_cases.py holds the plain
 site to the conformance cases.
@@ -186,7 +186,7 @@ class Sender:
         return command(path, 0, self.site.house.now, compact({"name": name}))
 
     def broken(self, name, request):
-        """The message with one fault behind its frame, or what looks like one."""
+        """The message with one fault after its frame, or what looks like one."""
         field = self.one_of(["x-member", "x-member", "x-moment"])
         other = self.one_of([*BROKEN_NUMBERS, "0", "1", "4102444800", "4102444801", "9999999999"])
         return self.one_of([
@@ -371,7 +371,7 @@ class Fuzz:
     def fail(self, what, expected, got):
         self.wrong += 1
         if self.wrong <= 5:
-            print(f"{what}\n  expected {expected}\n  told     {got}")
+            print(f"{what}\n  expected {expected}\n  got      {got}")
 
     def stream(self):
         """One stream, and its twin where one is found."""
@@ -387,18 +387,18 @@ class Fuzz:
         stream = b"".join(request.text() for request in first.requests) + rest
         words = ["--rate", str(settings["rate"]), "--zone", settings["zone"],
                  *(["--preset"] if settings["preset"] else []), *(["--record"] if recorded else [])]
-        told = self.sent(stream, words)
-        self.judged(first, answers, told, site.record() + b"\n" if recorded else b"")
+        output = self.sent(stream, words)
+        self.judged(first, answers, output, site.record() + b"\n" if recorded else b"")
         self.accepted.update(site.accepted)
         self.refusals |= site.refusals
         self.streams += 1
-        if told is not None and self.every and self.streams % self.every == 0:
-            self.over_tcp(site, settings, stream, told[0], answers is not None)
-        if told is not None and answers is not None:
-            self.twin(first, settings, words, told)
+        if output is not None and self.every and self.streams % self.every == 0:
+            self.over_tcp(site, settings, stream, output[0], answers is not None)
+        if output is not None and answers is not None:
+            self.twin(first, settings, words, output)
 
     def over_tcp(self, site, settings, stream, texts, is_known):
-        """Compares what a served house in a file is answered with what was told, and what it then shows, if that is known."""
+        """Compares the answers of a house served from a file with the replayed ones, and what it then shows, if that is known."""
         self.served_streams += 1
         with tempfile.TemporaryDirectory() as folder:
             pathlib.Path(folder, "bands.csv").write_text("at,step\n" + "".join(f"{at},{step}\n" for at, step in BANDS))
@@ -406,10 +406,10 @@ class Fuzz:
             program.ended("init", "house", "--bands", "bands.csv", "--rate", str(settings["rate"]),
                           "--zone", settings["zone"])
             first = b"".join(request.text() for request in setup()) if settings["preset"] else b""
-            told, ending = program.answers("house", [first, stream])
-            if (told[1], ending) != (b"".join(texts), served(2)):
-                self.fail(f"over TCP {stream[:300]}", (b"".join(texts), served(2)), (told[1], ending))
-            self.unrefused(answers_in(told[0])[0])
+            replies, ending = program.answers("house", [first, stream])
+            if (replies[1], ending) != (b"".join(texts), served(2)):
+                self.fail(f"over TCP {stream[:300]}", (b"".join(texts), served(2)), (replies[1], ending))
+            self.unrefused(answers_in(replies[0])[0])
             asked = list(sights(site)) if is_known else []
             shown, _ = program.answers("house", [b"".join(request.text() for request in asked)])
         for request, got in zip(asked, answers_in(shown[0])[0]):
@@ -421,21 +421,21 @@ class Fuzz:
     def sent(self, stream, words):
         """The answers to a stream and what follows them, or None where they are no answers."""
         try:
-            told, rest = answers_in(replayed(self.program, stream, *words))
+            answers, rest = answers_in(replayed(self.program, stream, *words))
             if rest:
                 value_of(rest.removesuffix(b"\n"))
-            return told, rest
+            return answers, rest
         except Malformed as malformed:
             self.fail(f"a stream of {stream[:300]}", "answers", malformed)
             return None
 
-    def judged(self, first, answers, told, record):
-        """Compares what was told with the plain site's answers."""
+    def judged(self, first, answers, output, record):
+        """Compares the output with the plain site's answers."""
         expected = first.answers + (answers or [])
         self.messages += len(expected)
-        if told is None:
+        if output is None:
             return
-        texts, rest = told
+        texts, rest = output
         self.statuses.update(int(text[9:12]) for text in texts)
         self.unrefused(texts)
         for at, (answer, got) in enumerate(zip(expected, texts)):
@@ -451,8 +451,8 @@ class Fuzz:
             if gives_up(text):
                 self.fail("with ample memory", "an answer", text)
 
-    def twin(self, first, settings, words, told):
-        """Changes what one member sealed, and compares what others are told, where the plain site says that they may."""
+    def twin(self, first, settings, words, output):
+        """Changes what one member sealed, and compares what others get, where the plain site says that they may."""
         changes = sealed_changes(first, self.random)
         for at, request in (change for change, _ in zip(changes, range(TRIED))):
             requests = [*first.requests[:at], request, *first.requests[at + 1:]]
@@ -464,7 +464,7 @@ class Fuzz:
             if again is None:
                 return
             self.twins[request.target.split("/")[-1]] += 1
-            self.alike(first, told[0], again[0], members)
+            self.alike(first, output[0], again[0], members)
             return
 
     def alike(self, first, ones, others, members):

@@ -4,14 +4,14 @@
 start.sh, first_bids.sh, add_member.sh and stop.sh run as an ordinary user: as nobody where a superuser runs this. Then
 signed-in clients show what the page of the gateway says:
 
-- who doesn't sign in is told 401, and who does can't speak for another by any spelling of the two headers
+- who doesn't sign in gets 401, and who does can't speak for another by any spelling of the two headers
 - odd messages have each their status: two lengths, a length and a coding, chunks, HEAD, too large ones
 - pages of other sites bid for nobody; in Chromium too, where chromedriver is there
 - another user of the machine reaches neither the house nor its queue
 - 50 clients for SECONDS (60 where none are given), and 300 for a third of them, lose nothing and see no MomentBehind
 - 60 clients that dribble hold nobody up
 - RESTARTS restarts (20 where none are given) under 50 clients, one of them by SIGKILL, lose no answer
-- two houses behind one gateway are told apart by host name
+- two houses behind one gateway are distinguished by host name
 - what was taken is there after stop.sh and start.sh
 
 It needs nginx, haproxy, openssl, curl, ip, setsid and unshare. The last line is 'N checks, M wrong'.
@@ -48,8 +48,8 @@ def two_houses(program, folder):
             gateway.know((gateway.house() / "passwords").read_text().splitlines())
             passwords[host] = dict(gateway.passwords)
             check(f"{host}: a category", gateway.ask("house", "POST", "/api/categories", {"name": host}).status, 201)
-            told = gateway.ask("ana", "GET", "/api/categories").value
-            check(f"{host}: its own categories", told, {"categories": [{"category": 1, "name": host}]})
+            answer = gateway.ask("ana", "GET", "/api/categories").value
+            check(f"{host}: its own categories", answer, {"categories": [{"category": 1, "name": host}]})
         gateway.host, gateway.passwords = "lindow.localhost", passwords["tarn.localhost"]
         check("a password of the other house", gateway.ask("ana", "GET", MINE).status, 401)
         gateway.passwords = passwords["lindow.localhost"]

@@ -50,9 +50,9 @@ def sign_in(gateway):
     for name, pair in pairs.items():
         check(name, gateway.ask(None, "GET", MINE, fields=[f"Authorization: Basic {pair}"])[::2], wanted)
     check("no sign-in, the page", gateway.ask(None, "GET", "/")[::2], wanted)
-    told = gateway.ask(None, "GET", MINE)
-    check("no sign-in", told[::2], wanted)
-    check("a browser is asked", 'www-authenticate: basic realm="the auction house"' in told.head, True)
+    answer = gateway.ask(None, "GET", MINE)
+    check("no sign-in", answer[::2], wanted)
+    check("a browser is asked", 'www-authenticate: basic realm="the auction house"' in answer.head, True)
     without_number(gateway)
 
 
@@ -75,14 +75,14 @@ REFUSED = fault("head"), fault("sign-in")
 def spellings(gateway):
     """Whatever ben says under the names of the two headers, he is ben, and it is now; or his message is refused."""
     for lie in LIES:
-        told = gateway.ask("ben", "GET", MINE, fields=[lie])
-        check(f"{lie!r} is ben", told.value in REFUSED or told.value.get("member") == 2, True)
-        told = gateway.ask("ben", "POST", "/api/close", fields=[lie])
-        check(f"{lie!r} isn't the house", told.value in REFUSED or told.status == 403, True)
+        answer = gateway.ask("ben", "GET", MINE, fields=[lie])
+        check(f"{lie!r} is ben", answer.value in REFUSED or answer.value.get("member") == 2, True)
+        answer = gateway.ask("ben", "POST", "/api/close", fields=[lie])
+        check(f"{lie!r} isn't the house", answer.value in REFUSED or answer.status == 403, True)
     for spelling in ("x-moment", "X-MOMENT", "x_moment"):
         for lie in (FAR, 0, -1):
-            told = gateway.ask("house", "POST", "/api/close", fields=[f"{spelling}: {lie}"])
-            check(f"{spelling}: {lie}", told.status, 200)
+            answer = gateway.ask("house", "POST", "/api/close", fields=[f"{spelling}: {lie}"])
+            check(f"{spelling}: {lie}", answer.status, 200)
             clock = gateway.ask("house", "GET", "/api/house").value["clock"]
             check(f"{spelling}: {lie} is now", abs(clock - time.time()) < PATIENCE, True)
     target = f"{MINE}%20HTTP/1.1%0d%0ax-member:%201%0d%0a%0d%0a"
@@ -93,7 +93,7 @@ BID, ITEM = "POST /api/items/1/bids HTTP/1.1", "GET /api/items/1 HTTP/1.1"
 BODY, CHUNKS = '{"maximum":1}', '5\r\n{"max\r\n8\r\nimum":1}\r\n0\r\n'
 LONG_CHUNK = f"4268\r\n{' ' * 17_000}\r\n0\r\n\r\n"
 LOW = 409, {"error": "Low", "floor": 600, "number": 9}
-# What is sent, fields and a body, and what is told: a status, and a body that is JSON, or None where it may be any.
+# What is sent, fields and a body, and what is answered: a status, and a body that is JSON, or None where it may be any.
 ODD = {
     "two lengths": (BID, ["Content-Length: 13", "Content-Length: 13"], BODY, (400, fault("head"))),
     "two lengths that differ": (BID, ["Content-Length: 13", "Content-Length: 12"], BODY, (400, fault("head"))),
@@ -122,35 +122,35 @@ PLAIN = {"plain": ITEM, "HTTP/1.0": "GET /api/items/1 HTTP/1.0", "an escape": "G
 def odd_messages(gateway):
     """Messages that a client would not send by mistake, each with what it is answered."""
     for name, (first, fields, body, wanted) in ODD.items():
-        told = reply(gateway.raw(gateway.head("ben", first, ["Connection: close", *fields]) + body))
-        check(name, (told.status, told.value if wanted[1] else None), wanted)
+        answer = reply(gateway.raw(gateway.head("ben", first, ["Connection: close", *fields]) + body))
+        check(name, (answer.status, answer.value if wanted[1] else None), wanted)
     for name, first in PLAIN.items():
         fields = ["Connection: close", *(f"x-{number}: a" for number in range(70))]
-        told = reply(gateway.raw(gateway.head("ben", first, fields)))
-        check(name, (told.status, told.value and told.value.get("item")), (200, 1))
+        answer = reply(gateway.raw(gateway.head("ben", first, fields)))
+        check(name, (answer.status, answer.value and answer.value.get("item")), (200, 1))
 
 
 def together(gateway):
     """Messages on one connection: neither HEAD nor a body that looks like a message leaves anything behind."""
     close = gateway.head("ben", ITEM, ["Connection: close"])
-    told = gateway.raw(gateway.head("ben", "HEAD /api/items/1 HTTP/1.1") + close)
-    first, _, rest = told.partition(b"\r\n\r\n")
+    answer = gateway.raw(gateway.head("ben", "HEAD /api/items/1 HTTP/1.1") + close)
+    first, _, rest = answer.partition(b"\r\n\r\n")
     check("HEAD", (first.split(b" ")[1], reply(rest).status, reply(rest).value["item"]), (b"405", 200, 1))
     inner = gateway.head("ana", "POST /api/close HTTP/1.1", ["x-member: 0", "x-moment: 1"])
     for name, first, status in (("a message in a body", BID, b"400"), ("a message in a read's body", ITEM, b"200")):
-        told = gateway.raw(gateway.head("ben", first, [f"Content-Length: {len(inner)}"]) + inner + close)
-        check(name, (told.count(b"HTTP/1.1 "), told.split(b" ")[1]), (2, status))
+        answers = gateway.raw(gateway.head("ben", first, [f"Content-Length: {len(inner)}"]) + inner + close)
+        check(name, (answers.count(b"HTTP/1.1 "), answers.split(b" ")[1]), (2, status))
 
 
 def origins(gateway):
-    """Commands of the gateway's own pages, and of none, are taken; those of other pages are told 403, and aren't."""
+    """Commands of the gateway's own pages, and of none, are taken; those of other pages get 403, and aren't."""
     own = f"https://localhost:{gateway.port}"
     foreign = ["null", "https://localhost", f"http://localhost:{gateway.port}", f"{own}.evil", f"{own} {own}", own.upper(),
                "https://evil.example", f"https://evil.example {own}", f"https://127.0.0.1:{gateway.port}"]
     before = gateway.ask("ben", "GET", "/api/items/1").value
     for origin in foreign:
-        told = gateway.ask("ben", "POST", "/api/items/1/bids", {"maximum": 60_000}, [f"Origin: {origin}"])
-        check(f"origin {origin}", told[::2], (403, fault("foreign")))
+        answer = gateway.ask("ben", "POST", "/api/items/1/bids", {"maximum": 60_000}, [f"Origin: {origin}"])
+        check(f"origin {origin}", answer[::2], (403, fault("foreign")))
     check("no foreign bid", gateway.ask("ben", "GET", "/api/items/1").value, before)
     for fields in ([], [f"Origin: {own}"]):
         check(f"own origin {fields}", gateway.ask("ben", "POST", "/api/items/1/bids", {"maximum": 1}, fields)[::2], LOW)

@@ -1,12 +1,13 @@
 """Clients of a gateway that ask and bid many at once, and lie about who they are and when it is.
 
 What each was answered is counted: statuses, seconds, bids that were accepted, and commands of which the gateway can't
-say whether they were taken. Who asks for its own bids has to be told what it bid, and nothing of anybody else.
+say whether they were taken. Who asks for its own bids has to get what it bid, and nothing of anybody else.
 """
 import asyncio
 import collections
 import dataclasses
 import json
+import math
 import random
 import time
 
@@ -19,13 +20,15 @@ LIES = "x-member: 0\r\nX-MEMBER: 1\r\nx_member: 1\r\nx-moment: 5\r\nConnection: 
 STEP = 20_000
 # How many clients connect at once: one whose hands aren't shaken within ten seconds is given up.
 CONNECTING = 20
+# How often the clients of a name ask in a second, all together: the gateway lets 200 through.
+NAME_RATE = 150
 # Of a hundred requests so many are bids, and so many ask for the caller's bids. The others read an item.
 BIDS, OWN = 20, 10
 
 
 @dataclasses.dataclass
-class Told:
-    """What clients were told."""
+class Tally:
+    """What clients were answered."""
     seconds: list = dataclasses.field(default_factory=list)
     statuses: collections.Counter = dataclasses.field(default_factory=collections.Counter)
     # Requests without a whole answer, by why, and answers that were of somebody else.
@@ -66,10 +69,12 @@ class Market:
 
 
 class Client:
-    """A signed-in member with one connection, that asks again as soon as it is answered."""
+    """A signed-in member with one connection, that asks again when it is answered and its turn has come."""
 
-    def __init__(self, gateway, name, market, told, door, seed):
-        self.gateway, self.name, self.market, self.told, self.door = gateway, name, market, told, door
+    def __init__(self, gateway, name, market, tally, door, turn, seed):
+        self.gateway, self.name, self.market, self.tally, self.door = gateway, name, market, tally, door
+        # The seconds from one request to the next.
+        self.turn = turn
         self.random = random.Random(seed)
         self.streams = None
         signed = f"Authorization: Basic {encoded(name, gateway.passwords[name])}"
@@ -77,8 +82,9 @@ class Client:
 
     async def run(self):
         await self.connect()
-        self.told.connected += 1
-        while not self.told.is_over:
+        self.tally.connected += 1
+        while not self.tally.is_over:
+            next_turn = time.monotonic() + self.turn
             item, chance = self.random.choice(self.market.items), self.random.random() * 100
             if chance < BIDS:
                 await self.bid(item)
@@ -86,6 +92,7 @@ class Client:
                 await self.ask_own()
             else:
                 await self.ask("GET", f"/api/items/{item}")
+            await asyncio.sleep(max(0, next_turn - time.monotonic()))
         if self.streams:
             self.streams[1].close()
 
@@ -94,10 +101,10 @@ class Client:
         self.market.sent[key] = max(maximum, self.market.sent[key])
         status, value = await self.ask("POST", f"/api/items/{item}/bids", {"maximum": maximum})
         if status == 201:
-            self.told.accepted[item] += 1
+            self.tally.accepted[item] += 1
             self.market.taken[key] = max(maximum, self.market.taken[key])
         elif status in (None, 503):
-            self.told.unknown[item] += 1
+            self.tally.unknown[item] += 1
 
     async def ask_own(self):
         """Asks for its own bids, which lie between what was taken before and what was sent by then."""
@@ -105,10 +112,10 @@ class Client:
         status, value = await self.ask("GET", f"/api/me/bids/{self.market.items[0]}")
         if status != 200:
             return
-        told = {bid["item"]: bid["maximum"] for bid in value["bids"]}
+        shown = {bid["item"]: bid["maximum"] for bid in value["bids"]}
         for item, least in before.items():
-            if not least <= told.get(item, 0) <= self.market.sent[self.name, item]:
-                self.told.wrong.append((self.name, item, least, told.get(item)))
+            if not least <= shown.get(item, 0) <= self.market.sent[self.name, item]:
+                self.tally.wrong.append((self.name, item, least, shown.get(item)))
 
     async def ask(self, method, path, value=None):
         """The status and the value of an answer, or neither where there is none that is whole."""
@@ -119,11 +126,11 @@ class Client:
             status, value = await asyncio.wait_for(
                 self.exchange(f"{method} {path} HTTP/1.1\r\n{self.fields}{length}\r\n".encode() + body), PATIENCE)
         except (OSError, EOFError, TimeoutError, asyncio.TimeoutError, ValueError) as error:
-            self.told.lost[f"{method} {type(error).__name__}"] += 1
+            self.tally.lost[f"{method} {type(error).__name__}"] += 1
             self.streams = None
             return None, None
-        self.told.seconds.append(time.monotonic() - began)
-        self.told.statuses[method, status, value.get("error")] += 1
+        self.tally.seconds.append(time.monotonic() - began)
+        self.tally.statuses[method, status, value.get("error")] += 1
         return status, value
 
     async def connect(self):
@@ -146,20 +153,20 @@ class Client:
 
 
 def crowd(gateway, names, market, clients, until):
-    """What so many clients are told, who sign in by these names in turn and ask until something has come about."""
-    told, door = Told(), asyncio.Semaphore(CONNECTING)
+    """What so many clients are answered, who sign in by these names in turn and ask until something has come about."""
+    tally, door, turn = Tally(), asyncio.Semaphore(CONNECTING), math.ceil(clients / len(names)) / NAME_RATE
 
     async def watch():
-        while told.connected < clients:
+        while tally.connected < clients:
             await asyncio.sleep(0.1)
-        told.seconds.clear()
+        tally.seconds.clear()
         began = time.monotonic()
         await until()
-        told.is_over, told.took = True, time.monotonic() - began
+        tally.is_over, tally.took = True, time.monotonic() - began
 
     async def all_of_them():
-        await asyncio.gather(watch(), *(Client(gateway, names[number % len(names)], market, told, door, number).run()
+        await asyncio.gather(watch(), *(Client(gateway, names[number % len(names)], market, tally, door, turn, number).run()
                                         for number in range(clients)))
 
     asyncio.run(all_of_them())
-    return told
+    return tally

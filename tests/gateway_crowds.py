@@ -17,9 +17,9 @@ def market(gateway, begins):
     items = []
     for number in range(ITEMS):
         item = {"category": 1, "end": FAR, "lot": f"{begins}{number}", "start": 500, "text": "", "title": "Atlas"}
-        told = gateway.ask("ana", "POST", "/api/items", item)
-        check(f"listed {begins}{number}", told.status, 201)
-        items.append(told.value["item"])
+        answer = gateway.ask("ana", "POST", "/api/items", item)
+        check(f"listed {begins}{number}", answer.status, 201)
+        items.append(answer.value["item"])
     return Market(items)
 
 
@@ -29,25 +29,25 @@ def seconds(count):
     return until
 
 
-def judge(gateway, name, items, told, unknown):
-    """No answer is missing, none is of somebody else, and each bid that was told accepted was made, and no other."""
-    print(f"{name}: {told.line()}")
-    check(f"{name}: lost", dict(told.lost), {})
-    check(f"{name}: of somebody else", told.wrong, [])
-    check(f"{name}: unknown at most {unknown}", sum(told.unknown.values()) <= unknown, True)
-    odd = {key: count for key, count in told.statuses.items()
+def judge(gateway, name, items, tally, unknown):
+    """No answer is missing, none is of somebody else, and each bid that was answered as accepted was made, and no other."""
+    print(f"{name}: {tally.line()}")
+    check(f"{name}: lost", dict(tally.lost), {})
+    check(f"{name}: of somebody else", tally.wrong, [])
+    check(f"{name}: unknown at most {unknown}", sum(tally.unknown.values()) <= unknown, True)
+    odd = {key: count for key, count in tally.statuses.items()
            if key[1] not in (200, 201) and key[2] not in ("Low", "NotHigher") and not (unknown and key[1] == 503)}
     check(f"{name}: other answers", odd, {})
     for item in items.items:
         count = gateway.ask("ana", "GET", f"/api/items/{item}").value["count"]
-        check(f"{name}: bids on {item}", told.accepted[item] <= count <= told.accepted[item] + told.unknown[item], True)
+        check(f"{name}: bids on {item}", tally.accepted[item] <= count <= tally.accepted[item] + tally.unknown[item], True)
 
 
 def crowds(gateway, length):
     for clients, part in ((50, 1), (300, 3)):
         items = market(gateway, f"C{clients}x")
-        told = crowd(gateway, NAMES, items, clients, seconds(length / part))
-        judge(gateway, f"{clients} clients", items, told, 0)
+        tally = crowd(gateway, NAMES, items, clients, seconds(length / part))
+        judge(gateway, f"{clients} clients", items, tally, 0)
 
 
 def slow_head(connection, gateway, wait):
@@ -91,9 +91,9 @@ def dribblers(gateway, length):
     for thread in slow:
         thread.start()
     time.sleep(2)
-    told = crowd(gateway, NAMES[:10], items, 10, seconds(length))
-    judge(gateway, "10 clients beside 60 that dribble", items, told, 0)
-    check("nobody was held up", told.percentile(99) < 5000, True)
+    tally = crowd(gateway, NAMES[:10], items, 10, seconds(length))
+    judge(gateway, "10 clients beside 60 that dribble", items, tally, 0)
+    check("nobody was held up", tally.percentile(99) < 5000, True)
     for thread in slow:
         thread.join()
 
@@ -108,5 +108,5 @@ def restarts(gateway, count):
         while gateway.starts() - begun < count:
             await asyncio.sleep(0.1)
 
-    told = crowd(gateway, NAMES, items, 50, until)
-    judge(gateway, f"{gateway.starts() - begun} restarts under 50 clients", items, told, 1)
+    tally = crowd(gateway, NAMES, items, 50, until)
+    judge(gateway, f"{gateway.starts() - begun} restarts under 50 clients", items, tally, 1)

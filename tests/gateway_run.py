@@ -42,9 +42,9 @@ def folder_of_nobody():
 
 def script(name, *words, **environment):
     """The lines that one of the examples' scripts prints."""
-    told = subprocess.run(["sh", name, *map(str, words)], preexec_fn=as_nobody, capture_output=True, text=True,
+    result = subprocess.run(["sh", name, *map(str, words)], preexec_fn=as_nobody, capture_output=True, text=True,
                           timeout=PATIENCE, env={**os.environ, "PATH": PATH, **environment})
-    return told.returncode, told.stdout.splitlines(), told.stderr
+    return result.returncode, result.stdout.splitlines(), result.stderr
 
 
 class Gateway:
@@ -150,11 +150,11 @@ def children(file):
 
 
 def read_all(connection):
-    told = b""
+    received = b""
     with contextlib.suppress(ConnectionResetError, ssl.SSLEOFError):
         for piece in iter(lambda: connection.recv(65536), b""):
-            told += piece
-    return told
+            received += piece
+    return received
 
 
 def encoded(name, password):

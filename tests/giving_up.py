@@ -3,7 +3,7 @@
 
 A body that always tells want of memory, or that the store failed, is proved under any contract: memory may be refused at
 any call, and a contract shows no cause. So only tests find it. Each is put into a copy of the checkout and built without
-proofs, by `rt try`; then the stored run of `test_serve`, `test_pages` or `test_runs` has to come out otherwise, or
+proofs, by `rt try`; then a section of the stored run of `test_site` or `test_store` has to come out otherwise, or
 tests/office.py has to fail on the program. With nothing put in they have to pass. NAMEs choose among the bodies, `all`
 takes all, none those that are MAIN. It needs the kit, with its `rt` on the path. The last line is 'N bodies, M not
 found'.
@@ -19,24 +19,26 @@ import tempfile
 import time
 
 from refusal import in_turn
+from transcript import SECTION, section
 
 ROOT = pathlib.Path(__file__).resolve().parent.parent
 ENGINE, DECIDING, READING = "site/src/engine.rt", "house/src/decision.rt", "pages/src/reading.rt"
 KEEP, ACCOUNT, IMPORTS = "store/src/keep.rt", "office/src/account.rt", "office/src/imports.rt"
 REPLAY, SETUP = "auction_runs/src/replay.rt", "auction_runs/src/setup.rt"
 MEMORY, STORE, REPLAYED = "Err(KeepFault::Memory)", "Err(KeepFault::Store)", "Err(Fault::Memory)"
-# What finds a body: the stored run of a crate's program, or a script that is given the house's program.
-STREAMS, SHOWN, RUNS, OFFICE = "test_serve", "test_pages", "test_runs", "office.py"
+# What finds a body: a section of the stored run of a crate's program, or a script that is given the house's program.
+STREAMS, SHOWN, RUNS = ("test_site", "streams"), ("test_site", "pages"), ("test_store", "runs")
+OFFICE = "office.py"
 
 
 @dataclasses.dataclass(frozen=True)
 class Body:
-    """A body that gives up: its name, its file, the text that stands there once, the new one, and what finds it."""
+    """A body that gives up: its name, its file, the text that is there once, the new one, and what finds it."""
     name: str
     file: str
     old: str
     new: str
-    finder: str
+    finder: str | tuple
 
 
 RECORD = "append_record(self.alloc, &mut self.keep, &mut text)?;"
@@ -82,27 +84,32 @@ def put_in(copy, body):
     path = copy / "crates" / body.file
     text = path.read_text()
     if text.count(body.old) != 1:
-        sys.exit(f"{body.name}: its text stands {text.count(body.old)} times in {body.file}")
+        sys.exit(f"{body.name}: its text is there {text.count(body.old)} times in {body.file}")
     path.write_text(text.replace(body.old, body.new))
 
 
 def passes(copy, finder):
     """Whether a copy passes what finds a body, or None where it can't be built."""
     if finder != OFFICE:
-        crate = copy / "crates" / finder
-        with open(crate / "stdin", "rb") as script:
-            ran = subprocess.run(["rt", "try"], cwd=crate, stdin=script, capture_output=True)
-        return ran.stdout == (crate / "stdout").read_bytes() if is_run(ran.stderr) else None
+        crate = copy / "crates" / finder[0]
+        script, transcript = (stored(crate / name, finder[1]) for name in ("stdin", "stdout"))
+        ran = subprocess.run(["rt", "try"], cwd=crate, input=script, capture_output=True)
+        return ran.stdout == transcript if is_run(ran.stderr) else None
     program = built(copy)
     return program and subprocess.run([sys.executable, copy / "tests" / finder, program],
                                       capture_output=True).returncode == 0
 
 
-def is_run(told):
+def stored(path, name):
+    """A section of a stored run, from the line by which it begins."""
+    return f"{SECTION}{name}\n{section(path.read_bytes().decode(), name)}".encode()
+
+
+def is_run(log):
     """Whether `rt try` tells that a program was built and ended by itself."""
-    if b"\nrun=ended " in b"\n" + told:
+    if b"\nrun=ended " in b"\n" + log:
         return True
-    print(told.decode(errors="replace")[-2000:])
+    print(log.decode(errors="replace")[-2000:])
     return False
 
 
@@ -110,17 +117,17 @@ def built(copy):
     """The house's program of a copy, or None; `rt try` doesn't keep it, so it is taken while it waits for its bands."""
     program, bands = copy / "auction", copy / "bands.csv"
     os.mkfifo(bands)
-    with tempfile.TemporaryFile() as told:
+    with tempfile.TemporaryFile() as log:
         trying = subprocess.Popen(["rt", "try", "--", "replay", "--bands", str(bands)], cwd=copy / "crates" / "auction",
-                                  stdin=subprocess.DEVNULL, stdout=subprocess.DEVNULL, stderr=told)
+                                  stdin=subprocess.DEVNULL, stdout=subprocess.DEVNULL, stderr=log)
         while trying.poll() is None:
             for path in [] if program.exists() else replaying(str(trying.pid)):
                 shutil.copy(path, program)
             if program.exists():
                 give(bands)
             time.sleep(0.05)
-        told.seek(0)
-        return program if is_run(told.read()) and program.exists() else None
+        log.seek(0)
+        return program if is_run(log.read()) and program.exists() else None
 
 
 def give(bands):
@@ -160,6 +167,10 @@ def tried(body):
         return body, passes(copy, body.finder), time.monotonic() - begun
 
 
+def finder_in_words(finder):
+    return finder if finder == OFFICE else " ".join(finder)
+
+
 def main():
     names = sys.argv[1:] or MAIN
     bodies = [body for body in BODIES if body.name in names or names == ["all"]]
@@ -172,7 +183,7 @@ def main():
         is_right = passed is (not body.file)
         missed += not is_right
         end = {True: "passes", False: "is found", None: "can't be built"}[passed]
-        print(f"{body.name} {end} by {body.finder}, {seconds:.0f} s" + ("" if is_right else ": WRONG"), flush=True)
+        print(f"{body.name} {end} by {finder_in_words(body.finder)}, {seconds:.0f} s" + ("" if is_right else ": WRONG"), flush=True)
     print(f"{len(bodies)} bodies, {missed} not found")
     return 1 if missed else 0
 

@@ -5,7 +5,7 @@ After each command that has ended the file is copied without its log, and has to
 program and for SQLite. While a house is served nobody else opens it, and nothing is lost by the try. A server that
 is killed leaves all that it acknowledged in the file with its log; and where that log is cut, wherever that is, the
 house as some of the accepted commands left it, and later ones not without the earlier. Where files may not grow, a
-command is told that the store failed, and so is all behind it, and the house holds what was accepted before. The last
+command is answered that the store failed, and so is all after it, and the house holds what was accepted before. The last
 line is 'N checks, M wrong'.
 
 Four sizes are the limit for `init`, five for `serve`; a log of twelve commands is cut after each of its pages and
@@ -36,17 +36,17 @@ TABLES = {"house": 1, "member": 2, "category": 1, "item": 2, "bid": 1, "watch": 
 
 def seen(program, file):
     """What a house in a file shows."""
-    told, ending = program.answers(file, [b"".join(SIGHTS)])
+    replies, ending = program.answers(file, [b"".join(SIGHTS)])
     check(f"{file} ended", ending, served(1))
-    return told[0]
+    return replies[0]
 
 
 def seen_after(program, init, count):
     """What a house shows that took so many commands."""
-    status, told, error = program.ended("replay", *init, given=b"".join(COMMANDS[:count] + SIGHTS))
+    status, output, error = program.ended("replay", *init, given=b"".join(COMMANDS[:count] + SIGHTS))
     check(f"{count} commands replayed", (status, error), (0, b""))
     before = program.ended("replay", *init, given=b"".join(COMMANDS[:count]))[1]
-    return told[len(before):]
+    return output[len(before):]
 
 
 def copied(folder, file, name, *, log=None):
@@ -61,9 +61,9 @@ def rows(folder, name):
     """How many rows each table has, by SQLite, which finds no fault in the file."""
     database = sqlite3.connect(folder / name)
     check(f"{name} is sound", database.execute("PRAGMA integrity_check").fetchall(), [("ok",)])
-    told = {table: database.execute(f"SELECT count(*) FROM {table}").fetchone()[0] for table in TABLES}
+    counts = {table: database.execute(f"SELECT count(*) FROM {table}").fetchone()[0] for table in TABLES}
     database.close()
-    return told
+    return counts
 
 
 def alone(program, folder, init):
@@ -91,16 +91,16 @@ def together(program, folder, init):
 
 
 def killed(program, folder, init):
-    """A server is killed, and its log is cut behind each page and within some."""
+    """A server is killed, and its log is cut after each page and within some."""
     check("made", program.ended("init", "stopped", *init), (0, b"created\n", b""))
     with program.serving("stopped", 2) as server:
         exchange(server.port, b"".join(COMMANDS))
         server.process.kill()
     size = (folder / "stopped-wal").stat().st_size
-    # A statement reads nothing but what stands there, and ends its keep.
+    # A statement reads nothing but what is there, and ends its keep.
     statement = ["--member", "1", "--from", "1970-01-01", "--to", "1970-01-01"]
-    told = program.ended("statement", copied(folder, "stopped", "stated", log=size), *statement)
-    check("a statement of it", (told[0], told[2]), (0, b""))
+    result = program.ended("statement", copied(folder, "stopped", "stated", log=size), *statement)
+    check("a statement of it", (result[0], result[2]), (0, b""))
     check("a stated house alone", rows(folder, copied(folder, "stated", "read")), TABLES)
     states = [seen_after(program, init, count) for count in range(len(COMMANDS) + 1)]
     check("killed", seen(program, copied(folder, "stopped", "cut", log=size)), states[-1])
@@ -115,7 +115,7 @@ def killed(program, folder, init):
 
 
 def limited(size):
-    """What keeps a process from making a file longer than so many bytes: it is told so, as of a full disk."""
+    """What keeps a process from making a file longer than so many bytes: it gets an error, as of a full disk."""
     def limit():
         signal.signal(signal.SIGXFSZ, signal.SIG_IGN)
         resource.setrlimit(resource.RLIMIT_FSIZE, (size, size))
@@ -133,11 +133,11 @@ def full(program, folder, init):
         file = f"full-{size}"
         check(f"{file} made", program.ended("init", file, *init), (0, b"created\n", b""))
         tight = Program(program.path, program.folder, limited(size))
-        told, _ = tight.answers(file, [b"".join(COMMANDS + SIGHTS)])
-        answers, _ = answers_in(told[0])
+        replies, _ = tight.answers(file, [b"".join(COMMANDS + SIGHTS)])
+        answers, _ = answers_in(replies[0])
         first = answers.index(FAILED) if FAILED in answers else len(COMMANDS)
         failed = len(COMMANDS + SIGHTS) - first if FAILED in answers else 0
-        check(f"{file} fails behind it", (len(answers), answers.count(FAILED)), (len(COMMANDS + SIGHTS), failed))
+        check(f"{file} fails after it", (len(answers), answers.count(FAILED)), (len(COMMANDS + SIGHTS), failed))
         check(f"{file} seen", seen(program, file) in states[first:first + 2], True)
 
 

@@ -4,7 +4,7 @@
 A `text` block whose first line begins with `$ ` is a session of a shell, as in the README. The blocks `http` and
 `frame` are one run over a new house in a file, each message on a connection of its own. In an `http` block a message
 has its method, its path and its fields in one line, then its body; `20 times` before it sends it so often. In a
-`frame` block it stands whole. Behind `<` stands what the program has to answer: status and body, of a frame the whole
+`frame` block it is whole. After `<` comes what the program has to answer: status and body, of a frame the whole
 answer. A long body goes on in indented lines. With `--told` the page is printed with what the program answered. The
 table of refusals has to have the numbers, names and statuses of the rules, and each of them has to be in an example.
 Needs curl. The last line is 'N examples, M wrong'.
@@ -26,7 +26,7 @@ MOST_COLUMNS = 96
 
 
 def broken(line):
-    """A long line of an answer, broken behind commas; what follows the first piece is indented."""
+    """A long line of an answer, broken after commas; what follows the first piece is indented."""
     pieces = [""]
     for part in re.split(r"(?<=,)", line):
         if pieces[-1] and len(pieces[-1] + part) > MOST_COLUMNS:
@@ -43,7 +43,7 @@ def parts(block):
 
 
 def wire(message):
-    """The bytes of a message that stands in one line with its fields, and how often they are sent."""
+    """The bytes of a message that is in one line with its fields, and how often they are sent."""
     line, _, body = message.partition("\n")
     times = TIMES.match(line)
     target, *fields = line[times.end() if times else 0:].split("  ")
@@ -52,7 +52,7 @@ def wire(message):
 
 
 def framed(message):
-    """The bytes of a message that stands whole."""
+    """The bytes of a message that is whole."""
     head, _, body = message.partition("\n\n")
     empty = "\r\n" if "\n\n" in message or message.endswith("\n") else ""
     return ("\r\n".join(head.rstrip("\n").split("\n")) + "\r\n" + empty + body).encode()
@@ -82,8 +82,8 @@ class Page:
                 print(f"{what}\n  got:    {got}\n  wanted: {wanted}")
 
     def sessions(self, program):
-        for command, told, wanted in played(self.text, program):
-            self.judged(f"$ {command}", told, wanted)
+        for command, printed, wanted in played(self.text, program):
+            self.judged(f"$ {command}", printed, wanted)
 
     def messages(self):
         """Each message: its bytes, how often they are sent, its form, and its answer on the page."""
@@ -102,30 +102,30 @@ class Page:
         with program.serving("house", sum(times for _, _, times, *_ in messages)) as server:
             for message, sent, times, kind, answer in messages:
                 answers, rest = answers_in([exchange(server.port, sent) for _ in range(times)][-1])
-                told = (short if kind == "http" else whole)(answers[0])
-                self.judged(message, (told, len(answers), rest), (answer, 1, b""))
-                got.append(told)
+                reply = (short if kind == "http" else whole)(answers[0])
+                self.judged(message, (reply, len(answers), rest), (answer, 1, b""))
+                got.append(reply)
         self.judged("serve", server.ending, served(sum(times for _, _, times, *_ in messages)))
         return got
 
     def refusals(self, got):
-        """The table of refusals has the rules' words, and each stands in an example."""
+        """The table of refusals has the rules' words, and each is in an example."""
         rows = re.findall(r"^\| ([0-9]+) \| ([A-Za-z]+) \| ([0-9]+) \|", self.text, re.M)
         rules = [(str(number), name, str(status)) for name, (number, status) in NUMBERS.items()]
         self.judged("the table of refusals", sorted(rows), sorted(rules))
         for number, name, status in rules:
-            shown = any(told.startswith(status) and f'"error":"{name}"' in told for told in got)
+            shown = any(reply.startswith(status) and f'"error":"{name}"' in reply for reply in got)
             self.judged(f"an example of {name}", shown, True)
 
     def faults(self, got):
-        """Each malformed message of the table stands in an example, with its status."""
+        """Each malformed message of the table is in an example, with its status."""
         for status, error in re.findall(r'^\| ([45][0-9]{2}) \| `\{"error":"([a-z]+)"[^|]*\| [^|]* \| (?:ends|stays) \|',
                                         self.text, re.M):
             forms = (f"{status} ", f"HTTP/1.1 {status} {PHRASES[int(status)]}\n")
-            shown = any(told.startswith(forms) and f'"error":"{error}"' in told for told in got)
+            shown = any(reply.startswith(forms) and f'"error":"{error}"' in reply for reply in got)
             self.judged(f"an example of {error}", shown, True)
 
-    def told(self, got):
+    def with_answers(self, got):
         """The page with what was answered."""
         answers = iter(got)
 
@@ -138,16 +138,16 @@ class Page:
 
 
 def main():
-    shows_told = "--told" in sys.argv[2:]
-    page = Page(PAGE.read_text(), shows_told)
+    shows_answers = "--told" in sys.argv[2:]
+    page = Page(PAGE.read_text(), shows_answers)
     program = str(pathlib.Path(sys.argv[1]).resolve())
     page.sessions(program)
     with tempfile.TemporaryDirectory() as folder:
         got = page.play(program, folder)
     page.refusals(got)
     page.faults(got)
-    if shows_told:
-        print(page.told(got), end="")
+    if shows_answers:
+        print(page.with_answers(got), end="")
         return 0
     print(f"{page.count} examples, {page.wrong} wrong")
     return 1 if page.wrong else 0

@@ -68,10 +68,10 @@ class Client:
             self.connection.sendall(text)
         except ConnectionError:
             return False
-        told = next_answer(self.answers)
-        if told is None:
+        answer = next_answer(self.answers)
+        if answer is None:
             return False
-        check("accepted", told.startswith((b"HTTP/1.1 200 OK\r\n", b"HTTP/1.1 201 Created\r\n")), True)
+        check("accepted", answer.startswith((b"HTTP/1.1 200 OK\r\n", b"HTTP/1.1 201 Created\r\n")), True)
         return True
 
 
@@ -83,9 +83,9 @@ def rows(folder, file):
     there = [name for (name,) in database.execute("SELECT name FROM sqlite_master WHERE type = 'table'")]
     check("sound", database.execute("PRAGMA integrity_check").fetchall(), [("ok",)])
     check("no dangling row", database.execute("PRAGMA foreign_key_check").fetchall(), [])
-    told = {name: sorted(database.execute(f"SELECT * FROM {name}"), key=repr) for name in there}
+    tables = {name: sorted(database.execute(f"SELECT * FROM {name}"), key=repr) for name in there}
     database.close()
-    return told
+    return tables
 
 
 def made(tables):
@@ -119,7 +119,7 @@ class Kills:
 
     def catch_up(self, count):
         """Has the house that is never killed take commands up to a number."""
-        told, ending = self.program.answers("whole", [b"".join(self.text(n) for n in range(self.whole, count))])
+        replies, ending = self.program.answers("whole", [b"".join(self.text(n) for n in range(self.whole, count))])
         check("never killed", ending, served(1))
         self.whole = count
 
@@ -144,8 +144,8 @@ class Upgrades:
         begun = time.monotonic()
         check("upgraded", program.ended("upgrade", kept), UPGRADED)
         self.longest = time.monotonic() - begun
-        # How many were of which version, and how many of these were told to be.
-        self.left, self.told = {1: 0, 2: 0}, 0
+        # How many were of which version, and of how many of these the program reported so.
+        self.left, self.reported = {1: 0, 2: 0}, 0
 
     def kill_once(self):
         """Upgrades the house until the program is killed, and looks what is left."""
@@ -153,12 +153,12 @@ class Upgrades:
         process = subprocess.Popen([self.program.path, "upgrade", self.kept], cwd=self.path.parent, stdout=subprocess.PIPE)
         time.sleep(self.random.uniform(0, self.longest))
         process.kill()
-        told = process.communicate()[0]
+        printed = process.communicate()[0]
         rows = found(self.path)[1]
-        check("told", told in ([b"", UPGRADED[1]] if rows == self.second else [b""]), True)
+        check("printed", printed in ([b"", UPGRADED[1]] if rows == self.second else [b""]), True)
         check("one or the other", rows in (self.first, self.second), True)
         self.left[1 if rows == self.first else 2] += 1
-        self.told += bool(told)
+        self.reported += bool(printed)
         check("again", self.program.ended("upgrade", self.kept), UPGRADED if rows == self.first else IS_VERSION_2)
         check("whole", found(self.path)[1], self.second)
 
@@ -177,7 +177,7 @@ def main():
             for _ in range(kills):
                 upgrades.kill_once()
             print(f"{kills} upgrades of {kept}: {upgrades.left[1]} of version 1, {upgrades.left[2]} of version 2, of which "
-                  f"{upgrades.told} had told so")
+                  f"{upgrades.reported} had reported so")
     print(f"{kills} kills, {run.answered} commands, {run.more} of them more than answered, {CHECKS.count(False)} wrong")
     return 1 if not all(CHECKS) else 0
 

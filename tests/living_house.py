@@ -1,8 +1,8 @@
 #!/usr/bin/env python3
 """Audits lists of messages over the house in a file: `living_house.py PROGRAM`.
 
-A list is cut at each of its places: what stands before is answered by a house in a file, and what is left is audited
-over that file. It has to be told what `audit` tells of the whole lists over new houses, less the replies and places
+A list is cut at each of its places: what comes before is answered by a house in a file, and what is left is audited
+over that file. It has to get what `audit` prints of the whole lists over new houses, less the replies and places
 before the cut; and so a raised bid. A house whose server was killed has some of its messages in its log alone: they
 count. The file and its log have to be the same bytes afterwards, and of the same time; where there is no log, an
 empty one is made. Each fault of the file has its line, and comes before those of the lists. While the house is served
@@ -18,7 +18,7 @@ from served import CHECKS, EXAMPLE, PRESET, Program, check, exchange, fault, mes
 
 INIT = ["--bands", "bands.csv", "--rate", "1000", "--zone", "UTC0"]
 BEN, CID = "2", "3"
-# What stands before both bids, and Ben's bid, which is the same in both lists.
+# What comes before both bids, and Ben's bid, which is the same in both lists.
 FIRST = [*PRESET, message("POST", "/items/1/bids", 2, 1001, '{"maximum":1000}')]
 
 
@@ -50,8 +50,8 @@ def cut_lists(program, folder):
             written(folder, side, b"".join([*left, bid(maximum), READ_ITEM]))
         begun = files(folder, name)
         over = ["--house", name]
-        told = audit(program, "left", "right", BEN, *over)
-        check(f"{name}: equal", told, printed(b"equal, %d replies\n" % (own + 1)))
+        result = audit(program, "left", "right", BEN, *over)
+        check(f"{name}: equal", result, printed(b"equal, %d replies\n" % (own + 1)))
         there = files(folder, name)
         check(f"{name}: the file stays", there[0], begun[0])
         check(f"{name}: an empty log is made", [(file, data) for file, data, _ in there[1:]], [(f"{name}-wal", b"")])
@@ -111,8 +111,8 @@ def faults(program, folder):
         check("served", audit(program, "left", "left", BEN, *over), fault("file: Store"))
         exchange(server.port, READ_ITEM)
     for words in (["--bands", "bands.csv"], ["--rate", "1000"], ["--zone", "UTC0"]):
-        for told in (audit(program, "left", "left", BEN, *over, *words), surplus(program, "left", 1, 1, BEN, *over, *words)):
-            check(f"beside {words[0]}", (told[0], told[1], b"cannot be used with" in told[2]), (2, b"", True))
+        for result in (audit(program, "left", "left", BEN, *over, *words), surplus(program, "left", 1, 1, BEN, *over, *words)):
+            check(f"beside {words[0]}", (result[0], result[1], b"cannot be used with" in result[2]), (2, b"", True))
 
 
 def settings(program, folder):

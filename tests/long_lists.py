@@ -1,7 +1,7 @@
 #!/usr/bin/env python3
-"""Compares lists of 0, 1, 50, 51 and 120 rows with plain lists: `long_lists.py PROGRAM [WORD]`.
+"""Compares lists of 0, 1, 50, 51 and 120 rows with plain lists: `long_lists.py PROGRAM WORD`.
 
-The program is that of the crate `test_store`, with `memory` for a house in memory and no word for one in SQLite. Of
+The program is that of the crate `test_store`, with `memory` for a house in memory and `sqlite` for one in SQLite. Of
 each length there are a category, a member's bids, watches, questions, sales, reserves and feedback, the questions on
 one item, and those that wait for a seller, on one item or on as many. Each list is asked for from several of its rows
 on; each answer has to be that of tests/plain_house.py. The last line is 'N of N answers, M wrong'.
@@ -38,7 +38,7 @@ class Script:
         self.lines.append((" ".join(["?", name, *map(spelled, words)]), getattr(self.house, name)(*words)))
 
     def ask_from(self, name, number, rows):
-        """A list from 0, and from its first, second, middle and last row and behind it."""
+        """A list from 0, and from its first, second, middle and last row and after it."""
         points = [rows[0], rows[1 % len(rows)], rows[len(rows) // 2], rows[-1], rows[-1] + 1] if rows else [1]
         for least in (0, *points):
             self.ask(name, number, least)

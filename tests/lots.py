@@ -47,12 +47,12 @@ LISTED = ["row 1: item 2", totals(1, 0, 0)]
 RANGE = ["row 1: refused Range", totals(0, 0, 1)]
 HEADS, CSV = b"auction: lots: Head\n", b"auction: lots: Csv\n"
 
-# Rows behind the head, and what is printed; the last of them is the line on standard error.
+# Rows after the head, and what is printed; the last of them is the line on standard error.
 WRITTEN_ROWS = [
     ("commas and semicolons in quotes", b'B2,1,"Globe; large","Brass, wood; 1952",7.50,,6000\n', LISTED, b""),
     ("quotes doubled", b'B2,1,"A ""great"" globe","""",7.50,,6000\n', LISTED, b""),
     ("quotes in a plain field", b'B2,1,A "great" globe,"",7.50,,6000\n', LISTED, b""),
-    ("bytes behind a closing quote", b'B2,1,"Glo"be,,7.50,,6000\n', LISTED, b""),
+    ("bytes after a closing quote", b'B2,1,"Glo"be,,7.50,,6000\n', LISTED, b""),
     ("no last line end", b"B2,1,Globe,,7.50,,6000", LISTED, b""),
     ("spaces", b"B2,1, Globe ,  ,7.50,,6000\n", LISTED, b""),
     ("letters of all kinds", "B2,1,Étoile €😀,\u2028\x85,7.50,,6000\n".encode(), LISTED, b""),

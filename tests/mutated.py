@@ -6,11 +6,11 @@ put in, lengths are changed, heads are spliced, fields and bodies change places.
 time, 5 without it, a few go over TCP in pieces of any size to a house in a file. No process may die, or take more memory
 than MOST_MEMORY.
 
-Which messages a stream has is told by two rules alone: a head ends at its first empty line, those before it left out,
+Which messages a stream has is decided by two rules alone: a head ends at its first empty line, those before it left out,
 and a body has as many bytes as the head says. Each whole message has to be answered as tests/plain_site.py answers
 the plain one that says the same, up to the first answer that ends the connection, which may tell a fault of the
-frame; what is left of a stream has to be told one. Then the commands that were accepted are sent plainly, and have to
-be answered the same and to leave the same record, or the same rows in the file. COUNT answers are told at least, 5,000
+frame; what is left of a stream has to be answered one. Then the commands that were accepted are sent plainly, and have to
+be answered the same and to leave the same record, or the same rows in the file. COUNT answers are given at least, 5,000
 without it. The last line is 'N answers, M accepted, K wrong'.
 
 Seed 2026, on the proved program before reserves: 100,026 answers in 5,555 streams, some from 739 houses in files, of
@@ -172,9 +172,9 @@ def exchange(port, parts):
         connection.setsockopt(socket.IPPROTO_TCP, socket.TCP_NODELAY, 1)
         sending = threading.Thread(target=send, args=(connection, parts))
         sending.start()
-        told = read_all(connection)
+        answers = read_all(connection)
         sending.join()
-        return told
+        return answers
 
 
 def send(connection, parts):
@@ -183,7 +183,7 @@ def send(connection, parts):
             connection.sendall(part)
         connection.shutdown(socket.SHUT_WR)
     except OSError:
-        # The connection was ended at a broken frame, which is told in the answers.
+        # The connection was ended at a broken frame, which the answers show.
         pass
 
 
@@ -192,7 +192,7 @@ def limit():
 
 
 class Mutated:
-    """Streams that were sent, and what was told."""
+    """Streams that were sent, and what was answered."""
 
     def __init__(self, program, folder, seed):
         self.program, self.folder, self.chance = program, folder, random.Random(seed)
@@ -206,20 +206,20 @@ class Mutated:
         for request in sender.messages(self.chance.randint(1, MOST_MESSAGES)):
             sender.site.answer(request)
             texts.append(request.text())
-        percent, told = self.chance.choice(SPOILED), []
+        percent, spoiled = self.chance.choice(SPOILED), []
         for text in texts:
             while text and self.chance.randrange(100) < percent:
                 kind = self.chance.choice(KINDS)
                 text = kind(self.chance, text, self.chance.choice(texts))
                 self.spoiled[kind.__name__] += 1
-            told.append(text)
-        return b"".join(told)
+            spoiled.append(text)
+        return b"".join(spoiled)
 
-    def judged(self, site, stream, told):
-        """Compares what was told with what the plain site answers, and gives the commands that were accepted, with
-        their answers, and what is told behind the answers."""
+    def judged(self, site, stream, answers):
+        """Compares what was answered with what the plain site answers, and gives the commands that were accepted, with
+        their answers, and what follows the answers."""
         try:
-            texts, rest = answers_in(told)
+            texts, rest = answers_in(answers)
         except Malformed as malformed:
             check("well-formed", str(malformed), "")
             return [], b""
@@ -228,8 +228,8 @@ class Mutated:
         self.streams += 1
         self.statuses.update(text[9:12].decode() for text in texts)
         closed = [HEAD.match(text)[5] is not None for text in texts]
-        check("nothing behind the last", True in closed[:-1], False)
-        # What is left is told a fault, and each whole message is answered, up to the answer that ends the connection.
+        check("nothing after the last", True in closed[:-1], False)
+        # What is left is answered with a fault, and each whole message is answered, up to the answer that ends the connection.
         whole = texts[:-1] if closed and closed[-1] else texts
         check(f"as many answers {stream[:300]}", len(whole) <= len(messages), True)
         if closed and closed[-1]:
@@ -260,9 +260,9 @@ class Mutated:
                  *(["--preset"] if settings["preset"] else [])]
         site = Site(**settings)
         stream = self.stream(site)
-        status, told, error = self.program.ended(*words, given=stream)
+        status, output, error = self.program.ended(*words, given=stream)
         check("replayed", (status, error), (0, b""))
-        accepted, record = self.judged(site, stream, told)
+        accepted, record = self.judged(site, stream, output)
         again = self.program.ended(*words, given=b"".join(request.text() for request, _ in accepted))
         check("replayed plainly", again, (0, b"".join(answer for _, answer in accepted) + record, b""))
         check("the record", record, site.record() + b"\n")
@@ -280,13 +280,13 @@ class Mutated:
         with self.program.serving("spoiled", count) as server:
             for _ in range(count):
                 stream = self.stream(site)
-                told = exchange(server.port, pieces(self.chance, stream))
-                more, rest = self.judged(site, stream, told)
+                replies = exchange(server.port, pieces(self.chance, stream))
+                more, rest = self.judged(site, stream, replies)
                 check("nothing but answers", rest, b"")
                 accepted += more
         check("served", server.ending, served(count))
-        told, ending = self.program.answers("plain", [b"".join(request.text() for request, _ in accepted)])
-        check("served plainly", (told[0], ending), (b"".join(answer for _, answer in accepted), served(1)))
+        replies, ending = self.program.answers("plain", [b"".join(request.text() for request, _ in accepted)])
+        check("served plainly", (replies[0], ending), (b"".join(answer for _, answer in accepted), served(1)))
         check("rows", rows(self.folder, "spoiled"), rows(self.folder, "plain"))
         self.accepted += site.accepted
 

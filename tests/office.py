@@ -2,9 +2,9 @@
 """Lists lots, prints statements and audits runs: `office.py PROGRAM`.
 
 Each fault of `import`, `statement`, `bands`, `audit` and `surplus` has its line and its exit status, and of two faults
-the one that comes first in order is told. What is printed has to be what the worked rows have; an import that is made again lists nothing
+the one that comes first in order is reported. What is printed has to be what the worked rows have; an import that is made again lists nothing
 and leaves every table as it was; and the file alone is then the house. An import ends where its output or the store
-fails, and what it printed stands. The last line is 'N checks, M wrong'.
+fails, and what it printed remains. The last line is 'N checks, M wrong'.
 
 Bodies that give up, put in by hand in a program that was built without proofs, were found by this script with lots.py,
 accounts.py and twins.py. Of `import` each of its eight faults always, each of six at the first row; `Memory` at the
@@ -105,10 +105,10 @@ def rows(folder, name):
     """All that a house's file has, by SQLite, without its log."""
     shutil.copy(folder / name, folder / "alone")
     database = sqlite3.connect(folder / "alone")
-    told = list(database.iterdump())
+    dump = list(database.iterdump())
     database.close()
     (folder / "alone").unlink()
-    return told
+    return dump
 
 
 def written(folder, name, text):
@@ -130,24 +130,24 @@ def imports(program, folder):
     lots = written(folder, "lots.csv", LOTS)
     check("first import", program.ended("import", "house", lots, *BY_ANA), printed(FIRST_IMPORT))
     before = rows(folder, "house")
-    check("its row stands", sum("'B2'" in row for row in before), 1)
+    check("its row is there", sum("'B2'" in row for row in before), 1)
     check("second import", program.ended("import", "house", lots, *BY_ANA), printed(SECOND_IMPORT))
     check("which changes nothing", rows(folder, "house"), before)
     none = b"0 listed, 0 there already, 0 refused\n"
     check("no row", program.ended("import", "house", written(folder, "none.csv", HEAD), *BY_ANA), printed(none))
     for number, (row, name) in enumerate(UNREAD):
         lots = written(folder, "unread.csv", HEAD + row + "\n")
-        told = b"row 1: fault %s\n0 listed, 0 there already, 1 refused\n" % name.encode()
-        check(f"unread {number}", program.ended("import", "house", lots, *BY_ANA), printed(told, 1))
+        lines = b"row 1: fault %s\n0 listed, 0 there already, 1 refused\n" % name.encode()
+        check(f"unread {number}", program.ended("import", "house", lots, *BY_ANA), printed(lines, 1))
     lots = written(folder, "mixed.csv", HEAD + "A1,1,Atlas,,5.00,,5000\nC3,2,T,,5.00,,5000\nC3,1,T,,5.00,,5000\n"
                    + "D4,1," + "T" * 16384 + ",,5.00,,5000\n" + "E5,1,T,,5.00,,999\n")
-    told = (b"row 1: there already\nrow 2: refused Unknown\nrow 3: item 3\nrow 4: refused Range\n"
+    lines = (b"row 1: there already\nrow 2: refused Unknown\nrow 3: item 3\nrow 4: refused Range\n"
             b"row 5: refused Range\n1 listed, 1 there already, 3 refused\n")
-    check("mixed", program.ended("import", "house", lots, *BY_ANA), printed(told, 1))
-    behind = [b"MomentBehind"] * 3 + [b"Range", b"MomentBehind"]
+    check("mixed", program.ended("import", "house", lots, *BY_ANA), printed(lines, 1))
+    reasons = [b"MomentBehind"] * 3 + [b"Range", b"MomentBehind"]
     none_listed = b"0 listed, 0 there already, 5 refused\n"
     check("a moment behind", program.ended("import", "house", "mixed.csv", "--member", "1", "--moment", "999"),
-          printed(b"".join(b"row %d: refused %s\n" % row for row in enumerate(behind, 1)) + none_listed, 1))
+          printed(b"".join(b"row %d: refused %s\n" % row for row in enumerate(reasons, 1)) + none_listed, 1))
 
 
 def import_faults(program, folder):
@@ -171,10 +171,10 @@ def import_faults(program, folder):
               fault("lots: Head"))
     before = rows(folder, "house")
     short = written(folder, "short.csv", HEAD + "S1,1,Short,,5.00,,5000\nS2,1,Short,,5.00,,5000,\nS3,1\n")
-    status, told, error = program.ended("import", "house", short, *BY_ANA)
-    check("a long record", (status, told.startswith(b"row 1: item "), told.count(b"\n"), error),
+    status, output, error = program.ended("import", "house", short, *BY_ANA)
+    check("a long record", (status, output.startswith(b"row 1: item "), output.count(b"\n"), error),
           (1, True, 1, b"auction: lots: Csv\n"))
-    check("its row before it stands", len(rows(folder, "house")), len(before) + 1)
+    check("its row before it is there", len(rows(folder, "house")), len(before) + 1)
     check("full", on_full_device(program, "import", "house", lots, *BY_ANA), (1, b"auction: output: Write\n"))
     check("a long record before a full output", on_full_device(program, "import", "house", short, *BY_ANA),
           (1, b"auction: lots: Csv\n"))
@@ -202,16 +202,16 @@ def failed_imports(program, folder):
     before = items(folder, file)
     check("a full output, many rows", on_full_device(program, "import", file, unread, *BY_ANA),
           (1, b"auction: output: Write\n"))
-    check("no row is listed behind a failed output", items(folder, file), before)
+    check("no row is listed after a failed output", items(folder, file), before)
     many = written(folder, "many.csv", HEAD + "".join(f"M{row},1,T,,5.00,,5000\n" for row in range(60)))
     file = changed(folder, "tight")
     tight = Program(program.path, program.folder, limited(300_000))
-    status, told, error = tight.ended("import", file, many, *BY_ANA)
-    listed = told.count(b"\n")
+    status, output, error = tight.ended("import", file, many, *BY_ANA)
+    listed = output.count(b"\n")
     check("a full disk", (status, error), (1, b"auction: file: Store\n"))
-    check("its rows", told, b"".join(b"row %d: item %d\n" % (row, row + before) for row in range(1, listed + 1)))
+    check("its rows", output, b"".join(b"row %d: item %d\n" % (row, row + before) for row in range(1, listed + 1)))
     ended = program.ended("import", file, many, *BY_ANA)[1].splitlines()
-    check("which stand, and at most one more", sum(b"there already" in line for line in ended[:-1]) - listed in (0, 1),
+    check("which are there, and at most one more", sum(b"there already" in line for line in ended[:-1]) - listed in (0, 1),
           True)
 
 
@@ -235,7 +235,7 @@ def band_tables(program, folder):
     check("a moment behind", program.ended("bands", file, table, *past), fault("refused MomentBehind"))
     check("which changes nothing", rows(folder, file), before)
     check("a full output", on_full_device(program, "bands", file, table, *now), (1, b"auction: output: Write\n"))
-    check("after which the table stands", program.ended("bands", file, table, *now), printed(b"edition 5\n"))
+    check("after which the table is there", program.ended("bands", file, table, *now), printed(b"edition 5\n"))
     full = changed(folder, "full", *(f"INSERT INTO edition VALUES ({edition}, {first})" for edition in range(2, 101)),
                    *(f"INSERT INTO later_band VALUES ({edition}, 0, 5)" for edition in range(2, 101)))
     check("one too many", program.ended("bands", full, table, *now), fault("refused Limit"))
@@ -253,11 +253,11 @@ def edges(program, folder):
     row = written(folder, "row.csv", HEAD + f"E1,1,T,,5.00,,{LAST_MOMENT}\n")
     file = changed(folder, "early", "UPDATE house SET clock = 0")
     listed = items(folder, file) + 1
-    told = b"row 1: item %d\n1 listed, 0 there already, 0 refused\n" % listed
-    check("at moment 0", program.ended("import", file, row, "--member", "2", "--moment", "0"), printed(told))
+    lines = b"row 1: item %d\n1 listed, 0 there already, 0 refused\n" % listed
+    check("at moment 0", program.ended("import", file, row, "--member", "2", "--moment", "0"), printed(lines))
     file = changed(folder, "large", *(f"INSERT INTO member VALUES ({row}, 'n{row}')" for row in range(4, 301)))
     by_last = ["--member", "300", "--moment", str(LAST_MOMENT - 1)]
-    check("before the last moment", program.ended("import", file, row, *by_last), printed(told))
+    check("before the last moment", program.ended("import", file, row, *by_last), printed(lines))
     check("of the last member", program.ended("statement", file, "--member", "300", "--from", "1970-01-01", "--to",
                                               "2100-12-31"), printed(NO_DAY))
 
@@ -291,18 +291,18 @@ def statements(program, folder):
     check("full", on_full_device(program, "statement", "sales", *words), (1, b"auction: output: Write\n"))
 
 
-def run(third, behind=()):
+def run(third, rest=()):
     """A run in which one member bids and another bids so much, and the first looks at the item."""
     return b"".join([*PRESET, message("POST", "/items/1/bids", 2, 1001, '{"maximum":1000}'),
-                     message("POST", "/items/1/bids", 3, 1002, '{"maximum":%d}' % third), READ_ITEM, *behind])
+                     message("POST", "/items/1/bids", 3, 1002, '{"maximum":%d}' % third), READ_ITEM, *rest])
 
 
-def sealed(reserve, maximum=700, behind=()):
+def sealed(reserve, maximum=700, rest=()):
     """A run in which an item has a reserve, and one member bids on it and looks at it."""
     listing = '{"category":1,"end":6000,"lot":"B2","reserve":%d,"start":500,"text":"","title":"Globe"}' % reserve
     return b"".join([*PRESET, message("POST", "/items", 1, 1000, listing),
                      message("POST", "/items/2/bids", 2, 1001, '{"maximum":%d}' % maximum),
-                     message("GET", "/items/2", 2), *behind])
+                     message("GET", "/items/2", 2), *rest])
 
 
 def audits(program, folder):

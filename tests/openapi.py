@@ -1,15 +1,15 @@
 #!/usr/bin/env python3
 """Holds answers against docs/openapi.yaml, the description of the interface: `openapi.py SUITE..`.
 
-The suites are folders of conformance cases. Each answer of `replay` and of `serve` that stands in a case is held
+The suites are folders of conformance cases. Each answer of `replay` and of `serve` that is in a case is held
 against its place in the description: the path and the method of its message, its status, its headers and its body. The
 lists of `audit` and `surplus` have no answers with them; those of tests/plain_site.py are held. A message that was
-accepted has to fit the description too, in its path, its headers and its body. One that was told a fault of these must
+accepted has to fit the description too, in its path, its headers and its body. One that was answered a fault of these must
 not. At the bounds of each field and past them a body fits exactly where the plain site takes it.
 
 What is described has to be used: each operation, each refusal and each field of each operation, each fault, each
 status and each word of an enumeration. What no case has, `unseen` has from the rules. A refusal has the number and the
-status of the rules, and those of a command stand in the order of docs/HTTP.md. Nothing in an answer is open: an object
+status of the rules, and those of a command are in the order of docs/HTTP.md. Nothing in an answer is open: an object
 has all its keys and no other, and numbers, texts and lists have bounds. Last, an answer of each kind is spoiled in each
 way of tests/spoiled_answers.py, and none of these may fit.
 
@@ -105,14 +105,14 @@ class Description:
                  if operation.targets.fullmatch(text)]
         return next((operation for operation in found if operation.method == method), [*found, self.outside][0])
 
-    def is_answer(self, place, told):
+    def is_answer(self, place, reply):
         """Whether an answer is one that the description has in a place."""
-        response = place.responses.get(told.status)
-        return (response is not None and self.has_headers(response, told.headers)
-                and self.fits(body_schema(response), told.value))
+        response = place.responses.get(reply.status)
+        return (response is not None and self.has_headers(response, reply.headers)
+                and self.fits(body_schema(response), reply.value))
 
     def has_headers(self, response, headers):
-        """Whether these are the headers of a response, and no others; the body's type stands with its schema."""
+        """Whether these are the headers of a response, and no others; the body's type goes with its schema."""
         described = response["headers"]
         if headers.get("content-type") not in response["content"] or headers.keys() - described - {"content-type"}:
             return False
@@ -200,7 +200,7 @@ def leaves(value, key=""):
 
 
 @dataclasses.dataclass(frozen=True)
-class Told:
+class Reply:
     """An answer taken apart."""
     status: str
     headers: dict
@@ -210,7 +210,7 @@ class Told:
     def of(text):
         head, _, body = text.decode().partition("\r\n\r\n")
         line, *headers = head.split("\r\n")
-        return Told(line.split(" ")[1], dict(header.split(": ", 1) for header in headers), json.loads(body))
+        return Reply(line.split(" ")[1], dict(header.split(": ", 1) for header in headers), json.loads(body))
 
     def error(self):
         """The error, with the name of a field; nothing of an answer to what was accepted."""
@@ -235,7 +235,7 @@ def by_rules(stream, words, folder):
     if "--bands" in options:
         rows = (folder / options["--bands"]).read_text().replace('"', "").split()[1:]
         bands = [tuple(map(int, row.split(","))) for row in rows]
-    # In a zone that the plain site lacks other days would be told, in the same form.
+    # In a zone that the plain site lacks other days would be shown, in the same form.
     zone = options.get("--zone") if options.get("--zone") in AHEAD else "UTC0"
     site = Site(int(options.get("--rate", "1000")), zone, bands=bands)
     for message in cut(stream)[0]:
@@ -291,17 +291,17 @@ class Held:
     def hold(self, place, text, where):
         """Holds an answer against its place; gives its error."""
         self.count += 1
-        told = Told.of(text)
-        kind = place.name, told.status, told.error()
+        reply = Reply.of(text)
+        kind = place.name, reply.status, reply.error()
         if (kind, text) not in self.known:
             self.known.add((kind, text))
-            self.words.update(leaves(told.value))
+            self.words.update(leaves(reply.value))
             # The fullest of each kind is spoiled later, as long as that takes no time.
-            if kind not in self.kinds or len(str(self.kinds[kind][1])) < len(str(told)) < MOST_SPOILED:
-                self.kinds[kind] = place, told
-            if not self.description.is_answer(place, told):
+            if kind not in self.kinds or len(str(self.kinds[kind][1])) < len(str(reply)) < MOST_SPOILED:
+                self.kinds[kind] = place, reply
+            if not self.description.is_answer(place, reply):
                 self.fail(where, kind, text)
-        return told.value.get("error", "")
+        return reply.value.get("error", "")
 
     def hold_case(self, case):
         for request, text in pairs_of(case):
@@ -309,8 +309,8 @@ class Held:
             error = self.hold(place, text, case.stem)
             if place is not self.description.outside and error not in OF_FRAME:
                 misfit = self.misfit(place, request)
-                if not is_told(request, error, misfit):
-                    self.fail(f"{case.stem}: told {error or 'accepted'}, misfit {misfit}:", request.text()[-300:])
+                if not is_right(request, error, misfit):
+                    self.fail(f"{case.stem}: answered {error or 'accepted'}, misfit {misfit}:", request.text()[-300:])
 
     def misfit(self, place, request):
         """The first part of a message that does not fit the description, or none."""
@@ -398,19 +398,19 @@ class Held:
                     is_out = error in ("field", "Range")
                     # Whether there is a category of a number is another matter.
                     if error != "Unknown" and is_out == self.description.fits(place.body["schema"], fields):
-                        self.fail(place.name, "is told", error or "accepted", "with", field, repr(value)[:60])
+                        self.fail(place.name, "is answered", error or "accepted", "with", field, repr(value)[:60])
 
     def spoil(self):
         """No spoiled answer fits."""
-        for place, told in self.kinds.values():
-            for other in spoiled(place, told):
+        for place, reply in self.kinds.values():
+            for other in spoiled(place, reply):
                 self.spoiled += 1
                 if self.description.is_answer(place, other):
                     self.fail("spoiled, and fits:", place.name, other)
 
 
-def is_told(request, error, misfit):
-    """Whether a message was told as it has to be, by the first part of it that does not fit."""
+def is_right(request, error, misfit):
+    """Whether a message was answered as it has to be, by the first part of it that does not fit."""
     if error in BEFORE_BODY or misfit in BEFORE_BODY:
         return error == misfit
     if error in ("json", "field"):

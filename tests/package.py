@@ -24,11 +24,11 @@ UNIT = """[Unit]
 After=multi-user.target
 [Service]
 Type=exec
-ExecStart=/bin/sh -c "sh /trial/plain_debian.sh > /trial/told 2>&1; systemctl poweroff"
+ExecStart=/bin/sh -c "sh /trial/plain_debian.sh > /trial/printed 2>&1; systemctl poweroff"
 """
 PRICE = '"price":500'
 WANTED = {
-    "installed": "0", "waits for a house": "inactive", "set up told": "", "members": "house 0 ana 1 ben 2 ",
+    "installed": "0", "waits for a house": "inactive", "set up printed": "", "members": "house 0 ana 1 ben 2 ",
     "category": '{"category":1}', "item": '{"item":1}', "due": '{"item":2}',
     "bid": '{"count":1,"floor":550,"leader":2,"price":500}', "another page": '{"error":"gateway","why":"foreign"}',
     "no sign-in": '{"error":"gateway","why":"sign-in"}', "another user, the queue": "7", "another user, the house": "7",
@@ -53,14 +53,14 @@ def built(program, folder):
 
 def has_page(package):
     """All files of the page are in the package."""
-    told = subprocess.run(["dpkg-deb", "--contents", package], capture_output=True, text=True, check=True).stdout
-    packed = set(re.findall(r" \./usr/share/auction/page/(\S+)$", told, re.M))
+    listing = subprocess.run(["dpkg-deb", "--contents", package], capture_output=True, text=True, check=True).stdout
+    packed = set(re.findall(r" \./usr/share/auction/page/(\S+)$", listing, re.M))
     check("the page", packed, {file.name for file in (ROOT / "examples" / "gateway" / "page").iterdir()})
 
 
 def lint(package):
-    told = subprocess.run(["lintian", "--fail-on", "warning,error", package], capture_output=True, text=True)
-    check("lintian", (told.returncode, told.stdout), (0, ""))
+    result = subprocess.run(["lintian", "--fail-on", "warning,error", package], capture_output=True, text=True)
+    check("lintian", (result.returncode, result.stdout), (0, ""))
 
 
 def make_debian(place):
@@ -79,17 +79,17 @@ def boot(debian, package):
                         "--keep-unit", f"--directory={debian}", f"--bind={trial}:/trial",
                         f"--bind-ro={trial}/trial.service:/etc/systemd/system/trial.service", "systemd.wants=trial.service"],
                        stdin=subprocess.DEVNULL, capture_output=True, timeout=2 * PATIENCE)
-        file = trial / "told"
+        file = trial / "printed"
         return file.read_text() if file.exists() else "it did not boot"
 
 
 def judge(text):
-    """Compares what was told with what has to be."""
-    told = dict(re.findall(r"^([^:\n]+): ?(.*)$", text, re.M))
+    """Compares what was printed with what has to be."""
+    printed = dict(re.findall(r"^([^:\n]+): ?(.*)$", text, re.M))
     for name, wanted in WANTED.items():
-        check(name, told.get(name), wanted)
+        check(name, printed.get(name), wanted)
     for unit in ("auction", "auction-queue", "auction-close"):
-        exposure = told.get(f"exposure of {unit}")
+        exposure = printed.get(f"exposure of {unit}")
         print(f"{unit}: exposure {exposure}")
         check(f"exposure of {unit}", exposure is not None and float(exposure) < MOST_EXPOSED, True)
     if not all(CHECKS):

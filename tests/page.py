@@ -6,7 +6,7 @@ a house with some history behind nginx and haproxy. They find all by roles and n
 
 - a whole bid by the keyboard; a purchase after a second question; a button that waits while the house is still, and
   bids once
-- Ben, who loses, is told no digit of the maximum by which Cid leads: in no answer, and nowhere on the page
+- Ben, who loses, gets no digit of the maximum by which Cid leads: in no answer, and nowhere on the page
 - the countdown goes by the gateway's clock, also where the browser's is an hour wrong
 - names and texts that would do harm as HTML stay text, and turn nothing around them
 - all parts, light and dark, 360 and 1280 wide: names, roles, contrast, sizes, nothing wider than the window
@@ -41,7 +41,7 @@ TYPES = {"/": "text/html", "/main.js": "application/javascript", "/style.css": "
 # Elements that would be there if what members wrote were read as HTML.
 THEIRS = "img, main script, main svg, main i, main b"
 SEED = 2026
-# An address that stays is read again only if it is told so.
+# An address that stays is read again only if that is asked for.
 SHOW = """document.querySelector("h1")?.remove();
 if (location.hash === arguments[0]) { dispatchEvent(new HashChangeEvent("hashchange")); }
 location.hash = arguments[0];"""
@@ -145,7 +145,7 @@ def readers(gateway, *names, wrong):
 
 
 def auction(gateway, house, ana, ben, cid, pictures):
-    """The auction up to what Cid seals and Ben is told."""
+    """The auction up to what Cid seals and Ben is shown."""
     end = play.end_of_auction()
     number = play.lists_an_item(ana, end)
     play.bids_by_keys(ben)
@@ -155,7 +155,7 @@ def auction(gateway, house, ana, ben, cid, pictures):
     play.is_unsure(ben)
     play.talks(ana, ben)
     picture(ben, pictures, "item", f"item/{number}")
-    play.never_told(ben)
+    play.never_shown(ben)
     play.countdown(cid, end)
     return number
 
@@ -204,8 +204,8 @@ def main():
             auction(gateway, house, ana, ben, cid, pictures)
             meanwhile(gateway, house, ana, ben)
             spreadsheet = after_the_end(gateway, house, ana, ben, cid, pictures, pathlib.Path(saved))
-            play.never_told(ben)
-            play.is_told(cid)
+            play.never_shown(ben)
+            play.is_shown(cid)
             play.no_faults(all_of_them)
         gateway.stop()
         play.same_as_the_program(gateway, spreadsheet)

@@ -156,8 +156,8 @@ def make_house(program, folder, history):
     tool = Program(gateway.program, house, before=as_nobody)
     words = ["--bands", str(gateway.examples / "bands.csv"), "--rate", "1000", "--zone", ZONE]
     check("a house is made", tool.ended("init", "house", *words)[0], 0)
-    [told], _ = tool.answers("house", [b"".join(history(int(time.time())))])
-    check("its history is taken", told.count(b"HTTP/1.1 20"), told.count(b"HTTP/1.1 "))
+    [answers], _ = tool.answers("house", [b"".join(history(int(time.time())))])
+    check("its history is taken", answers.count(b"HTTP/1.1 20"), answers.count(b"HTTP/1.1 "))
     write_passwords(house)
     for file in house.iterdir():
         if os.geteuid() == 0:

@@ -143,7 +143,7 @@ function parts() {
   all("input, textarea, select").filter(element => !element.labels.length).forEach(element => say("no label", element));
 }
 
-// Marks of right-to-left may turn what stands in the same isolated part alone.
+// Marks of right-to-left may turn what is in the same isolated part alone.
 function turns() {
   const walker = document.createTreeWalker(document.body, NodeFilter.SHOW_TEXT);
   while (walker.nextNode()) {

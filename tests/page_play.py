@@ -1,7 +1,7 @@
 """An auction from its listing to its statement, played on the page by the house, a seller and two who bid.
 
-Each has a browser, and uses the page by roles and names alone. Cid seals a maximum whose digits stand nowhere else:
-Ben, who loses, must never be told them.
+Each has a browser, and uses the page by roles and names alone. Cid seals a maximum whose digits are nowhere else:
+Ben, who loses, must never be shown them.
 """
 import re
 import signal
@@ -100,13 +100,13 @@ def seals(cid):
     cid.press("button", "Bid")
     cid.press("button", f"Bid up to {SECRET}")
     cid.wait_for_text("Your bid is taken, and you lead at 152.50.")
-    check("the leader is told its own maximum", has_secret(cid.text()), True)
+    check("the leader is shown its own maximum", has_secret(cid.text()), True)
 
 
 def is_outbid(ben):
-    """What changed is told without being asked."""
-    told = ben.wait(lambda: "You were outbid" in ben.told() and ben.told(), "outbid")
-    check("the price that rose is told", "The price is now 152.50." in told, True)
+    """What changed is announced without being asked."""
+    announced = ben.wait(lambda: "You were outbid" in ben.announced() and ben.announced(), "outbid")
+    check("the price that rose is announced", "The price is now 152.50." in announced, True)
     ben.wait_for_text("Bid 155.00 or more.")
 
 
@@ -189,7 +189,7 @@ def countdown(cid, end):
     left = time_in(re.search(r"Ends in (.*?) (?:Sun|Mon|Tues|Wednes|Thurs|Fri|Satur)day", text)[1])
     really = end - time.time()
     check(f"the countdown: {left} of {really:.1f} s", really - 8 < left <= really + 1, True)
-    check("a wrong clock is told", "Your clock is 1 hour" in cid.wait_for_text("ahead of the house's."), True)
+    check("a wrong clock is reported", "Your clock is 1 hour" in cid.wait_for_text("ahead of the house's."), True)
 
 
 def time_in(words):
@@ -235,7 +235,7 @@ def loses(ben):
 
 
 def statements(gateway, ana, ben, cid):
-    """What each is told of the sale, line by line."""
+    """What each is shown of the sale, line by line."""
     line = {}
     for one in (ana, ben, cid):
         one.go_to("Statement")
@@ -243,10 +243,10 @@ def statements(gateway, ana, ben, cid):
         cells = [node.name for node in one.all("cell")]
         rows = [cells[at:at + 7] for at in range(0, len(cells), 7)]
         line[one.name] = next((row for row in rows if row[1] == TITLE), None)
-        told = gateway.ask(one.name, "GET", f"/api/me/statement/{YEAR}-01-01/{YEAR}-12-31").value
-        check(f"{one.name}: as many lines as there are", len(rows) - 2, len(told["lines"]))
-        check(f"{one.name}: totals", rows[-2][4:], [money(told[key]) for key in ("sold", "fees", "net")])
-        check(f"{one.name}: bought", rows[-1][4], money(told["bought"]))
+        value = gateway.ask(one.name, "GET", f"/api/me/statement/{YEAR}-01-01/{YEAR}-12-31").value
+        check(f"{one.name}: as many lines as there are", len(rows) - 2, len(value["lines"]))
+        check(f"{one.name}: totals", rows[-2][4:], [money(value[key]) for key in ("sold", "fees", "net")])
+        check(f"{one.name}: bought", rows[-1][4], money(value["bought"]))
         check(f"{one.name}: a chart", len(one.all("image")) + len(one.all("img")), 1)
     check("the seller's line", line["ana"][2:], ["Sold", "Cid", "202.50", "20.25", "182.25"])
     check("the loser has no line", line["ben"], None)
@@ -275,7 +275,7 @@ def record(gateway, house, folder):
     table = read("/bands")
     check("a second band table", gateway.ask("house", "POST", "/api/bands", table).value, {"edition": 2})
     house.go_to("The house")
-    told = saved(house, "Save the public record", folder, r"record-.*\.json")
+    text = saved(house, "Save the public record", folder, r"record-.*\.json")
     house.wait_for_text("The record is saved.")
     state = read("/house")
     items = [read(f"/items/{number}") for number in range(1, state["items"] + 1)]
@@ -286,7 +286,7 @@ def record(gateway, house, folder):
               "members": [{key: one[key] for key in ("member", "name")} for one in members],
               "feedback": sorted(feedback, key=lambda one: (one["item"], one["from"])),
               "questions": [one for item in items for one in read(f"/items/{item['item']}/questions/1")["questions"]]}
-    check("the public record", told, compact(wanted))
+    check("the public record", text, compact(wanted))
 
 
 def registers(house):
@@ -313,7 +313,7 @@ def same_as_the_program(gateway, spreadsheet):
     check("the same spreadsheet", tool.ended("statement", "house", *words), (0, spreadsheet, b""))
 
 
-def never_told(ben):
+def never_shown(ben):
     """Neither the loser's page nor any answer that it was given has the leader's maximum."""
     ben.listen()
     found = [url for url, _, body in ben.answers if has_secret(body) or has_secret(url)]
@@ -322,8 +322,8 @@ def never_told(ben):
     check("what the loser's reader reads", has_secret(" ".join(f"{node.name} {node.value}" for node in ben.tree())), False)
 
 
-def is_told(cid):
-    """The leader is told its own maximum, by the same look at answers and page."""
+def is_shown(cid):
+    """The leader is shown its own maximum, by the same look at answers and page."""
     cid.listen()
     check("answers to the leader", any(has_secret(body) for _, _, body in cid.answers), True)
     cid.go_to("My bids")

@@ -37,8 +37,8 @@ def in_page(page, module, work, words):
 
 def amounts(page):
     texts = [*AMOUNTS, *NO_AMOUNTS]
-    told = in_page(page, "money.js", "words.map(it.cents)", texts)
-    check("amounts that are read", dict(zip(texts, told)), {**AMOUNTS, **dict.fromkeys(NO_AMOUNTS)})
+    results = in_page(page, "money.js", "words.map(it.cents)", texts)
+    check("amounts that are read", dict(zip(texts, results)), {**AMOUNTS, **dict.fromkeys(NO_AMOUNTS)})
     check("amounts that are shown", in_page(page, "money.js", "words.map(it.shown)", list(SHOWN)), list(SHOWN.values()))
 
 
@@ -53,8 +53,8 @@ def zones(page, seed):
 
 def offsets(page, rule, moments):
     wanted = [offset(moment) for moment in moments]
-    told = in_page(page, "zone.js", "words[1].map(moment => it.at(it.parse(words[0]), moment).offset)", [rule, moments])
-    wrong = [pair for pair in zip(moments, told, wanted) if pair[1] != pair[2]]
+    results = in_page(page, "zone.js", "words[1].map(moment => it.at(it.parse(words[0]), moment).offset)", [rule, moments])
+    wrong = [pair for pair in zip(moments, results, wanted) if pair[1] != pair[2]]
     check(f"offsets of {rule}", wrong[:3], [])
     backward(page, rule, moments)
 
@@ -89,8 +89,8 @@ def backward(page, rule, moments):
     minutes = sorted({moment // 60 * 60 for moment in moments})
     shown = [spelled(moment) for moment in minutes]
     work = "words[1].map(([day, time]) => it.momentOf(it.parse(words[0]), day, time))"
-    told = in_page(page, "zone.js", work, [rule, shown])
-    wrong = [(moment, back) for moment, back, one in zip(minutes, told, shown) if back > moment or spelled(back) != one]
+    results = in_page(page, "zone.js", work, [rule, shown])
+    wrong = [(moment, back) for moment, back, one in zip(minutes, results, shown) if back > moment or spelled(back) != one]
     check(f"moments of {rule}", wrong[:3], [])
 
 
@@ -99,12 +99,12 @@ def refusals(page):
     words = [[{"error": error, "floor": 600, "field": "maximum"}, {"tried": tried, "isRead": is_read}]
              for error in [*NUMBERS, *FAULTS] for tried in TRIED for is_read in (False, True)]
     words += [[{"error": "gateway", "why": why}, {"isRead": is_read}] for why in GATEWAY for is_read in (False, True)]
-    told = in_page(page, "words.js", "words.map(pair => it.sentence(...pair))", words)
-    for (refusal, context), sentence in zip(words, told):
+    results = in_page(page, "words.js", "words.map(pair => it.sentence(...pair))", words)
+    for (refusal, context), sentence in zip(words, results):
         # No sentence shows a word that only programs read, such as NotHigher.
         is_plain = re.fullmatch(r"[A-Z][^{}]*[.]", sentence) and not re.search(r"[a-z][A-Z]|undefined|null", sentence)
         check(f"{refusal} {context}: {sentence}", bool(is_plain), True)
-    unlike = [sentence for (refusal, context), sentence in zip(words, told)
+    unlike = [sentence for (refusal, context), sentence in zip(words, results)
               if refusal["error"] in NUMBERS and context == {"tried": None, "isRead": False}]
     check("each has its own", len(set(unlike)), len(NUMBERS))
     check("a faster bid", in_page(page, "words.js", "it.sentence(...words)", [{"error": "Low", "floor": 600}, {"floor": 550}]),
@@ -112,10 +112,10 @@ def refusals(page):
 
 
 def reserves(page):
-    """Whether a reserve is met is told where the interface tells it."""
+    """Whether a reserve is met is shown where the interface has it."""
     items = [{}, {"met": None}, {"met": True}, {"met": False}]
-    told = in_page(page, "standing.js", "words.map(it.reserveInWords)", items)
-    check("reserves", told, ["", "", "Reserve met", "Reserve not met"])
+    results = in_page(page, "standing.js", "words.map(it.reserveInWords)", items)
+    check("reserves", results, ["", "", "Reserve met", "Reserve not met"])
 
 
 def files():

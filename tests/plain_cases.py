@@ -2,7 +2,7 @@
 """Plays conformance cases on the plain site alone, without a program: `plain_cases.py FOLDER:PATTERN..`.
 
 Each folder is a suite, of which the cases are played whose names fit the pattern. What plain_site.py and plain_office.py
-make of a case has to be what stands there: the answers and the record of `replay`, what `import` and `statement` print
+make of a case has to be what it has: the answers and the record of `replay`, what `import` and `statement` print
 over the house that its messages make, what `audit` and `surplus` tell. So the rules in Python, to which the program is
 held, are held to the cases themselves. Cases that tell a fault of words, files or tables are left out. The last line is
 'N cases, M left out, K wrong'.
@@ -57,7 +57,7 @@ class Case:
         return [request_of(*message) for message in messages]
 
     def run(self, requests):
-        """A list as the plain site plays it. In a zone that it lacks other days would be told, to both lists alike."""
+        """A list as the plain site plays it. In a zone that it lacks other days would be shown, to both lists alike."""
         chosen = settings(self.path.parent, self.words)
         return Run({**chosen, "zone": chosen["zone"] if chosen["zone"] in AHEAD else "UTC0"}, requests, self.member)
 
@@ -89,31 +89,31 @@ def is_head(request):
 
 
 def answered(site, stream, wanted):
-    """What the plain site answers to a stream. Which fault its rest has is told by what is wanted, if that is one."""
+    """What the plain site answers to a stream. Which fault its rest has is known by what is wanted, if that is one."""
     messages, left = cut(stream)
-    told = []
+    texts = []
     for message in messages:
         request = request_of(*message)
         answer = site.answer(request) if is_head(request) else None
-        told.append(answer.text() if answer else NO_HEAD)
+        texts.append(answer.text() if answer else NO_HEAD)
         if answer is None or answer.closes:
-            return b"".join(told)
+            return b"".join(texts)
     last = answers_in(wanted)[0][-1:] if left else []
-    return b"".join([*told, *filter(BROKEN.search, last)])
+    return b"".join([*texts, *filter(BROKEN.search, last)])
 
 
 # What standard output and the status have to be, by command.
 
 def replay(case):
     site = ZonedSite(**settings(case.path.parent, case.words), preset="--preset" in case.words)
-    told = answered(site, case.read(".in"), case.read(".out"))
-    return told + (site.record() + b"\n" if "--record" in case.words else b""), 0
+    output = answered(site, case.read(".in"), case.read(".out"))
+    return output + (site.record() + b"\n" if "--record" in case.words else b""), 0
 
 
 def lots(case):
     text = (case.path.parent / case.words[2]).read_bytes()
-    status, told, _ = plain_office.imported(case.house().house, case.member, int(case.options["--moment"]), text)
-    return told, status
+    status, output, _ = plain_office.imported(case.house().house, case.member, int(case.options["--moment"]), text)
+    return output, status
 
 
 def statement(case):
@@ -144,7 +144,7 @@ def surplus(case):
     return (b"same, %d replies\n" % case.replies(requests), 0) if is_covered else (b"not covered\n", 1)
 
 
-TOLD = {"replay": replay, "import": lots, "statement": statement, "bands": bands, "audit": audit, "surplus": surplus}
+PLAYS = {"replay": replay, "import": lots, "statement": statement, "bands": bands, "audit": audit, "surplus": surplus}
 
 
 def main():
@@ -159,10 +159,10 @@ def main():
             if case.is_fault():
                 left_out += 1
                 continue
-            told, wanted = TOLD[case.words[0]](case), (case.read(".out"), int(case.read(".status")))
-            if told != wanted:
+            played, wanted = PLAYS[case.words[0]](case), (case.read(".out"), int(case.read(".status")))
+            if played != wanted:
                 wrong += 1
-                print(f"{path.stem}\n  wanted {wanted}\n  told   {told}"[:3000])
+                print(f"{path.stem}\n  wanted {wanted}\n  got    {played}"[:3000])
     print(f"{count} cases, {left_out} left out, {wrong} wrong")
     return 1 if wrong else 0
 

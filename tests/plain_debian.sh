@@ -1,6 +1,6 @@
 #!/bin/sh
 # Runs as root in a plain Debian that has booted with systemd, and in which /trial has the package: it installs and
-# runs it, as examples/service/README.md says, and removes it. Prints lines of a name and what was told, of which
+# runs it, as examples/service/README.md says, and removes it. Prints lines of a name and what was printed, of which
 # package.py knows what they have to be.
 set -u
 cd /trial
@@ -30,7 +30,7 @@ wait_until() {
     say "waited in vain" "$1"
 }
 
-# What is told of the house once it is served again after what a line of shell does.
+# What is printed of the house once it is served again after what a line of shell does.
 again() {
     before=$(systemctl show -P NRestarts auction)
     eval "$2"
@@ -42,7 +42,7 @@ systemctl is-system-running --wait > /dev/null
 say installed "$(apt-get install -y --no-install-recommends ./auction_*.deb > install.log 2>&1; echo $?)"
 say "waits for a house" "$(systemctl is-active auction.service)"
 say "set up" "$(sh /usr/share/auction/setup.sh $name 2> setup.err; echo $?)"
-say "set up told" "$(cat setup.err)"
+say "set up printed" "$(cat setup.err)"
 sh /usr/share/auction/add_member.sh /etc/auction house ana ben > passwords
 say members "$(cut -d ' ' -f 1,2 passwords | tr '\n' ' ')"
 wait_until 'ask ben /me/bids/1 | grep -q bids'

@@ -130,7 +130,7 @@ class House:
     def placed_on(self, item):
         return [bid for bid in self.placed if bid.item == item.number]
 
-    def stands(self, item):
+    def standing_of(self, item):
         bids = self.placed_on(item)
         if not bids:
             return Standing(item.start, None, None, None, 0, item.start)
@@ -143,16 +143,16 @@ class House:
         return Standing(price, leader, top, second, len(bids), over(price, self.table(item)))
 
     def leader(self, item):
-        return self.stands(item).leader if item.buyer is None else item.buyer
+        return self.standing_of(item).leader if item.buyer is None else item.buyer
 
     def price(self, item):
-        return self.stands(item).price if item.buyer is None else item.buy_now
+        return self.standing_of(item).price if item.buyer is None else item.buy_now
 
     def met(self, item):
         """Whether an item's reserve is met, or none where it has no reserve."""
         if item.reserve is None:
             return None
-        return item.buyer is not None or (self.stands(item).top or 0) >= item.reserve
+        return item.buyer is not None or (self.standing_of(item).top or 0) >= item.reserve
 
     def sells(self, item):
         """Whether an item that is taken now is sold."""
@@ -227,12 +227,12 @@ class House:
 
     def order_bid(self, moment, caller, number, maximum):
         item = self.open_to(moment, caller, number)
-        stands = self.stands(item)
-        leads = stands.leader == caller
+        standing = self.standing_of(item)
+        leads = standing.leader == caller
         refuse(maximum > MOST_CENTS, "Range")
         refuse(leads and maximum <= max(self.maxima(number, caller), default=0), "NotHigher")
-        refuse(not leads and maximum < stands.floor, f"Low {stands.floor}")
-        refuse(stands.count >= 10_000, "Limit")
+        refuse(not leads and maximum < standing.floor, f"Low {standing.floor}")
+        refuse(standing.count >= 10_000, "Limit")
         self.placed.append(Bid(number, caller, maximum))
 
     def order_buy(self, moment, caller, number):
@@ -362,7 +362,7 @@ class House:
         item = self.found(number)
         if item is None:
             return "-"
-        s = self.stands(item)
+        s = self.standing_of(item)
         return (f"price {s.price}, leader {dash(s.leader)}, top {dash(s.top)}, "
                 f"second {dash(s.second)}, count {s.count}, floor {s.floor}")
 

@@ -1,14 +1,19 @@
 #!/usr/bin/env python3
-"""What a script of houses and reads has to show, by the plain site: `plain_pages.py < SCRIPT`.
+"""What a script of houses and reads has to show, by the plain site: `plain_pages.py`.
 
-It makes crates/test_pages/stdout from the stdin there, a transcript; crates/test_pages/src/script.rt says what
-a line may be. Nothing of ours is asked: the rules are those of plain_house.py, the pages plain_site.py's.
+It looks whether the section `pages` of crates/test_site/stdout, a transcript, is the one that it makes from that of the
+stdin there; `plain_pages.py stored` writes it. crates/test_site/src/page_script.rt says what a line may be. Nothing of
+ours is asked: the rules are those of plain_house.py, the pages plain_site.py's. The last line is 'N lines, M wrong'.
 """
+import itertools
+import pathlib
 import sys
 
 from plain_site import Site
 from sent import command, compact, read
-from transcript import is_printed, lines, played
+from transcript import is_printed, lines, played, section
+
+CRATE = pathlib.Path(__file__).resolve().parent.parent / "crates" / "test_site"
 
 
 def ordered(line):
@@ -32,7 +37,7 @@ def requests(word, rest):
 
 
 def shown(script):
-    """The lines that are printed, and behind each what it shows, if it shows anything."""
+    """The lines that are printed, and after each what it shows, if it shows anything."""
     site = Site()
     for line in lines(script):
         if is_printed(line):
@@ -52,10 +57,25 @@ def shown(script):
                 raise ValueError(f"{line}: {answer.value}")
 
 
+def compared(stored, made):
+    """Tells the lines of a section that are others than those that are made."""
+    both = list(itertools.zip_longest(stored.encode().split(b"\n"), made.encode().split(b"\n")))
+    wrong = [pair for pair in both if pair[0] != pair[1]]
+    for line, expected in wrong[:5]:
+        print(f"expected {expected}\nstored   {line}")
+    print(f"{len(both)} lines, {len(wrong)} wrong")
+    return 1 if wrong else 0
+
+
 def main():
-    for line in shown(sys.stdin.buffer.read().decode()):
-        sys.stdout.buffer.write(line + b"\n")
+    script, transcript = ((CRATE / name).read_bytes().decode() for name in ("stdin", "stdout"))
+    stored = section(transcript, "pages")
+    made = b"".join(line + b"\n" for line in shown(section(script, "pages"))).decode()
+    if sys.argv[1:] == ["stored"]:
+        (CRATE / "stdout").write_bytes(transcript.replace(stored, made).encode())
+        return 0
+    return compared(stored, made)
 
 
 if __name__ == "__main__":
-    main()
+    sys.exit(main())

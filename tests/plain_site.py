@@ -55,7 +55,7 @@ for method, paths in (("POST", COMMANDS), ("GET", READS)):
         ROUTES.setdefault(path, (pattern(path), {}))[1][method] = name
 
 
-class Told(Exception):
+class Stopped(Exception):
     """The answer to a message that a rule stops: status, value, methods."""
 
 
@@ -65,7 +65,7 @@ class Odd:
 
 def stop(fails, status, value, allow=""):
     if fails:
-        raise Told(status, value, allow)
+        raise Stopped(status, value, allow)
 
 
 def word(error):
@@ -91,7 +91,7 @@ def frame_fault(request):
 
 
 def closes(request):
-    """Whether the connection ends behind the answer."""
+    """Whether the connection ends after the answer."""
     tokens = [token.strip(" \t").lower() for value in request.values("connection") for token in value.split(",")]
     return request.version == "HTTP/1.0" or "close" in tokens
 
@@ -184,7 +184,7 @@ def refused(answer):
 
 
 class Site:
-    """The house and its settings, how often each command was accepted, and which refusals were told."""
+    """The house and its settings, how often each command was accepted, and which refusals were given."""
 
     def __init__(self, rate=1_000, zone="UTC0", preset=False, bands=BANDS):
         self.house, self.rate, self.zone = House(bands), rate, zone
@@ -201,8 +201,8 @@ class Site:
             return Answer(fault[0], word(fault[1]), "", True)
         try:
             status, value, allow = self.answered(request)
-        except Told as told:
-            status, value, allow = told.args
+        except Stopped as stopped:
+            status, value, allow = stopped.args
         if "number" in value and "error" in value:
             self.refusals.add(value["error"])
         return Answer(status, value, allow, closes(request))
@@ -223,7 +223,7 @@ class Site:
             if parts:
                 stop(request.method not in methods, 405, word("method"), ", ".join(sorted(methods)))
                 return methods[request.method], parts.groups()
-        raise Told(404, word("path"), "")
+        raise Stopped(404, word("path"), "")
 
     def short(self, request, field, fault):
         values = request.values(field)
@@ -241,45 +241,45 @@ class Site:
         if name == "close":
             return 200, {"sold": sells.count(True), "unsold": sells.count(False)}
         status = 200 if name in ("settle", "watch", "unwatch") else 201
-        return status, getattr(self, f"told_{name}")(caller, *words)
+        return status, getattr(self, f"result_{name}")(caller, *words)
 
-    def told_register(self, caller, name):
+    def result_register(self, caller, name):
         return {"member": len(self.house.names)}
 
-    def told_add_category(self, caller, name):
+    def result_add_category(self, caller, name):
         return {"category": len(self.house.kinds)}
 
-    def told_list(self, caller, *words):
+    def result_list(self, caller, *words):
         return {"item": len(self.house.rows)}
 
-    def told_bid(self, caller, number, maximum):
-        stands = self.house.stands(self.house.found(number))
-        return {"count": stands.count, "floor": stands.floor, "leader": stands.leader, "price": stands.price}
+    def result_bid(self, caller, number, maximum):
+        standing = self.house.standing_of(self.house.found(number))
+        return {"count": standing.count, "floor": standing.floor, "leader": standing.leader, "price": standing.price}
 
-    def told_buy(self, caller, number):
+    def result_buy(self, caller, number):
         return {"item": number, "price": self.house.found(number).buy_now}
 
-    def told_settle(self, caller, number):
+    def result_settle(self, caller, number):
         price = self.house.price(self.house.found(number))
         fee = price * self.rate // 10_000
         return {"fee": fee, "item": number, "net": price - fee, "price": price}
 
-    def told_watch(self, caller, number):
+    def result_watch(self, caller, number):
         return {"item": number, "watched": True}
 
-    def told_unwatch(self, caller, number):
+    def result_unwatch(self, caller, number):
         return {"item": number, "watched": False}
 
-    def told_ask(self, caller, number, text):
+    def result_ask(self, caller, number, text):
         return {"asker": caller, "item": number, "number": int(self.house.ask_count(number, caller))}
 
-    def told_answer(self, caller, number, asker, nth, text):
+    def result_answer(self, caller, number, asker, nth, text):
         return {"asker": asker, "item": number, "number": nth}
 
-    def told_feedback(self, caller, number, rating, text):
+    def result_feedback(self, caller, number, rating, text):
         return {"item": number, "rating": rating, "to": self.house.given_rows[-1].to}
 
-    def told_set_bands(self, caller, bands):
+    def result_set_bands(self, caller, bands):
         return {"edition": len(self.house.tables)}
 
     # Pages.
@@ -297,7 +297,7 @@ class Site:
 
     def refuse(self, fails, answer):
         if fails:
-            raise Told(*refused(answer), "")
+            raise Stopped(*refused(answer), "")
 
     def page_house(self):
         house = self.house
@@ -379,7 +379,7 @@ class Site:
         return item
 
     def shown(self, item):
-        floor = self.house.stands(item).floor if item.state == "open" else None
+        floor = self.house.standing_of(item).floor if item.state == "open" else None
         return {"buy_now": item.buy_now, "category": item.category, "closed": item.closed,
                 "count": len(self.house.placed_on(item)), "edition": item.edition, "end": item.end, "floor": floor,
                 "item": item.number,

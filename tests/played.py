@@ -20,9 +20,9 @@ def compared(command, lines):
     result = subprocess.run([str(pathlib.Path(command[0]).resolve()), *command[1:]], input=script.encode(), capture_output=True,
                             timeout=PATIENCE)
     expected = [pair for pair in lines if pair[1] is not None]
-    told = result.stdout.decode().splitlines()
-    wrong = [(line, answer, got) for (line, answer), got in zip(expected, told) if answer != got]
+    printed = result.stdout.decode().splitlines()
+    wrong = [(line, answer, got) for (line, answer), got in zip(expected, printed) if answer != got]
     for line, answer, got in wrong[:5]:
-        print(f"{line}\n  expected {answer}\n  told     {got}")
-    print(f"{len(told)} of {len(expected)} answers, {len(wrong)} wrong")
-    return 1 if wrong or len(told) != len(expected) or result.returncode != 0 else 0
+        print(f"{line}\n  expected {answer}\n  got      {got}")
+    print(f"{len(printed)} of {len(expected)} answers, {len(wrong)} wrong")
+    return 1 if wrong or len(printed) != len(expected) or result.returncode != 0 else 0

@@ -1,11 +1,11 @@
 #!/usr/bin/env python3
 """Models power cuts of `init`, `serve` and `upgrade`: `power_cuts.py PROGRAM [EVERY]`. It needs a C compiler, `cc`.
 
-The calls on its files of a house that is made, served all thirteen commands and ended are noted once. Behind each of them,
+The calls on its files of a house that is made, served all thirteen commands and ended are noted once. After each of them,
 or each EVERYth, the power is cut: what was synced is there, and of the changes since then nothing, all, each beginning, all
 but any one, any one alone, those of either file alone, and every other sector of all. Each pair of files that may
-be left is opened by SQLite, which has to find a sound database, and by the program: both have to find the house behind the
-commands that were answered, or behind one more, and the program has to take another command. Files of a house that was
+be left is opened by SQLite, which has to find a sound database, and by the program: both have to find the house after the
+commands that were answered, or after one more, and the program has to take another command. Files of a house that was
 being made hold no house, and one can be made there, or a house with no history. So it is with the calls of an upgrade of
 each house of version 1 that is kept: what is left is the house as it was or as it is upgraded, and the program upgrades it,
 or finds it of version 2. The last line is 'N calls, C cuts, F pairs of files, M of them with one command more than answered,
@@ -13,7 +13,7 @@ W wrong'.
 
 Seen on the proved program: 393 calls, 414 cuts, 1,164 pairs of files, 516 of them with one command more than was
 answered; with EVERY 12 53 cuts and 309 pairs. None was wrong. With syncs that do nothing in the
-model, the commands that were answered are lost, and told so. The model takes a sync at its word, and a device to
+model, the commands that were answered are lost, which is reported. The model takes a sync at its word, and a device to
 finish each sector of 512 bytes that it begins; no power was cut, and no device was tested.
 """
 import socket
@@ -31,7 +31,7 @@ class Cuts:
         self.count = self.cuts = self.more = 0
 
     def follow(self, disk, calls, counts):
-        """Cuts the power behind each call, where so many commands may be found."""
+        """Cuts the power after each call, where so many commands may be found."""
         for call in calls:
             disk.call(*call)
             self.count += 1
@@ -44,11 +44,11 @@ class Cuts:
             before = len(self.calls.found)
             found = self.calls.look(contents)
             self.more += len(self.calls.found) > before and found == counts[-1] != counts[0]
-            check(f"behind {self.count} calls one of {counts}", (found, found in counts), (found, True))
+            check(f"after {self.count} calls one of {counts}", (found, found in counts), (found, True))
 
     def parts(self):
         """Makes, serves and ends a house. Gives the calls of each part, with the numbers of commands that may be found in it and
-        behind it."""
+        after it."""
         calls, traced = self.calls, self.calls.noting()
         check("made", traced.ended("init", "house", *calls.init), (0, b"created\n", b""))
         yield calls.noted("house"), [NONE, 0], [0]
@@ -65,9 +65,9 @@ class Cuts:
     def run(self):
         disk = Disk((b"", b""))
         # All calls are made before the first cut, since a connection that waits is ended.
-        for calls, within, behind in list(self.parts()):
+        for calls, within, later in list(self.parts()):
             self.follow(disk, calls, within)
-            self.cut(disk, behind)
+            self.cut(disk, later)
 
 
 class UpgradeCuts(Cuts):

@@ -118,7 +118,7 @@ REFUSED_NUMBERS = [
     (["surplus", "list", "--place", "7", "--member", "1", "--maximum", "80.00"], "in cents: 0 to 1000000000"),
 ]
 
-# The text of a band table, and how its fault is told.
+# The text of a band table, and how its fault is reported.
 FIFTY_BANDS = "at,step\n" + "".join(f"{at},5\n" for at in range(50))
 FAULTY_TABLES = [
     ("at,step\n0,5,9\n", "Csv"),
@@ -142,12 +142,12 @@ def ended(status, output, error):
 
 
 def fault(line):
-    """Whether a run ended at a fault that is told in a line, and wrote nothing else."""
+    """Whether a run ended at a fault that is reported in a line, and wrote nothing else."""
     return ended(1, b"", f"auction: {line}\n".encode())
 
 
 def refused(result):
-    """Whether `clap` refused the words: its error, or the usage, stands on standard error alone."""
+    """Whether `clap` refused the words: its error, or the usage, is on standard error alone."""
     begins = result.stderr.startswith((b"error: ", b"Usage: "))
     return result.returncode == 2 and result.stdout == b"" and begins
 
@@ -159,10 +159,10 @@ def is_narrow(text):
 def refused_number(words, wanted):
     """Whether the error names the refused value, says what it has to be, and shows the command's usage."""
     def judge(result):
-        told = result.stderr.decode()
-        begins = told.startswith(f"error: invalid value '{words[-1]}' for '{words[-2]} <N>'\n")
-        usage = f"\nUsage: auction {words[0]} " in told
-        return refused(result) and begins and wanted in told and usage and is_narrow(result.stderr)
+        error = result.stderr.decode()
+        begins = error.startswith(f"error: invalid value '{words[-1]}' for '{words[-2]} <N>'\n")
+        usage = f"\nUsage: auction {words[0]} " in error
+        return refused(result) and begins and wanted in error and usage and is_narrow(result.stderr)
     return judge
 
 
@@ -207,7 +207,7 @@ def cases(folder, full):
         yield over_memory(words, refused_number(words, wanted))
     for rule in ("", "UTC", "CET-1\n", "CET-25", "Europe/Berlin"):
         yield over_memory(["replay", "--zone", rule], fault("zone"), READ)
-    # A table's fault is told before a zone's.
+    # A table's fault is reported before a zone's.
     yield over_memory(["replay", "--zone", "", "--bands", str(folder / "missing.csv")],
                       fault("bands: Device"), READ)
     for words in REFUSED_WORDS:

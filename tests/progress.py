@@ -3,7 +3,7 @@
 
 Of what the command writes the lines pass that matter: one for each crate, with its number of so many and the minutes
 since the start; each failure whole; what is run in the end; and the last line, alone. Where nothing has come for a
-minute a line says what is worked on. All that the command writes stands in out/COMMAND.log, whose end is shown where
+minute a line says what is worked on. All that the command writes is in out/COMMAND.log, whose end is shown where
 it fails, and what it took by crate and step in out/COMMAND.times. The script ends as the command does.
 """
 import pathlib
@@ -23,7 +23,7 @@ PROVED = re.compile(r"rt: (\w+)(: its tests are)? proved$")
 UNPROVED = re.compile(r"rt: (\w+)(: its tests are)? NOT PROVED")
 KEPT = re.compile(r"rt: (\w+) is kept: ")
 REFUSED = re.compile(r"rt: must-fail (\w+)/\S+: refused, as it must be")
-# What failed and is told in the lines above, and what goes on in the lines below.
+# What failed and is reported in the lines above, and what goes on in the lines below.
 FAILED = re.compile(r"rt: .*(FAILED|had not ended|did not build)")
 GOES_ON = re.compile(r"rt: .*(BAD EDIT|NOT TRIED)")
 LAST = re.compile(r"[0-9]+ passed, [0-9]+ failed")

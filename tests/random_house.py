@@ -1,8 +1,8 @@
 #!/usr/bin/env python3
-"""Compares a house with plain lists on random commands: `random_house.py PROGRAM [WORD]`.
+"""Compares a house with plain lists on random commands: `random_house.py PROGRAM WORD`.
 
-The program is that of the crate `test_store`, with `memory` for a house in memory and no word for one in SQLite. By a fixed seed it is given 2,000 commands, accepted
-or refused, and after each twentieth every look-up and list; four times it goes on with a house that
+The program is that of the crate `test_store`, with `memory` for a house in memory and `sqlite` for one in SQLite. By a
+fixed seed it is given 2,000 commands, accepted or refused, and after each twentieth every look-up and list; four times it goes on with a house that
 `fill` has filled with its changes. Each answer has to be that of tests/plain_house.py. The last line
 is 'N of N answers, M wrong'.
 """
@@ -112,7 +112,7 @@ class Chance:
     def bid(self):
         number = self.item_of([i for i in self.house.rows if i.state == "open"])
         item, caller = self.house.found(number), self.stranger(number)
-        floor = 500 if item is None else self.house.stands(item).floor
+        floor = 500 if item is None else self.house.standing_of(item).floor
         own = max(self.house.maxima(number, caller), default=floor)
         near = [floor, floor - 1, own, own + 1, floor + self.random.randint(0, 1_000), floor + 5_000]
         if item is not None and item.reserve is not None:

@@ -1,11 +1,11 @@
 #!/usr/bin/env python3
 """Runs the sessions of README.md and compares what they print: `readme.py PROGRAM`.
 
-A session is a block of which the first line begins with `$ `; each such line is a command, and the lines behind it are
+A session is a block of which the first line begins with `$ `; each such line is a command, and the lines after it are
 what it has to print. All commands of a session run in one shell, in a folder of their own that has `examples/`, with
 PROGRAM as `auction`. A command that ends with `&` has printed its first line before the next begins; what else it
-prints stands behind the command that waits for it, whichever of the two was the faster. In the place of the port 8080
-stands one that nobody else takes. The last line is 'N commands, M wrong'.
+prints comes after the command that waits for it, whichever of the two was the faster. In the place of the port 8080
+is one that nobody else takes. The last line is 'N commands, M wrong'.
 """
 import os
 import pathlib
@@ -25,7 +25,7 @@ def sessions(text):
     """Each session, as commands and what they print."""
     for block in re.findall(r"^```text\n(\$ .*?)^```$", text, re.M | re.S):
         parts = [part.split("\n", 1) for part in block.removeprefix("$ ").split("\n$ ")]
-        yield [(command, told.rstrip("\n")) for command, told in (part + [""] * (2 - len(part)) for part in parts)]
+        yield [(command, printed.rstrip("\n")) for command, printed in (part + [""] * (2 - len(part)) for part in parts)]
 
 
 class Shell:
@@ -46,12 +46,12 @@ class Shell:
         if command.endswith("&"):
             return self.begin(command.removesuffix("&"))
         self.send(f"{command}\necho; echo '{END}'\n")
-        told = "".join(iter(self.process.stdout.readline, f"{END}\n")).rstrip("\n")
+        printed = "".join(iter(self.process.stdout.readline, f"{END}\n")).rstrip("\n")
         if self.background and command.endswith("wait"):
             with self.background:
-                told = f"{told}\n{self.background.read()}".strip("\n")
+                printed = f"{printed}\n{self.background.read()}".strip("\n")
             self.background = None
-        return told
+        return printed
 
     def begin(self, command):
         """The first line that a command prints which runs in the background."""
@@ -65,7 +65,7 @@ class Shell:
 
 
 def in_place(text, old, new):
-    """A text in which another number stands in the place of one."""
+    """A text in which another number is in the place of one."""
     return re.sub(rf"\b{old}\b", new, text)
 
 
@@ -81,10 +81,10 @@ def played(text, program):
 
 def main():
     commands = wrong = 0
-    for command, told, wanted in played((ROOT / "README.md").read_text(), sys.argv[1]):
-        print(f"$ {command}\n{told}".rstrip("\n"))
+    for command, printed, wanted in played((ROOT / "README.md").read_text(), sys.argv[1]):
+        print(f"$ {command}\n{printed}".rstrip("\n"))
         commands += 1
-        if told != wanted:
+        if printed != wanted:
             wrong += 1
             print(f"README.md has:\n{wanted}")
     print(f"{commands} commands, {wrong} wrong")

@@ -34,11 +34,11 @@ def placed(count, floor, leader, price):
 
 def curl(*words):
     """What curl reads, and the status and the number of new connections of each answer."""
-    told = subprocess.run(["curl", "-s", "-S", "--max-time", str(PATIENCE), "-w", "\n%{http_code} %{num_connects}\n", *words],
+    result = subprocess.run(["curl", "-s", "-S", "--max-time", str(PATIENCE), "-w", "\n%{http_code} %{num_connects}\n", *words],
                           capture_output=True, text=True)
-    lines = told.stdout.splitlines()
+    lines = result.stdout.splitlines()
     answers = [(json.loads(body), *map(int, numbers.split())) for body, numbers in zip(lines[::2], lines[1::2])]
-    return answers, told.stderr
+    return answers, result.stderr
 
 
 def ask_by_curl(port):

@@ -52,8 +52,8 @@ def ended(result):
     return result.returncode, result.stdout, result.stderr
 
 
-def told(runs, wrong):
-    """Tells which of so many runs were wrong, by what each was refused: the exit status."""
+def report(runs, wrong):
+    """Prints which of so many runs were wrong, by what each was refused: the exit status."""
     for what, result in wrong:
         print(f"allocation {what}: {result}")
     print(f"{runs} runs, {len(wrong)} wrong")

@@ -1,6 +1,6 @@
-/* Refuses the allocation whose number stands in REFUSE, counted from 1, of the program that this is
+/* Refuses the allocation whose number is in REFUSE, counted from 1, of the program that this is
    loaded before. With REFUSE=0 it refuses none, and tells how many there were. Allocations of as many
-   bytes as stand in REFUSE_SIZE are refused too, and do not count. */
+   bytes as REFUSE_SIZE says are refused too, and do not count. */
 #define _GNU_SOURCE
 #include <dlfcn.h>
 #include <stdio.h>
@@ -49,10 +49,10 @@ void *aligned_alloc(size_t align, size_t size)
 __attribute__((destructor)) static void tell(void)
 {
     const char *file = getenv("REFUSE_COUNT");
-    long told = count; /* opening the file allocates too */
+    long counted = count; /* opening the file allocates too */
     FILE *out = refused == 0 && file ? fopen(file, "w") : NULL;
     if (out) {
-        fprintf(out, "%ld\n", told);
+        fprintf(out, "%ld\n", counted);
         fclose(out);
     }
 }

@@ -2,14 +2,14 @@
 """Refuses each allocation of the reading of messages in turn: `refused_asks.py PROGRAM`.
 
 The program is that of the crate `test_messages`, and tells what each message of a script asks. A run that is refused
-memory ends with status 1 and `test_messages: memory is wanted`, and what it told before is told as ever. So it has to
+memory ends with status 1 and `test_messages: memory is wanted`, and what it printed before is as ever. So it has to
 be for each message of the script: those of one field, of many, with an escape and with an object inside, a read and
 a fault. It needs a C compiler, `cc`. The last line is 'N runs, M wrong'.
 """
 import pathlib
 import sys
 
-from refusal import built_library, ended, refused_runs, run, told
+from refusal import built_library, ended, refused_runs, run, report
 
 SCRIPT = r"""
 section asks
@@ -53,13 +53,13 @@ def main():
     program = str(pathlib.Path(sys.argv[1]).resolve())
     whole = run([program], SCRIPT.encode()).stdout
     if whole.count(b"\n") != MESSAGES:
-        sys.exit("refused_asks.py: not every message is told")
+        sys.exit("refused_asks.py: not every message is reported")
     with built_library() as library:
         refused = list(refused_runs([program], library, SCRIPT.encode()))
     wrong = [(number, result) for number, result in refused if not is_right(ended(result), whole)]
     ends = {result.stdout.count(b"\n") for _, result in refused}
     print(f"{len(ends)} of {MESSAGES} messages were refused memory")
-    return told(len(refused), wrong) or ends != set(range(MESSAGES))
+    return report(len(refused), wrong) or ends != set(range(MESSAGES))
 
 
 if __name__ == "__main__":

@@ -9,7 +9,7 @@ compiler, `cc`. The last line is 'N runs, M wrong'.
 import pathlib
 import sys
 
-from refusal import built_library, ended, refused_runs, run, told
+from refusal import built_library, ended, refused_runs, run, report
 
 SCRIPT = r"""
 section bands
@@ -20,7 +20,7 @@ read at,step\n0,5\n100,25\n
 read at,step\n0,5\n100,3\n
 example
 """.lstrip()
-# Rows that are no table are told before memory is asked for.
+# Rows that are no table are reported before memory is asked for.
 TABLES = 5
 WANTED = b"test_values: memory is wanted\n"
 UNREAD = b"test_values: a line is no part of a script\n"
@@ -54,7 +54,7 @@ def main():
     wrong = [(number, result) for number, result in refused if not is_right(ended(result), whole)]
     lines = {place for _, result in refused for place in refused_lines(ended(result), whole) or []}
     print(f"{len(lines)} of {TABLES} tables were refused memory")
-    return told(len(refused), wrong) or len(lines) != TABLES
+    return report(len(refused), wrong) or len(lines) != TABLES
 
 
 if __name__ == "__main__":

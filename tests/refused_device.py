@@ -11,7 +11,7 @@ import pathlib
 import re
 import sys
 
-from refusal import built_library, ended, refused_runs, run, told
+from refusal import built_library, ended, refused_runs, run, report
 
 SCRIPT = """\
 section devices
@@ -78,7 +78,7 @@ def main():
     wrong = [(number, result) for number, result in refused if not is_right(ended(result), whole)]
     failures = sum(b"Err(Failure)" in result.stdout for _, result in refused)
     print(f"{failures} sinks failed")
-    return told(len(refused), wrong) or failures == 0
+    return report(len(refused), wrong) or failures == 0
 
 
 if __name__ == "__main__":

@@ -1,16 +1,16 @@
 #!/usr/bin/env python3
 """Refuses each allocation of a house's run in turn, or one in so many: `refused_house.py PROGRAM [EVERY [WORD]]`.
 
-The program is that of the crate `test_store`, with the word `memory` for a house in memory and no word for one in SQLite. Its script has every command and every question. With
-a refusal one line is answered `Memory`, and every other line as in the run without that line: the
-refused command has changed nothing. Or the run ends before the first line, with status 1; or all lines
-are answered as ever, where the memory was not needed. It needs a C compiler, `cc`. The last line is
-'N runs, M wrong'.
+The program is that of the crate `test_store`, with the word `memory` for a house in memory and `sqlite`, or none here,
+for one in SQLite. Its script has every command and every question. With a refusal one line is answered `Memory`, and
+every other line as in the run without that line: the refused command has changed nothing. Or the run ends before the
+first line, with status 1; or all lines are answered as ever, where the memory was not needed. It needs a C compiler,
+`cc`. The last line is 'N runs, M wrong'.
 """
 import pathlib
 import sys
 
-from refusal import built_library, ended, refused_runs, run, told
+from refusal import built_library, ended, refused_runs, run, report
 
 SCRIPT = """\
 record
@@ -95,7 +95,7 @@ def before(program):
 def main():
     program = str(pathlib.Path(sys.argv[1]).resolve())
     every = int(sys.argv[2]) if len(sys.argv) > 2 else 1
-    command = [program, *sys.argv[3:]]
+    command = [program, *(sys.argv[3:] or ["sqlite"])]
     refusals = {without(command, place): line for place, line in enumerate(SCRIPT)}
     allowed = [*refusals, *before(program), ended(played(command, SCRIPT))]
     with built_library() as library:
@@ -103,7 +103,7 @@ def main():
     lines = {refusals[ended(result)] for _, result in refused if ended(result) in refusals}
     wrong = [(number, result) for number, result in refused if ended(result) not in allowed]
     print(f"{len(lines)} of {len(SCRIPT)} lines were answered Memory")
-    return told(len(refused), wrong) or len(lines) < 40
+    return report(len(refused), wrong) or len(lines) < 40
 
 
 if __name__ == "__main__":

@@ -9,7 +9,7 @@ compiler, `cc`. The last line is 'N runs, M wrong'.
 import pathlib
 import sys
 
-from refusal import built_library, ended, refused_runs, run, told
+from refusal import built_library, ended, refused_runs, run, report
 
 DONE = (0, b"512\n", b"")
 STOPPED = (1, b"", b"bench_wire: memory\n")
@@ -25,7 +25,7 @@ def main():
     for name, result, outcome in [("none", whole, DONE), ("its buffer", without_buffer, STOPPED)]:
         if ended(result) != outcome:
             wrong.append((name, result))
-    return told(len(refused) + 2, wrong)
+    return report(len(refused) + 2, wrong)
 
 
 if __name__ == "__main__":

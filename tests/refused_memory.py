@@ -46,17 +46,17 @@ def refuse_each(command, library):
     done = {(0, answers + record, b"") for answers, record in allowed}
     stopped = {(1, output, b"auction: memory\n")
                for output in [b"", *(answers for answers, record in allowed if record)]}
-    runs = wrong = told = ended = 0
+    runs = wrong = unavailable = ended = 0
     for number, result in refused_runs(command, library, b"".join(MESSAGES)):
         runs += 1
-        told += REFUSED in result.stdout
+        unavailable += REFUSED in result.stdout
         ending = (result.returncode, result.stdout, result.stderr)
         ended += ending in stopped
         if ending not in done | stopped:
             wrong += 1
             print(f"allocation {number}: {result}")
-    print(f"{told} told 503, {ended} ended with auction: memory")
-    return runs, wrong + (told == 0)
+    print(f"{unavailable} answered 503, {ended} ended with auction: memory")
+    return runs, wrong + (unavailable == 0)
 
 
 def main():

@@ -1,7 +1,7 @@
 #!/usr/bin/env python3
 """Refuses allocations of `import`, `statement`, `audit` and `upgrade`: `refused_office.py PROGRAM [EVERY..]`.
 
-Each run ends as one that finds memory, or with `auction: memory` and 1. What was printed before stands: of an import
+Each run ends as one that finds memory, or with `auction: memory` and 1. What was printed before remains: of an import
 the lines of its first rows, of a statement its beginning, of an audit nothing. The house's file then has the items
 that were printed and those that it had, every other table is as it was, and SQLite finds no fault in it. Of an upgrade
 every row is as it was, and the house of version 2 where that was printed, else of version 1 or 2. The EVERYs are how
@@ -18,7 +18,7 @@ import tempfile
 
 from first_version import KEPT, found, upgraded
 from office import AS_CSV, BOTH_DAYS, BY_ANA, HEAD, SALES, house, run as audited
-from refusal import allocations, built_library, ended, in_turn, run, told
+from refusal import allocations, built_library, ended, in_turn, run, report
 from served import EXAMPLE, PRESET, Program
 
 # What stands for the path of the house in the words of a run.
@@ -28,7 +28,7 @@ ROWS = ["A1,1,Atlas,,5.00,,5000", "B2,1,Globe,,7.50,20.00,6000", "C3,2,Chart,,5.
         "E5,1,Map,,x,,6000"]
 LINES = [b"row 1: there already\n", b"row 2: item 2\n", b"row 3: refused Unknown\n", b"row 4: item 3\n",
          b"row 5: fault start\n", b"2 listed, 1 there already, 2 refused\n"]
-# The items that the house has, and those that are listed, each behind the line that tells so.
+# The items that the house has, and those that are listed, each after the line that tells so.
 ITEMS = [(1, "A1", "Atlas", 500, None, 5000), (2, "B2", "Globe", 750, 2000, 6000), (3, "D4", "Novel", 100, None, 6000)]
 OTHER_TABLES = ["house", "band", "member", "category", "bid", "watch", "question", "feedback"]
 PERIOD = ["--member", "1", "--from", "1970-01-01", "--to", "1970-01-02"]
@@ -88,7 +88,7 @@ class Refusals:
             count = 1 + (LINES[1] in lines) + (LINES[3] in lines)
             right = lines == LINES[:len(lines)] and content(path) == (ITEMS[:count], *before[1:])
             if right and (status, error) == (1, MEMORY):
-                return f"stopped behind {len(lines)} lines"
+                return f"stopped after {len(lines)} lines"
             return "as ever" if right and (status, lines, error) == (1, LINES, b"") else None
 
         (self.folder / "lots.csv").write_text(HEAD + "".join(row + "\n" for row in ROWS))
@@ -102,7 +102,7 @@ class Refusals:
                 if content(path) != before or not text.startswith(output):
                     return None
                 if (status, error) == (1, MEMORY):
-                    return "stopped behind some of it" if output else "stopped"
+                    return "stopped after some of it" if output else "stopped"
                 return "as ever" if (status, output, error) == (0, text, b"") else None
 
             self.each(" ".join(["statement", *more]), ["statement", HOUSE, *PERIOD, *more], every, judge, "sales")
@@ -148,7 +148,7 @@ def main():
         refusals.statements(every[1])
         refusals.audits(every[2])
         refusals.upgrades(every[3])
-    return told(refusals.count, refusals.wrong)
+    return report(refusals.count, refusals.wrong)
 
 
 if __name__ == "__main__":

@@ -1,7 +1,7 @@
 #!/usr/bin/env python3
 """Refuses each allocation of a run that shows every page in turn: `refused_pages.py PROGRAM`.
 
-The program is that of the crate `test_pages`. With a refusal one line is `memory`, of a page or the
+The program is that of the crate `test_site`. With a refusal one line is `memory`, of a page or the
 record whose text or tree was refused it, and every other line is as ever: the house and the text before
 it are left. Or the run ends before the refused house or command is made, with status 1; or all lines are
 as ever, where the memory was not needed. It needs a C compiler, `cc`. The last line is 'N runs, M wrong'.
@@ -9,10 +9,11 @@ as ever, where the memory was not needed. It needs a C compiler, `cc`. The last 
 import pathlib
 import sys
 
-from refusal import built_library, ended, refused_runs, run, told
+from refusal import built_library, ended, refused_runs, run, report
 
 # Each page, and the record.
 SCRIPT = """\
+> section pages
 house UTC0
 post 0 1000 /members {"name":"Ana"}
 post 0 1000 /members {"name":"\\"Ben\\""}
@@ -43,7 +44,7 @@ get 3 /me/watches
 get 0 /items/3
 record
 """
-UNDONE = (b"test_pages: memory is wanted\n", b"test_pages: the script can't be read\n")
+UNDONE = (b"test_site: memory is wanted\n", b"test_site: the script can't be read\n")
 
 
 def refused_line(result, lines):
@@ -57,7 +58,7 @@ def refused_line(result, lines):
 
 
 def is_undone(result, lines):
-    """Whether the run ends for want of memory, behind the lines that came first."""
+    """Whether the run ends for want of memory, after the lines that came first."""
     status, answers, fault = ended(result)
     found = answers.splitlines()
     return status == 1 and fault in UNDONE and found == lines[:len(found)]
@@ -67,13 +68,15 @@ def main():
     program = str(pathlib.Path(sys.argv[1]).resolve())
     whole = run([program], SCRIPT.encode())
     lines = whole.stdout.splitlines()
+    # All but the line of the section.
+    count = len(lines) - 1
     with built_library() as library:
         runs = [result for _, result in refused_runs([program], library, SCRIPT.encode())]
     places = {refused_line(result, lines) for result in runs} - {None}
     wrong = [(number, result) for number, result in enumerate(runs, 1)
              if refused_line(result, lines) is None and not is_undone(result, lines) and ended(result) != ended(whole)]
-    print(f"{len(places)} of {len(lines)} lines were refused memory")
-    return told(len(runs), wrong) or whole.returncode or len(places) < len(lines)
+    print(f"{len(places)} of {count} lines were refused memory")
+    return report(len(runs), wrong) or whole.returncode or len(places) < count
 
 
 if __name__ == "__main__":

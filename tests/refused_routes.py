@@ -1,7 +1,7 @@
 #!/usr/bin/env python3
 """Refuses allocations of runs over every route, one in so many: `refused_routes.py PROGRAM [REPLAY [SERVE [INIT]]]`.
 
-The messages are those of tests/routes.py: each command accepted, each page read, each refusal and fault told. With
+The messages are those of tests/routes.py: each command accepted, each page read, each refusal and fault answered. With
 a refusal each has to be answered 503, or as the plain site answers it in the list without the messages that were
 answered 503; and the house is that list's. In memory the record, which follows, tells so; of a house in a file, which
 is served over one connection, each page and its rows, which have to be sound. Or the run ends with `auction: memory`,
@@ -22,7 +22,7 @@ import tempfile
 
 from plain_house import BANDS
 from plain_site import Site, setup
-from refusal import allocations, built_library, ended, in_turn, refused_runs, run, told
+from refusal import allocations, built_library, ended, in_turn, refused_runs, run, report
 from routes import lacking, messages, reads
 from sent import Malformed, answers_in
 from served import Program, exchange, served
@@ -55,7 +55,7 @@ def judged(texts):
 
 
 class Runs:
-    """Runs that were refused an allocation: what they were told, and which were wrong."""
+    """Runs that were refused an allocation: what they were answered, and which were wrong."""
 
     def __init__(self, program, library, folder):
         self.program, self.library, self.folder = program, library, folder
@@ -162,7 +162,7 @@ class Runs:
         self.tell("init")
 
     def init_once(self, number, words):
-        """Makes a house, and again without a refusal: whether that was as it has to be, how it ended, and what was told."""
+        """Makes a house, and again without a refusal: whether that was as it has to be, how it ended, and what was printed."""
         with tempfile.TemporaryDirectory(dir=self.folder) as folder:
             command = [self.program, "init", f"{folder}/made", *words]
             ends = [ended(run(command, **self.refusing(number))), ended(run(command))]
@@ -191,7 +191,7 @@ def main():
         runs.replay(replay)
         runs.serve(serve)
         runs.init(init)
-    return told(runs.count, [*runs.wrong, *(("nothing is told", name) for name in lacking())])
+    return report(runs.count, [*runs.wrong, *(("nothing is answered", name) for name in lacking())])
 
 
 if __name__ == "__main__":

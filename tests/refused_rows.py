@@ -1,11 +1,11 @@
 #!/usr/bin/env python3
 """Refuses allocations of lists of messages in every form: `refused_rows.py PROGRAM [EVERY]`.
 
-The program is that of the crate `test_runs`. The list makes the first house and bids on its item; it is played message
+The program is that of the crate `test_store`. The list makes the first house and bids on its item; it is played message
 by message and as one list, over a house in memory, with each allocation refused in turn, and over one in a database,
 with one in EVERY, 1 without it. Making the house and the site then answers `Memory`, and so does the run, before the
 first message, or the record; what is asked once more is as ever. Or one message is answered 503, and every other, and
-the record, is that of the list without it. Or the program itself had no memory, and told nothing. It needs a C
+the record, is that of the list without it. Or the program itself had no memory, and printed nothing. It needs a C
 compiler, `cc`. The last line is 'N runs, M wrong'.
 
 In 13,226 runs each of the ten messages was refused, message by message and in a list, in memory and in a database.
@@ -15,20 +15,20 @@ import pathlib
 import sys
 
 from plain_site import Site
-from refusal import built_library, ended, refused_runs, told
+from refusal import built_library, ended, refused_runs, report
 from worked import bids, block, is_new, steps
 
 LIST = next(bids())
 REFUSED = (b"HTTP/1.1 503 Service Unavailable\r\ncontent-type: application/json\r\n"
            b'content-length: 18\r\n\r\n{"error":"memory"}')
 # How a run ends in which the program itself had no memory.
-STOPPED = [(1, b"", f"test_runs: {fault}\n".encode()) for fault in ("the script can't be read", "memory is wanted")]
+STOPPED = [(1, b"", f"test_store: {fault}\n".encode()) for fault in ("the script can't be read", "memory is wanted")]
 FORMS = ("answers lists", "run lists", "answers database", "run database")
 MESSAGES = [given for given, _ in steps(LIST)[1]]
 
 
 def outputs(form):
-    """What may be told, and what was refused where it is told."""
+    """What may be printed, and what was refused where it is printed."""
     found = {}
     for place in (None, *range(len(MESSAGES))):
         site = Site()
@@ -53,7 +53,7 @@ class Runs:
         """Refuses allocations of a form: whether every call and every message was refused in some run."""
         script = b"house 1000 UTC0\n" + b"".join(map(block, MESSAGES)) + form.encode() + b"\n"
         expected, seen = outputs(form), collections.Counter()
-        for number, refused in refused_runs([self.program], self.library, script, every):
+        for number, refused in refused_runs([self.program, "runs"], self.library, script, every):
             result = ended(refused)
             self.count += 1
             what = "itself" if result in STOPPED else result[0] == 0 and not result[2] and expected.get(result[1])
@@ -74,7 +74,7 @@ def main():
     with built_library() as library:
         runs = Runs(program, library)
         whole = [runs.play(form, every if "database" in form else 1) for form in FORMS]
-    return told(runs.count, runs.wrong) or not all(whole)
+    return report(runs.count, runs.wrong) or not all(whole)
 
 
 if __name__ == "__main__":

@@ -9,7 +9,7 @@ there was no memory, and has written nothing. It needs a C compiler, `cc`. The l
 import pathlib
 import sys
 
-from refusal import built_library, ended, refused_runs, run, told
+from refusal import built_library, ended, refused_runs, run, report
 from statement import statement
 
 REFUSED = (1, b"", b"bench_settle: out of memory\n")
@@ -23,7 +23,7 @@ def main():
     wrong = [(number, result) for number, result in refused if ended(result) != REFUSED]
     if ended(whole) != (0, statement(240).encode(), b""):
         wrong.append(("none", whole))
-    return told(len(refused) + 1, wrong)
+    return report(len(refused) + 1, wrong)
 
 
 if __name__ == "__main__":

@@ -15,7 +15,7 @@ import shutil
 import sys
 import tempfile
 
-from refusal import allocations, built_library, in_turn, run, told
+from refusal import allocations, built_library, in_turn, run, report
 from refused_house import SCRIPT
 
 COMMANDS = [line for line in SCRIPT if not line.startswith("?") and line not in ("record", "fill")]
@@ -29,15 +29,15 @@ WANTED = ("the script can't be read", "memory is wanted")
 def answers(program, words, lines, **environment):
     """How a run ends that plays lines: its status, and its answers. Status 1 is only for want of memory."""
     result = run([program, *words], "\n".join(lines).encode(), **environment)
-    told_fault = result.stderr.decode().strip().partition(": ")[2]
-    status = "another fault" if result.returncode == 1 and told_fault not in WANTED else result.returncode
+    fault = result.stderr.decode().strip().partition(": ")[2]
+    status = "another fault" if result.returncode == 1 and fault not in WANTED else result.returncode
     return status, result.stdout.decode().splitlines()
 
 
 def asked_without(program, place):
     """What the house in memory answers that didn't get the command at a place."""
-    status, told_lines = answers(program, [], COMMANDS[:place] + COMMANDS[place + 1:] + QUESTIONS)
-    return told_lines[-len(QUESTIONS):]
+    status, printed = answers(program, ["sqlite"], COMMANDS[:place] + COMMANDS[place + 1:] + QUESTIONS)
+    return printed[-len(QUESTIONS):]
 
 
 def made(program, library, number, folder, asked):
@@ -58,12 +58,12 @@ def gone(path):
 
 
 def made_at(path, program, library, number, asked):
-    status, told_lines = answers(program, ["make", path], COMMANDS, LD_PRELOAD=library, REFUSE=str(number))
-    if status == 1 and not told_lines:
+    status, printed = answers(program, ["make", path], COMMANDS, LD_PRELOAD=library, REFUSE=str(number))
+    if status == 1 and not printed:
         return True, []
-    refused = [place for place, answer in enumerate(told_lines) if answer == "Memory"]
+    refused = [place for place, answer in enumerate(printed) if answer == "Memory"]
     place = refused[0] if refused else len(COMMANDS)
-    right = (status == 0 and len(refused) <= 1 and len(told_lines) == len(COMMANDS)
+    right = (status == 0 and len(refused) <= 1 and len(printed) == len(COMMANDS)
              and answers(program, ["ask", path], QUESTIONS) == (0, asked[place]))
     return right, refused
 
@@ -75,9 +75,9 @@ def asked(program, library, number, folder, questions, whole):
         for ending in FILES:
             shutil.copy(f"{folder}/counted{ending}", path + ending)
         content = pathlib.Path(path).read_bytes()
-        status, told_lines = answers(program, ["ask", path], questions, LD_PRELOAD=library, REFUSE=str(number))
-        begun = status == 1 and told_lines == whole[:len(told_lines)] and len(told_lines) < len(whole)
-        return (begun or (status, told_lines) == (0, whole)) and pathlib.Path(path).read_bytes() == content
+        status, printed = answers(program, ["ask", path], questions, LD_PRELOAD=library, REFUSE=str(number))
+        begun = status == 1 and printed == whole[:len(printed)] and len(printed) < len(whole)
+        return (begun or (status, printed) == (0, whole)) and pathlib.Path(path).read_bytes() == content
 
 
 def askings(program, library, folder, questions, whole, every):
@@ -113,7 +113,7 @@ def main():
     refused = {place for _, _, places in ends for place in places}
     print(f"{len(refused)} of {len(COMMANDS)} commands were answered Memory")
     wrong = [(what, "wrong") for what, right, _ in ends if not right]
-    return told(len(ends), wrong) or len(refused) < len(COMMANDS) - 2
+    return report(len(ends), wrong) or len(refused) < len(COMMANDS) - 2
 
 
 if __name__ == "__main__":

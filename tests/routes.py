@@ -1,4 +1,4 @@
-"""A list of messages with every command accepted, every page read and every refusal and fault told.
+"""A list of messages with every command accepted, every page read and every refusal and fault answered.
 
 They are for the house that `--preset` stands for: Ana, who sells item 1, Ben and Cid. No command of `commands` has a
 reserve or sets a band table: these are in `sealed`, which a house of version 1 doesn't take.
@@ -143,7 +143,7 @@ def messages():
 
 
 def lacking():
-    """What no message of the list is told by the plain site: commands that aren't accepted, and refusals."""
+    """What the plain site answers to no message of the list: commands that aren't accepted, and refusals."""
     site = Site(preset=True)
     for request in messages():
         site.answer(request)

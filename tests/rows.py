@@ -1,13 +1,13 @@
 #!/usr/bin/env python3
 """Plays lists of messages in every form: `rows.py PROGRAM [CASES [COUNT [SEED]]]`.
 
-The program is that of the crate `test_runs`. It plays each list over a house in memory and one in a database, message
+The program is that of the crate `test_store`. It plays each list over a house in memory and one in a database, message
 by message and as one list, and all four have to tell the same: the answers that are expected, whether the house is
-new before and behind them, and the record.
+new before and after them, and the record.
 
-First the stored run has to be the one of tests/worked.py. Then come the cases of `replay` in the folder CASES, if there
-is one, with the answers that stand there, and lists of at least COUNT random messages, 4,000 without it, some of them
-broken frames in mid-list, with the answers of tests/plain_site.py. `rows.py stored` writes the stored run. The last line
+First the section `runs` of the stored run has to be the one of tests/worked.py. Then come the cases of `replay` in the folder CASES, if there
+is one, with the answers that it has, and lists of at least COUNT random messages, 4,000 without it, some of them
+broken frames in mid-list, with the answers of tests/plain_site.py. `rows.py stored` writes that section. The last line
 is 'N lists, M messages, K wrong'.
 
 Seen: the 485 cases of `replay` that begin, and 60 random lists by the seed 2026: 18,278 messages in four forms each,
@@ -25,25 +25,26 @@ import sys
 from fuzz import END, HEAD, SEED, Sender, played
 from plain_site import AHEAD, Site, setup
 from sent import PATIENCE, Answer, answers_in, value_of
+from transcript import section
 from worked import FORMS, block, stored
 
-STORED = pathlib.Path(__file__).resolve().parent.parent / "crates/test_runs"
+STORED = pathlib.Path(__file__).resolve().parent.parent / "crates/test_store"
 SAME = b"".join(f"{form}: the same\n".encode() for form in FORMS)
 LONGEST = 120
-# Faults of a frame, behind which no message of a stream is looked for.
+# Faults of a frame, after which no message of a stream is looked for.
 BROKEN = re.compile(rb'connection: close\r\n\r\n{"error":"(head|host|transfer|length|size|end)"}\Z')
 EXCESS = Answer(400, {"error": "excess"}, "", True)
 
 
 def run(program, script):
-    result = subprocess.run([program], input=script, capture_output=True, timeout=PATIENCE)
+    result = subprocess.run([program, "runs"], input=script, capture_output=True, timeout=PATIENCE)
     if (result.returncode, result.stderr) != (0, b""):
         print(f"ended with {result.returncode}: {result.stderr[:200]}")
     return result.stdout
 
 
 class Lists:
-    """Lists that are to be played, with what has to be told of each."""
+    """Lists that are to be played, with what has to be printed of each."""
 
     def __init__(self):
         self.script, self.expected, self.messages = [], [], 0
@@ -55,25 +56,25 @@ class Lists:
         self.messages += len(messages)
 
     def wrong(self, program):
-        """How many lists are told otherwise."""
+        """How many lists are answered otherwise."""
         output, wrong = run(program, b"".join(self.script)), 0
         parts = output.split(SAME)
         if len(parts) != len(self.expected) + 1 or parts[-1]:
-            print(f"{len(parts) - 1} of {len(self.expected)} lists are told, and behind them {parts[-1][:300]}")
+            print(f"{len(parts) - 1} of {len(self.expected)} lists are answered, and after them {parts[-1][:300]}")
             return max(1, len(self.expected) - len(parts) + 1)
         for number, (part, (answers, record)) in enumerate(zip(parts, self.expected)):
             if not self.is_right(part, answers, record):
                 wrong += 1
-                print(f"list {number}\n  expected {answers[-300:]}{record}\n  told     {part[-600:]}")
+                print(f"list {number}\n  expected {answers[-300:]}{record}\n  got      {part[-600:]}")
         return wrong
 
     def is_right(self, part, answers, record):
         if not part.startswith(answers):
             return False
-        new, _, told = part.removeprefix(answers).partition(b"\n")
-        value = value_of(told.removesuffix(b"\n"))
+        new, _, shown = part.removeprefix(answers).partition(b"\n")
+        value = value_of(shown.removesuffix(b"\n"))
         blank = not (value["members"] or value["categories"] or value["items"] or value["clock"])
-        return new == (b"new" if blank else b"not new") and record in (None, told)
+        return new == (b"new" if blank else b"not new") and record in (None, shown)
 
 
 # The cases.
@@ -91,8 +92,8 @@ def settings(folder, words):
 def length(stream):
     """The length of the message that a stream begins with, whose frame is whole."""
     head = re.match(rb"(?:\r?\n)*[^\r\n][\s\S]*?\r?\n\r?\n", stream).group()
-    told = re.search(rb"\ncontent-length:[ \t]*([0-9]+)", head, re.IGNORECASE)
-    return len(head) + (int(told[1]) if told else 0)
+    declared = re.search(rb"\ncontent-length:[ \t]*([0-9]+)", head, re.IGNORECASE)
+    return len(head) + (int(declared[1]) if declared else 0)
 
 
 def cut(stream, answers):
@@ -151,15 +152,21 @@ def add_random(lists, chance):
     lists.add(f"house {rate} {zone}\n".encode(), messages, answers, site.record() + b"\n")
 
 
+def write_stored():
+    """Writes the section of the stored run."""
+    for name, text in zip(("stdin", "stdout"), stored()):
+        before = (STORED / name).read_bytes().decode()
+        (STORED / name).write_bytes(before.replace(section(before, "runs"), text.decode()).encode())
+
+
 def main():
     if sys.argv[1] == "stored":
-        for name, text in zip(("stdin", "stdout"), stored()):
-            (STORED / name).write_bytes(text)
+        write_stored()
         return 0
     program, lists = str(pathlib.Path(sys.argv[1]).resolve()), Lists()
-    script, output = stored()
     wrong = 0
-    if ((STORED / "stdin").read_bytes(), (STORED / "stdout").read_bytes()) != (script, output):
+    kept = (section((STORED / name).read_bytes().decode(), "runs").encode() for name in ("stdin", "stdout"))
+    if tuple(kept) != stored():
         print("the stored run is another")
         wrong += 1
     if len(sys.argv) > 2 and pathlib.Path(sys.argv[2]).is_dir():

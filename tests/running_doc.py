@@ -1,7 +1,7 @@
 #!/usr/bin/env python3
 """Does what docs/RUNNING.md says: `running_doc.py PROGRAM`.
 
-The sessions of the page print what stands there. The table of lines has each line of the program's faults, as the help
+The sessions of the page print what it shows. The table of lines has each line of the program's faults, as the help
 has, and names scripts that have these lines. Causes that no other script has are brought about: a port that the user
 may not use, too many open files, standard error that takes nothing, a sale whose row is spoiled. A server that gets a
 signal leaves both files with all that it answered, which an opening takes; then a statement makes one file of two, of
@@ -36,8 +36,8 @@ FILES = range(5, 9)
 
 def pages(program):
     """The sessions of the page."""
-    for command, told, wanted in played(PAGE, program):
-        check(f"$ {command}", trimmed(told), trimmed(wanted))
+    for command, printed, wanted in played(PAGE, program):
+        check(f"$ {command}", trimmed(printed), trimmed(wanted))
 
 
 def trimmed(text):
@@ -53,16 +53,16 @@ def lines(program):
     for first, scripts in rows:
         line = first.strip(" `") or line
         named.setdefault(line, set()).update(re.findall(r"[a-z_]+\.py", scripts))
-    told = {re.sub(r"\{.*?\}", "..", text).replace("LEFT", "..")
+    texts = {re.sub(r"\{.*?\}", "..", text).replace("LEFT", "..")
             for text in re.findall(r'"(auction: [^"]*)"', source)}
-    for text in sorted(told):
+    for text in sorted(texts):
         begins = text.split("..")[0].rstrip()
         check(f"the table has {text}", any(row.startswith(begins) for row in named), True)
         check(f"the help has {text}", begins in help_text, True)
     for row, scripts in named.items():
         if not row.startswith("auction: "):
             continue
-        # A fault of bands stands with its row's number in the scripts.
+        # A fault of bands is with its row's number in the scripts.
         word = re.sub(r" [0-9]+$", "", row.removeprefix("auction: ")).removeprefix("bands: ")
         for script in scripts:
             text = (ROOT / "tests" / script).read_text()
@@ -79,9 +79,9 @@ def sockets(program, folder):
     if first.exists() and int(first.read_text()) > 80:
         nobody = Program(program.path, folder, as_nobody)
         check("port 80", nobody.ended("serve", "house", "--port", "80", "--count", "1"), fault("socket"))
-    told = [few_files(program, folder, count) for count in FILES]
-    check("few open files", {ending[2] for ending in told}, {fault("file: Store")[2], fault("socket")[2], b""})
-    check("few open files, a connection", (1, b"listening\n", fault("socket")[2]) in told, True)
+    endings = [few_files(program, folder, count) for count in FILES]
+    check("few open files", {ending[2] for ending in endings}, {fault("file: Store")[2], fault("socket")[2], b""})
+    check("few open files, a connection", (1, b"listening\n", fault("socket")[2]) in endings, True)
 
 
 def few_files(program, folder, count):
@@ -94,7 +94,7 @@ def few_files(program, folder, count):
 
 
 def untold(program, folder):
-    """A fault of which nobody can be told has its status."""
+    """A fault that nobody can read has its status."""
     with open("/dev/full", "wb") as full:
         result = subprocess.run([program.path, "statement", "missing", "--member", "1", *DAYS], cwd=folder,
                                 stderr=full, stdout=subprocess.PIPE, timeout=PATIENCE)

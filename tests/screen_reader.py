@@ -21,12 +21,12 @@ LOOKS = (pathlib.Path(__file__).resolve().parent / "page_looks.js").read_text()
 class Node:
     """A part of the tree: its role, its name, and the browser's number for it."""
 
-    def __init__(self, told):
-        self.role = told.get("role", {}).get("value")
-        self.name = str(told.get("name", {}).get("value", ""))
-        self.value = str(told.get("value", {}).get("value", ""))
-        self.number = told.get("backendDOMNodeId")
-        self.properties = {one["name"]: one["value"].get("value") for one in told.get("properties", [])}
+    def __init__(self, part):
+        self.role = part.get("role", {}).get("value")
+        self.name = str(part.get("name", {}).get("value", ""))
+        self.value = str(part.get("value", {}).get("value", ""))
+        self.number = part.get("backendDOMNodeId")
+        self.properties = {one["name"]: one["value"].get("value") for one in part.get("properties", [])}
 
     def __repr__(self):
         return f"{self.role} {self.name!r}"
@@ -51,10 +51,10 @@ class Reader:
 
     def tree(self):
         """The parts that are not passed over, in the order in which they are read."""
-        told = {one["nodeId"]: one for one in self.page.tool("Accessibility.getFullAXTree")["nodes"]}
-        found, todo = [], [one["nodeId"] for one in told.values() if "parentId" not in one]
+        nodes = {one["nodeId"]: one for one in self.page.tool("Accessibility.getFullAXTree")["nodes"]}
+        found, todo = [], [one["nodeId"] for one in nodes.values() if "parentId" not in one]
         while todo:
-            one = told.get(todo.pop())
+            one = nodes.get(todo.pop())
             if one:
                 found += [] if one.get("ignored") else [Node(one)]
                 todo += reversed(one.get("childIds", []))
@@ -90,8 +90,8 @@ class Reader:
         """All that is read, one part after the other."""
         return " ".join(" ".join(node.name for node in self.all("StaticText")).split())
 
-    def told(self):
-        """What the parts say that are told without being asked."""
+    def announced(self):
+        """What the parts say that are announced without being asked."""
         tree = self.page.tool("Accessibility.getFullAXTree")["nodes"]
         children = {one["nodeId"]: one.get("childIds", []) for one in tree}
         texts = {one["nodeId"]: one["name"]["value"] for one in tree if one.get("role", {}).get("value") == "StaticText"}

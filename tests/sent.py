@@ -49,7 +49,7 @@ class Request:
         return [value.strip(" \t") for given, value in self.fields if given.lower() == name]
 
     def with_field(self, name, value):
-        """The message with one field more behind the others."""
+        """The message with one field more after the others."""
         return dataclasses.replace(self, fields=(*self.fields, (name, value)))
 
     def without(self, name):
@@ -111,7 +111,7 @@ def value_of(body):
 
 
 def answers_in(text):
-    """The texts of the answers that stand one behind the other, each well formed, and what follows the last."""
+    """The texts of the answers that come one after the other, each well formed, and what follows the last."""
     found = []
     while text.startswith(BEGINS):
         head = HEAD.match(text)

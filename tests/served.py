@@ -14,9 +14,9 @@ served, another is refused.
 
 Bodies that give up, put in by hand in a program that was built without proofs, were found by this script, program.py
 and house_file.py: the runs of `init`, `serve` and `replay` always each fault, at their end and at their beginning,
-with each wrong exit status; a line that isn't told, an output that failed and is passed over, a record in the place of
+with each wrong exit status; a line that isn't printed, an output that failed and is passed over, a record in the place of
 none and none in its place, one connection or message less; 1, 1,000 and 20,000 messages of a connection. `created`
-told before the keep is ended is found by stopped_calls.py alone.
+printed before the keep is ended is found by stopped_calls.py alone.
 """
 import contextlib
 import os
@@ -108,7 +108,7 @@ class Program:
 
     @contextlib.contextmanager
     def serving(self, file, count, seconds=PATIENCE):
-        """A server of so many connections, which has ended behind this, unless it is killed before or never ends."""
+        """A server of so many connections, which has ended after this, unless it is killed before or never ends."""
         with held_port() as port:
             process = subprocess.Popen([self.path, "serve", file, "--port", str(port), "--count", str(count)],
                                        cwd=self.folder, stdout=subprocess.PIPE, stderr=subprocess.PIPE,
@@ -130,8 +130,8 @@ class Program:
     def answers(self, file, streams):
         """What each stream is answered, sent over a connection of its own; and how serving ends."""
         with self.serving(file, len(streams)) as server:
-            told = [exchange(server.port, stream) for stream in streams]
-        return told, server.ending
+            replies = [exchange(server.port, stream) for stream in streams]
+        return replies, server.ending
 
 
 @contextlib.contextmanager
@@ -154,17 +154,17 @@ def exchange(port, stream, may_reset=False):
         # Answers are read meanwhile: else neither side goes on where they are long.
         sending = threading.Thread(target=send, args=(connection, stream))
         sending.start()
-        told = read_all(connection, may_reset)
+        received = read_all(connection, may_reset)
         sending.join()
-        return told
+        return received
 
 
 def read_all(connection, may_reset=False):
-    told = b""
+    received = b""
     with contextlib.suppress(ConnectionResetError) if may_reset else contextlib.nullcontext():
         for piece in iter(lambda: connection.recv(65536), b""):
-            told += piece
-    return told
+            received += piece
+    return received
 
 
 def send(connection, stream):
@@ -187,27 +187,27 @@ def compare(program, init):
         size = -(-len(MESSAGES) // pieces)
         streams = [b"".join(MESSAGES[at:at + size]) for at in range(0, len(MESSAGES), size)]
         wanted = program.ended("replay", *init, given=b"".join(MESSAGES))
-        told, ending = program.answers(file, streams)
-        check(f"{file} served", (0, b"".join(told), b""), wanted)
+        replies, ending = program.answers(file, streams)
+        check(f"{file} served", (0, b"".join(replies), b""), wanted)
         check(f"{file} ended", ending, served(len(streams)))
         # What is ended needs its log no more.
         (pathlib.Path(program.folder) / f"{file}-wal").unlink()
-        told, ending = program.answers(file, [b"".join(READS)])
-        check(f"{file} without its log", b"".join(told), wanted[1][-len(told[0]):])
+        replies, ending = program.answers(file, [b"".join(READS)])
+        check(f"{file} without its log", b"".join(replies), wanted[1][-len(replies[0]):])
         check(f"{file} ended again", ending, served(1))
     # A house that is ended and served again for each message, with a connection that is reset before it.
     check("again made", program.ended("init", "again", *init), (0, b"created\n", b""))
-    told = b""
+    texts = b""
     for text in MESSAGES:
         answers, ending = program.answers("again", [None, text])
-        told += answers[1]
+        texts += answers[1]
         check("again ended", ending, served(2))
-    check("served again", (0, told, b""), program.ended("replay", *init, given=b"".join(MESSAGES)))
-    # What is no message ends its connection alone, also with more behind it than is read.
+    check("served again", (0, texts, b""), program.ended("replay", *init, given=b"".join(MESSAGES)))
+    # What is no message ends its connection alone, also with more after it than is read.
     answers, ending = program.answers("again", [b"GET\r\n\r\n" + b"x" * 100_000, MESSAGES[-1]])
     replayed = program.ended("replay", *init, given=b"GET\r\n\r\n")[1]
     check("broken", answers[0], replayed)
-    check("behind the broken one", answers[1][:15], b"HTTP/1.1 200 OK")
+    check("after the broken one", answers[1][:15], b"HTTP/1.1 200 OK")
     check("broken ended", ending, served(2))
 
 
@@ -217,8 +217,8 @@ def reserves_again(program):
         init = ["--bands", "example.csv", "--rate", "1000", "--zone", case.zone]
         check(f"{case.name}, made", program.ended("init", f"reserves-{number}", *init), (0, b"created\n", b""))
         for request, answer in worked.steps(case)[1]:
-            told, ending = program.answers(f"reserves-{number}", [request.text()])
-            check(f"{case.name}: {request.text()}", (told[0], ending), (answer.text(), served(1)))
+            replies, ending = program.answers(f"reserves-{number}", [request.text()])
+            check(f"{case.name}: {request.text()}", (replies[0], ending), (answer.text(), served(1)))
 
 
 def fault(line):
@@ -251,7 +251,7 @@ def faults(program, init):
 
 
 def lost_output(program, init):
-    """How `init` and `serve` end whose output is full, or is closed behind its first line."""
+    """How `init` and `serve` end whose output is full, or is closed after its first line."""
     wanted = 1, b"auction: output: Write\n"
     with held_port() as port:
         words = ["--port", str(port), "--count", "1"]
@@ -270,8 +270,8 @@ def lost_output(program, init):
 
 def most(program):
     """A connection has so many messages answered, and not one more."""
-    told, ending = program.answers("house", [READS[0] * 10_001])
-    check("the most of a connection", told[0].count(b"HTTP/1.1 "), 10_000)
+    replies, ending = program.answers("house", [READS[0] * 10_001])
+    check("the most of a connection", replies[0].count(b"HTTP/1.1 "), 10_000)
     check("the most ended", ending, served(1))
 
 
@@ -306,10 +306,10 @@ def compare_case(program, args, file):
         return
     streams = [b"".join(PRESET)] if "--preset" in words else []
     streams.append(args.with_suffix(".in").read_bytes())
-    told, ending = program.answers(file, streams)
+    replies, ending = program.answers(file, streams)
     # The record, which no connection gives, begins with the bands.
     record = wanted.rfind(b'{"bands":') if "--record" in words else len(wanted)
-    check(f"{args.stem} answered", told[-1], wanted[:record])
+    check(f"{args.stem} answered", replies[-1], wanted[:record])
     check(f"{args.stem} ended", ending, served(len(streams)))
     os.remove(pathlib.Path(program.folder) / file)
 

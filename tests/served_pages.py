@@ -1,7 +1,7 @@
 #!/usr/bin/env python3
-"""Serves the houses of the script of crates/test_pages from files and from memory: `served_pages.py PROGRAM`.
+"""Serves the houses of the section `pages` of the script of crates/test_site from files and from memory: `served_pages.py PROGRAM`.
 
-Each page has to be what stands in that crate's stdout, and so does the record that ends a house, which a replay shows.
+Each page has to be what is in that crate's stdout, and so does the record that ends a house, which a replay shows.
 The last line is 'N checks, M wrong'.
 
 Those are 295 checks.
@@ -14,9 +14,9 @@ import tempfile
 from plain_pages import requests
 from sent import answers_in
 from served import CHECKS, Program, check, served
-from transcript import pairs
+from transcript import pairs, section
 
-CRATE = pathlib.Path(__file__).resolve().parent.parent / "crates" / "test_pages"
+CRATE = pathlib.Path(__file__).resolve().parent.parent / "crates" / "test_site"
 BANDS = CRATE.parent.parent / "examples" / "bands.csv"
 
 
@@ -31,7 +31,7 @@ class House:
 
 def houses():
     found = []
-    for line, answer in pairs((CRATE / "stdout").read_bytes().decode()):
+    for line, answer in pairs(section((CRATE / "stdout").read_bytes().decode(), "pages")):
         shown = [page.encode() for page in answer]
         word, _, rest = line.partition(" ")
         if word == "house":
@@ -55,11 +55,11 @@ def compare(program, number, house):
     words = ["--bands", str(BANDS), "--rate", "1000", "--zone", house.zone]
     stream = b"".join(message.text() for message in house.messages)
     check(f"house {number} made", program.ended("init", f"house-{number}", *words), (0, b"created\n", b""))
-    told, ending = program.answers(f"house-{number}", [stream])
+    replies, ending = program.answers(f"house-{number}", [stream])
     check(f"house {number} ended", ending, served(1))
     status, replayed, error = program.ended("replay", "--record", *words, given=stream)
     check(f"house {number} replayed", (status, error), (0, b""))
-    for keep, text in (("a file", told[0]), ("memory", replayed)):
+    for keep, text in (("a file", replies[0]), ("memory", replayed)):
         answers, rest = answers_in(text)
         check(f"house {number} in {keep}, answers", len(answers), len(house.messages))
         for place, (got, wanted) in enumerate(zip(pages(house, answers), house.pages), 1):

@@ -1,5 +1,5 @@
 /* Makes the reads of standard input short, of the program that this is loaded before: each gives at most
-   as many bytes as stand in READ_MOST, and those past the number in READ_CALLS fail. */
+   as many bytes as READ_MOST, and those past the number in READ_CALLS fail. */
 #define _GNU_SOURCE
 #include <dlfcn.h>
 #include <errno.h>

@@ -1,6 +1,6 @@
 """An answer with one thing in it changed, in every way: none of these is an answer of the house.
 
-Which numbers there are is told by the rules, not by the description of the interface.
+Which numbers there are is known by the rules, not by the description of the interface.
 """
 import dataclasses
 
@@ -21,20 +21,20 @@ BOUNDS = {key: bounds for keys, bounds in {
 LONGER = {"watches": 200, "categories": 1_000, "statement": 1_000_000}
 
 
-def spoiled(place, told):
+def spoiled(place, reply):
     """An answer with one thing changed: its status, a header, or something in its value."""
-    for status in place.responses.keys() - {told.status}:
-        yield dataclasses.replace(told, status=status)
+    for status in place.responses.keys() - {reply.status}:
+        yield dataclasses.replace(reply, status=status)
     changes = [("x-more", "1"), ("connection", "keep-alive"), ("content-length", "01"), ("content-type", "text/html"),
                ("allow", "DELETE")]
     for name, value in changes:
-        yield dataclasses.replace(told, headers={**told.headers, name: value})
+        yield dataclasses.replace(reply, headers={**reply.headers, name: value})
     # Other faults share their status with answers that leave the connection open.
-    fixed = told.headers if told.error() in ("size", "transfer") else told.headers.keys() - {"connection"}
+    fixed = reply.headers if reply.error() in ("size", "transfer") else reply.headers.keys() - {"connection"}
     for gone in fixed:
-        yield dataclasses.replace(told, headers=without(told.headers, gone))
-    for value in [*spoiled_value(told.value), *spoiled_page(place.name, told.value)]:
-        yield dataclasses.replace(told, value=value)
+        yield dataclasses.replace(reply, headers=without(reply.headers, gone))
+    for value in [*spoiled_value(reply.value), *spoiled_page(place.name, reply.value)]:
+        yield dataclasses.replace(reply, value=value)
 
 
 def without(parts, gone):

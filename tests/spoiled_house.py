@@ -135,8 +135,8 @@ def reached(change, path, before, at):
 
 
 # By `long_lists`. A list of fifty from item 1 ends at item 50, Ben's questions at item 31, the published questions at
-# the tenth of asker 4, the feedback at item 110, Ben's reserves at item 171. A row with a number or a rating that is none of ours may stand
-# elsewhere: a rating of none behind all items, a question's number below 0 before all others of its asker.
+# the tenth of asker 4, the feedback at item 110, Ben's reserves at item 171. A row with a number or a rating that is none of ours may be
+# elsewhere: a rating of none after all items, a question's number below 0 before all others of its asker.
 REACHED = [
     reached("UPDATE bid SET maximum = -1 WHERE item = 60", BIDS, (1, 10), (11, 60)),
     reached("UPDATE bid SET maximum = -1 WHERE item = 51", BIDS, (1, 52), (2, 51)),
@@ -225,7 +225,7 @@ def is_among(request, targets, fits):
 
 
 def answering(requests):
-    """The plain site behind some messages."""
+    """The plain site after some messages."""
     site = Site(preset=True)
     for request in requests:
         site.answer(request)
@@ -280,8 +280,8 @@ class Houses:
 
     def texts(self, spoiled, requests):
         """The requests with the answers to them over one connection."""
-        told, ending = self.program.answers("spoiled", [b"".join(request.text() for request in requests)])
-        texts, rest = answers_in(told[0])
+        replies, ending = self.program.answers("spoiled", [b"".join(request.text() for request in requests)])
+        texts, rest = answers_in(replies[0])
         if (len(texts), rest, ending) != (len(requests), b"", served(1)):
             self.fail(spoiled, "all", len(requests), (len(texts), rest, ending))
         return zip(requests, texts)
@@ -303,7 +303,7 @@ class Houses:
     def fail(self, spoiled, what, wanted, got):
         self.wrong += 1
         if self.wrong <= 9:
-            print(f"{spoiled.change}: {what}\n  wanted {wanted}\n  told   {got}")
+            print(f"{spoiled.change}: {what}\n  wanted {wanted}\n  got    {got}")
 
 
 def main():

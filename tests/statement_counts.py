@@ -18,7 +18,7 @@ INIT = ["--bands", "bands.csv", "--rate", "1000", "--zone", "UTC0"]
 ITEMS = 60
 # A kind of message, and the statements that it makes at most.
 KINDS = {
-    "an accepted bid": (message("POST", "/items/1/bids", 2, 1002, '{"maximum":900}'), 7),
+    "an accepted bid": (message("POST", "/items/1/bids", 2, 1002, '{"maximum":900}'), 5),
     "an item page": (message("GET", "/items/1", 2), 1),
     "a list of fifty items": (message("GET", "/categories/1/items/1", 2), 3),
     "a list of fifty own bids": (message("GET", "/me/bids/1", 2), 102),
@@ -69,9 +69,9 @@ class Counted:
     def statements(self, stream):
         """How many statements answering a stream takes, with the opening of the house."""
         shutil.copy(self.folder / "house", self.folder / "copy")
-        told, ending = self.program.answers("copy", [stream])
+        replies, ending = self.program.answers("copy", [stream])
         check("ended", ending[:2], served(1)[:2])
-        return told[0], calls(self.dump, BINDS)
+        return replies[0], calls(self.dump, BINDS)
 
 
 def main():
@@ -82,8 +82,8 @@ def main():
         first = message("GET", "/house", 2)
         _, few = counted.statements(first)
         for kind, (asked, most) in KINDS.items():
-            told, many = counted.statements(first + asked)
-            check(kind, re.findall(rb"HTTP/1.1 (20[01]) ", told)[1:] != [], True)
+            answers, many = counted.statements(first + asked)
+            check(kind, re.findall(rb"HTTP/1.1 (20[01]) ", answers)[1:] != [], True)
             wrong += not 0 < many - few <= most
             print(f"{kind}: {many - few} statements, {most} at most")
     print(f"{len(KINDS)} kinds, {wrong + CHECKS.count(False)} wrong")

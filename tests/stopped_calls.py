@@ -5,9 +5,9 @@ For `init`, for `serve` of each of the thirteen commands and for `upgrade` of ea
 each later one on the same file, k from 1 on until a run ends with no stop; or each EVERYth k. A write at which it stops
 writes half. In the opening, `serve` ends with `file: Store`. Else the answer is the command's own, or that the store failed,
 and then every later one to a read and to a command is so too. The files that are left, as they are and without what was not
-synced, are opened again: SQLite finds a sound database, both it and the program find the house before the command or behind
-it, behind it where that was answered as accepted, and the program takes another command. Of an upgrade they find the house
-as it was or upgraded, and that where it was told. The last lines tell what was found by command, and 'S stops, W wrong'.
+synced, are opened again: SQLite finds a sound database, both it and the program find the house before the command or after
+it, after it where that was answered as accepted, and the program takes another command. Of an upgrade they find the house
+as it was or upgraded, and that where it was reported. The last lines tell what was found by command, and 'S stops, W wrong'.
 
 Seen on the proved program: 1,886 stops; with EVERY 12, as in the gate, 159. None was wrong.
 """
@@ -21,15 +21,15 @@ from served import CHECKS, MESSAGES, check, exchange, fault
 
 READ = MESSAGES[-1]
 LATER = MESSAGES[0].replace(b"Ana", b"Eve")
-# How serving may end behind a stop.
+# How serving may end after a stop.
 ENDINGS = [(0, b""), (1, b"auction: file: Store\n")]
 
 
 class Stops:
     def __init__(self, calls, every):
         self.calls, self.every, self.stops = calls, every, 0
-        # How often what was found was told to the client, by the first line of the command.
-        self.told = collections.defaultdict(collections.Counter)
+        # How often the house was found before a command, and how often after it, by the command's first line.
+        self.found = collections.defaultdict(collections.Counter)
 
     def places(self, first, last, shift=0):
         """The numbers of calls, each EVERYth."""
@@ -42,7 +42,7 @@ class Stops:
         for contents in (self.calls.contents("house"), disk.left([])):
             found = self.calls.look(contents)
             check(f"{name}: one of {allowed}", (found, found in allowed), (found, True))
-            self.told[name]["after" if found == allowed[-1] else "before"] += 1
+            self.found[name]["after" if found == allowed[-1] else "before"] += 1
 
     def make(self):
         """Stops `init`."""
@@ -58,16 +58,16 @@ class Stops:
             self.judge("init", Disk((b"", b"")), [0] if made else [NONE, 0])
 
     def session(self, place, stop):
-        """Serves a command and two messages behind it: what these are answered, and how serving ends."""
+        """Serves a command and two messages after it: what these are answered, and how serving ends."""
         calls = self.calls
         calls.lay("house", calls.states[place][0])
         with calls.noting(**stop).serving("house", 3) as server:
             self.opening = len(calls.trace.read_bytes())
-            told = []
+            replies = []
             if server.is_listening:
-                told.append(exchange(server.port, COMMANDS[place]))
-                told += [exchange(server.port, text) for text in ([READ, LATER] if told[0] == FAILED else [READ, READ])]
-        return told, server.ending
+                replies.append(exchange(server.port, COMMANDS[place]))
+                replies += [exchange(server.port, text) for text in ([READ, LATER] if replies[0] == FAILED else [READ, READ])]
+        return replies, server.ending
 
     def serve(self, place):
         """Stops `serve` of one command, in its opening only of the first."""
@@ -79,14 +79,14 @@ class Stops:
         first = len(calls.noted()) + 1
         for stop in self.places(1 if place == 0 else first, last, place):
             self.stops += 1
-            told, ending = self.session(place, {"STOP": str(stop)})
-            if not told:
+            replies, ending = self.session(place, {"STOP": str(stop)})
+            if not replies:
                 check(f"{name}, stopped at {stop}", ending, fault("file: Store"))
             else:
                 check(f"{name}, stopped at {stop}, ends", (ending[0], ending[2]) in ENDINGS or ending, True)
-                first = told.index(FAILED) if FAILED in told else len(told)
-                check(f"{name}, stopped at {stop}, answers", told, own[:first] + [FAILED] * (len(told) - first))
-            acted = bool(told) and told[0] == own[0]
+                first = replies.index(FAILED) if FAILED in replies else len(replies)
+                check(f"{name}, stopped at {stop}, answers", replies, own[:first] + [FAILED] * (len(replies) - first))
+            acted = bool(replies) and replies[0] == own[0]
             self.judge(name, Disk(calls.states[place][0]), [place + 1] if acted else [place, place + 1])
 
     def upgrade(self, kept):
@@ -105,7 +105,7 @@ class Stops:
             for contents in (calls.contents("house"), disk.left([])):
                 version = versions.look(contents)
                 check(f"upgrade, stopped at {stop}: {version}", version in ([2] if ending == UPGRADED else [1, 2]), True)
-                self.told[f"upgrade of {kept}"]["after" if version == 2 else "before"] += 1
+                self.found[f"upgrade of {kept}"]["after" if version == 2 else "before"] += 1
 
 
 def main():
@@ -116,7 +116,7 @@ def main():
             stops.serve(place)
         for kept in ("house", "stopped"):
             stops.upgrade(kept)
-    for name, found in stops.told.items():
+    for name, found in stops.found.items():
         print(f"{name}: {found['before']} before, {found['after']} after")
     print(f"{stops.stops} stops, {CHECKS.count(False)} wrong")
     return 1 if not all(CHECKS) else 0

@@ -1,9 +1,9 @@
 #!/usr/bin/env python3
 """Plays a script on a house in a file, and looks at the file: `store_file.py PROGRAM`.
 
-The program is that of the crate `test_store`, and the script the part of its `stdout` on houses in SQLite before
+The program is that of the crate `test_store`, and the script the part of its section `houses` on those in SQLite before
 `fill`. A first run makes the house in a new file and is given the commands; a second opens the file and is asked;
-each answer has to be the one that stands there. Then Python's sqlite3, and SQLite's shell where it is there, look for
+each answer has to be the one that it has. Then Python's sqlite3, and SQLite's shell where it is there, look for
 damage and for keys that lead nowhere, and read the tables, which have to be those of the script's commands. A house
 isn't made in a file that has one. A file that is no house, or a damaged one, answers nothing and stays as it is: an
 empty one, one cut short, one with a page overwritten, and one with other tables or another version. One with a row
@@ -11,9 +11,8 @@ that has a column out of its range, or whose columns don't fit together, is open
 is asked for. Then each column of each row of every table is spoiled in turn, and every look-up and every list is
 asked: each is refused, or answers as before, or as if the row weren't there where the column is one by which rows are
 found; an item that is due by a spoiled column isn't counted as due. The same of items as no bids and no purchase
-leave them, by their columns or by their reserves, whose readers are all refused; but a standing is told by its own
-columns and its reserve alone, a former leader has bought no such item, and no list of reserves has one without. The
-last line is 'N checks, M wrong'.
+leave them, by their columns or by their reserves, whose readers are all refused; but a former leader has bought no
+such item, and no list of reserves has one without. The last line is 'N checks, M wrong'.
 
 Thirty-four items are as no bids and no purchase leave them.
 """
@@ -27,7 +26,7 @@ import sys
 import tempfile
 
 from sent import PATIENCE
-from transcript import pairs
+from transcript import pairs, section
 
 CRATE = pathlib.Path(__file__).resolve().parent.parent / "crates" / "test_store"
 # A question that any house answers once it is open, and its answer by the script.
@@ -213,7 +212,8 @@ def is_there(path, what, number):
 def readers(path, number):
     """The questions that read the row of an item in a file, by the tables."""
     item = next(row for row in TABLES["item"] if row[0] == number)
-    yield from ("? items", f"? item {number}", f"? state {number}", f"? items_in {item[2]} 0")
+    yield from ("? items", f"? item {number}", f"? state {number}", f"? standing {number}", f"? reserve {number}",
+                f"? items_in {item[2]} 0")
     if is_there(path, "item WHERE state = 0 AND id", number):
         yield LAST_DUE
     if is_there(path, "reserve WHERE item", number):
@@ -225,7 +225,7 @@ def readers(path, number):
 
 def answered():
     """The lines of the script in SQLite that have an answer, each with it."""
-    _, script = (CRATE / "stdout").read_text().split("\n-- In SQLite.\n")
+    _, script = section((CRATE / "stdout").read_bytes().decode(), "houses").split("\n-- In SQLite.\n")
     return [(line, *answer) for line, answer in pairs(script) if answer]
 
 
@@ -245,7 +245,7 @@ def played(program, word, path, lines):
     return result.returncode, result.stdout.decode().splitlines()
 
 
-def told(lines):
+def expected(lines):
     """How it has to end."""
     return 0, [answer for _, answer in lines]
 
@@ -356,8 +356,7 @@ def all_columns(program, whole, folder):
     for statement, number in [*of_items, *UNSTANDING_RESERVES]:
         changed(whole, path, statement)
         now = answers(program, str(path), questions)
-        told = [each for each in questions if now[each] not in (None, before[each], left_out(before[each], number))]
-        wrong = [each for each in told if each != f"? standing {number}"]
+        wrong = [each for each in questions if now[each] not in (None, before[each], left_out(before[each], number))]
         read = [each for each in readers(path, number) if now[each] is not None]
         yield statement, (wrong, read), ([], [])
 
@@ -367,7 +366,7 @@ def out_of_turn(program, whole, folder):
     path = folder / "turn.db"
     changed(whole, path, "UPDATE edition SET first = 9 WHERE edition = 3")
     asked = [("? newest", "3"), ("? edition 8", "1"), ("? edition 9", "3"), ("? edition 10", "3")]
-    yield "firsts out of turn", played(program, "ask", str(path), asked), told(asked)
+    yield "firsts out of turn", played(program, "ask", str(path), asked), expected(asked)
 
 
 def tables_checked(path):
@@ -399,16 +398,16 @@ def checks(program, folder):
     """Each check: what it is of, what came and what should."""
     commands, questions = parts()
     path = folder / "made.db"
-    yield "made", played(program, "make", str(path), commands), told(commands)
-    yield "asked", played(program, "ask", str(path), questions), told(questions)
+    yield "made", played(program, "make", str(path), commands), expected(commands)
+    yield "asked", played(program, "ask", str(path), questions), expected(questions)
     yield "made twice", played(program, "make", str(path), commands), (1, [])
-    yield "asked again", played(program, "ask", str(path), questions), told(questions)
+    yield "asked again", played(program, "ask", str(path), questions), expected(questions)
     yield from read_by_shell(path)
     yield from tables_checked(path)
     yield from refused(program, path.read_bytes(), folder)
     yield from all_columns(program, path.read_bytes(), folder)
     yield from out_of_turn(program, path.read_bytes(), folder)
-    yield "asked at last", played(program, "ask", str(path), questions), told(questions)
+    yield "asked at last", played(program, "ask", str(path), questions), expected(questions)
 
 
 def main():

@@ -56,7 +56,7 @@ def page(count):
                   b'"state":"open","text":"","title":"Atlas"}' % count)
 
 
-FIRST, TOLD = bid(2, 1001, 500), placed(1, 550, 2, 500)
+FIRST, PLACED = bid(2, 1001, 500), placed(1, 550, 2, 500)
 
 HEAD, END = fault(b"400 Bad Request", b"head"), fault(b"400 Bad Request", b"end")
 
@@ -112,7 +112,7 @@ def command(body):
             b"content-length: %d\r\n\r\n%s" % (len(body), body))
 
 
-# Bodies that are no object of JSON, behind which the connection goes on, whatever else they look like.
+# Bodies that are no object of JSON, after which the connection goes on, whatever else they look like.
 NO_OBJECTS = [b"", b" " * 16_384, b"[" * 200 + b"]" * 200, b"\r\n\r\n", b"0\r\n\r\n", read(3), bid(3, 1002, 900),
               b'{"maximum":500}0', b'{"maximum":500', b"\xef\xbb\xbf{}"]
 
@@ -146,7 +146,7 @@ def long_heads():
         yield f"a target in a head of {size}", target, NO_PATH if fits else HEAD
         yield f"a field in a head of {size}", field, page(1) if fits else HEAD
         yield f"empty lines in a head of {size}", lines, page(1) if fits else HEAD
-        yield f"the longest body behind a head of {size}", longest, NO_JSON if fits else HEAD
+        yield f"the longest body after a head of {size}", longest, NO_JSON if fits else HEAD
 
 
 def cut_short(message, cut):
@@ -157,18 +157,18 @@ def cut_short(message, cut):
 def whole_streams():
     """Streams and what is answered to them."""
     yield "nothing", b"", b""
-    for text, told in NO_MESSAGES:
-        yield f"no message {text[:100]}", text + read(2), told
-        yield f"a bid and no message {text[:100]}", FIRST + text + read(2), TOLD + told
+    for text, answers in NO_MESSAGES:
+        yield f"no message {text[:100]}", text + read(2), answers
+        yield f"a bid and no message {text[:100]}", FIRST + text + read(2), PLACED + answers
     for body in NO_OBJECTS:
-        yield f"no object {body[:100]}", FIRST + command(body) + read(2), TOLD + NO_JSON + page(1)
-    for name, text, told in long_heads():
-        yield name, FIRST + text + read(2), TOLD + told + (page(1) if told != HEAD else b"")
-    yield "64 fields", FIRST + read(2)[:-2] + b"a: b\r\n" * 62 + b"\r\n", TOLD + page(1)
+        yield f"no object {body[:100]}", FIRST + command(body) + read(2), PLACED + NO_JSON + page(1)
+    for name, text, answers in long_heads():
+        yield name, FIRST + text + read(2), PLACED + answers + (page(1) if answers != HEAD else b"")
+    yield "64 fields", FIRST + read(2)[:-2] + b"a: b\r\n" * 62 + b"\r\n", PLACED + page(1)
     # Cut inside the second message: in its head, or in its body.
     second = bid(3, 1002, 549)
     for cut in range(len(second)):
-        yield f"second cut at {cut}", FIRST + second[:cut], TOLD + (cut_short(second, cut) if cut else b"")
+        yield f"second cut at {cut}", FIRST + second[:cut], PLACED + (cut_short(second, cut) if cut else b"")
     bids = b"".join(bid(2, 1001, maximum) for maximum in range(500, 10_501))
     counts = b"".join(placed(count, 550, 2, 500) for count in range(1, 10_001))
     yield "10001 bids", bids, counts + answer(b"409 Conflict", b'{"error":"Limit","number":19}')
@@ -176,11 +176,11 @@ def whole_streams():
 
 def pieces():
     """A stream of bids and reads that ends inside a head, and what is answered."""
-    stream, told = b"", b""
+    stream, answers = b"", b""
     for count in range(1, 101):
         stream += bid(2, 1001, 499 + count) + read(3)
-        told += placed(count, 550, 2, 500) + page(count)
-    return stream + b"GET", told + HEAD
+        answers += placed(count, 550, 2, 500) + page(count)
+    return stream + b"GET", answers + HEAD
 
 
 @contextlib.contextmanager
@@ -195,26 +195,26 @@ def built_library():
 
 def cases(library, table):
     """Each case: its name, more words, the stream, what is set for the run, and how it has to end."""
-    for name, stream, told in whole_streams():
-        yield name, [], stream, {}, (0, told, b"")
+    for name, stream, answers in whole_streams():
+        yield name, [], stream, {}, (0, answers, b"")
     # A first bid that is cut leaves the house as it was.
     for cut in range(1, len(FIRST)):
         yield f"cut at {cut}", ["--record"], FIRST[:cut], {}, (0, cut_short(FIRST, cut) + RECORD, b"")
     yield ("a table of one band", ["--bands", table], FIRST + bid(3, 1002, 1000), {},
            (0, placed(1, 600, 2, 500) + placed(2, 700, 3, 600), b""))
-    stream, told = pieces()
+    stream, answers = pieces()
     for most in (1, 2, 7, 104, 4096, 8191, 8192, 24575, 24576):
         yield (f"pieces of {most}", [], stream, {"LD_PRELOAD": library, "READ_MOST": str(most)},
-               (0, told, b""))
+               (0, answers, b""))
     # The bid comes in so many reads, and one more finds the end.
     reads = -(-len(FIRST) // 7)
     for calls in range(reads + 1):
-        told = TOLD if calls >= reads else b""
+        answers = PLACED if calls >= reads else b""
         # No record follows a reader that has failed.
         for words in ([], ["--record"]):
             yield (f"{calls} reads {words}", words, FIRST,
                    {"LD_PRELOAD": library, "READ_MOST": "7", "READ_CALLS": str(calls)},
-                   (1, told, b"auction: input: Read\n"))
+                   (1, answers, b"auction: input: Read\n"))
 
 
 def main():

@@ -4,7 +4,7 @@
 The command's output passes. Each second all processes that it has started are looked at in /proc, and the last that was
 seen of each counts. A step is the proof of a crate, that of its tests, the proof that its edits begin with (the seed),
 the edits, the build of a program or of tests, or a run of one. What short processes took that no look has met is
-known from the whole run alone, and has a line of its own. The table stands in out/COMMAND.times too, each minute anew.
+known from the whole run alone, and has a line of its own. The table is in out/COMMAND.times too, each minute anew.
 The script ends as the command does.
 """
 import collections
@@ -22,7 +22,7 @@ TICKS = os.sysconf("SC_CLK_TCK")
 
 
 def word_after(words, flag):
-    """The word behind a flag, or an empty one."""
+    """The word after a flag, or an empty one."""
     return words[words.index(flag) + 1] if flag in words[:-1] else ""
 
 
@@ -32,7 +32,7 @@ def crate_and_step(words, folder):
     if folder.startswith(f"{temporary}/rt-run-"):
         ran = next((word for word in words if word.startswith(f"{temporary}/rt-run-")), "")
         name = ran.rsplit("/", 1)[-1]
-        # Tests are run by a runner, which is told how long they may take.
+        # Tests are run by a runner, which is given how long they may take.
         return (name.removesuffix("_tests") if "--seconds" in words else name, "run") if ran else None
     if not program.startswith("rattle"):
         return None

@@ -1,11 +1,19 @@
 """Transcripts: scripts whose lines are printed beside their answers, as the crate `transcript` prints them."""
 
 MARK = "> "
+# What the line of a section begins with; its name comes after it.
+SECTION = MARK + "section "
 
 
 def lines(text):
     """The lines of a script or a transcript; a page or a text in one may have any other end of a line in it."""
     return text.removesuffix("\n").split("\n")
+
+
+def section(text, name):
+    """A section of a script or a transcript, without the line by which it begins."""
+    _, _, rest = text.partition(f"{SECTION}{name}\n")
+    return rest.partition(SECTION)[0]
 
 
 def is_printed(line):

@@ -99,17 +99,17 @@ class Lives:
                 connection.setsockopt(socket.IPPROTO_TCP, socket.TCP_NODELAY, 1)
                 answers = connection.makefile("rb")
                 connection.sendall(b"".join(first))
-                told = [next_answer(answers) if text else None for text in first]
+                replies = [next_answer(answers) if text else None for text in first]
                 connection.sendall(b"".join(last))
                 if end.flight:
                     time.sleep(end.flight)
                 if end.is_kill:
                     server.process.kill()
-                told += [next_answer(answers) for _ in last]
+                replies += [next_answer(answers) for _ in last]
                 answers.close()
         self.expect("an end", KILLED if end.is_kill else served(1), server.ending)
-        self.expect("no answer", [not text for text in first], [text is None for text in told[:len(first)]])
-        return told
+        self.expect("no answer", [not text for text in first], [text is None for text in replies[:len(first)]])
+        return replies
 
     def land(self, at):
         """Finds whether the message that was in flight is there."""
@@ -119,10 +119,10 @@ class Lives:
         before, after = (plain(self.settings, self.requests[:count]) for count in (at, at + 1))
         asked = list(sights(after))
         without, with_it = ([site.answer(request).text() for request in asked] for site in (before, after))
-        told, ending = self.program.answers(self.file, [b"".join(request.text() for request in asked)])
+        replies, ending = self.program.answers(self.file, [b"".join(request.text() for request in asked)])
         self.counts["ended by their count"] += 1
         self.expect("an end", served(1), ending)
-        shown, _ = answers_in(told[0])
+        shown, _ = answers_in(replies[0])
         self.expect("pages with it or without it", True, shown in (without, with_it))
         if shown == with_it:
             self.counts["in flight and kept" if without != with_it else "in flight and without a trace"] += 1
@@ -195,9 +195,9 @@ class TwinLives(Lists):
             return
         ends = self.ends(left)
         others = self.random.choice([ends, self.ends(left)])
-        (one, ones), (other, told) = (self.played(settings, member, run.requests, at)
-                                      for run, at in ((left, ends), (right, others)))
-        count, unlike = self.differences(member, left.requests, ones, told)
+        (one, ones), (other, other_answers) = (self.played(settings, member, run.requests, at)
+                                               for run, at in ((left, ends), (right, others)))
+        count, unlike = self.differences(member, left.requests, ones, other_answers)
         if one.seen != other.seen or own(one, member) != own(other, member):
             self.apart += 1
             self.apart_shown += bool(unlike)

@@ -39,7 +39,7 @@ def caller(request):
 class Run:
     """What the plain site makes of a list: its answers, and after each what is public and what waits for a member.
 
-    It ends where that is otherwise than in a run that it has to be like, which is told as `is_like`. None in the place
+    It ends where that is otherwise than in a run that it has to be like, which is given as `is_like`. None in the place
     of a message is one that was lost.
     """
 
@@ -89,7 +89,7 @@ class Lists:
     def fail(self, what, expected, got):
         self.wrong += 1
         if self.wrong <= 5:
-            print(f"{what}\n  expected {expected}\n  told     {got}")
+            print(f"{what}\n  expected {expected}\n  got      {got}")
 
     def first(self, **more):
         """Settings, some of them given, a list at random, and a member, mostly one who sends some of it."""
@@ -166,9 +166,9 @@ class Pairs(Lists):
         count = sum(caller(request) == member for request in requests)
         self.replies += count
         self.judge(settings, left, right, member, (0, b"equal, %d replies\n" % count, b""))
-        told = [self.answers(settings, run, member) for run in (left, right)]
-        if told[0] != told[1] or len(told[0]) != count:
-            self.fail("replies", told[0], told[1])
+        replies = [self.answers(settings, run, member) for run in (left, right)]
+        if replies[0] != replies[1] or len(replies[0]) != count:
+            self.fail("replies", replies[0], replies[1])
 
     # Lists that are not.
 

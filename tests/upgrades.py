@@ -9,7 +9,7 @@ keys and references of the new tables. Then the house answers every page, and fu
 the plain site does.
 Upgraded again it is of version 2, and stays byte for byte what it was.
 
-What is no house of version 1 is told as damaged, byte for byte as it was: another version, a table more or less, a row
+What is no house of version 1 is reported as damaged, byte for byte as it was: another version, a table more or less, a row
 of the house or a band that doesn't fit, a number over the count. An upgrade looks at no other row: a house with a
 spoiled one is upgraded, keeps it as it is, and tells it as damaged where it is read, as tests/spoiled_house.py has it.
 So it does with a zone that is no rule. Where files may not grow the house is of one version or the other, and nothing
@@ -135,8 +135,8 @@ class Upgrades:
         """What SQLite takes and refuses in the new tables."""
         with contextlib.closing(sqlite3.connect(path)) as tables:
             for table, columns in LATER.items():
-                told = tables.execute(f"SELECT name, pk FROM pragma_table_info('{table}') ORDER BY cid").fetchall()
-                check(f"{name}: {table}", told, list(columns))
+                found = tables.execute(f"SELECT name, pk FROM pragma_table_info('{table}') ORDER BY cid").fetchall()
+                check(f"{name}: {table}", found, list(columns))
             tables.execute("PRAGMA foreign_keys = ON")
             for statements in (*REFUSED, TAKEN):
                 refused = False
@@ -151,9 +151,9 @@ class Upgrades:
     def answers(self, name):
         """Every page and further commands, beside the plain site."""
         site, messages = answering(commands()), [*sealed(), *MESSAGES]
-        told, ending = self.program.answers(name, [b"".join(request.text() for request in messages)])
+        replies, ending = self.program.answers(name, [b"".join(request.text() for request in messages)])
         check(f"{name}: served", ending, served(1))
-        texts, rest = answers_in(told[0])
+        texts, rest = answers_in(replies[0])
         check(f"{name}: answers", (len(texts), rest), (len(messages), b""))
         for request, text in zip(messages, texts):
             check(f"{name}: {request.text()}", text, site.answer(request).text())
@@ -168,7 +168,7 @@ class Upgrades:
         self.stays("cut short", path, ["upgrade", "bad"], DAMAGED)
 
     def zone(self):
-        """A zone that is no rule is told by who goes by it."""
+        """A zone that is no rule is reported by who goes by it."""
         path = laid("house", self.folder / "nowhere")
         change(path, "UPDATE house SET zone = 'nowhere'")
         after = upgraded(found(path)[1])

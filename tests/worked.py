@@ -1,7 +1,8 @@
 """Lists of messages with what each has to be answered, written by hand from the rules of the house and its formats.
 
 Where a body is given it is the one that the rules give; the head, and each body that is left out, is the one of
-tests/plain_site.py. `stored()` is the script of crates/test_runs and the transcript that it has to be.
+tests/plain_site.py. `stored()` is the section `runs` of the script of crates/test_store and the transcript that it has
+to be.
 """
 import dataclasses
 
@@ -119,7 +120,7 @@ def sales():
 
 
 def reserves():
-    """Reserves: what is sold and shown by them, what a seller may seal, and whom it is told."""
+    """Reserves: what is sold and shown by them, what a seller may seal, and who sees it."""
     globe, page = (listed(1, 1000, "B2", 6000, reserve=900), '{"item":2}'), read("/items/2", 3)
     first = (bid(2, 2, 1001, 700), placed(1, 550, 2, 500))
     second = (bid(2, 3, 1002, 750), placed(2, 800, 3, 750))
@@ -300,8 +301,8 @@ def is_new(site):
     return not (site.house.names or site.house.kinds or site.house.rows or site.house.now)
 
 
-def told(site, answers):
-    """What has to be told of a list with these answers, behind which the house is the plain site's."""
+def printed(site, answers):
+    """What has to be printed of a list with these answers, after which the house is the plain site's."""
     ends = ["not new", "new"]
     lines = [b"new", *(answer.text() for answer in answers), ends[is_new(site)].encode(), site.record()]
     return b"".join(line + b"\n" for line in [*lines, *(f"{form}: the same".encode() for form in FORMS)])
@@ -312,7 +313,7 @@ class Wrong(Exception):
 
 
 def steps(case):
-    """The site behind a list, and each of its messages with its answer."""
+    """The site after a list, and each of its messages with its answer."""
     site = Site(zone=case.zone)
     pairs = [(request, site.answer(request)) for request in (setup() if case.preset else [])]
     for step in case.steps:
@@ -344,12 +345,12 @@ def line(given):
 
 
 def script_of(case):
-    """The lines of a list in a script, each with what has to be told of it."""
+    """The lines of a list in a script, each with what has to be printed of it."""
     site, pairs = steps(case)
     yield f"house 1000 {case.zone}\n".encode(), b""
     if case.replay is None:
         yield from ((line(given), b"") for given, _ in pairs)
-        yield b"all\n", told(site, [answer for _, answer in pairs])
+        yield b"all\n", printed(site, [answer for _, answer in pairs])
     else:
         stream = pairs[len(setup()):] if "preset" in case.replay else pairs
         yield from ((line(given), b"") for given, _ in stream)
@@ -359,7 +360,7 @@ def script_of(case):
 
 
 def stored():
-    """The script, and what has to be printed: its lines, but for the texts that follow them, and what is told of each."""
+    """The script, and what has to be printed: its lines, but for the texts that follow them, and what is printed of each."""
     script, output = [], []
     for case in cases():
         for text, answer in [(f"-- {case.name}.\n".encode(), b""), *script_of(case), (b"\n", b"")]:

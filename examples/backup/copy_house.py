@@ -42,8 +42,8 @@ def salt_of(log):
 
 def state(house):
     """What is another one once the log was written into the file, or was begun anew."""
-    told = house.stat()
-    return told.st_mtime_ns, told.st_size, salt_of(log_of(house))
+    status = house.stat()
+    return status.st_mtime_ns, status.st_size, salt_of(log_of(house))
 
 
 def wait_until_still(house):

@@ -26,9 +26,9 @@ def end_log(house):
 
 def give_to_owner(file, house):
     """Gives a file the owner and the rights of a house."""
-    told = house.stat()
-    if (told.st_uid, told.st_gid) != (os.getuid(), os.getgid()):
-        os.chown(file, told.st_uid, told.st_gid)
+    owner = house.stat()
+    if (owner.st_uid, owner.st_gid) != (os.getuid(), os.getgid()):
+        os.chown(file, owner.st_uid, owner.st_gid)
     shutil.copymode(house, file)
 
 

@@ -1,7 +1,7 @@
 #!/bin/sh
 # add_member.sh HOUSE NAME...: registers members in a house that is served, and lets them sign in.
 # HOUSE is the folder with users and members.map: FOLDER/houses/HOST of start.sh, or /etc/auction of setup.sh.
-# Each name gets the number that the house told, and a password of 96 bits, which is printed. The name house is
+# Each name gets the number that the house gave, and a password of 96 bits, which is printed. The name house is
 # that of who runs the house, which has the number 0.
 set -eu
 

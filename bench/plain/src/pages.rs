@@ -21,6 +21,7 @@ struct Item {
     category: u64,
     closed: Option<u64>,
     count: u64,
+    edition: u64,
     end: u64,
     item: u64,
     leader: Option<u64>,
@@ -41,6 +42,7 @@ struct ItemPage<'a> {
     category: u64,
     closed: Option<u64>,
     count: u64,
+    edition: u64,
     end: u64,
     floor: Option<u64>,
     item: u64,
@@ -65,6 +67,12 @@ struct Band {
 struct Category {
     category: u64,
     name: String,
+}
+
+#[derive(Serialize, Deserialize)]
+struct Edition {
+    bands: Vec<Band>,
+    edition: u64,
 }
 
 #[derive(Serialize, Deserialize)]
@@ -96,6 +104,7 @@ struct House {
     bands: Vec<Band>,
     categories: Vec<Category>,
     clock: u64,
+    editions: Vec<Edition>,
     feedback: Vec<Feedback>,
     items: Vec<Item>,
     members: Vec<Member>,
@@ -114,6 +123,7 @@ struct Record<'a> {
     bands: &'a [Band],
     categories: &'a [Category],
     clock: u64,
+    editions: &'a [Edition],
     feedback: &'a [Feedback],
     items: Vec<ItemPage<'a>>,
     members: &'a [Member],
@@ -130,8 +140,8 @@ impl House {
         if item.count == 0 {
             return Some(item.start);
         }
-        let behind = self.bands.partition_point(|band| band.at <= item.price);
-        Some(item.price + self.bands[behind - 1].step)
+        let after = self.bands.partition_point(|band| band.at <= item.price);
+        Some(item.price + self.bands[after - 1].step)
     }
 
     fn page<'a>(&self, item: &'a Item) -> ItemPage<'a> {
@@ -140,6 +150,7 @@ impl House {
             category: item.category,
             closed: item.closed,
             count: item.count,
+            edition: item.edition,
             end: item.end,
             floor: self.floor(item),
             item: item.item,
@@ -160,6 +171,7 @@ impl House {
             bands: &self.bands,
             categories: &self.categories,
             clock: self.clock,
+            editions: &self.editions,
             feedback: &self.feedback,
             items: self.items.iter().map(|item| self.page(item)).collect(),
             members: &self.members,

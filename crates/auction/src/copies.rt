@@ -8,8 +8,7 @@ use sqlite::{Alter, FileFrom, FileStore, Files, Start, Unknown};
 use sqlite_std_file::OpenError;
 use std::alloc::Global;
 use std::{fs, io};
-use store::SqlKeep;
-use store_copies::{InMemory, open_copies};
+use store::{InMemory, SqlKeep, open_copies};
 
 // Why a file can't be opened.
 fn open_fault(error: &OpenError) -> KeepFault {

@@ -4,7 +4,7 @@ ghost use Rattle.house_rows.specs.Tables.{tables_of};
 ghost use Rattle.house_rows.specs.Text.{is_plain};
 ghost use Rattle.sqlite.specs.Held.{state};
 ghost use Rattle.store.specs.Kept.{IsHonest, content, is_failed};
-ghost use Rattle.store_open.specs.Opening.{IsSoundHouse};
+ghost use Rattle.store_house.specs.Opening.{IsSoundHouse};
 
 use house_rows::{KeepFault, Settings};
 use sqlite::{Alter, Connection, Error, ErrorCode, File, FileStore};

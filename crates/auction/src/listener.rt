@@ -14,7 +14,7 @@ const STILL: u64 = 30;
 // How many pieces are thrown away of what comes after the last answer.
 const PIECES: u32 = 60;
 
-/// The connections of a listener. None of them tells its bytes.
+/// The connections of a listener. None of them says what its bytes are.
 #[derive(Drop)]
 pub struct Listener {
     // None once the last connection has come. Who comes after it is refused at once, and may ask
@@ -105,12 +105,12 @@ impl Connections for Listener {
     fn end(
         &mut self,
         _connection: Connection<Reading<TcpStream>, Writing<TcpStream>>,
-        told: Result<Served, ServeFault>,
+        report: Result<Served, ServeFault>,
     )
         ensures { ⊤ }
     {
         if let Some(stream) = self.stream.take()
-            && told.is_ok()
+            && report.is_ok()
         {
             hang_up(&stream);
         }

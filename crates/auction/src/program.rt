@@ -12,9 +12,9 @@ use crate::houses::{KeepInFile, KeepInMemory};
 use crate::input::{open_input, open_source};
 use crate::listener::Listener;
 use auction_runs::{
-    Fault, Inquiry, Raise, Run, Trial, answer_each, audit_from_run, audit_run, bands_run, ended,
-    import_run, init_run, replay_run, serve_run, statement_run, surplus_from_run, surplus_run,
-    upgrade_run,
+    Fault, Inquiry, Raise, Run, Trial, answer_each, audit_from_run, audit_run, bands_run,
+    finish_run, import_run, init_run, replay_run, serve_run, statement_run, surplus_from_run,
+    surplus_run, upgrade_run,
 };
 use auction_words::{
     AuditWords, BandsWords, Beginning, HouseWords, ImportWords, Replay, Serve, StatementWords,
@@ -44,12 +44,19 @@ pub fn run(rt: &HostRuntime) -> u8
     let alloc = rt.alloc();
     match words(rt, alloc) {
         Ok(words) => start::<FileStore<File>>(rt, alloc, words.as_slice()),
-        Err(error) if error.kind() == ErrorKind::OutOfMemory => no_memory(rt),
-        Err(_) => {
-            let _ = writeln!(rt.stderr(), "auction: command line");
-            REFUSED
-        }
+        Err(error) => no_words(rt, error.kind()),
     }
+}
+
+// The end of a run whose words can't be read.
+fn no_words(rt: &HostRuntime, kind: ErrorKind) -> u8
+    ensures { result ≤ 2 }
+{
+    if kind == ErrorKind::OutOfMemory {
+        return no_memory(rt);
+    }
+    let _ = writeln!(rt.stderr(), "auction: command line");
+    REFUSED
 }
 
 // The words of the command line. A word that is not UTF-8 is an error.
@@ -61,7 +68,7 @@ fn words(rt: &HostRuntime, alloc: Global) -> io::Result<Vec<String>> {
 fn no_memory(rt: &HostRuntime) -> u8
     ensures { result ≡ 1 }
 {
-    ended(&mut rt.stderr(), Err(Fault::Memory))
+    finish_run(&mut rt.stderr(), Err(Fault::Memory))
 }
 
 // Does what the words ask for, with houses in the files of a store. Here alone the keeps are named,
@@ -83,18 +90,27 @@ fn start_over<F: KeepInFile, M: KeepInMemory>(
     ensures { result ≤ 2 }
 {
     match read_task(alloc, words) {
-        Ok(Some(Task::Init(path, house))) => init_file::<F>(rt, alloc, path, &house),
-        Ok(Some(Task::Serve(path, asked))) => serve_file::<F>(rt, alloc, path, asked),
-        Ok(Some(Task::Replay(house, asked))) => replay_input::<M>(rt, alloc, &house, asked),
-        Ok(Some(Task::Import(path, asked))) => import_file::<F>(rt, alloc, path, asked),
-        Ok(Some(Task::Statement(path, asked))) => statement_file::<F>(rt, alloc, path, &asked),
-        Ok(Some(Task::Bands(path, asked))) => bands_file::<F>(rt, alloc, path, asked),
-        Ok(Some(Task::Upgrade(path))) => upgrade_file::<F>(rt, alloc, path),
-        Ok(Some(Task::Audit(begun, asked))) => audit::<M>(rt, alloc, &begun, asked),
-        Ok(Some(Task::Surplus(begun, asked))) => surplus::<M>(rt, alloc, &begun, asked),
+        Ok(Some(task)) => do_task::<F, M>(rt, alloc, &task),
         // Words that ask for nothing are refused there.
         Ok(None) => REFUSED,
         Err(error) => refuse(rt, &error),
+    }
+}
+
+// Does what is asked for.
+fn do_task<F: KeepInFile, M: KeepInMemory>(rt: &HostRuntime, alloc: Global, task: &Task<'_>) -> u8
+    ensures { result ≤ 1 }
+{
+    match task {
+        Task::Init(path, house) => init_file::<F>(rt, alloc, path, house),
+        Task::Serve(path, asked) => serve_file::<F>(rt, alloc, path, *asked),
+        Task::Replay(house, asked) => replay_input::<M>(rt, alloc, house, *asked),
+        Task::Import(path, asked) => import_file::<F>(rt, alloc, path, *asked),
+        Task::Statement(path, asked) => statement_file::<F>(rt, alloc, path, asked),
+        Task::Bands(path, asked) => bands_file::<F>(rt, alloc, path, *asked),
+        Task::Upgrade(path) => upgrade_file::<F>(rt, alloc, path),
+        Task::Audit(begun, asked) => audit::<M>(rt, alloc, begun, *asked),
+        Task::Surplus(begun, asked) => surplus::<M>(rt, alloc, begun, *asked),
     }
 }
 
@@ -135,7 +151,7 @@ fn init_file<K: KeepInFile>(
     let mut errors = rt.stderr();
     match new_file::<K>(rt, alloc, path, words) {
         Ok(keep) => init_run(&mut rt.stdout(), &mut errors, keep),
-        Err(fault) => ended(&mut errors, Err(fault)),
+        Err(fault) => finish_run(&mut errors, Err(fault)),
     }
 }
 
@@ -152,8 +168,8 @@ fn open_site<K: KeepInFile>(
     Site::new(alloc, K::open(rt, alloc, path)?)
 }
 
-// The site of the house in a file, and then a listener. A fault of the file is told before one of
-// the socket.
+// The site of the house in a file, and then a listener. A fault of the file is reported before one
+// of the socket.
 fn open_file<K: KeepInFile>(
     rt: &HostRuntime,
     alloc: Global,
@@ -217,11 +233,35 @@ fn replay_input<K: KeepInMemory>(
             let mut sink = Writing::new(rt.stdout());
             replay_run(alloc, &mut source, &mut sink, &mut errors, keep, asked)
         }
-        Err(fault) => ended(&mut errors, Err(fault)),
+        Err(fault) => finish_run(&mut errors, Err(fault)),
     }
 }
 
-// Lists the rows of a lot file in the house in a file.
+// Lists the rows of a lot file in the house in a file, and prints what became of them.
+fn import_into<K: KeepInFile, W: Write>(
+    rt: &HostRuntime,
+    alloc: Global,
+    path: &str,
+    asked: ImportWords<'_>,
+    output: &mut W,
+) -> u8
+    ensures { result ≤ 1 }
+{
+    let mut errors = rt.stderr();
+    match K::open(rt, alloc, path) {
+        Ok(keep) => {
+            let lots = open_input(rt, asked.lots);
+            let by = Lister {
+                member: asked.member,
+                moment: asked.moment,
+            };
+            import_run(alloc, keep, lots, by, output, &mut errors)
+        }
+        Err(fault) => finish_run(&mut errors, Err(Fault::from(fault))),
+    }
+}
+
+// The same, with what is printed held back until it is much.
 fn import_file<K: KeepInFile>(
     rt: &HostRuntime,
     alloc: Global,
@@ -230,26 +270,15 @@ fn import_file<K: KeepInFile>(
 ) -> u8
     ensures { result ≤ 1 }
 {
-    let mut errors = rt.stderr();
-    let Ok(mut output) = BufWriter::new(alloc, rt.stdout()) else {
-        return ended(&mut errors, Err(Fault::Memory));
-    };
-    match K::open(rt, alloc, path) {
-        Ok(keep) => {
-            let lots = open_input(rt, asked.lots);
-            let by = Lister {
-                member: asked.member,
-                moment: asked.moment,
-            };
-            import_run(alloc, keep, lots, by, &mut output, &mut errors)
-        }
-        Err(fault) => ended(&mut errors, Err(Fault::from(fault))),
+    match BufWriter::new(alloc, rt.stdout()) {
+        Ok(mut output) => import_into::<K, _>(rt, alloc, path, asked, &mut output),
+        Err(_) => no_memory(rt),
     }
 }
 
-// The house in a file, and what is asked of it. A fault of what is asked is told before one of the
-// file.
-fn inquired<K: KeepInFile>(
+// The house in a file, and what is asked of it. A fault of what is asked is reported before one of
+// the file.
+fn open_inquiry<K: KeepInFile>(
     rt: &HostRuntime,
     alloc: Global,
     path: &str,
@@ -270,17 +299,17 @@ fn statement_file<K: KeepInFile>(
     ensures { result ≤ 1 }
 {
     let mut errors = rt.stderr();
-    match inquired::<K>(rt, alloc, path, words) {
+    match open_inquiry::<K>(rt, alloc, path, words) {
         Ok((keep, asked)) => {
             let mut sink = Writing::new(rt.stdout());
             statement_run(alloc, keep, asked, &mut sink, &mut errors)
         }
-        Err(fault) => ended(&mut errors, Err(fault)),
+        Err(fault) => finish_run(&mut errors, Err(fault)),
     }
 }
 
-// The rows of a band table in a file, and then the house in another. A fault of the table is told
-// before one of the house.
+// The rows of a band table in a file, and then the house in another. A fault of the table is
+// reported before one of the house.
 fn table_and_house<K: KeepInFile>(
     rt: &HostRuntime,
     alloc: Global,
@@ -310,7 +339,7 @@ fn bands_file<K: KeepInFile>(
     let mut errors = rt.stderr();
     match table_and_house::<K>(rt, alloc, path, asked.csv) {
         Ok((keep, rows)) => bands_run(&mut rt.stdout(), &mut errors, keep, rows, asked.moment),
-        Err(fault) => ended(&mut errors, Err(fault)),
+        Err(fault) => finish_run(&mut errors, Err(fault)),
     }
 }
 
@@ -321,7 +350,7 @@ fn upgrade_file<K: KeepInFile>(rt: &HostRuntime, alloc: Global, path: &str) -> u
     let mut errors = rt.stderr();
     match K::upgrade(rt, alloc, path) {
         Ok((keep, upgraded)) => upgrade_run(&mut rt.stdout(), &mut errors, keep, upgraded),
-        Err(fault) => ended(&mut errors, Err(Fault::from(fault))),
+        Err(fault) => finish_run(&mut errors, Err(Fault::from(fault))),
     }
 }
 
@@ -364,7 +393,7 @@ fn audit_files<K: KeepInMemory>(
             let caller = asked.member;
             audit_run(alloc, left, right, caller, &mut rt.stdout(), &mut errors)
         }
-        Err(fault) => ended(&mut errors, Err(fault)),
+        Err(fault) => finish_run(&mut errors, Err(fault)),
     }
 }
 
@@ -391,7 +420,7 @@ fn audit_copies<K: CopiedKeep>(
             let caller = asked.member;
             audit_from_run(alloc, left, right, caller, &mut rt.stdout(), &mut errors)
         }
-        Err(fault) => ended(&mut errors, Err(Fault::from(fault))),
+        Err(fault) => finish_run(&mut errors, Err(Fault::from(fault))),
     }
 }
 
@@ -450,7 +479,7 @@ fn surplus_file<K: KeepInMemory>(
             };
             surplus_run(alloc, trial, raise(asked), &mut rt.stdout(), &mut errors)
         }
-        Err(fault) => ended(&mut errors, Err(fault)),
+        Err(fault) => finish_run(&mut errors, Err(fault)),
     }
 }
 
@@ -473,7 +502,7 @@ fn surplus_copies<K: CopiedKeep>(
             };
             surplus_from_run(alloc, trial, raise(asked), &mut rt.stdout(), &mut errors)
         }
-        Err(fault) => ended(&mut errors, Err(Fault::from(fault))),
+        Err(fault) => finish_run(&mut errors, Err(Fault::from(fault))),
     }
 }
 

@@ -66,15 +66,15 @@ has_audited content is_failed is_honest left_bytes right_bytes c left right verd
           keep left_new right_new verdict) right_kept one;
     }
 
--- what an audit's fault is told as is a fault of a keep too
+-- what stands for an audit's fault is a fault of a keep too
 of_keep : (f : AuditFault) → IsOfKeep (fault_of_audit f)
 of_keep auditing.Memory = (keep.Memory, refl)
 of_keep auditing.Store = (keep.Store, refl)
 of_keep auditing.NotNew = (keep.Damaged, refl)
 
--- where an audit told a fault nothing was compared
+-- where an audit gave a fault nothing was compared
 pub uncompared : {T : Type 0} (Unread : Fault → Type 0) (f : AuditFault) (result : Result T Fault)
-    → IsErr result × IsErrAnd result (λ told. told ≡ fault_of_audit f)
+    → IsErr result × IsErrAnd result (λ report. report ≡ fault_of_audit f)
     → IfErr result (λ fault. IsOfKeep fault ⊎ Unread fault)
 uncompared Unread f (Ok verdict) gave = absurd gave.1
-uncompared Unread f (Err told) gave = inl (subst IsOfKeep (sym gave.1) (of_keep f))
+uncompared Unread f (Err report) gave = inl (subst IsOfKeep (sym gave.1) (of_keep f))

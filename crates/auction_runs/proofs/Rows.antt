@@ -37,21 +37,17 @@ grown (Some a) (Some b) (Some c) x keeps p = keeps ∙ p
 -- what an import leaves of the keep that was given, from what each of its calls says
 abbrev pub taken : {K : Type 0} (content : K → Tables) (is_failed : K → Bool)
     (is_honest : K → Type 0) (may_leave : K → Tables → Type 0) (is_ended : K → Type 0)
-    (by : Lister) (given kept asked begun left last : K) (zone : Zone) → kept ≡ given
-    → IsRead content is_failed is_honest may_leave kept asked
-    → (is_honest asked → is_some (member_at (content kept).members by.member) ≡ true)
+    (by : Lister) (given asked begun left last : K) (zone : Zone)
+    → IsRead content is_failed is_honest may_leave given asked
+    → (is_honest asked → is_some (member_at (content given).members by.member) ≡ true)
     → begun ≡ asked → (is_honest asked → IsZoneOf (content asked).settings.zone zone)
     → HasOrdered (IsStep content is_failed is_honest may_leave zone) by begun left
     → last ≡ left → is_ended last
     → HasTaken content is_failed is_honest may_leave is_ended by given
-taken content is_failed is_honest may_leave is_ended by given kept asked begun left last zone kept_is
+taken content is_failed is_honest may_leave is_ended by given asked begun left last zone
     read known begun_is kept_zone ordered last_is ended = record {
       asked = asked;
-      member = record {
-        read = subst (λ k. IsRead content is_failed is_honest may_leave k asked) kept_is read;
-        known = subst (λ k. is_honest asked
-            → is_some (member_at (content k).members by.member) ≡ true) kept_is known;
-      };
+      member = record { read = read; known = known };
       zone = zone;
       kept_zone = kept_zone;
       left = left;
@@ -65,28 +61,28 @@ pub dealt : {K R : Type 0} (content : K → Tables) (is_failed : K → Bool)
     (is_honest : K → Type 0) (may_leave : K → Tables → Type 0) (is_ended : K → Type 0)
     (remaining : R → Option (List ℕ)) (by : Lister) (given begun : K)
     (house : HasTaken content is_failed is_honest may_leave is_ended by given)
-    (lots : Result R Fault) (mine : R) (before between after : Option (List ℕ)) (told : Imported)
+    (lots : Result R Fault) (mine : R) (before between after : Option (List ℕ)) (report : Imported)
     → lots ≡ Ok mine → begun ≡ house.asked → Keeps between after
     → ((text : List ℕ) → remaining mine ≡ Some text
     → HasListed (IsStep content is_failed is_honest may_leave house.zone)
-    (λ printed. Appends before between (printed ++ totals_line told))
-    by (records_of text) told begun house.left)
+    (λ printed. Appends before between (printed ++ totals_line report))
+    by (records_of text) report begun house.left)
     → (reader : R) → lots ≡ Ok reader → (text : List ℕ) → remaining reader ≡ Some text
-    → HasDealt content is_failed is_honest may_leave is_ended by text before after given told
+    → HasDealt content is_failed is_honest may_leave is_ended by text before after given report
 dealt content is_failed is_honest may_leave is_ended remaining by given begun house lots mine before
-    between after told opened begun_is keeps rows_of reader is text gives =
+    between after report opened begun_is keeps rows_of reader is text gives =
     let same : reader ≡ mine = cc (opened, is) in
     let found = rows_of text (subst (λ r. remaining r ≡ Some text) same gives) in
     record {
       house = house;
       listed = subst (λ k. HasListed (IsStep content is_failed is_honest may_leave house.zone)
-          (λ printed. Appends before after (printed ++ totals_line told))
-          by (records_of text) told k house.left) begun_is (record {
+          (λ printed. Appends before after (printed ++ totals_line report))
+          by (records_of text) report k house.left) begun_is (record {
             rows = found.rows;
             all = found.all;
             printed = found.printed;
             imported = found.imported;
-            shown = grown before between after (found.printed ++ totals_line told) keeps
+            shown = grown before between after (found.printed ++ totals_line report) keeps
                 found.shown;
           });
     }
@@ -131,15 +127,15 @@ all_had Step by (row ∷ rows) p q (mid, step, rest) none =
 -- an import that refused no row
 pub has_all : {K : Type 0} (content : K → Tables) (is_failed : K → Bool)
     (is_honest : K → Type 0) (may_leave : K → Tables → Type 0) (is_ended : K → Type 0)
-    (by : Lister) (text : List ℕ) (before after : Option (List ℕ)) (given : K) (told : Imported)
-    → told.refused ≡ 0
-    → HasDealt content is_failed is_honest may_leave is_ended by text before after given told
+    (by : Lister) (text : List ℕ) (before after : Option (List ℕ)) (given : K) (report : Imported)
+    → report.refused ≡ 0
+    → HasDealt content is_failed is_honest may_leave is_ended by text before after given report
     → HasAll content is_failed is_honest may_leave is_ended by text before after given
-has_all content is_failed is_honest may_leave is_ended by text before after given told none run =
+has_all content is_failed is_honest may_leave is_ended by text before after given report none run =
     record {
-      told = told;
+      report = report;
       run = run;
       had = all_had (IsStep content is_failed is_honest may_leave run.house.zone) by run.listed.rows
-          (run.house.asked, nothing, []) (run.house.left, told, run.listed.printed)
+          (run.house.asked, nothing, []) (run.house.left, report, run.listed.printed)
           run.listed.imported none;
     }

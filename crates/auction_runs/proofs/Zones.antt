@@ -4,7 +4,7 @@ use Rattle.house_rows.specs.Tables.{Tables}
 use Rattle.settle.specs.declared.zone.Zone.{Zone}
 use Rattle.site.specs.Answers.{IsStep}
 use Rattle.site_serve.specs.Serving.{HasServed}
-use Rattle.site_serve.specs.declared.serving.Served.{Served}
+use Rattle.site_serve.specs.declared.server.Served.{Served}
 use Rattle.auction_runs.specs.Setup.{IsTaken}
 
 -- a command was taken by the zone that a site began with

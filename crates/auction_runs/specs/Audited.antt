@@ -1,4 +1,4 @@
--- What an audit's run tells.
+-- What an audit's run reports.
 use Rattle.std.specs.Prelude.{◌≡◌, ◌≢◌, ◌⊎◌, ℕ, List, [], length, Bool, true, false, Option, IfSome, Result, Ok, Err}
 use Rattle.std.specs.List.{AllZip}
 use Rattle.std.specs.Io.KnownBytes.{Appends}
@@ -43,7 +43,7 @@ pub record IsBroken (bytes : List ℕ) : Type 0 where
 abbrev pub IsUnread : {S : Type 0} → (S → Option (List ℕ)) → Side → Result S Fault → Fault → Type 0
 IsUnread bytes_of side (Ok source) fault = (fault ≡ Memory) ⊎ ((fault ≡ Read)
     ⊎ ((fault ≡ Broken side) × IfSome (bytes_of source) IsBroken))
-IsUnread bytes_of side (Err told) fault = fault ≡ told
+IsUnread bytes_of side (Err report) fault = fault ≡ report
 
 -- why two sources give no messages, the left one first
 abbrev pub AreUnread : {L R : Type 0} → (L → Option (List ℕ)) → (R → Option (List ℕ))
@@ -52,7 +52,7 @@ AreUnread left_bytes right_bytes left right fault = IsUnread left_bytes Left lef
     ⊎ ((lefts : List (List ℕ)) × HasMessages left_bytes left lefts
     × IsUnread right_bytes Right right fault)
 
--- why two runs are not compared: a keep told so, or a side gives no messages
+-- why two runs are not compared: a keep reported the fault, or a side gives no messages
 abbrev pub IsUncompared : {K L R : Type 0} → (L → Option (List ℕ)) → (R → Option (List ℕ))
     → Run K L → Run K R → Fault → Type 0
 IsUncompared left_bytes right_bytes left right fault =
@@ -98,24 +98,24 @@ pub record HasAudited {K L R : Type 0} (content : K → Tables) (is_failed : K �
   pub found : Finds content is_failed is_honest c zone lefts rights left.keep right.keep
       left_keep right_keep verdict
 
--- a verdict was told, and whether the runs are equal
-abbrev pub IsTold : Option (List ℕ) → Option (List ℕ) → Verdict → Bool → Type 0
-IsTold before after (Equal replies) true = Appends before after (equal_line (length replies.items))
-IsTold before after (Equal replies) false = ⊥
-IsTold before after (Apart step) true = ⊥
-IsTold before after (Apart step) false = Appends before after (apart_line step)
+-- a verdict was reported, and whether the runs are equal
+abbrev pub IsReported : Option (List ℕ) → Option (List ℕ) → Verdict → Bool → Type 0
+IsReported before after (Equal replies) true = Appends before after (equal_line (length replies.items))
+IsReported before after (Equal replies) false = ⊥
+IsReported before after (Apart step) true = ⊥
+IsReported before after (Apart step) false = Appends before after (apart_line step)
 
--- what was found of two runs was told
-pub record HasTold {K L R : Type 0} (content : K → Tables) (is_failed : K → Bool)
+-- what was found of two runs was reported
+pub record HasReported {K L R : Type 0} (content : K → Tables) (is_failed : K → Bool)
     (is_honest : K → Type 0) (left_bytes : L → Option (List ℕ)) (right_bytes : R → Option (List ℕ))
     (c : ℕ) (left : Run K L) (right : Run K R) (before after : Option (List ℕ)) (equal : Bool) :
     Type 0 where
   pub verdict : Verdict
   pub audited : HasAudited content is_failed is_honest left_bytes right_bytes c left right verdict
-  pub told : IsTold before after verdict equal
+  pub report : IsReported before after verdict equal
 
--- why nothing, or not all, was told: the runs are not compared, or the output failed
-abbrev pub IsUntold : {K L R : Type 0} → (L → Option (List ℕ)) → (R → Option (List ℕ))
+-- why nothing, or not all, was reported: the runs are not compared, or the output failed
+abbrev pub IsUnreported : {K L R : Type 0} → (L → Option (List ℕ)) → (R → Option (List ℕ))
     → Run K L → Run K R → Fault → Type 0
-IsUntold left_bytes right_bytes left right fault =
+IsUnreported left_bytes right_bytes left right fault =
     (fault ≡ Write) ⊎ IsUncompared left_bytes right_bytes left right fault

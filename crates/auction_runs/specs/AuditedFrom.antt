@@ -1,4 +1,4 @@
--- What an audit's run tells of a house that lives on.
+-- What an audit's run reports of a house that lives on.
 use Rattle.std.specs.Prelude.{◌≡◌, ℕ, List, Bool, Option, Result, Ok}
 use Rattle.std.specs.List.{AllZip}
 use Rattle.house_laws.specs.Alike.{AreAlike}
@@ -11,7 +11,7 @@ use Rattle.settle.specs.declared.zone.Zone.{Zone}
 use Rattle.site_audit.specs.AuditsFrom.{IsFoundFrom}
 use Rattle.site_audit.specs.Places.{Heard, IsHeard}
 use Rattle.site_audit.specs.declared.verdict.Verdict.{Verdict}
-use Rattle.auction_runs.specs.Audited.{HasMessages, IsTold}
+use Rattle.auction_runs.specs.Audited.{HasMessages, IsReported}
 use Rattle.auction_runs.specs.declared.audit.Run.{Run}
 use Rattle.auction_runs.specs.declared.fault.Fault.{Fault}
 
@@ -52,12 +52,12 @@ pub record HasAuditedFrom {K L R : Type 0} (content : K → Tables) (is_failed :
   pub found : HasFoundFrom content is_failed is_honest left_bytes right_bytes c zone left.source
       right.source left.keep right.keep left_keep right_keep verdict
 
--- what was found of two runs was told
-pub record HasToldFrom {K L R : Type 0} (content : K → Tables) (is_failed : K → Bool)
+-- what was found of two runs was reported
+pub record HasReportedFrom {K L R : Type 0} (content : K → Tables) (is_failed : K → Bool)
     (is_honest : K → Type 0) (left_bytes : L → Option (List ℕ)) (right_bytes : R → Option (List ℕ))
     (c : ℕ) (left : Run K L) (right : Run K R) (before after : Option (List ℕ)) (equal : Bool)
     : Type 0 where
   pub verdict : Verdict
   pub audited : HasAuditedFrom content is_failed is_honest left_bytes right_bytes c left right
       verdict
-  pub told : IsTold before after verdict equal
+  pub report : IsReported before after verdict equal

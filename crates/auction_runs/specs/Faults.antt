@@ -2,7 +2,7 @@
 use Rattle.std.specs.Prelude.{◌≡◌, ◌⊎◌}
 use Rattle.auction_runs.specs.declared.fault.Fault.{Fault}
 use Rattle.auction_runs.specs.declared.fault.Fault.TheVariants.{Memory as NoMemory, Store as FailedStore, Damaged as DamagedFile, Read as FailedInput, Write as FailedOutput}
-use Rattle.auction_runs.specs.declared.fault.Fault.TheVariants as told
+use Rattle.auction_runs.specs.declared.fault.Fault.TheVariants as report
 use Rattle.auction_runs.specs.declared.fault.Side.{Side}
 use Rattle.auction_words.specs.Houses.{IsUnset}
 use Rattle.auction_words.specs.declared.command_line.HouseWords.{HouseWords}
@@ -20,8 +20,8 @@ use Rattle.site_audit.specs.declared.fault.AuditFault.{AuditFault}
 use Rattle.site_audit.specs.declared.fault.AuditFault.TheVariants as auditing
 use Rattle.site_audit.specs.declared.messages.MessagesFault.{MessagesFault}
 use Rattle.site_audit.specs.declared.messages.MessagesFault.TheVariants as reading
-use Rattle.site_serve.specs.declared.serving.ServeFault.{ServeFault}
-use Rattle.site_serve.specs.declared.serving.ServeFault.TheVariants.{Memory as UnbegunMemory, Read, Write}
+use Rattle.site_serve.specs.declared.server.ServeFault.{ServeFault}
+use Rattle.site_serve.specs.declared.server.ServeFault.TheVariants.{Memory as UnbegunMemory, Read, Write}
 
 -- what stands for a fault of a keep
 abbrev pub fault_of_keep : KeepFault → Fault
@@ -29,17 +29,17 @@ fault_of_keep Memory = NoMemory
 fault_of_keep Store = FailedStore
 fault_of_keep Damaged = DamagedFile
 
--- a fault that a keep told
+-- a fault that a keep reported
 abbrev pub IsOfKeep : Fault → Type 0
 IsOfKeep fault = (kept : KeepFault) × (fault ≡ fault_of_keep kept)
 
 -- what stands for a fault of the words that name settings
 abbrev pub fault_of_settings : SettingsFault → Fault
-fault_of_settings (unset.Bands fault) = told.Bands fault
-fault_of_settings unset.Zone = told.Zone
-fault_of_settings unset.Memory = told.Memory
+fault_of_settings (unset.Bands fault) = report.Bands fault
+fault_of_settings unset.Zone = report.Zone
+fault_of_settings unset.Memory = report.Memory
 
--- words name no settings, and this is told of it
+-- words name no settings, and this is reported of it
 abbrev pub IsOfSettings : HouseWords → Fault → Type 0
 IsOfSettings words fault =
     (reason : SettingsFault) × IsUnset words reason × (fault ≡ fault_of_settings reason)
@@ -56,39 +56,39 @@ fault_of_serving UnbegunMemory = NoMemory
 
 -- what stands for a fault of an import
 abbrev pub fault_of_import : ImportFault → Fault
-fault_of_import importing.Memory = told.Memory
-fault_of_import importing.Store = told.Store
-fault_of_import importing.Damaged = told.Damaged
-fault_of_import importing.Member = told.Member
-fault_of_import importing.Head = told.Head
-fault_of_import importing.Csv = told.Csv
-fault_of_import importing.Read = told.Read
-fault_of_import importing.Write = told.Write
+fault_of_import importing.Memory = report.Memory
+fault_of_import importing.Store = report.Store
+fault_of_import importing.Damaged = report.Damaged
+fault_of_import importing.Member = report.Member
+fault_of_import importing.Head = report.Head
+fault_of_import importing.Csv = report.Csv
+fault_of_import importing.Read = report.Read
+fault_of_import importing.Write = report.Write
 
 -- what stands for a fault of a statement
 abbrev pub fault_of_statement : StatementFault → Fault
-fault_of_statement stating.Memory = told.Memory
-fault_of_statement stating.Store = told.Store
-fault_of_statement stating.Damaged = told.Damaged
-fault_of_statement stating.Order = told.Order
-fault_of_statement stating.Member = told.Member
+fault_of_statement stating.Memory = report.Memory
+fault_of_statement stating.Store = report.Store
+fault_of_statement stating.Damaged = report.Damaged
+fault_of_statement stating.Order = report.Order
+fault_of_statement stating.Member = report.Member
 
 -- what stands for a fault of a day, or of writing a statement
 abbrev pub fault_of_settling : SettleFault → Fault
-fault_of_settling settling.Date = told.Date
-fault_of_settling settling.Order = told.Order
-fault_of_settling settling.Zone = told.Zone
-fault_of_settling settling.Memory = told.Memory
-fault_of_settling settling.Write = told.Write
+fault_of_settling settling.Date = report.Date
+fault_of_settling settling.Order = report.Order
+fault_of_settling settling.Zone = report.Zone
+fault_of_settling settling.Memory = report.Memory
+fault_of_settling settling.Write = report.Write
 
 -- what stands for a fault of an audit. A house that isn't new is none that the program made
 abbrev pub fault_of_audit : AuditFault → Fault
-fault_of_audit auditing.Memory = told.Memory
-fault_of_audit auditing.Store = told.Store
-fault_of_audit auditing.NotNew = told.Damaged
+fault_of_audit auditing.Memory = report.Memory
+fault_of_audit auditing.Store = report.Store
+fault_of_audit auditing.NotNew = report.Damaged
 
 -- what stands for a fault of a side's messages
 abbrev pub fault_of_messages : Side → MessagesFault → Fault
-fault_of_messages side reading.Read = told.Read
-fault_of_messages side reading.Memory = told.Memory
-fault_of_messages side (reading.Broken fault) = told.Broken side
+fault_of_messages side reading.Read = report.Read
+fault_of_messages side reading.Memory = report.Memory
+fault_of_messages side (reading.Broken fault) = report.Broken side

@@ -41,12 +41,12 @@ pub record HasTaken {K : Type 0} (content : K → Tables) (is_failed : K → Boo
 -- was printed, and the totals
 pub record HasDealt {K : Type 0} (content : K → Tables) (is_failed : K → Bool)
     (is_honest : K → Type 0) (may_leave : K → Tables → Type 0) (is_ended : K → Type 0)
-    (by : Lister) (text : List ℕ) (before after : Option (List ℕ)) (given : K) (told : Imported) :
+    (by : Lister) (text : List ℕ) (before after : Option (List ℕ)) (given : K) (report : Imported) :
     Type 0 where
   pub house : HasTaken content is_failed is_honest may_leave is_ended by given
   pub listed : HasListed (IsStep content is_failed is_honest may_leave house.zone)
-      (λ printed. Appends before after (printed ++ totals_line told))
-      by (records_of text) told house.asked house.left
+      (λ printed. Appends before after (printed ++ totals_line report))
+      by (records_of text) report house.asked house.left
 
 -- a row was dealt with, and it was listed, or there already
 pub record IsHad {K : Type 0} (Step : Asked → List ℕ → K → K → Type 0) (by : Lister)
@@ -59,7 +59,7 @@ pub record IsHad {K : Type 0} (Step : Asked → List ℕ → K → K → Type 0)
 pub record HasAll {K : Type 0} (content : K → Tables) (is_failed : K → Bool)
     (is_honest : K → Type 0) (may_leave : K → Tables → Type 0) (is_ended : K → Type 0)
     (by : Lister) (text : List ℕ) (before after : Option (List ℕ)) (given : K) : Type 0 where
-  pub told : Imported
-  pub run : HasDealt content is_failed is_honest may_leave is_ended by text before after given told
+  pub report : Imported
+  pub run : HasDealt content is_failed is_honest may_leave is_ended by text before after given report
   pub had : FoldsTo (IsHad (IsStep content is_failed is_honest may_leave run.house.zone) by)
-      (run.house.asked, nothing, []) run.listed.rows (run.house.left, told, run.listed.printed)
+      (run.house.asked, nothing, []) run.listed.rows (run.house.left, report, run.listed.printed)

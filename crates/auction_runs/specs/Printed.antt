@@ -34,7 +34,7 @@ equal_line count = codes "equal, " ++ decimal count ++ codes " replies" ++ 10 �
 abbrev pub same_line : ℕ → List ℕ
 same_line count = codes "same, " ++ decimal count ++ codes " replies" ++ 10 ∷ []
 
--- no covered bid stands there
+-- no covered bid is there
 abbrev pub not_covered_line : List ℕ
 not_covered_line = codes "not covered" ++ 10 ∷ []
 

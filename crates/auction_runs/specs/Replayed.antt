@@ -10,7 +10,7 @@ use Rattle.settle.specs.Zoned.{IsZoneOf}
 use Rattle.settle.specs.declared.zone.Zone.{Zone}
 use Rattle.site.specs.Answers.{IsStep}
 use Rattle.site_serve.specs.Serving.{HasServed}
-use Rattle.site_serve.specs.declared.serving.Served.{Served}
+use Rattle.site_serve.specs.declared.server.Served.{Served}
 use Rattle.auction_runs.specs.Setup.{IsSetUp}
 use Rattle.auction_words.specs.declared.command_line.Replay.{Replay}
 

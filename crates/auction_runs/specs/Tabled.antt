@@ -29,12 +29,13 @@ pub record IsTabled {K : Type 0} (content : K → Tables) (may_leave : K → Tab
 pub record IsRefused {K : Type 0} (content : K → Tables) (is_honest : K → Type 0) (moment : ℕ)
     (command : Command) (old new : K) (fault : Fault) : Type 0 where
   pub refusal : Refusal
-  pub told : fault ≡ Refused refusal
+  pub report : fault ≡ Refused refusal
   pub by_history : is_honest new → (settings : Settings) (h : History) → IsHistory settings h
       → content old ≡ tables_of settings h → verdict settings h moment 0 command ≡ Some refusal
   pub same : is_honest new → content new ≡ content old
 
--- why a keep didn't do what the command asks for: it told so itself, or the command is refused
+-- why a keep didn't do what the command asks for: it reported the fault itself, or the command is
+-- refused
 abbrev pub IsUndone : {K : Type 0} → (K → Tables) → (K → Type 0) → ℕ → Command → K → K → Fault
     → Type 0
 IsUndone content is_honest moment command old new fault =

@@ -1,15 +1,15 @@
 //! `audit`: two runs of messages, compared as one member sees them.
 ghost use Rattle.std.specs.Prelude.{◌≡◌, ◌≤◌, ◌⊎◌, ◌↔◌, true, Ok, IfErr, IfOk, OnOk, map};
 ghost use Rattle.std.specs.Io.KnownBytes.{Appends};
-ghost use Rattle.auction_runs.specs.Audited.{AreUnread, HasAudited, HasFound, HasMessages, HasTold, IsTold, IsUncompared, IsUnread, IsUntold};
+ghost use Rattle.auction_runs.specs.Audited.{AreUnread, HasAudited, HasFound, HasMessages, HasReported, IsReported, IsUncompared, IsUnread, IsUnreported};
 ghost use Rattle.auction_runs.specs.Faults.{IsOfKeep, fault_of_messages};
 ghost use Rattle.auction_runs.specs.Printed.{apart_line, equal_line};
 ghost use Rattle.settle.specs.Zoned.{IsZoneOf};
 ghost use Rattle.site.specs.Answers.{zone_of};
 ghost use Rattle.site_serve.specs.Serving.{keep_of};
 
-use crate::fault::{Fault, Side, ended};
-use crate::serve::begun;
+use crate::fault::{Fault, Side, finish_run};
+use crate::serve::site_over;
 use device::Source;
 use house_rows::Keep;
 use site::Site;
@@ -65,15 +65,15 @@ pub fn both_begun<K: Keep + Drop>(
         IsZoneOf (K.content left).settings.zone (zone_of sites.0)) }
     ensures fault { IfErr result IsOfKeep }
 {
-    let left_site = begun(alloc, left)?;
-    match begun(alloc, right) {
+    let left_site = site_over(alloc, left)?;
+    match site_over(alloc, right) {
         Ok(right_site) => Ok((left_site, right_site)),
         Err(fault) => Err(fault),
     }
 }
 
 // What an audit of the messages of two sources finds, over two sites. What is wrong on the left is
-// told before what is wrong on the right.
+// reported before what is wrong on the right.
 fn compare_over<L: Source + Drop, R: Source + Drop, K: Keep + Drop>(
     alloc: Global,
     left: &mut Site<K>,
@@ -115,9 +115,9 @@ fn compare<L: Source + Drop, R: Source + Drop, K: Keep + Drop>(
     )
 }
 
-// Tells that the runs are equal, with so many replies.
+// Reports that the runs are equal, with so many replies.
 fn tell_equal<W: Write>(output: &mut W, count: usize) -> Result<(), Fault>
-    ensures told { OnOk result
+    ensures report { OnOk result
         (Appends (W.contents output.old) (W.contents output.new) (equal_line count)) }
     ensures fault { IfErr result (λ fault. fault ≡ Fault.Write) }
 {
@@ -127,9 +127,9 @@ fn tell_equal<W: Write>(output: &mut W, count: usize) -> Result<(), Fault>
     }
 }
 
-// Tells that they are apart from a place on.
+// Reports that they are apart from a place on.
 fn tell_apart<W: Write>(output: &mut W, step: u64) -> Result<(), Fault>
-    ensures told { OnOk result
+    ensures report { OnOk result
         (Appends (W.contents output.old) (W.contents output.new) (apart_line step)) }
     ensures fault { IfErr result (λ fault. fault ≡ Fault.Write) }
 {
@@ -139,10 +139,10 @@ fn tell_apart<W: Write>(output: &mut W, step: u64) -> Result<(), Fault>
     }
 }
 
-/// Tells a verdict, and whether the runs are equal.
+/// Reports a verdict, and gives whether the runs are equal.
 pub fn tell<W: Write>(output: &mut W, verdict: &Verdict) -> Result<bool, Fault>
-    ensures told { IfOk result
-        (IsTold (W.contents output.old) (W.contents output.new) verdict.now) }
+    ensures report { IfOk result
+        (IsReported (W.contents output.old) (W.contents output.new) verdict.now) }
     ensures fault { IfErr result (λ fault. fault ≡ Fault.Write) }
 {
     match verdict {
@@ -157,8 +157,8 @@ pub fn tell<W: Write>(output: &mut W, verdict: &Verdict) -> Result<bool, Fault>
     }
 }
 
-/// Compares two runs of messages over new houses as a member sees them, and tells what was found.
-/// Ok is whether they are equal. What is wrong on the left is told before what is wrong on the
+/// Compares two runs of messages over new houses as a member sees them, and reports what was found.
+/// Ok is whether they are equal. What is wrong on the left is reported before what is wrong on the
 /// right.
 pub fn tell_compared<L: Source + Drop, R: Source + Drop, W: Write, K: Keep + Drop>(
     alloc: Global,
@@ -167,17 +167,17 @@ pub fn tell_compared<L: Source + Drop, R: Source + Drop, W: Write, K: Keep + Dro
     caller: u64,
     output: &mut W,
 ) -> Result<bool, Fault>
-    ensures told { IfOk result
-        (HasTold K.content K.is_failed K.is_honest L.left R.left caller left right
+    ensures report { IfOk result
+        (HasReported K.content K.is_failed K.is_honest L.left R.left caller left right
         (W.contents output.old) (W.contents output.new)) }
-    ensures fault { IfErr result (IsUntold L.left R.left left right) }
+    ensures fault { IfErr result (IsUnreported L.left R.left left right) }
 {
     let verdict = compare(alloc, left, right, caller)?;
     tell(output, &verdict)
 }
 
-/// The exit status for what was found: 0 where the runs are equal, and else 1. A fault is told in
-/// its line.
+/// The exit status for what was found: 0 where the runs are equal, and else 1. A fault is written
+/// in its line.
 pub fn status<E: Write>(errors: &mut E, equal: Result<bool, Fault>) -> u8
     ensures equal { (result ≡ 0) ↔ (equal ≡ Ok true) }
     ensures within { result ≤ 1 }
@@ -185,13 +185,13 @@ pub fn status<E: Write>(errors: &mut E, equal: Result<bool, Fault>) -> u8
     match equal {
         Ok(true) => 0,
         Ok(false) => 1,
-        Err(fault) => ended(errors, Err(fault)),
+        Err(fault) => finish_run(errors, Err(fault)),
     }
 }
 
-/// Compares two runs of messages over new houses as a member sees them, tells what was found, and
-/// gives the exit status: 0 where they are equal, and else 1. What is wrong on the left is told
-/// before what is wrong on the right. A fault is told in its line on `errors`.
+/// Compares two runs of messages over new houses as a member sees them, reports what was found, and
+/// gives the exit status: 0 where they are equal, and else 1. What is wrong on the left is reported
+/// before what is wrong on the right. A fault is written in its line on `errors`.
 pub fn audit_run<L: Source + Drop, R: Source + Drop, W: Write, E: Write, K: Keep + Drop>(
     alloc: Global,
     left: Run<K, L>,
@@ -201,7 +201,7 @@ pub fn audit_run<L: Source + Drop, R: Source + Drop, W: Write, E: Write, K: Keep
     errors: &mut E,
 ) -> u8
     ensures equal { result ≡ 0
-        → HasTold K.content K.is_failed K.is_honest L.left R.left caller left right
+        → HasReported K.content K.is_failed K.is_honest L.left R.left caller left right
         (W.contents output.old) (W.contents output.new) true }
     ensures within { result ≤ 1 }
 {

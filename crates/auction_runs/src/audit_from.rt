@@ -1,8 +1,8 @@
 //! `audit --house`: two runs of messages over a house that lives on, compared as one member sees
 //! them.
 ghost use Rattle.std.specs.Prelude.{◌≡◌, ◌≤◌, ◌⊎◌, true, IfErr, IfOk, map};
-ghost use Rattle.auction_runs.specs.Audited.{AreUnread, IsUncompared, IsUntold};
-ghost use Rattle.auction_runs.specs.AuditedFrom.{HasAuditedFrom, HasFoundFrom, HasToldFrom};
+ghost use Rattle.auction_runs.specs.Audited.{AreUnread, IsUncompared, IsUnreported};
+ghost use Rattle.auction_runs.specs.AuditedFrom.{HasAuditedFrom, HasFoundFrom, HasReportedFrom};
 ghost use Rattle.auction_runs.specs.Faults.{IsOfKeep};
 ghost use Rattle.site.specs.Answers.{zone_of};
 ghost use Rattle.site_serve.specs.Serving.{keep_of};
@@ -17,7 +17,7 @@ use std::alloc::Global;
 use std::io::Write;
 
 // What an audit of the messages of two sources finds, over two sites. What is wrong on the left is
-// told before what is wrong on the right.
+// reported before what is wrong on the right.
 fn compare_over_from<L: Source + Drop, R: Source + Drop, K: Keep + Drop>(
     alloc: Global,
     left: &mut Site<K>,
@@ -59,8 +59,8 @@ fn compare_from<L: Source + Drop, R: Source + Drop, K: Keep + Drop>(
     )
 }
 
-// Compares two runs over houses that live on as a member sees them, and tells what was found. Ok is
-// whether they are equal.
+// Compares two runs over houses that live on as a member sees them, and reports what was found. Ok
+// is whether they are equal.
 fn tell_compared_from<L: Source + Drop, R: Source + Drop, W: Write, K: Keep + Drop>(
     alloc: Global,
     left: Run<K, L>,
@@ -68,19 +68,19 @@ fn tell_compared_from<L: Source + Drop, R: Source + Drop, W: Write, K: Keep + Dr
     caller: u64,
     output: &mut W,
 ) -> Result<bool, Fault>
-    ensures told { IfOk result
-        (HasToldFrom K.content K.is_failed K.is_honest L.left R.left caller left right
+    ensures report { IfOk result
+        (HasReportedFrom K.content K.is_failed K.is_honest L.left R.left caller left right
         (W.contents output.old) (W.contents output.new)) }
-    ensures fault { IfErr result (IsUntold L.left R.left left right) }
+    ensures fault { IfErr result (IsUnreported L.left R.left left right) }
 {
     let verdict = compare_from(alloc, left, right, caller)?;
     tell(output, &verdict)
 }
 
 /// Compares two runs of messages over houses that live on, whose histories are alike for a member,
-/// as this member sees them. Tells what was found, and gives the exit status: 0 where they are
-/// equal, and else 1. What is wrong on the left is told before what is wrong on the right. A fault is
-/// told in its line on `errors`.
+/// as this member sees them. Reports what was found, and gives the exit status: 0 where they are
+/// equal, and else 1. What is wrong on the left is reported before what is wrong on the right. A
+/// fault is written in its line on `errors`.
 pub fn audit_from_run<L: Source + Drop, R: Source + Drop, W: Write, E: Write, K: Keep + Drop>(
     alloc: Global,
     left: Run<K, L>,
@@ -90,7 +90,7 @@ pub fn audit_from_run<L: Source + Drop, R: Source + Drop, W: Write, E: Write, K:
     errors: &mut E,
 ) -> u8
     ensures equal { result ≡ 0
-        → HasToldFrom K.content K.is_failed K.is_honest L.left R.left caller left right
+        → HasReportedFrom K.content K.is_failed K.is_honest L.left R.left caller left right
         (W.contents output.old) (W.contents output.new) true }
     ensures within { result ≤ 1 }
 {

@@ -5,7 +5,7 @@ ghost use Rattle.house_rows.specs.declared.command.Command.TheVariants as comman
 ghost use Rattle.auction_runs.specs.Printed.{edition_line};
 ghost use Rattle.auction_runs.specs.Tabled.{HasSet, HasTabled, IsTabled, IsUndone, IsUnprinted};
 
-use crate::fault::{Fault, ended};
+use crate::fault::{Fault, finish_run};
 use house::decide;
 use house_rows::{Command, Ends, Keep, Rows};
 use std::io::Write;
@@ -31,9 +31,9 @@ fn order<K: Keep>(keep: &mut K, moment: u64, command: &Command) -> Result<u32, F
     }
 }
 
-// Tells the edition of a table that was set.
+// Reports the edition of a table that was set.
 fn tell<W: Write>(output: &mut W, edition: u32) -> Result<(), Fault>
-    ensures told { OnOk result
+    ensures report { OnOk result
         (Appends (W.contents output.old) (W.contents output.new) (edition_line edition)) }
     ensures fault { IfErr result (λ fault. fault ≡ Fault.Write) }
 {
@@ -57,7 +57,7 @@ fn set<K: Keep + Ends>(mut keep: K, moment: u64, command: &Command) -> Result<u3
     Ok(edition)
 }
 
-// Sets the table, ends the keep, and tells the edition.
+// Sets the table, ends the keep, and reports the edition.
 fn set_and_tell<W: Write, K: Keep + Ends>(
     output: &mut W,
     keep: K,
@@ -73,8 +73,8 @@ fn set_and_tell<W: Write, K: Keep + Ends>(
     tell(output, edition)
 }
 
-/// Sets a band table in a house, ends its keep, tells the edition, and gives the exit status. A fault
-/// is told in its line on `errors`, and so is the refusal of the house.
+/// Sets a band table in a house, ends its keep, reports the edition, and gives the exit status. A
+/// fault is written in its line on `errors`, and so is the refusal of the house.
 pub fn bands_run<W: Write, E: Write, K: Keep + Ends>(
     output: &mut W,
     errors: &mut E,
@@ -87,5 +87,5 @@ pub fn bands_run<W: Write, E: Write, K: Keep + Ends>(
     ensures within { result ≤ 1 }
 {
     let command = Command::SetBands { bands };
-    ended(errors, set_and_tell(output, keep, moment, &command))
+    finish_run(errors, set_and_tell(output, keep, moment, &command))
 }

@@ -14,7 +14,7 @@ use std::io::Write;
 use steps::BandsFault;
 
 /// Why the program ends at a fault.
-#[derive(Clone, Copy, Debug, PartialEq, Eq)]
+#[derive(Clone, Copy)]
 pub enum Fault {
     /// Memory was refused.
     Memory,
@@ -49,7 +49,7 @@ pub enum Fault {
 }
 
 /// A file of messages: one side of an audit, or the only one.
-#[derive(Clone, Copy, Debug, PartialEq, Eq)]
+#[derive(Clone, Copy)]
 pub enum Side {
     /// The first file.
     Left,
@@ -100,7 +100,7 @@ impl fmt::Display for Fault {
 }
 
 impl From<KeepFault> for Fault {
-    ghost from_gives = { λ fault told. told ≡ fault_of_keep fault };
+    ghost from_gives = { λ fault report. report ≡ fault_of_keep fault };
 
     fn from(fault: KeepFault) -> Fault {
         match fault {
@@ -112,7 +112,7 @@ impl From<KeepFault> for Fault {
 }
 
 impl From<SettingsFault> for Fault {
-    ghost from_gives = { λ fault told. told ≡ fault_of_settings fault };
+    ghost from_gives = { λ fault report. report ≡ fault_of_settings fault };
 
     fn from(fault: SettingsFault) -> Fault {
         match fault {
@@ -124,7 +124,7 @@ impl From<SettingsFault> for Fault {
 }
 
 impl From<ServeFault> for Fault {
-    ghost from_gives = { λ fault told. told ≡ fault_of_serving fault };
+    ghost from_gives = { λ fault report. report ≡ fault_of_serving fault };
 
     fn from(fault: ServeFault) -> Fault {
         match fault {
@@ -136,7 +136,7 @@ impl From<ServeFault> for Fault {
 }
 
 impl From<ImportFault> for Fault {
-    ghost from_gives = { λ fault told. told ≡ fault_of_import fault };
+    ghost from_gives = { λ fault report. report ≡ fault_of_import fault };
 
     fn from(fault: ImportFault) -> Fault {
         match fault {
@@ -153,7 +153,7 @@ impl From<ImportFault> for Fault {
 }
 
 impl From<StatementFault> for Fault {
-    ghost from_gives = { λ fault told. told ≡ fault_of_statement fault };
+    ghost from_gives = { λ fault report. report ≡ fault_of_statement fault };
 
     fn from(fault: StatementFault) -> Fault {
         match fault {
@@ -167,7 +167,7 @@ impl From<StatementFault> for Fault {
 }
 
 impl From<SettleFault> for Fault {
-    ghost from_gives = { λ fault told. told ≡ fault_of_settling fault };
+    ghost from_gives = { λ fault report. report ≡ fault_of_settling fault };
 
     fn from(fault: SettleFault) -> Fault {
         match fault {
@@ -181,7 +181,7 @@ impl From<SettleFault> for Fault {
 }
 
 impl From<AuditFault> for Fault {
-    ghost from_gives = { λ fault told. told ≡ fault_of_audit fault };
+    ghost from_gives = { λ fault report. report ≡ fault_of_audit fault };
 
     // A house that isn't new is none that the program made.
     fn from(fault: AuditFault) -> Fault {
@@ -193,8 +193,8 @@ impl From<AuditFault> for Fault {
     }
 }
 
-/// Ends a run, and gives its exit status: 0, or 1 for a fault, which is told in its line.
-pub fn ended<E: Write>(errors: &mut E, outcome: Result<(), Fault>) -> u8
+/// Ends a run, and gives its exit status: 0, or 1 for a fault, which is written in its line.
+pub fn finish_run<E: Write>(errors: &mut E, outcome: Result<(), Fault>) -> u8
     ensures done { (result ≡ 0) ↔ IsOk outcome }
     ensures fault { (result ≡ 1) ↔ IsErr outcome }
     ensures within { result ≤ 1 }
@@ -202,7 +202,7 @@ pub fn ended<E: Write>(errors: &mut E, outcome: Result<(), Fault>) -> u8
     match outcome {
         Ok(()) => 0,
         Err(fault) => {
-            // Where standard error fails too there is nobody left to tell.
+            // Where standard error fails too there is nobody left to report to.
             let _ = writeln!(errors, "{fault}");
             1
         }

@@ -6,8 +6,8 @@ ghost use Rattle.settle.specs.Zoned.{IsZoneOf};
 ghost use Rattle.site.specs.Answers.{IsStep, zone_of};
 ghost use Rattle.site_serve.specs.Serving.{IsFlushed, keep_of};
 
-use crate::fault::{Fault, ended};
-use crate::serve::begun;
+use crate::fault::{Fault, finish_run};
+use crate::serve::site_over;
 use crate::setup::set_up;
 use auction_words::Replay;
 use device::{Sink, Source, give_all};
@@ -91,12 +91,12 @@ fn answer_all<R: Source, W: Sink, K: Keep + Drop>(
         (W.taken sink.old) (W.taken sink.new) keep)) }
     ensures handed_on { OnOk result (IsFlushed W.handed_on W.taken sink.old sink.new) }
 {
-    let mut site = begun(alloc, keep)?;
+    let mut site = site_over(alloc, keep)?;
     answer_over(alloc, source, sink, &mut site, asked)
 }
 
-/// Answers all messages of a source over a new house, and gives the exit status. A fault is told in
-/// its line on `errors`. However the stream ends, the record that was asked for follows the last
+/// Answers all messages of a source over a new house, and gives the exit status. A fault is written
+/// in its line on `errors`. However the stream ends, the record that was asked for follows the last
 /// answer; where a device fails there is none.
 pub fn replay_run<R: Source, W: Sink, K: Keep + Drop, E: Write>(
     alloc: Global,
@@ -112,5 +112,5 @@ pub fn replay_run<R: Source, W: Sink, K: Keep + Drop, E: Write>(
     ensures handed_on { result ≡ 0 → IsFlushed W.handed_on W.taken sink.old sink.new }
     ensures within { result ≤ 1 }
 {
-    ended(errors, answer_all(alloc, source, sink, keep, asked))
+    finish_run(errors, answer_all(alloc, source, sink, keep, asked))
 }

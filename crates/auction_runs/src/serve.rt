@@ -4,12 +4,11 @@ ghost use Rattle.std.specs.Io.KnownBytes.{Appends};
 ghost use Rattle.auction_runs.specs.Faults.{IsOfKeep};
 ghost use Rattle.auction_runs.specs.Printed.{listening, served};
 ghost use Rattle.settle.specs.Zoned.{IsZoneOf};
-ghost use Rattle.settle.specs.declared.zone.Zone.{Zone};
 ghost use Rattle.site.specs.Answers.{zone_of};
 ghost use Rattle.site_connections.specs.Turns.{ServesOne, TakesEach, TakesOne};
 ghost use Rattle.site_serve.specs.Serving.{keep_of};
 
-use crate::fault::{Fault, ended};
+use crate::fault::{Fault, finish_run};
 use house_rows::{Ends, Keep};
 use site::Site;
 use site_connections::{Connections, serve_each};
@@ -20,7 +19,7 @@ use std::io::Write;
 const MOST: u64 = 10_000;
 
 /// The site over a keep.
-pub fn begun<K: Keep + Drop>(alloc: Global, keep: K) -> Result<Site<K>, Fault>
+pub fn site_over<K: Keep + Drop>(alloc: Global, keep: K) -> Result<Site<K>, Fault>
     ensures keep { IfOk result (λ site. keep_of site ≡ keep) }
     ensures zone { K.is_honest keep → IfOk result (λ site.
         IsZoneOf (K.content keep).settings.zone (zone_of site)) }
@@ -29,20 +28,9 @@ pub fn begun<K: Keep + Drop>(alloc: Global, keep: K) -> Result<Site<K>, Fault>
     Ok(Site::new(alloc, keep)?)
 }
 
-/// The keep, once a site could begin over it: so what is wrong with a house is told before what else
-/// is asked of it.
-pub fn sound<K: Keep + Drop>(alloc: Global, keep: K) -> Result<K, Fault>
-    ensures same { IfOk result (λ same. same ≡ keep) }
-    ensures zone { K.is_honest keep → IfOk result (λ same. (zone : Zone)
-        × IsZoneOf (K.content same).settings.zone zone) }
-{
-    let site = begun(alloc, keep)?;
-    Ok(site.end())
-}
-
-// Tells that connections are waited for.
+// Reports that connections are waited for.
 fn tell_listening<W: Write>(output: &mut W) -> Result<(), Fault>
-    ensures told { OnOk result
+    ensures report { OnOk result
         (Appends (W.contents output.old) (W.contents output.new) listening) }
     ensures fault { IfErr result (λ fault. fault ≡ Fault.Write) }
 {
@@ -52,7 +40,7 @@ fn tell_listening<W: Write>(output: &mut W) -> Result<(), Fault>
     }
 }
 
-// Tells how many connections were answered.
+// Reports how many connections were answered.
 fn tell_served<W: Write>(output: &mut W, count: u64) -> Result<(), Fault>
     ensures { OnOk result (Appends (W.contents output.old) (W.contents output.new) (served count)) }
 {
@@ -82,7 +70,7 @@ fn serve_all<C: Connections, K: Keep + Drop>(
     }
 }
 
-// Tells that connections are waited for, and serves so many.
+// Reports that connections are waited for, and serves so many.
 fn listen<W: Write, C: Connections, K: Keep + Drop>(
     alloc: Global,
     connections: &mut C,
@@ -90,7 +78,7 @@ fn listen<W: Write, C: Connections, K: Keep + Drop>(
     output: &mut W,
     site: &mut Site<K>,
 ) -> Result<(), Fault>
-    ensures told { OnOk result
+    ensures report { OnOk result
         (Appends (W.contents output.old) (W.contents output.new) listening) }
     ensures each { OnOk result (TakesEach (TakesOne
         (ServesOne K.content K.is_failed K.is_honest K.may_leave (zone_of site.old)
@@ -103,7 +91,7 @@ fn listen<W: Write, C: Connections, K: Keep + Drop>(
     serve_all(alloc, connections, count, site)
 }
 
-/// Tells that connections are waited for, serves so many of them, one after the other, each by at
+/// Reports that connections are waited for, serves so many of them, one after the other, each by at
 /// most 10000 messages, and gives the keep back, which nothing else has changed.
 pub fn answer_each<W: Write, C: Connections, K: Keep + Drop>(
     alloc: Global,
@@ -112,7 +100,7 @@ pub fn answer_each<W: Write, C: Connections, K: Keep + Drop>(
     output: &mut W,
     site: Site<K>,
 ) -> Result<K, Fault>
-    ensures told { OnOk result
+    ensures report { OnOk result
         (Appends (W.contents output.old) (W.contents output.new) listening) }
     ensures each { IfOk result (λ keep. TakesEach (TakesOne
         (ServesOne K.content K.is_failed K.is_honest K.may_leave (zone_of site)
@@ -129,9 +117,9 @@ pub fn answer_each<W: Write, C: Connections, K: Keep + Drop>(
     }
 }
 
-// Ends the keep, and tells how many connections were answered.
+// Ends the keep, and reports how many connections were answered.
 fn finish<W: Write, K: Ends>(output: &mut W, keep: K, count: u64) -> Result<(), Fault>
-    ensures told { OnOk result
+    ensures report { OnOk result
         (Appends (W.contents output.old) (W.contents output.new) (served count)) }
     ensures ended { OnOk result (K.is_ended keep) }
 {
@@ -139,8 +127,8 @@ fn finish<W: Write, K: Ends>(output: &mut W, keep: K, count: u64) -> Result<(), 
     tell_served(output, count)
 }
 
-/// Ends the keep over which so many connections were answered, tells their number, and gives the
-/// exit status. A fault, one of serving them too, is told in its line on `errors`.
+/// Ends the keep over which so many connections were answered, reports their number, and gives the
+/// exit status. A fault, one of serving them too, is written in its line on `errors`.
 pub fn serve_run<W: Write, E: Write, K: Ends>(
     output: &mut W,
     errors: &mut E,
@@ -154,7 +142,7 @@ pub fn serve_run<W: Write, E: Write, K: Ends>(
     ensures within { result ≤ 1 }
 {
     match answered {
-        Ok(keep) => ended(errors, finish(output, keep, count)),
-        Err(fault) => ended(errors, Err(fault)),
+        Ok(keep) => finish_run(errors, finish(output, keep, count)),
+        Err(fault) => finish_run(errors, Err(fault)),
     }
 }

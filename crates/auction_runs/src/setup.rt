@@ -31,7 +31,7 @@ pub(crate) const ATLAS: &str =
     {\"category\":1,\"end\":5000,\"lot\":\"A1\",\"start\":500,\"text\":\"\",\"title\":\"Atlas\"}";
 
 // Whether a message of the setup was taken, by its answer.
-fn taken(answer: &[u8]) -> Result<(), Fault>
+fn check_answer(answer: &[u8]) -> Result<(), Fault>
     ensures { OnOk result (IsCreated answer.now) }
 {
     if answer.starts_with(b"HTTP/1.1 201 ") {
@@ -52,7 +52,7 @@ fn order<K: Keep + Drop>(site: &mut Site<K>, message: &str) -> Result<(), Fault>
         (keep_of site.old) message.now (keep_of site.new)) }
     ensures zone { zone_of site.new ≡ zone_of site.old }
 {
-    taken(&site.answer(message.as_bytes()))
+    check_answer(&site.answer(message.as_bytes()))
 }
 
 /// Sets a new house up: three members, a category and an item of the first member.

@@ -5,8 +5,7 @@ ghost use Rattle.settle.specs.Calendar.{day_text};
 ghost use Rattle.auction_runs.specs.Inquired.{IsUnasked};
 ghost use Rattle.auction_runs.specs.Stated.{HasRead, HasStated, account_text};
 
-use crate::fault::{Fault, ended};
-use crate::serve::sound;
+use crate::fault::{Fault, finish_run};
 use auction_words::StatementWords;
 use device::Sink;
 use house_rows::{Ends, Keep};
@@ -16,7 +15,7 @@ use std::alloc::Global;
 use std::io::Write;
 
 /// Whose statement is asked for, of which days, and in which form.
-#[derive(Clone, Copy, Debug, PartialEq, Eq)]
+#[derive(Clone, Copy)]
 pub struct Inquiry {
     /// The number of the member.
     pub member: u64,
@@ -29,8 +28,8 @@ pub struct Inquiry {
 }
 
 impl Inquiry {
-    /// What is asked for by words. A day that is none is told before a period that ends before it
-    /// begins.
+    /// What is asked for by words. A day that is none is reported before a period that ends before
+    /// it begins.
     pub fn read(words: &StatementWords<'_>) -> Result<Inquiry, Fault>
         ensures member { IfOk result (λ i. i.member ≡ words.now.member) }
         ensures from { IfOk result (λ i. words.now.from.now ≡ day_text i.from) }
@@ -86,7 +85,7 @@ fn write<W: Sink>(
 }
 
 // The statement from a keep, which is ended.
-fn settled<K: Keep + Drop + Ends>(
+fn make_statement<K: Keep + Drop + Ends>(
     alloc: Global,
     keep: K,
     asked: Inquiry,
@@ -94,7 +93,7 @@ fn settled<K: Keep + Drop + Ends>(
     ensures { IfOk result
         (HasRead K.content K.is_failed K.is_honest K.may_leave K.is_ended asked keep) }
 {
-    let mut keep = sound(alloc, keep)?;
+    let mut keep = keep;
     let statement = statement(alloc, &mut keep, asked.member, asked.from, asked.to)?;
     keep.end()?;
     Ok(statement)
@@ -112,12 +111,12 @@ fn state<W: Sink, K: Keep + Drop + Ends>(
     ensures handed_on { OnOk result (W.handed_on sink.new ≡ W.taken sink.new) }
 {
     let csv = asked.csv;
-    let statement = settled(alloc, keep, asked)?;
+    let statement = make_statement(alloc, keep, asked)?;
     write(alloc, sink, &statement, csv)
 }
 
-/// Writes the statement of a member from a keep, which is ended before, and gives the exit status. A
-/// fault is told in its line on `errors`.
+/// Writes the statement of a member from a keep, which is ended before, and gives the exit status.
+/// A fault is written in its line on `errors`.
 pub fn statement_run<W: Sink, E: Write, K: Keep + Drop + Ends>(
     alloc: Global,
     keep: K,
@@ -130,5 +129,5 @@ pub fn statement_run<W: Sink, E: Write, K: Keep + Drop + Ends>(
     ensures handed_on { result ≡ 0 → W.handed_on sink.new ≡ W.taken sink.new }
     ensures within { result ≤ 1 }
 {
-    ended(errors, state(alloc, keep, asked, sink))
+    finish_run(errors, state(alloc, keep, asked, sink))
 }

@@ -18,7 +18,7 @@ use std::alloc::Global;
 use std::io::Write;
 
 /// Which bid is raised, and to whom that may not show.
-#[derive(Clone, Copy, Debug)]
+#[derive(Clone, Copy)]
 pub struct Raise {
     /// The place of the bid among the messages, from 1 on.
     pub place: u64,
@@ -75,9 +75,9 @@ fn look<S: Source + Drop, K: Keep + Drop>(
     look_over(alloc, &mut left, &mut right, trial.source, raise)
 }
 
-// Tells that a bid is covered, with so many replies to who looks.
+// Reports that a bid is covered, with so many replies to who looks.
 fn tell_same<W: Write>(output: &mut W, count: usize) -> Result<(), Fault>
-    ensures told { OnOk result
+    ensures report { OnOk result
         (Appends (W.contents output.old) (W.contents output.new) (same_line count)) }
     ensures fault { IfErr result (λ fault. fault ≡ Fault.Write) }
 {
@@ -87,9 +87,9 @@ fn tell_same<W: Write>(output: &mut W, count: usize) -> Result<(), Fault>
     }
 }
 
-// Tells that no covered bid stands there.
+// Reports that no covered bid is there.
 fn tell_not_covered<W: Write>(output: &mut W) -> Result<(), Fault>
-    ensures told { OnOk result
+    ensures report { OnOk result
         (Appends (W.contents output.old) (W.contents output.new) not_covered_line) }
     ensures fault { IfErr result (λ fault. fault ≡ Fault.Write) }
 {
@@ -99,9 +99,9 @@ fn tell_not_covered<W: Write>(output: &mut W) -> Result<(), Fault>
     }
 }
 
-/// Tells what was found, and whether the bid is covered.
+/// Reports what was found, and gives whether the bid is covered.
 pub fn tell<W: Write>(output: &mut W, found: &Surplus) -> Result<bool, Fault>
-    ensures told { IfOk result (IsShown (W.contents output.old) (W.contents output.new) found.now) }
+    ensures report { IfOk result (IsShown (W.contents output.old) (W.contents output.new) found.now) }
     ensures fault { IfErr result (λ fault. fault ≡ Fault.Write) }
 {
     match found {
@@ -116,7 +116,7 @@ pub fn tell<W: Write>(output: &mut W, found: &Surplus) -> Result<bool, Fault>
     }
 }
 
-/// Answers messages over a new house, and over another with one bid raised, and tells whether the
+/// Answers messages over a new house, and over another with one bid raised, and reports whether the
 /// bid is covered, so that it shows to nobody else. Ok is whether it is.
 pub fn tell_surplus<S: Source + Drop, W: Write, K: Keep + Drop>(
     alloc: Global,
@@ -124,7 +124,7 @@ pub fn tell_surplus<S: Source + Drop, W: Write, K: Keep + Drop>(
     raise: Raise,
     output: &mut W,
 ) -> Result<bool, Fault>
-    ensures told { IfOk result (HasShown K.content K.is_failed K.is_honest S.left raise trial
+    ensures report { IfOk result (HasShown K.content K.is_failed K.is_honest S.left raise trial
         (W.contents output.old) (W.contents output.new)) }
     ensures fault { IfErr result (IsUnshown S.left trial) }
 {
@@ -132,9 +132,9 @@ pub fn tell_surplus<S: Source + Drop, W: Write, K: Keep + Drop>(
     tell(output, &found)
 }
 
-/// Answers messages over a new house, and over another with one bid raised, tells whether the bid is
-/// covered, so that it shows to nobody else, and gives the exit status: 0 where it is, and else 1. A
-/// fault is told in its line on `errors`.
+/// Answers messages over a new house, and over another with one bid raised, reports whether the bid
+/// is covered, so that it shows to nobody else, and gives the exit status: 0 where it is, and else
+/// 1. A fault is written in its line on `errors`.
 pub fn surplus_run<S: Source + Drop, W: Write, E: Write, K: Keep + Drop>(
     alloc: Global,
     trial: Trial<K, S>,

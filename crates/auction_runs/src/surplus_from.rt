@@ -55,14 +55,14 @@ fn look_from<S: Source + Drop, K: Keep + Drop>(
 }
 
 // Answers messages over a house that lives on, and over another of equal tables with one bid raised,
-// and tells whether the bid is covered. Ok is whether it is.
+// and reports whether the bid is covered. Ok is whether it is.
 fn tell_surplus_from<S: Source + Drop, W: Write, K: Keep + Drop>(
     alloc: Global,
     trial: Trial<K, S>,
     raise: Raise,
     output: &mut W,
 ) -> Result<bool, Fault>
-    ensures told { IfOk result (HasShownFrom K.content K.is_failed K.is_honest S.left raise trial
+    ensures report { IfOk result (HasShownFrom K.content K.is_failed K.is_honest S.left raise trial
         (W.contents output.old) (W.contents output.new)) }
     ensures fault { IfErr result (IsUnshown S.left trial) }
 {
@@ -71,8 +71,8 @@ fn tell_surplus_from<S: Source + Drop, W: Write, K: Keep + Drop>(
 }
 
 /// Answers messages over a house that lives on, and over another of equal tables with one bid
-/// raised. Tells whether the bid is covered, so that it shows to nobody else, and gives the exit
-/// status: 0 where it is, and else 1. A fault is told in its line on `errors`.
+/// raised. Reports whether the bid is covered, so that it shows to nobody else, and gives the exit
+/// status: 0 where it is, and else 1. A fault is written in its line on `errors`.
 pub fn surplus_from_run<S: Source + Drop, W: Write, E: Write, K: Keep + Drop>(
     alloc: Global,
     trial: Trial<K, S>,

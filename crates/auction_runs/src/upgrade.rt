@@ -3,18 +3,18 @@ ghost use Rattle.std.specs.Prelude.{◌≡◌, ◌≤◌, OnOk};
 ghost use Rattle.std.specs.Io.KnownBytes.{Appends};
 ghost use Rattle.auction_runs.specs.Printed.{upgraded_line, upgraded_word};
 
-use crate::fault::{Fault, ended};
+use crate::fault::{Fault, finish_run};
 use house_rows::Ends;
 use std::io::Write;
 
-// What is told of a house that is upgraded, and of one that was of version 2 before.
+// What is reported of a house that is upgraded, and of one that was of version 2 before.
 fn word(upgraded: bool) -> &'static str
     ensures { result.now ≡ upgraded_word upgraded }
 {
     if upgraded { "upgraded" } else { "is version 2" }
 }
 
-// Tells whether the house is upgraded.
+// Reports whether the house is upgraded.
 fn tell<W: Write>(output: &mut W, upgraded: bool) -> Result<(), Fault>
     ensures { OnOk result
         (Appends (W.contents output.old) (W.contents output.new) (upgraded_line upgraded)) }
@@ -25,9 +25,9 @@ fn tell<W: Write>(output: &mut W, upgraded: bool) -> Result<(), Fault>
     }
 }
 
-// Ends the keep, and tells whether its house is upgraded.
+// Ends the keep, and reports whether its house is upgraded.
 fn finish<W: Write, K: Ends>(output: &mut W, keep: K, upgraded: bool) -> Result<(), Fault>
-    ensures told { OnOk result
+    ensures report { OnOk result
         (Appends (W.contents output.old) (W.contents output.new) (upgraded_line upgraded)) }
     ensures ended { OnOk result (K.is_ended keep) }
 {
@@ -35,8 +35,8 @@ fn finish<W: Write, K: Ends>(output: &mut W, keep: K, upgraded: bool) -> Result<
     tell(output, upgraded)
 }
 
-/// Ends the keep of a house that is upgraded, or was of version 2 before, tells which it is, and
-/// gives the exit status. A fault is told in its line on `errors`.
+/// Ends the keep of a house that is upgraded, or was of version 2 before, reports which it is, and
+/// gives the exit status. A fault is written in its line on `errors`.
 pub fn upgrade_run<W: Write, E: Write, K: Ends>(
     output: &mut W,
     errors: &mut E,
@@ -48,5 +48,5 @@ pub fn upgrade_run<W: Write, E: Write, K: Ends>(
     ensures ended { result ≡ 0 → K.is_ended keep }
     ensures within { result ≤ 1 }
 {
-    ended(errors, finish(output, keep, upgraded))
+    finish_run(errors, finish(output, keep, upgraded))
 }

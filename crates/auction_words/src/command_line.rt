@@ -2,7 +2,8 @@
 ghost use Rattle.std.specs.Prelude.{IfOk, IfSome};
 ghost use Rattle.auction_words.specs.Tasks.{IsMember, IsWithin};
 
-use crate::commands::{MOST_CONNECTIONS, MOST_MESSAGES, command};
+use crate::arguments::{MOST_CONNECTIONS, MOST_MESSAGES};
+use crate::commands::command;
 use crate::values::{Refused, number, refusal, text};
 use cents::LIMIT;
 use clap::{ArgMatches, Error};
@@ -138,12 +139,11 @@ fn member(words: &ArgMatches<'_>) -> Result<u64, Refused>
 // What the words of a subcommand say of the house.
 fn house_words<'a>(words: &ArgMatches<'a>) -> Result<HouseWords<'a>, Refused> {
     let rate = number(words, "rate", 0, MOST_RATE)?;
-    let zone = text(words, "zone")?;
     match Rate::new(rate) {
         Some(rate) => Ok(HouseWords {
             bands: words.get_str("bands"),
             rate,
-            zone,
+            zone: text(words, "zone")?,
         }),
         None => Err(Refused { name: "rate" }),
     }
@@ -232,13 +232,6 @@ fn bands_task<'a>(words: &ArgMatches<'a>) -> Result<Task<'a>, Refused>
     Ok(Task::Bands(file, BandsWords { csv, moment }))
 }
 
-// What the words of `upgrade` ask for.
-fn upgrade_task<'a>(words: &ArgMatches<'a>) -> Result<Task<'a>, Refused>
-    ensures { IfOk result IsWithin }
-{
-    Ok(Task::Upgrade(text(words, "file")?))
-}
-
 // What the words of `audit` ask for.
 fn audit_task<'a>(words: &ArgMatches<'a>) -> Result<Task<'a>, Refused>
     ensures { IfOk result IsWithin }
@@ -281,10 +274,23 @@ fn task_of<'a>(name: &str, words: &ArgMatches<'a>) -> Result<Task<'a>, Refused>
         "import" => import_task(words),
         "statement" => statement_task(words),
         "bands" => bands_task(words),
-        "upgrade" => upgrade_task(words),
+        "upgrade" => Ok(Task::Upgrade(text(words, "file")?)),
         "audit" => audit_task(words),
         "surplus" => surplus_task(words),
         _ => Err(Refused { name: "command" }),
+    }
+}
+
+// What words that were taken ask for.
+fn task_in<'a>(alloc: Global, matches: &ArgMatches<'a>) -> Result<Option<Task<'a>>, Error>
+    ensures { IfOk result (λ task. IfSome task IsWithin) }
+{
+    match matches.subcommand() {
+        Some((name, words)) => match task_of(name, words) {
+            Ok(task) => Ok(Some(task)),
+            Err(refused) => Err(refusal(alloc, name, words, refused)?),
+        },
+        None => Ok(None),
     }
 }
 
@@ -294,11 +300,5 @@ pub fn read_task<'a>(alloc: Global, words: &'a [String]) -> Result<Option<Task<'
     ensures { IfOk result (λ task. IfSome task IsWithin) }
 {
     let matches = command(alloc)?.try_get_matches_from(words)?;
-    match matches.subcommand() {
-        Some((name, words)) => match task_of(name, words) {
-            Ok(task) => Ok(Some(task)),
-            Err(refused) => Err(refusal(alloc, name, words, refused)?),
-        },
-        None => Ok(None),
-    }
+    task_in(alloc, &matches)
 }

@@ -1,10 +1,11 @@
 //! The words of the auction house's program: what they ask for, and which settings they name.
 //!
 //! Promised: each number that a task names is in its range; the settings of a new house are those
-//! that its words name, of a zone that can be read, and else it is told why there are none. Read
+//! that its words name, of a zone that can be read, and else a fault says why there are none. Read
 //! `command_line` first, and then `settings`.
 #![tactic(auto)]
 
+mod arguments;
 mod command_line;
 mod commands;
 mod settings;

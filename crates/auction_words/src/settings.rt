@@ -11,19 +11,15 @@ use std::fs::File;
 use std::io;
 use std::rt::Files;
 use steps::{Bands, BandsFault};
-use thiserror::Error;
 
 /// Why words name no settings.
-#[derive(Clone, Copy, Debug, PartialEq, Eq, Error)]
+#[derive(Clone, Copy)]
 pub enum SettingsFault {
     /// The band table has a fault, or its file can't be read.
-    #[error("no band table: {0}")]
     Bands(BandsFault),
     /// The zone is no rule.
-    #[error("not a rule of a time zone")]
     Zone,
     /// Memory was refused.
-    #[error("out of memory")]
     Memory,
 }
 
@@ -91,7 +87,7 @@ pub fn same_settings(alloc: Global, settings: &Settings) -> Result<Settings, Set
     })
 }
 
-/// What a house is set up with. A fault of the band table is told before one of the zone.
+/// What a house is set up with. A fault of the band table is reported before one of the zone.
 pub fn read_settings<R: Files>(
     rt: &R,
     alloc: Global,

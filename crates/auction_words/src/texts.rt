@@ -1,6 +1,6 @@
 //! The texts of the help, each line of them at most 80 columns wide where it is shown.
 
-/// What `--version` tells after the program's name.
+/// What `--version` gives after the program's name.
 pub const VERSION: &str = "1.0.0";
 
 /// The band table.
@@ -37,14 +37,14 @@ The moment of each listing, in whole seconds after 1970 began:\n\
 \n\
 The command date +%s prints the present one.";
 
-/// What else is told of `init`.
+/// What else is said of `init`.
 pub const INIT: &str = "\
 A house keeps its rate and its zone for ever. Its band table is edition 1, and\n\
 bands sets others.\n\
 \n\
 Example: auction init house --bands bands.csv --rate 1000 --zone UTC0";
 
-/// What else is told of `serve`.
+/// What else is said of `serve`.
 pub const SERVE: &str = "\
 It prints listening, answers the connections one after the other, at most 10000\n\
 messages each, and prints served and their number. It gives up a connection on\n\
@@ -62,14 +62,14 @@ was printed, FILE alone is the house.\n\
 \n\
 Example: auction serve house --port 8080 --count 100";
 
-/// What else is told of `replay`.
+/// What else is said of `replay`.
 pub const REPLAY: &str = "\
 Without --bands the house has a table of ten bands. --preset makes the members\n\
 Ana, Ben and Cid, the category Books, and Ana's item Atlas, which ends at 5000.\n\
 \n\
 Example: auction replay --preset --record < messages.http > answers.http";
 
-/// What else is told of `import`.
+/// What else is said of `import`.
 pub const IMPORT: &str = "\
 The first record of LOTS is lot,category,title,text,start,buy_now,end. Each row\n\
 is one item: category and end are 1 to 10 digits, start and buy_now are amounts\n\
@@ -80,14 +80,14 @@ and were refused. The exit status is 1 where a row was refused.\n\
 \n\
 Example: auction import house lots.csv --member 1 --moment 1767225600";
 
-/// What else is told of `statement`.
+/// What else is said of `statement`.
 pub const STATEMENT: &str = "\
 A day is from 1970-01-01 to 2100-12-31, and counted in the house's time zone.\n\
 Both days are in the period.\n\
 \n\
 Example: auction statement house --member 1 --from 2026-01-01 --to 2026-12-31";
 
-/// What else is told of `bands`.
+/// What else is said of `bands`.
 pub const SET_BANDS: &str = "\
 It prints edition and the number of the table, from 2 on. Items that come after\n\
 it go by it, and each item that is there keeps its own table. A house may have\n\
@@ -97,7 +97,7 @@ The first record of CSV is at,step. 1 to 50 bands follow, as of init.\n\
 \n\
 Example: auction bands house bands.csv --moment 1767225600";
 
-/// What else is told of `upgrade`.
+/// What else is said of `upgrade`.
 pub const UPGRADE: &str = "\
 It prints upgraded, or is version 2 where there was nothing to do. Every row\n\
 stays as it was.\n\
@@ -110,7 +110,7 @@ A house that is Damaged stays as it was.\n\
 \n\
 Example: auction upgrade house";
 
-/// What else is told of `audit`.
+/// What else is said of `audit`.
 pub const AUDIT: &str = "\
 Both runs begin with a new house in memory. Without --bands it has a table of\n\
 ten bands. With --house both begin with the house in a file.\n\
@@ -122,7 +122,7 @@ the first place at which they differ, and the exit status is 1.\n\
 \n\
 Example: auction audit left.http right.http --member 2";
 
-/// What else is told of `surplus`.
+/// What else is said of `surplus`.
 pub const SURPLUS: &str = "\
 It puts a greater maximum into one bid of the run, and compares both runs. Both\n\
 begin with a new house in memory. Without --bands it has a table of ten bands.\n\
@@ -135,7 +135,7 @@ same in both. Else it prints not covered, and the exit status is 1.\n\
 \n\
 Example: auction surplus list.http --place 7 --maximum 8000 --member 2";
 
-/// What else is told of the program.
+/// What else is said of the program.
 pub const PROGRAM: &str = "\
 Examples:\n\
 \x20 auction init house --bands bands.csv --rate 1000 --zone UTC0\n\

@@ -4,7 +4,7 @@ ghost use Rattle.std.specs.Int.{IsInRange};
 ghost use Rattle.clap.specs.Values.{kind_of};
 ghost use Rattle.clap.specs.declared.error.kind.ErrorKind.TheVariants.{ValueValidation};
 
-use crate::commands::subcommand;
+use crate::commands::command_named;
 use clap::error::ErrorKind;
 use clap::{ArgMatches, Command, Error};
 use std::alloc::{AllocError, Global};
@@ -39,8 +39,8 @@ pub fn number(
     }
 }
 
-// What is told of a refused value: the value, and what the help has of its option.
-fn told(
+// What is said of a refused value: the value, and what the help has of its option.
+fn refusal_text(
     alloc: Global,
     command: &Command<'_>,
     words: &ArgMatches<'_>,
@@ -61,6 +61,25 @@ fn told(
     }
 }
 
+// The command of a subcommand's name, whose usage begins with the program's name.
+fn command_in_usage<'a>(alloc: Global, name: &str) -> Result<Command<'a>, AllocError> {
+    let usage_name = format!(in alloc; "auction {name}")?;
+    command_named(alloc, name)?.bin_name(usage_name.as_str())
+}
+
+// The error for a refused value of a command.
+fn error_of(
+    alloc: Global,
+    command: &mut Command<'_>,
+    words: &ArgMatches<'_>,
+    refused: Refused,
+) -> Result<Error, AllocError>
+    ensures { IfOk result (λ error. kind_of error ≡ ValueValidation) }
+{
+    let message = refusal_text(alloc, command, words, refused)?;
+    command.error(ErrorKind::ValueValidation, message.as_str())
+}
+
 /// The error for a refused value of a subcommand, with its usage.
 pub fn refusal(
     alloc: Global,
@@ -70,8 +89,6 @@ pub fn refusal(
 ) -> Result<Error, AllocError>
     ensures { IfOk result (λ error. kind_of error ≡ ValueValidation) }
 {
-    let usage_name = format!(in alloc; "auction {name}")?;
-    let mut command = subcommand(alloc, name)?.bin_name(usage_name.as_str())?;
-    let message = told(alloc, &command, words, refused)?;
-    command.error(ErrorKind::ValueValidation, message.as_str())
+    let mut command = command_in_usage(alloc, name)?;
+    error_of(alloc, &mut command, words, refused)
 }

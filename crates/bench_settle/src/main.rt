@@ -35,7 +35,7 @@ fn statement(alloc: Global, sales: &[Sold]) -> Result<Statement, SettleFault>
 fn write_out(rt: &impl Print, alloc: Global, count: u32) -> Result<(), SettleFault>
     requires { count ≤ MOST }
 {
-    let sales = sales::numbered(alloc, count)?;
+    let sales = sales::first_sales(alloc, count)?;
     let statement = statement(alloc, &sales)?;
     let mut output = Writing::new(io::writer(rt));
     statement.write_text(alloc, &mut output)?;
@@ -44,11 +44,12 @@ fn write_out(rt: &impl Print, alloc: Global, count: u32) -> Result<(), SettleFau
     Ok(())
 }
 
-// Makes the statement so many times, writes each as the word says, and tells how many lines it made.
+// Makes the statement so many times, writes each as the word says, and gives how many lines it
+// made.
 fn repeat(alloc: Global, count: u32, what: &str, rounds: u32) -> Result<usize, SettleFault>
     requires { count ≤ MOST }
 {
-    let sales = sales::numbered(alloc, count)?;
+    let sales = sales::first_sales(alloc, count)?;
     let mut lines = 0usize;
     for _ in 0..rounds {
         let statement = statement(alloc, &sales)?;

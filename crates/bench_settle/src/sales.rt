@@ -18,7 +18,7 @@ const START: u64 = 1_735_689_600;
 const SPAN: u64 = 31_449_600;
 
 /// The sales of the items from 1 to `count`, in order of item.
-pub fn numbered(alloc: Global, count: u32) -> Result<Vec<Sold>, AllocError>
+pub fn first_sales(alloc: Global, count: u32) -> Result<Vec<Sold>, AllocError>
     requires { count ≤ MOST }
     ensures count { IfOk result (λ v. length v.items ≡ count) }
     ensures items { IfOk result (λ v. AllPairs (λ a b. a.item ≢ b.item) v.items) }

@@ -18,7 +18,7 @@ const BODY: &[u8] = b"{\"count\":1,\"floor\":550,\"leader\":2,\"price\":500}";
 
 const AT_A_TIME: usize = 16;
 
-// Copies as many of the bytes as there is room for, and tells how many.
+// Copies as many of the bytes as there is room for, and gives how many.
 fn give(room: &mut [u8], bytes: &[u8]) -> usize
     ensures room { result ≤ length room.new }
     ensures fits { result ≤ length bytes.now }
@@ -44,7 +44,7 @@ fn seen(request: &Request<'_>, asks: bool) -> usize {
     sum
 }
 
-// Takes the messages out of an inbox, and tells what was seen of them.
+// Takes the messages out of an inbox, and gives what was seen of them.
 fn drain(inbox: &mut Inbox, asks: bool) -> usize {
     let mut sum = 0usize;
     for _ in 0..AT_A_TIME + 1 {

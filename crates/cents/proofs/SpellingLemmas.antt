@@ -6,7 +6,7 @@ use Rattle.std.specs.Option.{IsSome, ok_or}
 use Rattle.std.proofs.lemmas.Bool.{cases_lt, false≢true}
 use Rattle.std.proofs.lemmas.Int.Digits.{digits_value-lt}
 use Rattle.std.proofs.lemmas.List.{get_or_at, take-append-drop}
-use Rattle.cents.specs.declared.spelling.TheConstants.{PLENTY}
+use Rattle.cents.specs.declared.digits.TheConstants.{PLENTY}
 use Rattle.std.proofs.lemmas.Fmt.{decimal_is_IsNumeral}
 use Rattle.cents.specs.Spelling.{IsSpelling, amount_text, two_digits}
 use Rattle.cents.specs.declared.amount.TheConstants.{LIMIT}

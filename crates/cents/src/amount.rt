@@ -2,15 +2,15 @@
 ghost use Rattle.std.specs.Prelude.{◌≡◌, ◌≢◌, ◌≤◌, ◌<◌, ◌↔◌, ℕ, [], Ok, IsSome, IfSome, IsErrOf};
 ghost use Rattle.cents.specs.Spelling.{IsSpelling};
 
+use crate::digits;
 use crate::fault::CentsFault;
-use crate::spelling;
 use std::marker::Model;
 
 /// The greatest amount, in cents: ten million of the whole coin.
 pub const LIMIT: u64 = 1_000_000_000;
 
 /// An amount of money in whole cents, from 0 to `LIMIT`. Clauses see the number.
-#[derive(Clone, Copy, Debug, PartialEq, Eq, PartialOrd, Ord, Hash)]
+#[derive(Clone, Copy, PartialEq, Eq, PartialOrd, Ord)]
 pub struct Cents {
     value: u64,
 }
@@ -63,9 +63,9 @@ impl Cents {
         if text.is_empty() {
             return Err(CentsFault::Empty);
         }
-        match spelling::pointed(text) {
-            Some((whole, cents)) => spelling::amount(whole, cents),
-            None => spelling::amount(text, b"00"),
+        match digits::split_at_point(text) {
+            Some((whole, cents)) => digits::amount(whole, cents),
+            None => digits::amount(text, b"00"),
         }
     }
 }

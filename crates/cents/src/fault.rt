@@ -5,7 +5,7 @@ ghost use Rattle.cents.specs.Fault.{number_of};
 use thiserror::Error;
 
 /// Why a text was not read as an amount. The first that fits, in this order.
-#[derive(Clone, Copy, Debug, PartialEq, Eq, Hash, Error)]
+#[derive(Clone, Copy, Debug, Error)]
 pub enum CentsFault {
     /// The text is empty.
     #[error("no amount")]

@@ -6,10 +6,10 @@
 #![tactic(auto)]
 
 mod amount;
+mod digits;
 mod fault;
 mod laws;
 mod shown;
-mod spelling;
 
 pub use amount::{Cents, LIMIT};
 pub use fault::CentsFault;

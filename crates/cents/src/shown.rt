@@ -7,7 +7,7 @@ use std::fmt;
 use std::marker::Model;
 
 /// A number of cents that is shown as an amount is: a sum may pass `LIMIT`. Clauses see the number.
-#[derive(Clone, Copy, Debug, PartialEq, Eq, PartialOrd, Ord, Hash)]
+#[derive(Clone, Copy, PartialEq, Eq, PartialOrd, Ord)]
 pub struct Shown {
     cents: u64,
 }

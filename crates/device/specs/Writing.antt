@@ -2,7 +2,7 @@
 use Rattle.std.specs.Prelude.{◌≡◌, ℕ, ◌+◌, List, ◌++◌, length, Bool, Option, Some, None, Result, Ok, refl}
 use Rattle.std.specs.Io.KnownBytes.{Appends, append_known}
 use Rattle.device.specs.declared.failure.Failure.{Failure}
-use Rattle.device.specs.declared.writing.Writing.{Writing}
+use Rattle.device.specs.declared.std_writer.Writing.{Writing}
 use Rattle.device.specs.Room.{items, room}
 
 -- the writer after it
@@ -29,7 +29,7 @@ handed_on_of contents s = contents s.writer
 abbrev pub taken_of : {W : Type 0} → (W → Option (List ℕ)) → Writing W → Option (List ℕ)
 taken_of contents s = append_known (contents s.writer) (items s.held)
 
--- what is held stands after the writer's bytes
+-- what is held comes after the writer's bytes
 pub taken_of-held : {W : Type 0} (contents : W → Option (List ℕ)) (s : Writing W)
     → Appends (handed_on_of contents s) (taken_of contents s) (held_of s)
 taken_of-held contents s =

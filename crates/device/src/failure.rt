@@ -5,7 +5,7 @@ use std::error::Error;
 use std::fmt;
 
 /// The device failed, in this call or in an earlier one.
-#[derive(Clone, Copy, Debug, PartialEq, Eq, Hash)]
+#[derive(Clone, Copy, Debug)]
 pub struct Failure;
 
 impl fmt::Display for Failure {

@@ -3,7 +3,7 @@
 //! Promised: a call says how many bytes moved, in their order and none twice, and answers `Failure`
 //! exactly where the device is failed as the call ends; a device that failed stays failed. A flush
 //! that goes well hands on all that was taken. No call but a `MemorySink`'s takes memory. Read
-//! `source` and `sink` first, the two traits, and then `writing`, which gathers what it is given.
+//! `source` and `sink` first, the two traits, and then `std_writer`, which gathers what it is given.
 #![tactic(auto)]
 
 mod calls;
@@ -14,7 +14,7 @@ mod reading;
 mod room;
 mod sink;
 mod source;
-mod writing;
+mod std_writer;
 
 pub use failure::Failure;
 pub use memory_sink::MemorySink;
@@ -22,4 +22,4 @@ pub use memory_source::MemorySource;
 pub use reading::Reading;
 pub use sink::{Sink, give_all};
 pub use source::Source;
-pub use writing::Writing;
+pub use std_writer::Writing;

@@ -9,9 +9,9 @@ use crate::failure::Failure;
 use crate::sink::Sink;
 use std::alloc::Global;
 
-/// A sink that keeps what it is given. It takes all, unless it is told to take less or to fail; a
+/// A sink that keeps what it is given. It takes all, unless it is set to take less or to fail; a
 /// growth that is refused is a failure too.
-#[derive(Debug, Drop)]
+#[derive(Drop)]
 pub struct MemorySink {
     bytes: Vec<u8>,
     piece: usize,

@@ -7,8 +7,8 @@ use crate::calls::one_less;
 use crate::failure::Failure;
 use crate::source::Source;
 
-/// A source over a slice. It gives all that fits, unless it is told to give less or to fail.
-#[derive(Clone, Copy, Debug)]
+/// A source over a slice. It gives all that fits, unless it is set to give less or to fail.
+#[derive(Clone, Copy)]
 pub struct MemorySource<'b> {
     bytes: &'b [u8],
     piece: usize,

@@ -18,7 +18,7 @@ pub trait Sink {
     /// Whether the sink failed, in the last call or before.
     ghost has_failed: { Self → Bool };
 
-    /// Gives the sink bytes, and tells how many of the first it took: at least one, where the slice
+    /// Gives the sink bytes, and says how many of the first it took: at least one, where the slice
     /// is not empty. A failure takes none.
     fn give(&mut self, bytes: &[u8]) -> Result<usize, Failure>
         ensures bound { IfOk result (λ n. n ≤ length bytes.now) }

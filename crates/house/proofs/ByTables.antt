@@ -1,4 +1,4 @@
--- What the rules tell of the tables alone, whatever history they are of, if of any.
+-- What the rules say of the tables alone, whatever history they are of, if of any.
 use Rattle.std.proofs.Common.{◌≡◌, ℕ, List, [], ◌∷◌, Bool, true, false, refl, arith, inl, inr, Option, Some, None}
 use Rattle.std.specs.Prelude.{find, option_map}
 use Rattle.std.specs.List.{list_any}
@@ -36,7 +36,7 @@ none_found p (x ∷ xs) none = elim (by_test (p x)) [ inl is ↦ absurd (let e :
 
 -- the standing that is found is the row's
 pub standing_same : (t : Tables) (item : ℕ) (row : ItemRow) (kept : Kept) → row_at t item ≡ Some row → standing_at t item ≡ Some kept → kept ≡ row.standing
-standing_same t item row kept there stands = by_row (row_at t item) there stands where
+standing_same t item row kept there is_consistent = by_row (row_at t item) there is_consistent where
   by_row : (o : Option ItemRow) → o ≡ Some row → option_map (λ (r : ItemRow). r.standing) o ≡ Some kept → kept ≡ row.standing
   by_row None none some = cc
   by_row (Some r) is some = cc

@@ -35,7 +35,7 @@ close_verdict t settings h moment caller e = rw e refl
 
 pub close_refusal : (t : Tables) (settings : Settings) (h : History) (moment caller : ℕ) (refusal : Refusal) → t ≡ tables_of settings h
     → Some refusal ≡ first_failing (first_rules t moment caller true) → verdict settings h moment caller Close ≡ Some refusal
-close_refusal t settings h moment caller refusal e told = close_verdict t settings h moment caller e ∙ sym told
+close_refusal t settings h moment caller refusal e report = close_verdict t settings h moment caller e ∙ sym report
 
 -- whether an item was bought, and whether a close took it, with one more close that may
 abbrev taken_by : Option Purchase → Bool → Bool
@@ -130,14 +130,14 @@ unfolding changed tables_of questions
 close_leads settings h moment caller is = rw (closed_rows settings h moment caller is) (simp append-nil)
 
 pub close_fits : (t : Tables) (moment caller : ℕ) → None ≡ first_failing (first_rules t moment caller true) → IsMoment moment
-close_fits t moment caller told = (caller_fits t moment caller true (sym told)).moment_fits
+close_fits t moment caller report = (caller_fits t moment caller true (sym report)).moment_fits
 
 pub close_accepts : (t : Tables) (settings : Settings) (h : History) (moment caller : ℕ) → IsHistory settings h → t ≡ tables_of settings h
     → None ≡ first_failing (first_rules t moment caller true) → IsAccepted settings h moment caller Close (change.Close moment)
-close_accepts t settings h moment caller is e told =
+close_accepts t settings h moment caller is e report =
     record {
-      accepted = close_verdict t settings h moment caller e ∙ sym told;
-      fits = close_fits t moment caller told;
+      accepted = close_verdict t settings h moment caller e ∙ sym report;
+      fits = close_fits t moment caller report;
       free = tt;
       leads = close_leads settings h moment caller is;
     }

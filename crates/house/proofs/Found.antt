@@ -12,14 +12,14 @@ pub some_found : {A : Type 0} (p : A → Bool) (xs : List A) → is_some (find p
 some_found p [] = refl
 some_found p (x ∷ xs) = elim (by_test (p x)) [ inl is ↦ rw is refl | inr not ↦ rw not (some_found p xs) ]
 
--- what the first part tells is told
+-- what the first part answers is the answer
 pub first_some : {A : Type 0} (xs ys : List (Bool × A)) (r : A) → first_failing xs ≡ Some r → first_failing (xs ++ ys) ≡ Some r
 first_some [] ys r e = let f : None ≡ Some r = e in absurd (nothing r None refl e) where
   nothing : {A : Type 0} (r : A) (o : Option A) → o ≡ None → o ≡ Some r → ⊥
   nothing r o none some = cc
 first_some (x ∷ xs) ys r e = elim (by_test x.0) [ inl is ↦ rw is (rw is at e) | inr not ↦ rw not (first_some xs ys r (rw not at e)) ]
 
--- where it tells nothing, the second part is asked
+-- where it answers nothing, the second part is asked
 pub first_none : {A : Type 0} (xs ys : List (Bool × A)) → first_failing xs ≡ None → first_failing (xs ++ ys) ≡ first_failing ys
 first_none [] ys e = refl
 first_none (x ∷ xs) ys e = elim (by_test x.0) [ inl is ↦ absurd (something x.1 (first_failing (x ∷ xs)) (rw is refl) e) | inr not ↦ rw not (first_none xs ys (rw not at e)) ] where

@@ -17,4 +17,5 @@ pub mod Settlements
 pub mod NewQuestions
 pub mod NewAnswers
 pub mod NewFeedback
+pub mod Auctions
 pub mod Begun

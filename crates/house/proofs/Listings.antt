@@ -80,7 +80,7 @@ list_verdict t settings h moment caller offer e =
 pub list_refusal : (t : Tables) (settings : Settings) (h : History) (moment caller : ℕ) (offer : Offer) (refusal : Refusal) → t ≡ tables_of settings h
     → Some refusal ≡ first_failing (first_rules t moment caller false ++ offer_rules t moment caller offer)
     → verdict settings h moment caller (Listed offer.category offer.lot.now offer.title.now offer.text.now offer.start offer.buy_now offer.end offer.reserve) ≡ Some refusal
-list_refusal t settings h moment caller offer refusal e told = list_verdict t settings h moment caller offer e ∙ sym told
+list_refusal t settings h moment caller offer refusal e report = list_verdict t settings h moment caller offer e ∙ sym report
 
 -- what holds where no rule of a listing fails
 all_pass : (a b c d e f g r : Bool) → (a && (b && (c && (d && (e && (f && (g && r))))))) ≡ true
@@ -146,12 +146,12 @@ offered caller offer lot title text taken same_lot same_title same_text same = r
   reserve = same.reserve;
 }
 
--- and fits where nothing is told
+-- and fits where nothing is reported
 pub listing_fits : (t : Tables) (moment caller : ℕ) (offer : Offer) (item : NewItem) → IsOffered caller offer item
     → None ≡ first_failing (first_rules t moment caller false ++ offer_rules t moment caller offer) → ListingFits t moment item
-listing_fits t moment caller offer item is told =
-    let fits = caller_fits t moment caller false (first_pass (first_rules t moment caller false) (offer_rules t moment caller offer) (sym told)) in
-    let pass = offer_pass t moment caller offer (later_pass (first_rules t moment caller false) (offer_rules t moment caller offer) (sym told)) in
+listing_fits t moment caller offer item is report =
+    let fits = caller_fits t moment caller false (first_pass (first_rules t moment caller false) (offer_rules t moment caller offer) (sym report)) in
+    let pass = offer_pass t moment caller offer (later_pass (first_rules t moment caller false) (offer_rules t moment caller offer) (sym report)) in
     let terms = all_pass (is_text 1 80 offer.title.now) (is_text 0 2000 offer.text.now) (nat_le 1 offer.start) (nat_le offer.start most_cents)
     (is_buy_now offer.start offer.buy_now) (nat_lt moment offer.end) (nat_le offer.end last_moment) (is_reserve offer.start offer.buy_now offer.reserve) pass.2 in
     record {
@@ -170,8 +170,8 @@ listing_fits t moment caller offer item is told =
 
 lot_free : (t : Tables) (moment caller : ℕ) (offer : Offer) → None ≡ first_failing (first_rules t moment caller false ++ offer_rules t moment caller offer)
     → item_with_lot t caller offer.lot.now ≡ None
-lot_free t moment caller offer told =
-    let pass = offer_pass t moment caller offer (later_pass (first_rules t moment caller false) (offer_rules t moment caller offer) (sym told)) in
+lot_free t moment caller offer report =
+    let pass = offer_pass t moment caller offer (later_pass (first_rules t moment caller false) (offer_rules t moment caller offer) (sym report)) in
     rw (none_found (λ (row : ItemRow). (row.item.terms.seller == caller) && same_text row.item.lot offer.lot.now) t.items pass.0) refl
 
 -- nothing in a history names an item over the number of those that are listed
@@ -305,9 +305,9 @@ pub list_accepts : (t : Tables) (settings : Settings) (h : History) (moment call
     → IsOffered caller offer item → t ≡ tables_of settings h
     → None ≡ first_failing (first_rules t moment caller false ++ offer_rules t moment caller offer)
     → IsAccepted settings h moment caller (Listed offer.category offer.lot.now offer.title.now offer.text.now offer.start offer.buy_now offer.end offer.reserve) (change.List moment item)
-list_accepts t settings h moment caller offer item is offered e told = record {
-  accepted = list_verdict t settings h moment caller offer e ∙ sym told;
-  fits = rw e at (listing_fits t moment caller offer item offered told);
-  free = rw (offered.seller, offered.lot) (rw e at (lot_free t moment caller offer told));
+list_accepts t settings h moment caller offer item is offered e report = record {
+  accepted = list_verdict t settings h moment caller offer e ∙ sym report;
+  fits = rw e at (listing_fits t moment caller offer item offered report);
+  free = rw (offered.seller, offered.lot) (rw e at (lot_free t moment caller offer report));
   leads = list_leads settings h moment item is ∙ ap (λ one. tables_of settings (one ∷ h)) (offered_at moment caller offer item offered);
 }

@@ -86,9 +86,9 @@ pub answer_refused : (t : Tables) (settings : Settings) (h : History) (moment ca
     → ((more : Terms → List Rule) → Some refusal ≡ first_failing (common_rules t.clock (length t.members) moment caller false ++ of_terms (terms_at t item) more))
     → verdict settings h moment caller (Answer item asker number text) ≡ Some refusal
 unfolding verdict
-answer_refused t settings h moment caller item asker number text refusal e told =
+answer_refused t settings h moment caller item asker number text refusal e report =
     item_refused t settings h moment caller item refusal
-    (λ floor. answer_rules caller text (list_any (is_question item asker number) (waiting h caller)) (list_any (is_question item asker number) (published h))) e told
+    (λ floor. answer_rules caller text (list_any (is_question item asker number) (waiting h caller)) (list_any (is_question item asker number) (published h))) e report
 
 answer_judged : (t : Tables) (settings : Settings) (h : History) (moment caller item asker number : ℕ) (text : List ℕ) (terms : Terms) → t ≡ tables_of settings h
     → terms_at t item ≡ Some terms → None ≡ first_failing (common_rules t.clock (length t.members) moment caller false)
@@ -212,11 +212,11 @@ question_named t item asker number q found =
     let is : is_question item asker number q ≡ true = found_is (is_question item asker number) t.questions q found in
     record { same_item = grind (arith, nat_tests, is); same_asker = grind (arith, nat_tests, is); same_number = grind (arith, nat_tests, is) }
 
-pub answer_fits : (t : Tables) (moment caller item asker number : ℕ) (text : List ℕ) (q : Question) (told : Bor (List ℕ)) → told.now ≡ text
+pub answer_fits : (t : Tables) (moment caller item asker number : ℕ) (text : List ℕ) (q : Question) (report : Bor (List ℕ)) → report.now ≡ text
     → None ≡ first_failing (common_rules t.clock (length t.members) moment caller false)
     → question_at t item asker number ≡ Some q → None ≡ first_failing (waiting_rules (question_at t item asker number) text)
-    → AnswerFits t moment q.item q.asker q.number told.now
-answer_fits t moment caller item asker number text q told same_text passed found none =
+    → AnswerFits t moment q.item q.asker q.number report.now
+answer_fits t moment caller item asker number text q report same_text passed found none =
     let named = question_named t item asker number q found in
     let pass = waiting_pass q text (sym (rw found at none)) in
     rw (named.same_item, named.same_asker, named.same_number) (record {
@@ -227,17 +227,17 @@ answer_fits t moment caller item asker number text q told same_text passed found
       text_fits = rw same_text pass.1;
     })
 
-pub answer_accepts : (t : Tables) (settings : Settings) (h : History) (moment caller item asker number : ℕ) (text : List ℕ) (terms : Terms) (q : Question) (told : Bor (List ℕ)) → t ≡ tables_of settings h → told.now ≡ text
+pub answer_accepts : (t : Tables) (settings : Settings) (h : History) (moment caller item asker number : ℕ) (text : List ℕ) (terms : Terms) (q : Question) (report : Bor (List ℕ)) → t ≡ tables_of settings h → report.now ≡ text
     → terms_at t item ≡ Some terms → None ≡ first_failing (common_rules t.clock (length t.members) moment caller false)
     → (terms.seller == caller) ≡ true → question_at t item asker number ≡ Some q → None ≡ first_failing (waiting_rules (question_at t item asker number) text)
-    → IsAccepted settings h moment caller (Answer item asker number text) (change.Answer moment q.item q.asker q.number told)
-answer_accepts t settings h moment caller item asker number text terms q told e same_text found passed sells asked' none =
+    → IsAccepted settings h moment caller (Answer item asker number text) (change.Answer moment q.item q.asker q.number report)
+answer_accepts t settings h moment caller item asker number text terms q report e same_text found passed sells asked' none =
     let named = question_named t item asker number q asked' in
     let q_there = question_there t settings h item asker number text q e asked' in
     let pass = waiting_pass q text (sym (rw asked' at none)) in
     rw (named.same_item, named.same_asker, named.same_number) (record {
       accepted = answer_of_seller t settings h moment caller item asker number text terms e found passed sells ∙ sym none;
-      fits = rw (e, named.same_item, named.same_asker, named.same_number) at (answer_fits t moment caller item asker number text q told same_text passed asked' none);
+      fits = rw (e, named.same_item, named.same_asker, named.same_number) at (answer_fits t moment caller item asker number text q report same_text passed asked' none);
       free = tt;
-      leads = rw (← same_text) (answer_leads settings h moment caller item asker number told (rw same_text (q_there.answer ∙ pass.0)));
+      leads = rw (← same_text) (answer_leads settings h moment caller item asker number report (rw same_text (q_there.answer ∙ pass.0)));
     })

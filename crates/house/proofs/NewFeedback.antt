@@ -46,7 +46,7 @@ pub feedback_refused : (t : Tables) (settings : Settings) (h : History) (moment 
     → ((more : Terms → List Rule) → Some refusal ≡ first_failing (common_rules t.clock (length t.members) moment caller false ++ of_terms (terms_at t item) more))
     → verdict settings h moment caller (Feedback item rating text) ≡ Some refusal
 unfolding verdict
-feedback_refused t settings h moment caller item rating text refusal e told = item_refused t settings h moment caller item refusal (λ floor. feedback_rules caller rating text _) e told
+feedback_refused t settings h moment caller item rating text refusal e report = item_refused t settings h moment caller item refusal (λ floor. feedback_rules caller rating text _) e report
 
 -- the verdict by the terms, and by whether feedback is kept
 pub feedback_judged : (t : Tables) (settings : Settings) (h : History) (moment caller item : ℕ) (rating : Option Rating) (text : List ℕ) (terms : Terms) → t ≡ tables_of settings h
@@ -80,11 +80,11 @@ is_party seller (Some l) c party =
       | inr not ↦ inr (let leads : (l == c) ≡ true = rw not at party in let e : l ≡ c = grind (arith, nat_tests, leads) in rw e refl)
     ]
 
-pub feedback_fits : (t : Tables) (moment caller item : ℕ) (rating : Option Rating) (text : List ℕ) (terms : Terms) (member to : ℕ) (told : Bor (List ℕ))
-    → told.now ≡ text → member ≡ caller → to ≡ other_party terms.seller terms.leader caller
+pub feedback_fits : (t : Tables) (moment caller item : ℕ) (rating : Option Rating) (text : List ℕ) (terms : Terms) (member to : ℕ) (report : Bor (List ℕ))
+    → report.now ≡ text → member ≡ caller → to ≡ other_party terms.seller terms.leader caller
     → terms_at t item ≡ Some terms → None ≡ first_failing (common_rules t.clock (length t.members) moment caller false)
-    → None ≡ first_failing (feedback_rules caller rating text (is_given t item caller) terms) → RatingFits t moment terms.item member to told.now
-feedback_fits t moment caller item rating text terms member to told same_text same_member other found passed none =
+    → None ≡ first_failing (feedback_rules caller rating text (is_given t item caller) terms) → RatingFits t moment terms.item member to report.now
+feedback_fits t moment caller item rating text terms member to report same_text same_member other found passed none =
     let row = row_there t item terms found in
     let fits = caller_fits t moment caller false (sym passed) in
     let pass = rated caller rating text (is_given t item caller) terms none in
@@ -99,17 +99,17 @@ feedback_fits t moment caller item rating text terms member to told same_text sa
       text_fits = rw same_text pass.3;
     })
 
-pub feedback_accepts : (t : Tables) (settings : Settings) (h : History) (moment caller item : ℕ) (rating : Option Rating) (text : List ℕ) (terms : Terms) (member to : ℕ) (taken : Rating) (told : Bor (List ℕ))
-    → t ≡ tables_of settings h → told.now ≡ text → member ≡ caller → to ≡ other_party terms.seller terms.leader caller → rating ≡ Some taken
+pub feedback_accepts : (t : Tables) (settings : Settings) (h : History) (moment caller item : ℕ) (rating : Option Rating) (text : List ℕ) (terms : Terms) (member to : ℕ) (taken : Rating) (report : Bor (List ℕ))
+    → t ≡ tables_of settings h → report.now ≡ text → member ≡ caller → to ≡ other_party terms.seller terms.leader caller → rating ≡ Some taken
     → terms_at t item ≡ Some terms → None ≡ first_failing (common_rules t.clock (length t.members) moment caller false)
     → None ≡ first_failing (feedback_rules caller rating text (is_given t item caller) terms)
-    → IsAccepted settings h moment caller (Feedback item rating text) (change.Feedback moment terms.item member to taken told)
-feedback_accepts t settings h moment caller item rating text terms member to taken told e same_text same_member other same_rating found passed none =
+    → IsAccepted settings h moment caller (Feedback item rating text) (change.Feedback moment terms.item member to taken report)
+feedback_accepts t settings h moment caller item rating text terms member to taken report e same_text same_member other same_rating found passed none =
     let named : terms.item ≡ item = (row_there t item terms found).numbered in
     let there : terms_at (tables_of settings h) item ≡ Some terms = rw e at found in
     rw (same_member, named) (record {
       accepted = feedback_judged t settings h moment caller item rating text terms e found passed ∙ sym none;
-      fits = rw (← e) (rw (same_member, named) at (feedback_fits t moment caller item rating text terms member to told same_text same_member other found passed none));
+      fits = rw (← e) (rw (same_member, named) at (feedback_fits t moment caller item rating text terms member to report same_text same_member other found passed none));
       free = rw (← e) (rated caller rating text (is_given t item caller) terms none).2;
-      leads = rw (other, ← party_is settings h item caller terms there, same_rating, ← same_text) (feedback_leads settings h moment caller item taken told);
+      leads = rw (other, ← party_is settings h item caller terms there, same_rating, ← same_text) (feedback_leads settings h moment caller item taken report);
     })

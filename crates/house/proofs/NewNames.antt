@@ -39,7 +39,7 @@ register_leads settings h moment caller name =
 
 pub register_refusal : (t : Tables) (settings : Settings) (h : History) (moment caller : ℕ) (name : List ℕ) (refusal : Refusal) → t ≡ tables_of settings h
     → Some refusal ≡ first_failing (common_rules t.clock (length t.members) moment caller true ++ register_rules name t.members) → verdict settings h moment caller (Register name) ≡ Some refusal
-register_refusal t settings h moment caller name refusal e told = register_verdict t settings h moment caller name e ∙ sym told
+register_refusal t settings h moment caller name refusal e report = register_verdict t settings h moment caller name e ∙ sym report
 
 pub register_fits : (t : Tables) (moment caller : ℕ) (name : List ℕ) (text : Bor (List ℕ)) → text.now ≡ name
     → None ≡ first_failing (common_rules t.clock (length t.members) moment caller true ++ register_rules name t.members)
@@ -81,7 +81,7 @@ category_leads settings h moment caller name =
 
 pub category_refusal : (t : Tables) (settings : Settings) (h : History) (moment caller : ℕ) (name : List ℕ) (refusal : Refusal) → t ≡ tables_of settings h
     → Some refusal ≡ first_failing (common_rules t.clock (length t.members) moment caller true ++ category_rules name t.categories) → verdict settings h moment caller (AddCategory name) ≡ Some refusal
-category_refusal t settings h moment caller name refusal e told = category_verdict t settings h moment caller name e ∙ sym told
+category_refusal t settings h moment caller name refusal e report = category_verdict t settings h moment caller name e ∙ sym report
 
 pub category_fits : (t : Tables) (moment caller : ℕ) (name : List ℕ) (text : Bor (List ℕ)) → text.now ≡ name
     → None ≡ first_failing (common_rules t.clock (length t.members) moment caller true ++ category_rules name t.categories)

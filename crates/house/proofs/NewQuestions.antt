@@ -179,8 +179,8 @@ pub ask_refused : (t : Tables) (settings : Settings) (h : History) (moment calle
     → ((more : Terms → List Rule) → Some refusal ≡ first_failing (common_rules t.clock (length t.members) moment caller false ++ of_terms (terms_at t item) more))
     → verdict settings h moment caller (Ask item text) ≡ Some refusal
 unfolding verdict
-ask_refused t settings h moment caller item text refusal e told =
-    item_refused t settings h moment caller item refusal (λ floor. question_rules moment caller text (asked_count (own_questions h caller) caller item)) e told
+ask_refused t settings h moment caller item text refusal e report =
+    item_refused t settings h moment caller item refusal (λ floor. question_rules moment caller text (asked_count (own_questions h caller) caller item)) e report
 
 -- the verdict by the terms and the count that are kept
 pub ask_judged : (t : Tables) (settings : Settings) (h : History) (moment caller item : ℕ) (text : List ℕ) (terms : Terms) → t ≡ tables_of settings h
@@ -199,11 +199,11 @@ ask_pass false false true fits count none = cc
 ask_pass false false false false count none = cc
 ask_pass false false false true count none = (refl, grind (arith, nat_tests, none))
 
-pub ask_fits : (t : Tables) (moment caller item : ℕ) (text : List ℕ) (terms : Terms) (member number : ℕ) (told : Bor (List ℕ))
-    → told.now ≡ text → member ≡ caller → number ≡ ask_count t caller item + 1
+pub ask_fits : (t : Tables) (moment caller item : ℕ) (text : List ℕ) (terms : Terms) (member number : ℕ) (report : Bor (List ℕ))
+    → report.now ≡ text → member ≡ caller → number ≡ ask_count t caller item + 1
     → terms_at t item ≡ Some terms → None ≡ first_failing (common_rules t.clock (length t.members) moment caller false)
-    → None ≡ first_failing (question_rules moment caller text (ask_count t caller item) terms) → QuestionAsked t terms.item member number told.now
-ask_fits t moment caller item text terms member number told same_text same_member next found passed none =
+    → None ≡ first_failing (question_rules moment caller text (ask_count t caller item) terms) → QuestionAsked t terms.item member number report.now
+ask_fits t moment caller item text terms member number report same_text same_member next found passed none =
     let row = row_there t item terms found in
     let pass = ask_pass (terms.seller == caller) (not (is_open terms.state)) (nat_le terms.end moment) (is_text 1 500 text) (ask_count t caller item) (sym none) in
     rw (same_member, row.numbered, next) (record {
@@ -236,16 +236,16 @@ unfolding tables_of questions
 ask_free settings h i asker is =
     none_asked (asked h) (answers h) i asker (asked_count (asked h) asker i + 1) (asked h) (all_given settings h is).questions (omega arith)
 
-pub ask_accepts : (t : Tables) (settings : Settings) (h : History) (moment caller item : ℕ) (text : List ℕ) (terms : Terms) (member number : ℕ) (told : Bor (List ℕ)) → IsHistory settings h
-    → t ≡ tables_of settings h → told.now ≡ text → member ≡ caller → number ≡ ask_count t caller item + 1
+pub ask_accepts : (t : Tables) (settings : Settings) (h : History) (moment caller item : ℕ) (text : List ℕ) (terms : Terms) (member number : ℕ) (report : Bor (List ℕ)) → IsHistory settings h
+    → t ≡ tables_of settings h → report.now ≡ text → member ≡ caller → number ≡ ask_count t caller item + 1
     → terms_at t item ≡ Some terms → None ≡ first_failing (common_rules t.clock (length t.members) moment caller false)
     → None ≡ first_failing (question_rules moment caller text (ask_count t caller item) terms)
-    → IsAccepted settings h moment caller (Ask item text) (change.Ask terms.item member number told)
-ask_accepts t settings h moment caller item text terms member number told is e same_text same_member next found passed none =
+    → IsAccepted settings h moment caller (Ask item text) (change.Ask terms.item member number report)
+ask_accepts t settings h moment caller item text terms member number report is e same_text same_member next found passed none =
     let named : terms.item ≡ item = (row_there t item terms found).numbered in
     rw (same_member, named, next) (record {
       accepted = ask_judged t settings h moment caller item text terms e found passed ∙ sym none;
-      fits = rw (← e) (rw (same_member, named, next) at (ask_fits t moment caller item text terms member number told same_text same_member next found passed none));
+      fits = rw (← e) (rw (same_member, named, next) at (ask_fits t moment caller item text terms member number report same_text same_member next found passed none));
       free = rw (e, count_kept settings h caller item) (ask_free settings h item caller is);
-      leads = rw (e, count_kept settings h caller item) (rw (← same_text) (ask_leads settings h moment caller item told is));
+      leads = rw (e, count_kept settings h caller item) (rw (← same_text) (ask_leads settings h moment caller item report is));
     })

@@ -38,7 +38,7 @@ table_leads settings h moment caller bands =
 
 pub table_refusal : (t : Tables) (settings : Settings) (h : History) (moment caller : ℕ) (bands : List (ℕ × ℕ)) (refusal : Refusal) → t ≡ tables_of settings h
     → Some refusal ≡ first_failing (common_rules t.clock (length t.members) moment caller true ++ table_rules bands (length t.editions + 1)) → verdict settings h moment caller (SetBands bands) ≡ Some refusal
-table_refusal t settings h moment caller bands refusal e told = table_verdict t settings h moment caller bands e ∙ sym told
+table_refusal t settings h moment caller bands refusal e report = table_verdict t settings h moment caller bands e ∙ sym report
 
 pub table_fits : (t : Tables) (moment caller : ℕ) (bands : List (ℕ × ℕ)) (rows : Bor (List (ℕ × ℕ))) → rows.now ≡ bands
     → None ≡ first_failing (common_rules t.clock (length t.members) moment caller true ++ table_rules bands (length t.editions + 1))

@@ -1,4 +1,4 @@
--- What look-ups tell of an offer.
+-- What look-ups say of an offer.
 use Rattle.std.proofs.Common.{◌≡◌, ℕ, List, [], ◌∷◌, ◌++◌, Bool, true, false, not, refl, ◌∙◌, sym, Option, Some, None, Result, Ok, Err, IfOk}
 use Rattle.std.specs.Prelude.{◌==◌, ◌&&◌, find, is_some, option_map}
 use Rattle.std.specs.List.{list_any}
@@ -12,7 +12,7 @@ use Rattle.house_rows.specs.Tables.{ItemRow, Tables}
 use Rattle.house_rows.specs.Text.{same_text}
 use Rattle.house_rows.specs.Verdict.{Rule}
 use Rattle.house.specs.declared.listing.Prices.{Prices}
-use Rattle.house.specs.Offered.{told}
+use Rattle.house.specs.Offered.{report}
 use Rattle.house.proofs.Found.{first_none, some_found}
 
 some_mapped : {A B : Type 0} (f : A → B) (o : Option A) → is_some (option_map f o) ≡ is_some o
@@ -28,12 +28,12 @@ lot_found t seller lot =
 pub known_category : (t : Tables) (n : ℕ) → is_some (category_at t n) ≡ list_any (λ k. k.category == n) t.categories
 known_category t n = some_found (λ (k : Category). k.category == n) t.categories
 
--- where the first rules pass, the rules after them tell what is told
-pub told_behind : (first rest : List Rule) (r : Result (Result (ℕ × Prices) Refusal) KeepFault) → first_failing first ≡ None
-    → IfOk r (λ v. told v ≡ first_failing rest) → IfOk r (λ v. told v ≡ first_failing (first ++ rest))
-told_behind first rest (Ok v) none is = is ∙ sym (first_none first rest none)
-told_behind first rest (Err fault) none is = tt
+-- where the first rules pass, the report is that of the rules after them
+pub report_after : (first rest : List Rule) (r : Result (Result (ℕ × Prices) Refusal) KeepFault) → first_failing first ≡ None
+    → IfOk r (λ v. report v ≡ first_failing rest) → IfOk r (λ v. report v ≡ first_failing (first ++ rest))
+report_after first rest (Ok v) none is = is ∙ sym (first_none first rest none)
+report_after first rest (Err fault) none is = tt
 
-pub told_behind_lot : (lot has : Bool) (rest : List Rule) (r : Result (Result (ℕ × Prices) Refusal) KeepFault) → lot ≡ true → has ≡ false
-    → IfOk r (λ v. told v ≡ first_failing rest) → IfOk r (λ v. told v ≡ first_failing ((not lot, Range) ∷ (has, LotExists) ∷ rest))
-told_behind_lot lot has rest r is none rest_is = told_behind ((not lot, Range) ∷ (has, LotExists) ∷ []) rest r (rw (is, none) refl) rest_is
+pub report_after_lot : (lot has : Bool) (rest : List Rule) (r : Result (Result (ℕ × Prices) Refusal) KeepFault) → lot ≡ true → has ≡ false
+    → IfOk r (λ v. report v ≡ first_failing rest) → IfOk r (λ v. report v ≡ first_failing ((not lot, Range) ∷ (has, LotExists) ∷ rest))
+report_after_lot lot has rest r is none rest_is = report_after ((not lot, Range) ∷ (has, LotExists) ∷ []) rest r (rw (is, none) refl) rest_is

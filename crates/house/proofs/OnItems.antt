@@ -24,7 +24,7 @@ pub item_refused : (t : Tables) (settings : Settings) (h : History) (moment call
     → ((rules : Terms → List Rule) → Some refusal ≡ first_failing (common_rules t.clock (length t.members) moment caller false ++ of_terms (terms_at t item) rules))
     → first_failing (common_rules (clock h) (length (members h)) moment caller false ++ of_item (shown_at (items_shown settings h) item) (by_floor more)) ≡ Some refusal
 unfolding tables_of
-item_refused t settings h moment caller item refusal more e told = rw (floors_shown settings h item more) (sym (rw e at told (at_floor (tables_of settings h) more)))
+item_refused t settings h moment caller item refusal more e report = rw (floors_shown settings h item more) (sym (rw e at report (at_floor (tables_of settings h) more)))
 
 -- where the item is there, its rules decide
 pub item_judged : (t : Tables) (settings : Settings) (h : History) (moment caller item : ℕ) (terms : Terms) (more : Option ℕ → Terms → List Rule) → t ≡ tables_of settings h

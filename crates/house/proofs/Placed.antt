@@ -217,16 +217,16 @@ record Listed (settings : Settings) (h : History) (item : ℕ) (terms : Terms) (
   numbered_so : listing.item ≡ item
   listed : listing_at (listings h) listing.item ≡ Some listing
   terms_are : terms ≡ terms_now settings h listing
-  stands : kept ≡ standing_of (bands_by settings listing) (listed_opening listing) (bids_on h listing.item)
+  is_consistent : kept ≡ standing_of (bands_by settings listing) (listed_opening listing) (bids_on h listing.item)
 
 found_listing : (settings : Settings) (h : History) (item : ℕ) (terms : Terms) (kept : Kept)
     → terms_at (tables_of settings h) item ≡ Some terms → standing_at (tables_of settings h) item ≡ Some kept → Listed settings h item terms kept
-found_listing settings h item terms kept found stands =
-    by_listing (listing_at (listings h) item) refl (rw (row_found settings h item) at found) (rw (row_found settings h item) at stands) where
+found_listing settings h item terms kept found is_consistent =
+    by_listing (listing_at (listings h) item) refl (rw (row_found settings h item) at found) (rw (row_found settings h item) at is_consistent) where
       by_listing : (o : Option Listing) → listing_at (listings h) item ≡ o → option_map (λ (row : ItemRow). row.item.terms) (option_map (row_now settings h) o) ≡ Some terms
           → option_map (λ (row : ItemRow). row.standing) (option_map (row_now settings h) o) ≡ Some kept → Listed settings h item terms kept
-      by_listing None is none stands = cc
-      by_listing (Some l) is some stands =
+      by_listing None is none is_consistent = cc
+      by_listing (Some l) is some is_consistent =
           let here = found_is (λ (a : Listing). a.item == item) (listings h) l is in
           let at' : l.item ≡ item = grind (arith, nat_tests, here) in
           record {
@@ -234,26 +234,26 @@ found_listing settings h item terms kept found stands =
             numbered_so = at';
             listed = subst (λ (i : ℕ). listing_at (listings h) i ≡ Some l) (sym at') is;
             terms_are = sym (some_is (terms_now settings h l) terms some);
-            stands = sym (some_is (standing_of (bands_by settings l) (listed_opening l) (bids_on h l.item)) kept stands);
+            is_consistent = sym (some_is (standing_of (bands_by settings l) (listed_opening l) (bids_on h l.item)) kept is_consistent);
           }
 
 -- what is refused before the item's rules are asked
-pub bid_unknown : (t : Tables) (settings : Settings) (h : History) (moment caller item maximum : ℕ) (told : Refusal) → t ≡ tables_of settings h
-    → ((rules : Terms → List Rule) → Some told ≡ first_failing (common_rules t.clock (length t.members) moment caller false ++ of_terms (terms_at t item) rules))
-    → verdict settings h moment caller (Bid item maximum) ≡ Some told
+pub bid_unknown : (t : Tables) (settings : Settings) (h : History) (moment caller item maximum : ℕ) (report : Refusal) → t ≡ tables_of settings h
+    → ((rules : Terms → List Rule) → Some report ≡ first_failing (common_rules t.clock (length t.members) moment caller false ++ of_terms (terms_at t item) rules))
+    → verdict settings h moment caller (Bid item maximum) ≡ Some report
 unfolding verdict
-bid_unknown t settings h moment caller item maximum told e so =
-    item_refused t settings h moment caller item told (all_rules moment caller maximum (greatest (bids_on h item) caller)) e so
+bid_unknown t settings h moment caller item maximum report e so =
+    item_refused t settings h moment caller item report (all_rules moment caller maximum (greatest (bids_on h item) caller)) e so
 
 -- what is refused before the item's bids are asked
-pub bid_unfit : (t : Tables) (settings : Settings) (h : History) (moment caller item maximum : ℕ) (terms : Terms) (told : Refusal) → t ≡ tables_of settings h
+pub bid_unfit : (t : Tables) (settings : Settings) (h : History) (moment caller item maximum : ℕ) (terms : Terms) (report : Refusal) → t ≡ tables_of settings h
     → terms_at t item ≡ Some terms → None ≡ first_failing (common_rules t.clock (length t.members) moment caller false)
-    → Some told ≡ first_failing (first_rules moment caller maximum terms) → verdict settings h moment caller (Bid item maximum) ≡ Some told
+    → Some report ≡ first_failing (first_rules moment caller maximum terms) → verdict settings h moment caller (Bid item maximum) ≡ Some report
 unfolding verdict
-bid_unfit t settings h moment caller item maximum terms told e found common so =
+bid_unfit t settings h moment caller item maximum terms report e found common so =
     let own : ℕ = greatest (bids_on h item) caller in
     item_judged t settings h moment caller item terms (all_rules moment caller maximum own) e found common
-    ∙ first_some (first_rules moment caller maximum terms) (later_rules caller maximum own (floor_of (bands_for (tables_of settings h) terms.item) terms) terms) told (sym so)
+    ∙ first_some (first_rules moment caller maximum terms) (later_rules caller maximum own (floor_of (bands_for (tables_of settings h) terms.item) terms) terms) report (sym so)
 
 by_history : (t : Tables) (settings : Settings) (h : History) (moment caller : ℕ) → t ≡ tables_of settings h → None ≡ first_failing (common_rules t.clock (length t.members) moment caller false)
     → first_failing (common_rules (clock h) (length (members h)) moment caller false) ≡ None
@@ -266,34 +266,34 @@ bands_are : (t : Tables) (settings : Settings) (given : List (ℕ × ℕ)) (h : 
 bands_are t settings given h item l e so at' listed =
     so ∙ ap (λ (x : Tables). bands_for x item) e ∙ ap (λ (i : ℕ). bands_for (tables_of settings h) i) (sym at') ∙ bands_kept settings h l.item l listed
 
--- what is told of bids in other words
-refused_as : (given bands : List (ℕ × ℕ)) (kept : Kept) (opening : Opening) (bids : List bid.Bid) (member amount caller maximum : ℕ) (told : Refusal)
+-- what is reported of bids in other words
+refused_as : (given bands : List (ℕ × ℕ)) (kept : Kept) (opening : Opening) (bids : List bid.Bid) (member amount caller maximum : ℕ) (report : Refusal)
     → given ≡ bands → kept ≡ standing_of bands opening bids → member ≡ caller → amount ≡ maximum
-    → ((bids : List bid.Bid) → kept ≡ standing_of given (opening_of kept) bids → Some told ≡ option_map as_refusal (refusal given (opening_of kept) bids member amount))
-    → Some told ≡ option_map as_refusal (refusal bands opening bids caller maximum)
-refused_as given bands kept opening bids member amount caller maximum told e stands same equal so = (rw (e, same, equal, stands) at so) bids refl
+    → ((bids : List bid.Bid) → kept ≡ standing_of given (opening_of kept) bids → Some report ≡ option_map as_refusal (refusal given (opening_of kept) bids member amount))
+    → Some report ≡ option_map as_refusal (refusal bands opening bids caller maximum)
+refused_as given bands kept opening bids member amount caller maximum report e is_consistent same equal so = (rw (e, same, equal, is_consistent) at so) bids refl
 
 accepted_as : (given bands : List (ℕ × ℕ)) (kept after : Kept) (opening : Opening) (bids : List bid.Bid) (member amount caller maximum : ℕ)
     → given ≡ bands → kept ≡ standing_of bands opening bids → member ≡ caller → amount ≡ maximum
     → ((bids : List bid.Bid) → kept ≡ standing_of given (opening_of kept) bids
     → (refusal given (opening_of kept) bids member amount ≡ None) × (after ≡ standing_of given (opening_of kept) (one_more bids member amount)))
     → (refusal bands opening bids caller maximum ≡ None) × (after ≡ standing_of bands opening (one_more bids caller maximum))
-accepted_as given bands kept after opening bids member amount caller maximum e stands same equal so = (rw (e, same, equal, stands) at so) bids refl
+accepted_as given bands kept after opening bids member amount caller maximum e is_consistent same equal so = (rw (e, same, equal, is_consistent) at so) bids refl
 
 -- why the item's bids refuse it
-pub bid_refused : (t : Tables) (settings : Settings) (given : List (ℕ × ℕ)) (h : History) (moment caller item maximum : ℕ) (terms : Terms) (kept : Kept) (member amount : ℕ) (told : Refusal) → t ≡ tables_of settings h
+pub bid_refused : (t : Tables) (settings : Settings) (given : List (ℕ × ℕ)) (h : History) (moment caller item maximum : ℕ) (terms : Terms) (kept : Kept) (member amount : ℕ) (report : Refusal) → t ≡ tables_of settings h
     → terms_at t item ≡ Some terms → None ≡ first_failing (common_rules t.clock (length t.members) moment caller false) → None ≡ first_failing (first_rules moment caller maximum terms)
     → standing_at t item ≡ Some kept → given ≡ bands_for t item → member ≡ caller → amount ≡ maximum
-    → ((bids : List bid.Bid) → kept ≡ standing_of given (opening_of kept) bids → Some told ≡ option_map as_refusal (refusal given (opening_of kept) bids member amount))
-    → verdict settings h moment caller (Bid item maximum) ≡ Some told
-bid_refused t settings given h moment caller item maximum terms kept member amount told e found common first stands bands same equal so =
-    let f = found_listing settings h item terms kept (rw e at found) (rw e at stands) in
+    → ((bids : List bid.Bid) → kept ≡ standing_of given (opening_of kept) bids → Some report ≡ option_map as_refusal (refusal given (opening_of kept) bids member amount))
+    → verdict settings h moment caller (Bid item maximum) ≡ Some report
+bid_refused t settings given h moment caller item maximum terms kept member amount report e found common first is_consistent bands same equal so =
+    let f = found_listing settings h item terms kept (rw e at found) (rw e at is_consistent) in
     let l : Listing = f.listing in
     let now = by_history t settings h moment caller e common in
     let first' : first_failing (first_rules moment caller maximum (terms_now settings h l)) ≡ None = sym (rw f.terms_are at first) in
     let bands' : given ≡ bands_by settings l = bands_are t settings given h item l e bands f.numbered_so f.listed in
-    let answer : Some told ≡ option_map as_refusal (refusal (bands_by settings l) (listed_opening l) (bids_on h l.item) caller maximum) =
-    refused_as given (bands_by settings l) kept (listed_opening l) (bids_on h l.item) member amount caller maximum told bands' f.stands same equal so in
+    let answer : Some report ≡ option_map as_refusal (refusal (bands_by settings l) (listed_opening l) (bids_on h l.item) caller maximum) =
+    refused_as given (bands_by settings l) kept (listed_opening l) (bids_on h l.item) member amount caller maximum report bands' f.is_consistent same equal so in
     rw f.numbered_so at (judged settings h moment caller maximum l f.listed now first' ∙ sym answer)
 
 -- the change fits where they take it
@@ -303,13 +303,13 @@ pub bid_fits : (t : Tables) (given : List (ℕ × ℕ)) (moment caller item maxi
     → ((bids : List bid.Bid) → kept ≡ standing_of given (opening_of kept) bids
     → (refusal given (opening_of kept) bids member amount ≡ None) × (after ≡ standing_of given (opening_of kept) (one_more bids member amount)))
     → BidFits t moment terms.item (record { member = member; maximum = amount; no = count }) after
-bid_fits t given moment caller item maximum terms kept after member amount count sound found common first stands bands same equal counts so =
+bid_fits t given moment caller item maximum terms kept after member amount count sound found common first is_consistent bands same equal counts so =
     let row = row_there t item terms found in
     let opening : Opening = row_opening row.row in
     let table : List (ℕ × ℕ) = bands_for t item in
     let fits : ItemRowFits table row.row = there_fits_by t item row.row sound row.there in
     let bids : List bid.Bid = fits.bids in
-    let kept_is : kept ≡ standing_of table opening bids = standing_same t item row.row kept row.there stands ∙ fits.stands in
+    let kept_is : kept ≡ standing_of table opening bids = standing_same t item row.row kept row.there is_consistent ∙ fits.is_consistent in
     let answer : (refusal table opening bids caller maximum ≡ None) × (after ≡ standing_of table opening (one_more bids caller maximum)) =
     accepted_as given table kept after opening bids member amount caller maximum bands kept_is same equal so in
     let caller_is = caller_fits t moment caller false (sym common) in
@@ -324,10 +324,10 @@ bid_fits t given moment caller item maximum terms kept after member amount count
       apart = rw row.same (apart_from terms.seller caller pass.own_not);
       maximum_fits = grind (arith, nat_tests, range);
       bids = bids;
-      stands = fits.stands;
+      is_consistent = fits.is_consistent;
       accepted = more_accepted table opening bids (record { member = caller; maximum = maximum; no = length bids + 1 }) fits.accepted (record { accepted = answer.0; numbered = refl });
       numbered = counts ∙ ap (λ (k : Kept). k.count) answer.1 ∙ length-append bids (record { member = caller; maximum = maximum; no = length bids + 1 } ∷ []);
-      stands_after = answer.1;
+      is_consistent_after = answer.1;
     })
 
 -- the same in other words
@@ -335,8 +335,8 @@ renamed : (settings : Settings) (h : History) (moment caller i item named maximu
     → i ≡ item → named ≡ i → member ≡ caller → amount ≡ maximum → count ≡ number → after ≡ kept
     → IsAccepted settings h moment caller (Bid i maximum) (change.Bid moment i (record { member = caller; maximum = maximum; no = number }) kept)
     → IsAccepted settings h moment caller (Bid item maximum) (change.Bid moment named (record { member = member; maximum = amount; no = count }) after)
-renamed settings h moment caller i item named maximum amount member number count kept after at' same_item same equal counts stands accepted =
-    rw (same_item, same, equal, counts, stands, ← at') accepted
+renamed settings h moment caller i item named maximum amount member number count kept after at' same_item same equal counts is_consistent accepted =
+    rw (same_item, same, equal, counts, is_consistent, ← at') accepted
 
 -- the change, where they take it
 pub bid_accepts : (t : Tables) (settings : Settings) (given : List (ℕ × ℕ)) (h : History) (moment caller item maximum : ℕ) (terms : Terms) (kept after : Kept) (member amount count : ℕ) → IsHistory settings h → t ≡ tables_of settings h
@@ -345,15 +345,15 @@ pub bid_accepts : (t : Tables) (settings : Settings) (given : List (ℕ × ℕ))
     → ((bids : List bid.Bid) → kept ≡ standing_of given (opening_of kept) bids
     → (refusal given (opening_of kept) bids member amount ≡ None) × (after ≡ standing_of given (opening_of kept) (one_more bids member amount)))
     → IsAccepted settings h moment caller (Bid item maximum) (change.Bid moment terms.item (record { member = member; maximum = amount; no = count }) after)
-bid_accepts t settings given h moment caller item maximum terms kept after member amount count is e found common first stands bands same equal counts so =
-    let f = found_listing settings h item terms kept (rw e at found) (rw e at stands) in
+bid_accepts t settings given h moment caller item maximum terms kept after member amount count is e found common first is_consistent bands same equal counts so =
+    let f = found_listing settings h item terms kept (rw e at found) (rw e at is_consistent) in
     let l : Listing = f.listing in
     let now = by_history t settings h moment caller e common in
     let first' : first_failing (first_rules moment caller maximum (terms_now settings h l)) ≡ None = sym (rw f.terms_are at first) in
     let bands' : given ≡ bands_by settings l = bands_are t settings given h item l e bands f.numbered_so f.listed in
     let bids : List bid.Bid = bids_on h l.item in
     let answer : (refusal (bands_by settings l) (listed_opening l) bids caller maximum ≡ None) × (after ≡ standing_of (bands_by settings l) (listed_opening l) (one_more bids caller maximum)) =
-    accepted_as given (bands_by settings l) kept after (listed_opening l) bids member amount caller maximum bands' f.stands same equal so in
+    accepted_as given (bands_by settings l) kept after (listed_opening l) bids member amount caller maximum bands' f.is_consistent same equal so in
     let counted : count ≡ length bids + 1 = counts ∙ ap (λ (k : Kept). k.count) answer.1 ∙ length-append bids (record { member = caller; maximum = maximum; no = length bids + 1 } ∷ []) in
     let can = biddable settings h moment caller maximum l first' in
     let named : terms.item ≡ l.item = ap (λ (x : Terms). x.item) f.terms_are in
@@ -362,7 +362,7 @@ bid_accepts t settings given h moment caller item maximum terms kept after membe
     record {
       accepted = accepted;
       fits = rw (e, named, same, equal, counted, answer.1) at
-          (bid_fits t given moment caller item maximum terms kept after member amount count (sound_here t settings h is e) found common first stands bands same equal counts so);
+          (bid_fits t given moment caller item maximum terms kept after member amount count (sound_here t settings h is e) found common first is_consistent bands same equal counts so);
       free = number_free settings h l.item;
       leads = bid_leads settings h moment caller maximum l f.listed can;
     } in

@@ -33,7 +33,7 @@ use Rattle.house.specs.Judged.{IsPriced, IsThere, item_rules}
 use Rattle.house.proofs.Items.{terms_shown}
 use Rattle.house.proofs.ByTables.{caller_fits}
 use Rattle.house.proofs.OnItems.{row_there}
-use Rattle.house.proofs.Rows.{Known, apart_from, each_row, known, number_is, other_way, own_told, same_number}
+use Rattle.house.proofs.Rows.{Known, apart_from, each_row, known, number_is, other_way, own_reported, same_number}
 
 buy_verdict : (t : Tables) (settings : Settings) (h : History) (moment caller item : ℕ) → t ≡ tables_of settings h
     → verdict settings h moment caller (Buy item) ≡ first_failing (item_rules t moment caller false item (purchase_rules moment caller))
@@ -43,12 +43,12 @@ buy_verdict t settings h moment caller item e =
 
 pub buy_unnamed : (t : Tables) (settings : Settings) (h : History) (moment caller item : ℕ) (refusal : Refusal) → t ≡ tables_of settings h
     → first_failing (item_rules t moment caller false item (purchase_rules moment caller)) ≡ Some refusal → verdict settings h moment caller (Buy item) ≡ Some refusal
-buy_unnamed t settings h moment caller item refusal e told = buy_verdict t settings h moment caller item e ∙ told
+buy_unnamed t settings h moment caller item refusal e report = buy_verdict t settings h moment caller item e ∙ report
 
 pub buy_refusal : (t : Tables) (settings : Settings) (h : History) (moment caller item : ℕ) (terms : Terms) (refusal : Refusal) → t ≡ tables_of settings h
     → IsThere t moment caller false item terms → first_failing (purchase_rules moment caller terms) ≡ Some refusal → verdict settings h moment caller (Buy item) ≡ Some refusal
-buy_refusal t settings h moment caller item terms refusal e there told =
-    buy_verdict t settings h moment caller item e ∙ own_told t moment caller false item terms (purchase_rules moment caller) (Some refusal) there (sym told)
+buy_refusal t settings h moment caller item terms refusal e there report =
+    buy_verdict t settings h moment caller item e ∙ own_reported t moment caller false item terms (purchase_rules moment caller) (Some refusal) there (sym report)
 
 -- what holds where no rule of a purchase fails
 record Passes (moment caller : ℕ) (terms : Terms) : Type 0 where
@@ -143,10 +143,10 @@ buy_leads settings h moment caller i price sold listed is priced =
 
 pub buy_fits : (t : Tables) (moment caller item price : ℕ) (terms : Terms) → IsThere t moment caller false item terms → IsPriced moment caller terms price
     → PurchaseFits t moment terms.item caller price
-buy_fits t moment caller item price terms there told =
+buy_fits t moment caller item price terms there report =
     let row = row_there t item terms there.found in
     let fits = caller_fits t moment caller false there.passed in
-    let pass = passes moment caller terms told.passed in
+    let pass = passes moment caller terms report.passed in
     rw row.numbered (record {
       moment_fits = fits.moment_fits;
       row = row.row;
@@ -155,20 +155,20 @@ buy_fits t moment caller item price terms there told =
       buyer_there = fits.there refl;
       apart = rw row.same pass.apart;
       no_bid = rw row.same pass.no_bid;
-      at_price = rw row.same told.priced;
+      at_price = rw row.same report.priced;
     })
 
 pub buy_accepts : (t : Tables) (settings : Settings) (h : History) (moment caller item price : ℕ) (terms : Terms) → t ≡ tables_of settings h
     → IsThere t moment caller false item terms → IsPriced moment caller terms price
     → IsAccepted settings h moment caller (Buy item) (change.Buy moment terms.item caller price)
-buy_accepts t settings h moment caller item price terms e there told =
+buy_accepts t settings h moment caller item price terms e there report =
     let it : Known settings h item terms = known settings h item terms (rw e at there.found) in
-    let is_open : state_of h it.listing ≡ Open = rw it.same at (passes moment caller terms told.passed).is_open in
-    let priced : it.listing.buy_now ≡ Some price = rw it.same at told.priced in
+    let is_open : state_of h it.listing ≡ Open = rw it.same at (passes moment caller terms report.passed).is_open in
+    let priced : it.listing.buy_now ≡ Some price = rw it.same at report.priced in
     let named : terms.item ≡ item = number_is settings h item terms it in
     rw named (record {
-      accepted = buy_verdict t settings h moment caller item e ∙ own_told t moment caller false item terms (purchase_rules moment caller) None there (sym told.passed);
-      fits = rw (e, named) at (buy_fits t moment caller item price terms there told);
+      accepted = buy_verdict t settings h moment caller item e ∙ own_reported t moment caller false item terms (purchase_rules moment caller) None there (sym report.passed);
+      fits = rw (e, named) at (buy_fits t moment caller item price terms there report);
       free = tt;
       leads = buy_leads settings h moment caller item price it.listing it.listed is_open priced;
     })

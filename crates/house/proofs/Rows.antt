@@ -66,13 +66,13 @@ number_is settings h item terms it =
     let test = found_is (λ (l : Listing). l.item == item) (listings h) it.listing it.listed in
     ap (λ (t : Terms). t.item) it.same ∙ same_number it.listing.item item test
 
--- what an item's own rules tell is told
-pub own_told : (t : Tables) (moment caller : ℕ) (of_house : Bool) (item : ℕ) (terms : Terms) (rules : Terms → List Rule) (o : Option Refusal)
+-- what an item's own rules report is reported
+pub own_reported : (t : Tables) (moment caller : ℕ) (of_house : Bool) (item : ℕ) (terms : Terms) (rules : Terms → List Rule) (o : Option Refusal)
     → IsThere t moment caller of_house item terms → o ≡ first_failing (rules terms) → first_failing (item_rules t moment caller of_house item rules) ≡ o
-own_told t moment caller of_house item terms rules o there told =
+own_reported t moment caller of_house item terms rules o there report =
     first_none (first_rules t moment caller of_house) (of_terms (terms_at t item) rules) there.passed
     ∙ ap (λ (found : Option Terms). first_failing (of_terms found rules)) there.found
-    ∙ sym told
+    ∙ sym report
 
 pub other_way : (a b : ℕ) (is : Bool) → (a == b) ≡ is → (b == a) ≡ is
 other_way a b true is = grind (arith, nat_tests, is)

@@ -28,7 +28,7 @@ use Rattle.house.specs.Judged.{IsThere, item_rules}
 use Rattle.house.proofs.Items.{terms_shown}
 use Rattle.house.proofs.ByTables.{caller_fits}
 use Rattle.house.proofs.OnItems.{row_there}
-use Rattle.house.proofs.Rows.{all_of, each_row, other_way, own_told}
+use Rattle.house.proofs.Rows.{all_of, each_row, other_way, own_reported}
 
 settle_verdict : (t : Tables) (settings : Settings) (h : History) (moment caller item : ℕ) → t ≡ tables_of settings h
     → verdict settings h moment caller (Settle item) ≡ first_failing (item_rules t moment caller true item settlement_rules)
@@ -38,12 +38,12 @@ settle_verdict t settings h moment caller item e =
 
 pub settle_unnamed : (t : Tables) (settings : Settings) (h : History) (moment caller item : ℕ) (refusal : Refusal) → t ≡ tables_of settings h
     → first_failing (item_rules t moment caller true item settlement_rules) ≡ Some refusal → verdict settings h moment caller (Settle item) ≡ Some refusal
-settle_unnamed t settings h moment caller item refusal e told = settle_verdict t settings h moment caller item e ∙ told
+settle_unnamed t settings h moment caller item refusal e report = settle_verdict t settings h moment caller item e ∙ report
 
 pub settle_refusal : (t : Tables) (settings : Settings) (h : History) (moment caller item : ℕ) (terms : Terms) (refusal : Refusal) → t ≡ tables_of settings h
     → IsThere t moment caller true item terms → Some refusal ≡ first_failing (settlement_rules terms) → verdict settings h moment caller (Settle item) ≡ Some refusal
-settle_refusal t settings h moment caller item terms refusal e there told =
-    settle_verdict t settings h moment caller item e ∙ own_told t moment caller true item terms settlement_rules (Some refusal) there told
+settle_refusal t settings h moment caller item terms refusal e there report =
+    settle_verdict t settings h moment caller item e ∙ own_reported t moment caller true item terms settlement_rules (Some refusal) there report
 
 any_here : (i j : ℕ) (ss : List ℕ) → (j == i) ≡ true → list_any (λ s. s == i) (ss ++ j ∷ []) ≡ true
 any_here i j [] here = rw here refl
@@ -81,23 +81,23 @@ sold_state Settled pass = cc
 
 pub settle_fits : (t : Tables) (moment caller item : ℕ) (terms : Terms) → IsThere t moment caller true item terms → None ≡ first_failing (settlement_rules terms)
     → SettlementFits t moment terms.item
-settle_fits t moment caller item terms there told =
+settle_fits t moment caller item terms there report =
     let row = row_there t item terms there.found in
     rw row.numbered (record {
       moment_fits = (caller_fits t moment caller true there.passed).moment_fits;
       row = row.row;
       row_there = row.there;
-      is_sold = rw row.same (sold_state terms.state told);
+      is_sold = rw row.same (sold_state terms.state report);
     })
 
 pub settle_accepts : (t : Tables) (settings : Settings) (h : History) (moment caller item : ℕ) (terms : Terms) → t ≡ tables_of settings h
     → IsThere t moment caller true item terms → None ≡ first_failing (settlement_rules terms)
     → IsAccepted settings h moment caller (Settle item) (change.Settle moment terms.item)
-settle_accepts t settings h moment caller item terms e there told =
+settle_accepts t settings h moment caller item terms e there report =
     let named : terms.item ≡ item = (row_there t item terms there.found).numbered in
     rw named (record {
-      accepted = settle_verdict t settings h moment caller item e ∙ own_told t moment caller true item terms settlement_rules None there told;
-      fits = rw (e, named) at (settle_fits t moment caller item terms there told);
+      accepted = settle_verdict t settings h moment caller item e ∙ own_reported t moment caller true item terms settlement_rules None there report;
+      fits = rw (e, named) at (settle_fits t moment caller item terms there report);
       free = tt;
       leads = settle_leads settings h moment caller item;
     })

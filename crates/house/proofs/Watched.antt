@@ -77,7 +77,7 @@ pub watch_refused : (t : Tables) (settings : Settings) (h : History) (moment cal
     → ((rules : Terms → List Rule) → Some refusal ≡ first_failing (common_rules t.clock (length t.members) moment caller false ++ of_terms (terms_at t item) rules))
     → verdict settings h moment caller (Watch item) ≡ Some refusal
 unfolding verdict
-watch_refused t settings h moment caller item refusal e told = item_refused t settings h moment caller item refusal (λ floor. watch_rules (own_watches h caller)) e told
+watch_refused t settings h moment caller item refusal e report = item_refused t settings h moment caller item refusal (λ floor. watch_rules (own_watches h caller)) e report
 
 -- the verdict by whether there is room
 watch_judged : (t : Tables) (settings : Settings) (h : History) (moment caller item : ℕ) (terms : Terms) → IsHistory settings h → t ≡ tables_of settings h
@@ -133,7 +133,7 @@ pub unwatch_refused : (t : Tables) (settings : Settings) (h : History) (moment c
     → ((rules : Terms → List Rule) → Some refusal ≡ first_failing (common_rules t.clock (length t.members) moment caller false ++ of_terms (terms_at t item) rules))
     → verdict settings h moment caller (Unwatch item) ≡ Some refusal
 unfolding verdict
-unwatch_refused t settings h moment caller item refusal e told = item_refused t settings h moment caller item refusal (λ floor terms. []) e told
+unwatch_refused t settings h moment caller item refusal e report = item_refused t settings h moment caller item refusal (λ floor terms. []) e report
 
 unwatch_judged : (t : Tables) (settings : Settings) (h : History) (moment caller item : ℕ) (terms : Terms) → t ≡ tables_of settings h
     → terms_at t item ≡ Some terms → None ≡ first_failing (common_rules t.clock (length t.members) moment caller false) → verdict settings h moment caller (Unwatch item) ≡ None

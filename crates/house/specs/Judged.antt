@@ -1,4 +1,4 @@
--- What is told of an item that a command names, before the item's own rules and by them.
+-- What is reported of an item that a command names, before the item's own rules and by them.
 use Rattle.std.specs.Prelude.{◌≡◌, ℕ, List, ◌++◌, Bool, length, Some, None, Result, Ok, Err}
 use Rattle.proxy.specs.Rules.{first_failing}
 use Rattle.house_rows.specs.declared.item.Terms.{Terms}
@@ -21,7 +21,7 @@ pub record IsThere (t : Tables) (moment caller : ℕ) (of_house : Bool) (item : 
   pub passed : first_failing (first_rules t moment caller of_house) ≡ None
   pub found : terms_at t item ≡ Some terms
 
--- the terms of the item, or what is told whatever its own rules are
+-- the terms of the item, or the refusal whatever its own rules are
 abbrev pub IsNamed : Tables → ℕ → ℕ → Bool → ℕ → Result Terms Refusal → Type 0
 IsNamed t moment caller of_house item (Ok terms) = IsThere t moment caller of_house item terms
 IsNamed t moment caller of_house item (Err refusal) =
@@ -32,7 +32,7 @@ pub record IsPriced (moment caller : ℕ) (terms : Terms) (price : ℕ) : Type 0
   pub passed : first_failing (purchase_rules moment caller terms) ≡ None
   pub priced : terms.buy_now ≡ Some price
 
--- or what is told
+-- or the refusal
 abbrev pub IsPurchase : ℕ → ℕ → Terms → Result ℕ Refusal → Type 0
 IsPurchase moment caller terms (Ok price) = IsPriced moment caller terms price
 IsPurchase moment caller terms (Err refusal) = first_failing (purchase_rules moment caller terms) ≡ Some refusal

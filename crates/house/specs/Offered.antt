@@ -1,4 +1,4 @@
--- What is told of an offer, by the tables.
+-- What is reported of an offer, by the tables.
 use Rattle.std.specs.Prelude.{◌≡◌, ℕ, List, [], ◌∷◌, ◌==◌, ◌&&◌, not, nat_le, length, Option, Some, None, Result, Ok, Err}
 use Rattle.std.specs.List.{list_any}
 use Rattle.house_rows.specs.declared.refusal.Refusal.{Refusal}
@@ -32,7 +32,7 @@ pub record AreOf (offer : Offer) (taken : ℕ × Prices) : Type 0 where
   pub buy_now : taken.1.buy_now ≡ offer.buy_now
   pub reserve : taken.1.reserve ≡ offer.reserve
 
--- what is told, if anything is
-abbrev pub told : {A : Type 0} → Result A Refusal → Option Refusal
-told (Ok value) = None
-told (Err refusal) = Some refusal
+-- what is reported, if anything is
+abbrev pub report : {A : Type 0} → Result A Refusal → Option Refusal
+report (Ok value) = None
+report (Err refusal) = Some refusal

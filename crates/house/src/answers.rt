@@ -12,8 +12,7 @@ ghost use Rattle.house.specs.Decided.{IfAccepted, IsDecided};
 ghost use Rattle.house.specs.Own.{IsOf};
 ghost use Rattle.house.specs.Waiting.{waiting_rules};
 
-use crate::common::is_text;
-use crate::targets::on_item;
+use crate::targets::{is_text, on_item};
 use house_rows::{Change, Keep, KeepFault, Question, Refusal, Text};
 
 /// Decides on an answer to the question that an asker asked with that number on the item.

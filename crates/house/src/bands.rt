@@ -11,7 +11,7 @@ ghost use Rattle.house_rows.specs.Verdict.{IsHistory, common_rules, table_rules}
 ghost use Rattle.house.specs.Decided.{IfAccepted, IsDecided};
 ghost use Rattle.house.specs.Own.{IsOf};
 
-use crate::common::common;
+use crate::targets::common;
 use house_rows::{Change, Keep, KeepFault, MOST_EDITIONS, Refusal, Rows};
 use steps::Bands;
 

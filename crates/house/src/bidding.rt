@@ -16,13 +16,13 @@ ghost use Rattle.house.specs.Decided.{IfAccepted, IsDecided};
 ghost use Rattle.house.specs.Own.{IsOf};
 ghost use Rattle.house.specs.Refused.{as_refusal};
 
-use crate::targets::{on_item, open_refused};
+use crate::targets::{on_auction, open_refused};
 use cents::Cents;
 use house_rows::{Change, Keep, KeepFault, Refusal, Terms};
 use proxy::{Bid, BidRefusal, Standing};
 use steps::Bands;
 
-/// Decides on a bid. The maximum is in cents, and sealed: no refusal tells another's.
+/// Decides on a bid. The maximum is in cents, and sealed: no refusal shows another's.
 ///
 /// The change carries the bid with its number, and the standing of the item with it.
 pub fn bid<'c, K: Keep>(
@@ -41,7 +41,7 @@ pub fn bid<'c, K: Keep>(
     ensures faults { Faults result (K.is_honest keep.new) (K.is_failed keep.new) (K.content keep.old) }
     ensures read { IsRead K.content K.is_failed K.is_honest K.may_leave keep.old keep.new }
 {
-    let on = match on_item(keep, moment, caller, item)? {
+    let on = match on_auction(keep, moment, caller, item)? {
         Ok(on) => on,
         Err(refusal) => return Ok(Err(refusal)),
     };
@@ -49,11 +49,8 @@ pub fn bid<'c, K: Keep>(
         Ok(maximum) => maximum,
         Err(refusal) => return Ok(Err(refusal)),
     };
-    let Some(standing) = keep.standing(item)? else {
-        return Ok(Err(Refusal::Unknown));
-    };
     let bands = keep.editions()?.bands_for(item);
-    match placed(standing, bands, on.member, maximum) {
+    match place_bid(on.standing, bands, on.member, maximum) {
         Err(refusal) => Ok(Err(refusal)),
         Ok(standing) => Ok(Ok(Change::Bid {
             moment,
@@ -70,8 +67,8 @@ pub fn bid<'c, K: Keep>(
 
 // A maximum that may be bid on an open item, or why it may not.
 fn open_maximum(moment: u64, caller: u64, maximum: u64, terms: &Terms) -> Result<Cents, Refusal>
-    ensures { let told = first_failing (open_rules moment caller terms.now ++ (nat_lt most_cents maximum, Refusal.Range) ∷ []) in
-        MatchResult result (λ amount. (amount ≡ maximum) × (None ≡ told)) (λ refusal. Some refusal ≡ told) }
+    ensures { let report = first_failing (open_rules moment caller terms.now ++ (nat_lt most_cents maximum, Refusal.Range) ∷ []) in
+        MatchResult result (λ amount. (amount ≡ maximum) × (None ≡ report)) (λ refusal. Some refusal ≡ report) }
 {
     if let Some(refusal) = open_refused(moment, caller, terms) {
         return Err(refusal);
@@ -80,7 +77,7 @@ fn open_maximum(moment: u64, caller: u64, maximum: u64, terms: &Terms) -> Result
 }
 
 // The standing with one more bid, or why the bid is refused.
-fn placed(
+fn place_bid(
     mut standing: Standing,
     bands: &Bands,
     member: u32,
@@ -90,7 +87,7 @@ fn placed(
         → MatchResult result
         (λ after. (refusal bands.now (opening_of standing) bids member maximum ≡ None)
         × (after ≡ standing_of bands.now (opening_of standing) (one_more bids member maximum)))
-        (λ told. Some told ≡ option_map as_refusal (refusal bands.now (opening_of standing) bids member maximum)) }
+        (λ report. Some report ≡ option_map as_refusal (refusal bands.now (opening_of standing) bids member maximum)) }
 {
     match standing.place(bands, member, maximum) {
         Ok(()) => Ok(standing),

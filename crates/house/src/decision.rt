@@ -12,15 +12,15 @@ ghost use Rattle.house.specs.Own.{IsOf};
 use crate::answers::answer;
 use crate::bands::set_bands;
 use crate::bidding::bid;
-use crate::closing::close;
+use crate::closure::close;
 use crate::listing::{Offer, list};
 use crate::people::{add_category, register};
 use crate::purchase::buy;
 use crate::questions::ask;
 use crate::ratings::feedback;
 use crate::settlement::settle;
-use crate::unwatching::unwatch;
-use crate::watching::watch;
+use crate::watch_removal::unwatch;
+use crate::watchlist::watch;
 use house_rows::{Change, Command, Keep, KeepFault, Refusal};
 
 /// Decides on a command: the change that it makes, or why it is refused. Nothing is changed yet, and

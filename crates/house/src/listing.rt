@@ -14,16 +14,16 @@ ghost use Rattle.house_rows.specs.Verdict.{IsHistory, are_terms, is_buy_now, is_
 ghost use Rattle.house.specs.Decided.{IfAccepted, IsDecided};
 ghost use Rattle.house.specs.Own.{IsOf};
 ghost use Rattle.house.specs.Judged.{first_rules};
-ghost use Rattle.house.specs.Offered.{AreOf, offer_rules, terms_rules, told};
+ghost use Rattle.house.specs.Offered.{AreOf, offer_rules, terms_rules, report};
 
-use crate::common::{common, is_text};
+use crate::targets::{common, is_text};
 use cents::Cents;
 use house_rows::{Change, Keep, KeepFault, MOST_ITEMS, NewItem, Refusal, Text};
 use settle::LAST_MOMENT;
 
 /// What a member offers for sale, in range or not. Amounts are in cents, and the end is in whole
 /// seconds since 1970-01-01T00:00:00Z.
-#[derive(Clone, Copy, Debug)]
+#[derive(Clone, Copy)]
 pub struct Offer<'c> {
     /// The number of the category.
     pub category: u64,
@@ -44,7 +44,7 @@ pub struct Offer<'c> {
 }
 
 // The prices of an offer that are in range.
-#[derive(Clone, Copy, Debug)]
+#[derive(Clone, Copy)]
 struct Prices {
     start: Cents,
     buy_now: Option<Cents>,
@@ -68,7 +68,7 @@ pub fn list<'c, K: Keep>(
     ensures faults { Faults result (K.is_honest keep.new) (K.is_failed keep.new) (K.content keep.old) }
     ensures read { IsRead K.content K.is_failed K.is_honest K.may_leave keep.old keep.new }
 {
-    let (category, prices) = match judged(keep, moment, caller, offer)? {
+    let (category, prices) = match judge_offer(keep, moment, caller, offer)? {
         Ok(taken) => taken,
         Err(refusal) => return Ok(Err(refusal)),
     };
@@ -88,13 +88,13 @@ pub fn list<'c, K: Keep>(
 
 // The category and the prices of an offer, or why it is refused.
 #[tactic(auto, using(crate::proofs::Found::first_some, crate::proofs::Found::first_none))]
-fn judged<K: Keep>(
+fn judge_offer<K: Keep>(
     keep: &mut K,
     moment: u64,
     caller: u64,
     offer: &Offer<'_>,
 ) -> Result<Result<(u32, Prices), Refusal>, KeepFault>
-    ensures value { K.is_honest keep.new → IfOk result (λ r. told r ≡ first_failing (
+    ensures value { K.is_honest keep.new → IfOk result (λ r. report r ≡ first_failing (
         first_rules (K.content keep.old) moment caller false ++ offer_rules (K.content keep.old) moment caller offer.now)) }
     ensures same { K.is_honest keep.new → IfOk result (λ r. IfOk r (AreOf offer.now)) }
     ensures numbered { IfOk result (λ r. OnOk r (caller < 2 ^ 32)) }
@@ -103,19 +103,19 @@ fn judged<K: Keep>(
 {
     match common(keep, moment, caller, false)? {
         Some(refusal) => Ok(Err(refusal)),
-        None => offered(keep, moment, caller, offer),
+        None => judge_lot(keep, moment, caller, offer),
     }
 }
 
 // The same by an offer's own rules.
-fn offered<K: Keep>(
+fn judge_lot<K: Keep>(
     keep: &mut K,
     moment: u64,
     caller: u64,
     offer: &Offer<'_>,
 ) -> Result<Result<(u32, Prices), Refusal>, KeepFault>
     requires going { K.is_failed keep.old ≡ false }
-    ensures value { K.is_honest keep.new → IfOk result (λ r. told r ≡ first_failing (offer_rules (K.content keep.old) moment caller offer.now)) }
+    ensures value { K.is_honest keep.new → IfOk result (λ r. report r ≡ first_failing (offer_rules (K.content keep.old) moment caller offer.now)) }
     ensures same { K.is_honest keep.new → IfOk result (λ r. IfOk r (AreOf offer.now)) }
     ensures faults { Faults result (K.is_honest keep.new) (K.is_failed keep.new) (K.content keep.old) }
     ensures read { IsRead K.content K.is_failed K.is_honest K.may_leave keep.old keep.new }
@@ -126,17 +126,17 @@ fn offered<K: Keep>(
     if has_lot(keep, caller, offer.lot)? {
         return Ok(Err(Refusal::LotExists));
     }
-    taken(keep, moment, offer)
+    judge_terms(keep, moment, offer)
 }
 
 // The same after the rules of its lot.
-fn taken<K: Keep>(
+fn judge_terms<K: Keep>(
     keep: &mut K,
     moment: u64,
     offer: &Offer<'_>,
 ) -> Result<Result<(u32, Prices), Refusal>, KeepFault>
     requires going { K.is_failed keep.old ≡ false }
-    ensures value { K.is_honest keep.new → IfOk result (λ r. told r ≡ first_failing (terms_rules (K.content keep.old) moment offer.now)) }
+    ensures value { K.is_honest keep.new → IfOk result (λ r. report r ≡ first_failing (terms_rules (K.content keep.old) moment offer.now)) }
     ensures same { K.is_honest keep.new → IfOk result (λ r. IfOk r (AreOf offer.now)) }
     ensures faults { Faults result (K.is_honest keep.new) (K.is_failed keep.new) (K.content keep.old) }
     ensures read { IsRead K.content K.is_failed K.is_honest K.may_leave keep.old keep.new }
@@ -188,11 +188,11 @@ fn prices_in_range(moment: u64, offer: &Offer<'_>) -> Option<Prices>
     if !is_described || offer.end <= moment || offer.end > LAST_MOMENT {
         return None;
     }
-    priced(offer.start, offer.buy_now, offer.reserve)
+    prices_of(offer.start, offer.buy_now, offer.reserve)
 }
 
 // Prices of so many cents, where they are in range.
-fn priced(start: u64, buy_now: Option<u64>, reserve: Option<u64>) -> Option<Prices>
+fn prices_of(start: u64, buy_now: Option<u64>, reserve: Option<u64>) -> Option<Prices>
     ensures fits { is_some result ≡ (nat_le 1 start && (nat_le start most_cents && (is_buy_now start buy_now && is_reserve start buy_now reserve))) }
     ensures same { IfSome result (λ p. (p.start ≡ start) × (p.buy_now ≡ buy_now) × (p.reserve ≡ reserve)) }
 {
@@ -200,7 +200,7 @@ fn priced(start: u64, buy_now: Option<u64>, reserve: Option<u64>) -> Option<Pric
         return None;
     }
     let (start, buy_now) = bought_from(start, buy_now)?;
-    let reserve = reserved(start, &buy_now, reserve)?;
+    let reserve = reserve_of(start, &buy_now, reserve)?;
     Some(Prices {
         start,
         buy_now,
@@ -225,7 +225,7 @@ fn bought_from(start: u64, buy_now: Option<u64>) -> Option<(Cents, Option<Cents>
 }
 
 // A reserve of so many cents, where it is above the start, and at most the buy-now price.
-fn reserved(start: Cents, buy_now: &Option<Cents>, reserve: Option<u64>) -> Option<Option<Cents>>
+fn reserve_of(start: Cents, buy_now: &Option<Cents>, reserve: Option<u64>) -> Option<Option<Cents>>
     ensures fits { is_some result ≡ is_reserve start buy_now.now reserve }
     ensures same { IfSome result (λ r. r ≡ reserve) }
 {

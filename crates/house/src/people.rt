@@ -13,7 +13,7 @@ ghost use Rattle.house_rows.specs.Verdict.{IsHistory, category_rules, common_rul
 ghost use Rattle.house.specs.Decided.{IfAccepted, IsDecided};
 ghost use Rattle.house.specs.Own.{IsOf};
 
-use crate::common::{common, is_text};
+use crate::targets::{common, is_text};
 use house_rows::{Change, Keep, KeepFault, MOST_CATEGORIES, MOST_MEMBERS, Refusal, Text};
 
 /// Decides on a registration.

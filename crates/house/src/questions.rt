@@ -11,8 +11,7 @@ ghost use Rattle.house_rows.specs.Verdict.{IsHistory, question_rules};
 ghost use Rattle.house.specs.Decided.{IfAccepted, IsDecided};
 ghost use Rattle.house.specs.Own.{IsOf};
 
-use crate::common::is_text;
-use crate::targets::{on_item, open_refused};
+use crate::targets::{is_text, on_item, open_refused};
 use house_rows::{Change, Keep, KeepFault, MOST_QUESTIONS, Refusal, Terms, Text};
 
 /// Decides on a question, which takes the next number among the caller's on the item.

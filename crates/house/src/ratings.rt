@@ -13,8 +13,7 @@ ghost use Rattle.house_rows.specs.Verdict.{IsHistory, feedback_rules};
 ghost use Rattle.house.specs.Decided.{IfAccepted, IsDecided};
 ghost use Rattle.house.specs.Own.{IsOf};
 
-use crate::common::is_text;
-use crate::targets::on_item;
+use crate::targets::{is_text, on_item};
 use house_rows::{Change, Keep, KeepFault, Rating, Refusal, State, Terms, Text};
 
 /// Decides on feedback to the other party of a sale. A rating of none is one that was out of range.

@@ -1,15 +1,17 @@
-//! What every command on an item begins with.
-ghost use Rattle.std.specs.Prelude.{◌≡◌, ◌<◌, ◌^◌, ◌++◌, List, IfOk, OnOk, MatchResult, None, Some, false, length};
+//! What every command begins with, and every command on an item.
+ghost use Rattle.std.specs.Prelude.{◌≡◌, ◌<◌, ◌^◌, ◌++◌, List, IfOk, OnOk, MatchResult, None, Some, false, length, ◌≤◌, ◌&&◌};
 ghost use Rattle.proxy.specs.Rules.{first_failing};
 ghost use Rattle.house_rows.specs.declared.item.Terms.{Terms as TheTerms};
-ghost use Rattle.house_rows.specs.Found.{terms_at};
+ghost use Rattle.house_rows.specs.Found.{standing_at, terms_at};
 ghost use Rattle.house_rows.specs.Keeping.{Faults, IsRead};
 ghost use Rattle.house_rows.specs.Verdict.{Rule, common_rules, open_rules};
 ghost use Rattle.house.specs.Decided.{of_terms};
 ghost use Rattle.house.specs.Judged.{IsNamed};
+ghost use Rattle.house_rows.specs.Text.{has_length, is_text};
 
-use crate::common::common;
-use house_rows::{Keep, KeepFault, Refusal, State, Terms};
+use house_rows::{Keep, KeepFault, Refusal, State, Terms, Text};
+use proxy::Standing;
+use settle::LAST_MOMENT;
 
 /// A member, and the item that its command names.
 #[derive(Clone, Copy)]
@@ -18,6 +20,17 @@ pub(crate) struct OnItem {
     pub(crate) member: u32,
     /// The item without its texts.
     pub(crate) terms: Terms,
+}
+
+/// A member, and the auction of the item that its command names.
+#[derive(Clone, Copy)]
+pub(crate) struct OnAuction {
+    /// The number of the member.
+    pub(crate) member: u32,
+    /// The item without its texts.
+    pub(crate) terms: Terms,
+    /// The standing of its bids.
+    pub(crate) standing: Standing,
 }
 
 /// The terms of the item that a command names, or why the command is refused before the item's own
@@ -68,6 +81,38 @@ pub(crate) fn on_item<K: Keep>(
     }))
 }
 
+/// The member that calls and the auction of the item that it names; or why the command is refused,
+/// whatever the rules of the item are.
+#[tactic(auto, using(crate::proofs::Found::first_some, crate::proofs::Found::first_none, crate::proofs::Auctions::auction_terms, crate::proofs::Auctions::auction_standing, crate::proofs::Auctions::no_auction))]
+pub(crate) fn on_auction<K: Keep>(
+    keep: &mut K,
+    moment: u64,
+    caller: u64,
+    item: u64,
+) -> Result<Result<OnAuction, Refusal>, KeepFault>
+    ensures value { K.is_honest keep.new → IfOk result (λ r. MatchResult r
+        (λ on. (on.member ≡ caller) × (terms_at (K.content keep.old) item ≡ Some on.terms)
+        × (standing_at (K.content keep.old) item ≡ Some on.standing)
+        × (None ≡ first_failing (common_rules (K.content keep.old).clock (length (K.content keep.old).members) moment caller false)))
+        (λ refusal. (rules : TheTerms → List Rule) → Some refusal ≡ first_failing (
+        common_rules (K.content keep.old).clock (length (K.content keep.old).members) moment caller false
+        ++ of_terms (terms_at (K.content keep.old) item) rules))) }
+    ensures faults { Faults result (K.is_honest keep.new) (K.is_failed keep.new) (K.content keep.old) }
+    ensures read { IsRead K.content K.is_failed K.is_honest K.may_leave keep.old keep.new }
+{
+    if let Some(refusal) = common(keep, moment, caller, false)? {
+        return Ok(Err(refusal));
+    }
+    let Some(auction) = keep.auction(item)? else {
+        return Ok(Err(Refusal::Unknown));
+    };
+    Ok(Ok(OnAuction {
+        member: caller as u32,
+        terms: auction.terms,
+        standing: auction.standing,
+    }))
+}
+
 /// Why the caller may not bid on an item, buy it or ask about it, if it may not: it sells the item,
 /// or the item isn't open, or has ended.
 pub(crate) fn open_refused(moment: u64, caller: u64, terms: &Terms) -> Option<Refusal>
@@ -83,4 +128,42 @@ pub(crate) fn open_refused(moment: u64, caller: u64, terms: &Terms) -> Option<Re
         return Some(Refusal::Ended);
     }
     None
+}
+
+/// Why a command is refused whatever it asks for, if it is. A caller that passes has a number that
+/// fits a `u32`.
+pub(crate) fn common<K: Keep>(
+    keep: &mut K,
+    moment: u64,
+    caller: u64,
+    of_house: bool,
+) -> Result<Option<Refusal>, KeepFault>
+    ensures value { K.is_honest keep.new → IfOk result (λ r. r ≡ first_failing
+        (common_rules (K.content keep.old).clock (length (K.content keep.old).members) moment caller of_house)) }
+    ensures numbered { IfOk result (λ r. r ≡ None → caller < 2 ^ 32) }
+    ensures faults { Faults result (K.is_honest keep.new) (K.is_failed keep.new) (K.content keep.old) }
+    ensures read { IsRead K.content K.is_failed K.is_honest K.may_leave keep.old keep.new }
+{
+    let members = keep.counts()?.members;
+    let clock = keep.clock()?;
+    if moment > LAST_MOMENT {
+        return Ok(Some(Refusal::Range));
+    }
+    if caller > u64::from(members) || (caller == 0 && !of_house) {
+        return Ok(Some(Refusal::NoCaller));
+    }
+    if of_house && caller != 0 {
+        return Ok(Some(Refusal::HouseOnly));
+    }
+    if moment < clock {
+        return Ok(Some(Refusal::MomentBehind));
+    }
+    Ok(None)
+}
+
+/// Whether a field takes a text: plain, and of so many bytes.
+pub(crate) fn is_text(least: usize, most: usize, text: &Text) -> bool
+    ensures { result ≡ is_text least most text.now }
+{
+    least <= text.len() && text.len() <= most && text.is_plain()
 }

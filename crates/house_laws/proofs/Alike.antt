@@ -10,32 +10,32 @@ use Rattle.house_rows.specs.declared.refusal.Refusal.{Refusal}
 use Rattle.house_rows.specs.declared.reply.Reply.{Reply}
 use Rattle.house_rows.specs.declared.reply.Reply.TheVariants.{Shows}
 use Rattle.house_rows.specs.declared.settings.Settings.{Settings}
-use Rattle.house_rows.specs.declared.told.Told.{Told}
+use Rattle.house_rows.specs.declared.command_result.CommandResult.{CommandResult}
 use Rattle.house_rows.specs.History.{Entry, History}
 use Rattle.house_rows.specs.Runs.{Agrees, AreTwins, AreTwinsFrom, Twin, entered, entry, history_from, is_of, next, rendered_from, rendered_to, replies_to, reply, reply_if}
-use Rattle.house_rows.specs.Told.{told}
+use Rattle.house_rows.specs.CommandResult.{result_of}
 use Rattle.house_rows.specs.Verdict.{verdict}
 use Rattle.house_rows.specs.Views.{own_view, public_view}
 use Rattle.house_laws.specs.Alike.{AreAlike}
 use Rattle.house_rows.proofs.Put.{by_test}
 use Rattle.house_rows.proofs.Own.{own_local}
-use Rattle.house_laws.proofs.Output.{own_steps, told_same, verdict_same}
+use Rattle.house_laws.proofs.Output.{own_steps, report_same, verdict_same}
 use Rattle.house_laws.proofs.Shown.{page_same}
 
--- what a command is told once it is entered
-pub told_after : (settings : Settings) (c : ℕ) (h k : History) (t : ℕ) (command : Command) → AreAlike settings c h k
+-- the result of a command once it is entered
+pub report_after : (settings : Settings) (c : ℕ) (h k : History) (t : ℕ) (command : Command) → AreAlike settings c h k
     → public_view settings (entry t c command ∷ h) ≡ public_view settings (entry t c command ∷ k)
-    → told settings (entry t c command ∷ h) t c command h ≡ told settings (entry t c command ∷ k) t c command k
-told_after settings c h k t command alike after =
-    told_same settings c h k (entry t c command ∷ h) (entry t c command ∷ k) t command alike.public after (own_steps settings c h k t command alike)
+    → result_of settings (entry t c command ∷ h) t c command h ≡ result_of settings (entry t c command ∷ k) t c command k
+report_after settings c h k t command alike after =
+    report_same settings c h k (entry t c command ∷ h) (entry t c command ∷ k) t command alike.public after (own_steps settings c h k t command alike)
 
 -- and where it is accepted
-told_if : {F : Type 0} (settings : Settings) (c : ℕ) (h k : History) (t : ℕ) (command : Command) (v : Option Refusal) → AreAlike settings c h k
+report_if : {F : Type 0} (settings : Settings) (c : ℕ) (h k : History) (t : ℕ) (command : Command) (v : Option Refusal) → AreAlike settings c h k
     → public_view settings (entered v (entry t c command) h) ≡ public_view settings (entered v (entry t c command) k)
-    → reply_if {F = F} v (told settings (entry t c command ∷ h) t c command h) ≡ reply_if {F = F} v (told settings (entry t c command ∷ k) t c command k)
-told_if settings c h k t command None alike after =
-    ap (λ (t : Told). reply_if None t) (told_after settings c h k t command alike after)
-told_if settings c h k t command (Some refusal) alike after = refl
+    → reply_if {F = F} v (result_of settings (entry t c command ∷ h) t c command h) ≡ reply_if {F = F} v (result_of settings (entry t c command ∷ k) t c command k)
+report_if settings c h k t command None alike after =
+    ap (λ (t : CommandResult). reply_if None t) (report_after settings c h k t command alike after)
+report_if settings c h k t command (Some refusal) alike after = refl
 
 order_same : {F : Type 0} (settings : Settings) (c : ℕ) (h k : History) (t : ℕ) (command : Command) → AreAlike settings c h k
     → public_view settings (next {F = F} settings h (Order t c command)) ≡ public_view settings (next {F = F} settings k (Order t c command))
@@ -44,7 +44,7 @@ unfolding reply next
 order_same {F = F} settings c h k t command alike after =
     let v : verdict settings h t c command ≡ verdict settings k t c command = verdict_same settings c h k t command alike in
     let p : public_view settings (entered (verdict settings k t c command) (entry t c command) h) ≡ public_view settings (entered (verdict settings k t c command) (entry t c command) k) = rw v at after in
-    rw v (told_if {F = F} settings c h k t command (verdict settings k t c command) alike p)
+    rw v (report_if {F = F} settings c h k t command (verdict settings k t c command) alike p)
 
 read_same : {F : Type 0} (settings : Settings) (c : ℕ) (h k : History) (q : Query) → AreAlike settings c h k → reply {F = F} settings h (Read c q) ≡ reply {F = F} settings k (Read c q)
 unfolding reply

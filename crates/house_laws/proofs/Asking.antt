@@ -246,7 +246,7 @@ zip_asked i d n qs rs c (Ask j text) zip =
 zip_asked i d n qs rs c command zip = zip
 
 -- all is the same but the text of that question
-record Retold (i d n : ℕ) (h k : History) : Type 0 where
+record Reshown (i d n : ℕ) (h k : History) : Type 0 where
   clocks : clock h ≡ clock k
   people : members h ≡ members k
   kinds : categories h ≡ categories k
@@ -262,19 +262,19 @@ record Retold (i d n : ℕ) (h k : History) : Type 0 where
   maxima : (c : ℕ) → own_maxima h c ≡ own_maxima k c
   asks : AllZip (SameButText i d n) (asked h) (asked k)
 
-leads_same : (i d n : ℕ) (h k : History) (l : Listing) → Retold i d n h k → leader_of h l ≡ leader_of k l
+leads_same : (i d n : ℕ) (h k : History) (l : Listing) → Reshown i d n h k → leader_of h l ≡ leader_of k l
 leads_same i d n h k l r = rw (r.bought, r.bids l.item) refl
 
-against_same : (i d n : ℕ) (h k : History) (o : Option Listing) (c : ℕ) → Retold i d n h k → party_against h o c ≡ party_against k o c
+against_same : (i d n : ℕ) (h k : History) (o : Option Listing) (c : ℕ) → Reshown i d n h k → party_against h o c ≡ party_against k o c
 against_same i d n h k None c r = refl
 against_same i d n h k (Some l) c r = rw (leads_same i d n h k l r) refl
 
-rated_same : (i d n : ℕ) (h k : History) (rows : List row.Feedback) (c : ℕ) (command : Command) → Retold i d n h k → with_feedback h rows c command ≡ with_feedback k rows c command
+rated_same : (i d n : ℕ) (h k : History) (rows : List row.Feedback) (c : ℕ) (command : Command) → Reshown i d n h k → with_feedback h rows c command ≡ with_feedback k rows c command
 rated_same i d n h k rows c (Feedback j None text) r = refl
 rated_same i d n h k rows c (Feedback j (Some rating) text) r = rw (r.lots, against_same i d n h k (listing_at (listings k) j) c r) refl
 rated_same i d n h k rows c command r = refl
 
-retold_step : (i d n : ℕ) (h k : History) (e : Entry) → Retold i d n h k → Retold i d n (e ∷ h) (e ∷ k)
+retold_step : (i d n : ℕ) (h k : History) (e : Entry) → Reshown i d n h k → Reshown i d n (e ∷ h) (e ∷ k)
 unfolding own_maxima
 retold_step i d n h k e r = record {
   clocks = rw r.clocks refl;
@@ -293,11 +293,11 @@ retold_step i d n h k e r = record {
   asks = zip_asked i d n (asked h) (asked k) e.caller e.command r.asks;
 }
 
-retold_later : (i d n : ℕ) (h k : History) (later : List Entry) → Retold i d n h k → Retold i d n (later ++ h) (later ++ k)
-retold_later i d n h k [] r = r
-retold_later i d n h k (e ∷ later) r = retold_step i d n (later ++ h) (later ++ k) e (retold_later i d n h k later r)
+reshown_later : (i d n : ℕ) (h k : History) (later : List Entry) → Reshown i d n h k → Reshown i d n (later ++ h) (later ++ k)
+reshown_later i d n h k [] r = r
+reshown_later i d n h k (e ∷ later) r = retold_step i d n (later ++ h) (later ++ k) e (reshown_later i d n h k later r)
 
-retold_first : (t d i : ℕ) (text other : List ℕ) (h : History) → Retold i d (ask_count (asked h) d i + 1) (entry t d (Ask i text) ∷ h) (entry t d (Ask i other) ∷ h)
+retold_first : (t d i : ℕ) (text other : List ℕ) (h : History) → Reshown i d (ask_count (asked h) d i + 1) (entry t d (Ask i text) ∷ h) (entry t d (Ask i other) ∷ h)
 unfolding own_maxima
 retold_first t d i text other h = record {
   clocks = refl;
@@ -365,24 +365,24 @@ own_zip i d n (q ∷ qs) (r ∷ rs) c other zip =
       | inr keys ↦ rw (keys.0.asker, keys.1.asker, other) rest
     ]
 
-retold_items : (settings : Settings) (i d n : ℕ) (h k : History) → Retold i d n h k → items_shown settings h ≡ items_shown settings k
+retold_items : (settings : Settings) (i d n : ℕ) (h k : History) → Reshown i d n h k → items_shown settings h ≡ items_shown settings k
 retold_items settings i d n h k r =
     items_same_each settings h k r.lots (λ l. rw (r.bought, r.closed, r.settled, r.bids l.item) refl)
 
-retold_published : (i d n : ℕ) (h k : History) → ((q : Asked) → HasKey i d n q → answer_to (answers k) q ≡ None) → Retold i d n h k → published h ≡ published k
+retold_published : (i d n : ℕ) (h k : History) → ((q : Asked) → HasKey i d n q → answer_to (answers k) q ≡ None) → Reshown i d n h k → published h ≡ published k
 unfolding published questions
 retold_published i d n h k none r = rw r.given (published_zip i d n (answers k) (asked h) (asked k) none r.asks)
 
-retold_waiting : (i d n : ℕ) (h k : History) (c : ℕ) → is_seller (listing_at (listings k) i) c ≡ false → Retold i d n h k → waiting h c ≡ waiting k c
+retold_waiting : (i d n : ℕ) (h k : History) (c : ℕ) → is_seller (listing_at (listings k) i) c ≡ false → Reshown i d n h k → waiting h c ≡ waiting k c
 unfolding waiting questions
 retold_waiting i d n h k c other r = rw (r.given, r.lots) (waiting_zip i d n (listings k) (answers k) (asked h) (asked k) c other r.asks)
 
-retold_own : (i d n : ℕ) (h k : History) (c : ℕ) → (d == c) ≡ false → Retold i d n h k → own_view h c ≡ own_view k c
+retold_own : (i d n : ℕ) (h k : History) (c : ℕ) → (d == c) ≡ false → Reshown i d n h k → own_view h c ≡ own_view k c
 unfolding own_reserves own_watches own_questions
 retold_own i d n h k c other r = rw (r.maxima c, r.lots, r.watched, own_zip i d n (asked h) (asked k) c other r.asks) refl
 
--- so whoever is neither its asker nor the seller can't tell what it says
-retold_alike : (settings : Settings) (i d n c : ℕ) (h k : History) → ((q : Asked) → HasKey i d n q → answer_to (answers h) q ≡ None) → IsOutsider h d i c → Retold i d n h k → AreAlike settings c h k
+-- so whoever is neither its asker nor the seller can't know what it says
+retold_alike : (settings : Settings) (i d n c : ℕ) (h k : History) → ((q : Asked) → HasKey i d n q → answer_to (answers h) q ≡ None) → IsOutsider h d i c → Reshown i d n h k → AreAlike settings c h k
 retold_alike settings i d n c h k none out r =
     let none' : (q : Asked) → HasKey i d n q → answer_to (answers k) q ≡ None = λ q key. ap (λ given. answer_to given q) (sym r.given) ∙ none q key in
     let seller : is_seller (listing_at (listings k) i) c ≡ false = ap (λ ls. is_seller (listing_at ls i) c) (sym r.lots) ∙ out.not_seller in
@@ -406,4 +406,4 @@ ask_unread settings c t d i text other h later out not =
     let none : answer_to (answers (later ++ a)) (new_question h d i text) ≡ None = none_there (answer_to (answers (later ++ a)) (new_question h d i text)) not in
     retold_alike settings i d n c (later ++ a) (later ++ b)
     (λ q key. answer_by_key (answers (later ++ a)) q (new_question h d i text) key.item key.asker key.number ∙ none)
-    out (retold_later i d n a b later (retold_first t d i text other h))
+    out (reshown_later i d n a b later (retold_first t d i text other h))

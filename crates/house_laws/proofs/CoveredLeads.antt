@@ -1,4 +1,5 @@
--- A covered bid shows in the end: its bidder leads by its maximum, and by the amount above it where that stands in its place.
+-- A covered bid shows in the end: its bidder leads by its maximum, and by the amount above it where
+-- that is in its place.
 use Rattle.std.proofs.Common.{◌≡◌, ℕ, ◌+◌, ◌<◌, ◌≤◌, List, [], ◌∷◌, ◌++◌, length, length-append, map, true, refl, ◌∙◌, ap, sym, subst, arith, inl, inr, Option, Some, None}
 use Rattle.std.specs.Prelude.{◌==◌}
 use Rattle.std.proofs.lemmas.Bool.Decides.{nat_tests}
@@ -175,7 +176,7 @@ run_parts : {A F : Type 0} (meant : A → Message F) (settings : Settings) (befo
 run_parts meant settings before here later =
     ap (history_from settings []) (map-append meant before (here ∷ later)) ∙ history_append settings [] (map meant before) (meant here ∷ map meant later)
 
--- what shows in the end tells that the bid was covered
+-- what shows in the end says that the bid was covered
 pub led_covered : {A F : Type 0} (meant : A → Message F) (settings : Settings) (c place y : ℕ) (b : Sealed) (xs : List A) (other : A) → IsBandTable settings.bands
     → meant other ≡ bid_message (with_maximum y b) → IsLedByBoth meant settings c place y b xs other → IsCovered meant settings c place y b xs
 led_covered meant settings c place y b xs other valid raises is =

@@ -272,7 +272,7 @@ history_append settings h [] later = refl
 history_append settings h (m ∷ before) later = history_append settings (next settings h m) before later
 
 -- what follows from a covered bid, after it: the two histories are near, the bidder bids no more on the item, and all others' are covered
-pub record Behind {A F : Type 0} (meant : A → Message F) (settings : Settings) (bands : List (ℕ × ℕ)) (reserve : Option ℕ) (y : ℕ) (b : Sealed) (h : History) (here other : A) (later : List A) : Type 0 where
+pub record After {A F : Type 0} (meant : A → Message F) (settings : Settings) (bands : List (ℕ × ℕ)) (reserve : Option ℕ) (y : ℕ) (b : Sealed) (h : History) (here other : A) (later : List A) : Type 0 where
   pub near : Near settings bands reserve b.member b.item b.maximum y (next settings h (meant here)) (next settings h (meant other))
   pub none : mine b.member b.item (history_from settings (next settings h (meant here)) (map meant later)) ≡ mine b.member b.item (next settings h (meant here))
   pub last : AreCovered bands b.maximum (bids_not_by b.member (bids_on (history_from settings (next settings h (meant here)) (map meant later)) b.item))
@@ -281,7 +281,7 @@ pub record Behind {A F : Type 0} (meant : A → Message F) (settings : Settings)
 pub after_bid : {A F : Type 0} (meant : A → Message F) (settings : Settings) (y : ℕ) (b : Sealed) (h : History) (here other : A) (later : List A) → IsBandTable settings.bands → IsHistory settings h
     → meant here ≡ bid_message b → meant other ≡ bid_message (with_maximum y b)
     → (covered : IsCoveredBid settings y b h (history_from settings h (map meant (here ∷ later))))
-    → Behind meant settings (bands_by settings covered.listing) covered.listing.reserve y b h here other later
+    → After meant settings (bands_by settings covered.listing) covered.listing.reserve y b h here other later
 after_bid {F = F} meant settings y b h here other later valid history is raises covered =
     let w = b.member in
     let i = b.item in

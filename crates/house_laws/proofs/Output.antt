@@ -1,4 +1,4 @@
--- What a member is told depends on what is public, on its own view and on what waits for it.
+-- What a member is answered depends on what is public, on its own view and on what waits for it.
 use Rattle.house_rows.proofs.Own.{own_step}
 use Rattle.house_rows.proofs.Ranged.{shown_count}
 use Rattle.house_rows.specs.Runs.{entry}
@@ -19,7 +19,7 @@ use Rattle.house_rows.specs.Bids.{bid_in, bids_on}
 use Rattle.house_rows.specs.Items.{items_shown}
 use Rattle.house_rows.specs.Questions.{published}
 use Rattle.house_rows.specs.Ratings.{feedback}
-use Rattle.house_rows.specs.Told.{told}
+use Rattle.house_rows.specs.CommandResult.{result_of}
 use Rattle.house_rows.specs.Verdict.{verdict}
 use Rattle.house_rows.specs.Views.{Own, OwnMaximum, Public, own_maxima, own_maximum, own_questions, own_view, own_watches, public_view, own_reserves}
 use Rattle.house_laws.specs.Alike.{AreAlike}
@@ -130,20 +130,21 @@ verdict_same settings c h k t (Feedback i rating text) alike =
 verdict_same settings c h k t (SetBands bands) alike =
     rw (clocks settings h k alike.public, members_same settings h k alike.public, tables_same settings h k alike.public) refl
 
--- Output, for what an accepted command is told: by what is public before and after it, and the member's own view after it
-pub told_same : (settings : Settings) (c : ℕ) (h k after later : History) (t : ℕ) (command : Command)
+-- Output, for the result of an accepted command: by what is public before and after it, and the
+-- member's own view after it
+pub report_same : (settings : Settings) (c : ℕ) (h k after later : History) (t : ℕ) (command : Command)
     → public_view settings h ≡ public_view settings k → public_view settings after ≡ public_view settings later → own_view after c ≡ own_view later c
-    → told settings after t c command h ≡ told settings later t c command k
-told_same settings c h k after later t (Register name) p q o = rw (members_same settings after later q) refl
-told_same settings c h k after later t (AddCategory name) p q o = rw (categories_same settings after later q) refl
-told_same settings c h k after later t (Listed category lot title text start buy_now end reserve) p q o = rw (items_same settings after later q) refl
-told_same settings c h k after later t (Bid i maximum) p q o = rw (items_same settings after later q) refl
-told_same settings c h k after later t (Buy i) p q o = rw (items_same settings after later q) refl
-told_same settings c h k after later t Close p q o = rw (items_same settings h k p) refl
-told_same settings c h k after later t (Settle i) p q o = rw (items_same settings after later q) refl
-told_same settings c h k after later t (Watch i) p q o = refl
-told_same settings c h k after later t (Unwatch i) p q o = refl
-told_same settings c h k after later t (Ask i text) p q o = rw (questions_same after later c o) refl
-told_same settings c h k after later t (Answer i asker number text) p q o = refl
-told_same settings c h k after later t (Feedback i rating text) p q o = rw (items_same settings after later q) refl
-told_same settings c h k after later t (SetBands bands) p q o = rw (tables_same settings after later q) refl
+    → result_of settings after t c command h ≡ result_of settings later t c command k
+report_same settings c h k after later t (Register name) p q o = rw (members_same settings after later q) refl
+report_same settings c h k after later t (AddCategory name) p q o = rw (categories_same settings after later q) refl
+report_same settings c h k after later t (Listed category lot title text start buy_now end reserve) p q o = rw (items_same settings after later q) refl
+report_same settings c h k after later t (Bid i maximum) p q o = rw (items_same settings after later q) refl
+report_same settings c h k after later t (Buy i) p q o = rw (items_same settings after later q) refl
+report_same settings c h k after later t Close p q o = rw (items_same settings h k p) refl
+report_same settings c h k after later t (Settle i) p q o = rw (items_same settings after later q) refl
+report_same settings c h k after later t (Watch i) p q o = refl
+report_same settings c h k after later t (Unwatch i) p q o = refl
+report_same settings c h k after later t (Ask i text) p q o = rw (questions_same after later c o) refl
+report_same settings c h k after later t (Answer i asker number text) p q o = refl
+report_same settings c h k after later t (Feedback i rating text) p q o = rw (items_same settings after later q) refl
+report_same settings c h k after later t (SetBands bands) p q o = rw (tables_same settings after later q) refl

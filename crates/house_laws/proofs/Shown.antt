@@ -14,7 +14,7 @@ use Rattle.house_rows.specs.declared.talk.Question.{Question}
 use Rattle.house_rows.specs.History.{History}
 use Rattle.house_rows.specs.Items.{items_shown}
 use Rattle.house_rows.specs.Questions.{Asked, answer_to, answered, answers, asked, names, published, questions}
-use Rattle.house_rows.specs.Pages.{own_bid, own_bids, page_of, reserves_shown, told_reserve}
+use Rattle.house_rows.specs.Pages.{own_bid, own_bids, page_of, reserves_shown, report_reserve}
 use Rattle.house_rows.specs.Views.{own_questions, own_view}
 use Rattle.house_laws.specs.Alike.{AreAlike}
 use Rattle.house_rows.proofs.Put.{by_test}
@@ -160,7 +160,7 @@ own_bids_same h k c its e = ap (filter (λ (b : OwnBid). nat_lt 0 b.mine)) (own_
 
 reserves_shown_same : (h k : History) (c : ℕ) (its : List ItemShown) → own_view h c ≡ own_view k c → reserves_shown h c its ≡ reserves_shown k c its
 unfolding reserves_shown
-reserves_shown_same h k c its e = ap (map (told_reserve its)) (reserves_same h k c e)
+reserves_shown_same h k c its e = ap (map (report_reserve its)) (reserves_same h k c e)
 
 -- Output, for what a member reads
 pub page_same : (settings : Settings) (c : ℕ) (h k : History) (q : Query) → AreAlike settings c h k → page_of settings h c q ≡ page_of settings k c q

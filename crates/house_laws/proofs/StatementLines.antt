@@ -1,4 +1,4 @@
--- Which lines stand on a member's statement.
+-- Which lines are on a member's statement.
 use Rattle.std.proofs.Common.{◌≡◌, ℕ, ◌+◌, ◌<◌, ◌≤◌, length, List, [], ◌∷◌, ◌++◌, filter, map, Bool, true, false, refl, arith, inl, inr, Option, Some, None, ◌∙◌, ap}
 use Rattle.std.specs.Prelude.{◌==◌, ◌&&◌, is_some, nat_le, unwrap_or}
 use Rattle.std.proofs.lemmas.Bool.Decides.{nat_tests}
@@ -31,7 +31,7 @@ insert_other p x [] other = rw other refl
 insert_other p x (y ∷ xs) other =
     elim (by_test (is_before y x)) [
       | inl before ↦ rw before (elim (by_test (p y)) [ inl is ↦ rw is (ap (λ rest. y ∷ rest) (insert_other p x xs other)) | inr not ↦ rw not (insert_other p x xs other) ])
-      | inr behind ↦ rw (behind, other) refl
+      | inr rest_after ↦ rw (rest_after, other) refl
     ]
 
 insert_only : (p : Line → Bool) (x : Line) (xs : List Line) → p x ≡ true → filter p xs ≡ [] → filter p (insert_line x xs) ≡ x ∷ []
@@ -42,7 +42,7 @@ insert_only p x (y ∷ xs) is none =
       | inl there ↦ absurd (let e : y ∷ filter p xs ≡ [] = rw there at none in cc)
       | inr not ↦ elim (by_test (is_before y x)) [
         | inl before ↦ rw (before, not) (insert_only p x xs is (rw not at none))
-        | inr behind ↦ rw (behind, is) (ap (λ rest. x ∷ rest) none)
+        | inr rest_after ↦ rw (rest_after, is) (ap (λ rest. x ∷ rest) none)
       ]
     ]
 
@@ -212,7 +212,7 @@ sold_has_sale settings h l is listed sold = (
 
 -- a member reads its statement of these sales
 pub statement_read : (settings : Settings) (h : History) (c from to : ℕ) → 1 ≤ c → c ≤ length (members h)
-    → page_of settings h c (MyStatement from to) ≡ Statement c from to (sales_of (items_shown settings h) c)
+    → page_of settings h c (MyStatement from to) ≡ Statement c from to settings.rate (sales_of (items_shown settings h) c)
 unfolding page_of
 statement_read settings h c from to least most =
     let one : nat_le 1 c ≡ true = grind (arith, nat_tests) in

@@ -13,7 +13,7 @@ use Rattle.house_rows.specs.Bids.{bids_on}
 use Rattle.house_rows.specs.History.{History}
 use Rattle.house_rows.specs.Items.{items_shown, shown_now}
 use Rattle.house_rows.specs.Listings.{Listing, listings}
-use Rattle.house_rows.specs.Pages.{own_bid, own_bids, page_of, reserves_shown, told_reserve}
+use Rattle.house_rows.specs.Pages.{own_bid, own_bids, page_of, reserves_shown, report_reserve}
 use Rattle.house_rows.specs.People.{categories, members}
 use Rattle.house_rows.specs.Questions.{answers, published, questions, waiting}
 use Rattle.house_rows.specs.Runs.{entry}
@@ -61,9 +61,9 @@ own_reserves_still h t c bands d = rw (append-nil (listings h)) refl
 
 reserves_still : (h : History) (t c : ℕ) (bands : List (ℕ × ℕ)) (d : ℕ) (its : List ItemShown) → reserves_shown (entry t c (SetBands bands) ∷ h) d its ≡ reserves_shown h d its
 unfolding reserves_shown
-reserves_still h t c bands d its = ap (map (told_reserve its)) (own_reserves_still h t c bands d)
+reserves_still h t c bands d its = ap (map (report_reserve its)) (own_reserves_still h t c bands d)
 
--- nor does it change any page that tells neither the clock nor a band table
+-- nor does it change any page that shows neither the clock nor a band table
 pub pages_still : (settings : Settings) (h : History) (t c : ℕ) (bands : List (ℕ × ℕ)) (d : ℕ) (q : Query) → tells_clock_or_bands q ≡ false
     → page_of settings (entry t c (SetBands bands) ∷ h) d q ≡ page_of settings h d q
 unfolding page_of

@@ -26,25 +26,25 @@ use Rattle.house_laws.specs.Watching.{MayCommand, is_watched}
 common_none : (h : History) (moment caller : ℕ) (rest : List Rule) → MayCommand h moment caller
     → first_failing (common_rules (clock h) (length (members h)) moment caller false ++ rest) ≡ first_failing rest
 common_none h moment caller rest may =
-    let a = may.moment_fits in let b = may.not_house in let c = may.registered in let d = may.not_behind in
+    let a = may.moment_fits in let b = may.not_house in let c = may.registered in let d = may.not_after in
     let one : nat_lt last_moment moment ≡ false = grind (arith, nat_tests) in
     let two : nat_lt (length (members h)) caller ≡ false = grind (arith, nat_tests) in
     let three : (caller == 0) ≡ false = grind (arith, nat_tests) in
     let four : nat_lt moment (clock h) ≡ false = grind (arith, nat_tests) in
     rw (one, two, three, four) refl
 
--- what a watch is told, by how many others are watched
-abbrev told_by : ℕ → List WatchRow → Option Refusal
-told_by i ws = if nat_le most_watches (counted (λ w. not (w.item == i)) ws) then Some Limit else None
+-- the refusal of a watch, if any, by how many others are watched
+abbrev report_by : ℕ → List WatchRow → Option Refusal
+report_by i ws = if nat_le most_watches (counted (λ w. not (w.item == i)) ws) then Some Limit else None
 
-watch_told : (settings : Settings) (h : History) (moment caller i : ℕ) (l : Listing) → MayCommand h moment caller → listing_at (listings h) i ≡ Some l
-    → verdict settings h moment caller (Watch i) ≡ told_by i (own_watches h caller)
+watch_reported : (settings : Settings) (h : History) (moment caller i : ℕ) (l : Listing) → MayCommand h moment caller → listing_at (listings h) i ≡ Some l
+    → verdict settings h moment caller (Watch i) ≡ report_by i (own_watches h caller)
 unfolding verdict
-watch_told settings h moment caller i l may listed =
+watch_reported settings h moment caller i l may listed =
     let same : l.item ≡ i = listing_is h i l listed in
-    let told : told_by l.item (own_watches h caller) ≡ told_by i (own_watches h caller) = ap (λ (n : ℕ). told_by n (own_watches h caller)) same in
+    let report : report_by l.item (own_watches h caller) ≡ report_by i (own_watches h caller) = ap (λ (n : ℕ). report_by n (own_watches h caller)) same in
     common_none h moment caller (of_item (shown_at (items_shown settings h) i) (by_terms (watch_rules (own_watches h caller)))) may
-    ∙ rw (shown_is settings h i, listed) told
+    ∙ rw (shown_is settings h i, listed) report
 
 others_all : (i : ℕ) (ws : List WatchRow) → list_any (λ w. w.item == i) ws ≡ false → counted (λ w. not (w.item == i)) ws ≡ length ws
 others_all i [] none = refl
@@ -70,17 +70,17 @@ pub watched_full : (settings : Settings) (h : History) (moment caller i : ℕ) (
     → length (own_watches h caller) ≡ 200 → is_watched h caller i ≡ false → verdict settings h moment caller (Watch i) ≡ Some Limit
 watched_full settings h moment caller i l may listed full other =
     let count : counted (λ w. not (w.item == i)) (own_watches h caller) ≡ 200 = others_all i (own_watches h caller) other ∙ full in
-    watch_told settings h moment caller i l may listed ∙ rw count refl
+    watch_reported settings h moment caller i l may listed ∙ rw count refl
 
-told_room : (n : ℕ) → n < 200 → (if nat_le most_watches n then Some Limit else None) ≡ None
-told_room n lt = let not : nat_le most_watches n ≡ false = grind (arith, nat_tests) in rw not refl
+report_room : (n : ℕ) → n < 200 → (if nat_le most_watches n then Some Limit else None) ≡ None
+report_room n lt = let not : nat_le most_watches n ≡ false = grind (arith, nat_tests) in rw not refl
 
 -- with fewer watches any item may be watched
 pub watched_room : (settings : Settings) (h : History) (moment caller i : ℕ) (l : Listing) → MayCommand h moment caller → listing_at (listings h) i ≡ Some l
     → length (own_watches h caller) < 200 → verdict settings h moment caller (Watch i) ≡ None
 watched_room settings h moment caller i l may listed room =
     let most = others_most i (own_watches h caller) in
-    watch_told settings h moment caller i l may listed ∙ told_room (counted (λ w. not (w.item == i)) (own_watches h caller)) (omega arith)
+    watch_reported settings h moment caller i l may listed ∙ report_room (counted (λ w. not (w.item == i)) (own_watches h caller)) (omega arith)
 
 -- what is watched may be watched again
 pub watched_again : (settings : Settings) (h : History) (moment caller i : ℕ) (l : Listing) → IsHistory settings h → MayCommand h moment caller
@@ -88,4 +88,4 @@ pub watched_again : (settings : Settings) (h : History) (moment caller i : ℕ) 
 watched_again settings h moment caller i l is may listed watched =
     let few = few_watches settings h caller is in
     let fewer = others_fewer i (own_watches h caller) watched in
-    watch_told settings h moment caller i l may listed ∙ told_room (counted (λ w. not (w.item == i)) (own_watches h caller)) (omega arith)
+    watch_reported settings h moment caller i l may listed ∙ report_room (counted (λ w. not (w.item == i)) (own_watches h caller)) (omega arith)

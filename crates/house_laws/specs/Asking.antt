@@ -1,4 +1,4 @@
--- A question that is asked, and who is told of it.
+-- A question that is asked, and who sees it.
 use Rattle.std.specs.Prelude.{◌≡◌, ℕ, ◌+◌, List, Bool, false, ◌==◌, is_some}
 use Rattle.house_rows.specs.History.{History}
 use Rattle.house_rows.specs.Listings.{is_seller, listing_at, listings}

@@ -64,9 +64,10 @@ pub record LeadsBy (settings : Settings) (h : History) (i w x : ℕ) : Type 0 wh
   pub by : top (bids_on h i) ≡ x
   pub covers : Covers (bands_by settings listing) listing.reserve (second (bids_on h i)) x
 
--- the element in that place of a run means a bid that isn't the member's, an amount above it fits, and the run in which that amount
--- stands in its place is a twin for the member; and in the end the bidder leads by its maximum in the one and by that amount in the
--- other, and both cover what leading takes
+-- the element in that place of a run means a bid that isn't the member's, an amount above it fits,
+-- and the run in which that amount is in its place is a twin for the member; and in the end the
+-- bidder leads by its maximum in the one and by that amount in the other, and both cover what
+-- leading takes
 pub record IsLedByBoth {A F : Type 0} (meant : A → Message F) (settings : Settings) (c place y : ℕ) (b : Sealed) (xs : List A)
     (other : A) : Type 0 where
   pub before : List A

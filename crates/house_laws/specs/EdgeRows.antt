@@ -12,7 +12,7 @@ use Rattle.house_rows.specs.History.{History}
 use Rattle.house_rows.specs.declared.page.Page.TheVariants.{Feedbacks, OneItem}
 use Rattle.house_rows.specs.Pages.{page_of}
 use Rattle.house_rows.specs.Runs.{entry}
-use Rattle.house_rows.specs.declared.told.Told.TheVariants.{Closed, Placed, Rated}
+use Rattle.house_rows.specs.declared.command_result.CommandResult.TheVariants.{Closed, Placed, Rated}
 use Rattle.house_rows.specs.Verdict.{listing_rules, verdict}
 use Rattle.house_laws.specs.Examples.{and_bid, five_bids, lists, settings, setup, three_bids, with_buy_now}
 use Rattle.house_laws.specs.WorkedRows.{Tells}
@@ -40,8 +40,8 @@ RaiseLiftsACappedPrice =
 
 -- what a listing is refused by, where the rest of its rules fail too
 abbrev pub ListingIs : Bool → Bool → Bool → ℕ → Option Refusal → Type 0
-ListingIs has_lot fits has_category items told =
-    first_failing (listing_rules (codes "A1") has_lot fits has_category items) ≡ told
+ListingIs has_lot fits has_category items report =
+    first_failing (listing_rules (codes "A1") has_lot fits has_category items) ≡ report
 
 abbrev pub ListingRulesComeInOrder : Type 0
 ListingRulesComeInOrder =

@@ -4,7 +4,7 @@ use Rattle.house_rows.specs.declared.command.Command.TheVariants.{Bid, SetBands}
 use Rattle.house_rows.specs.declared.page.Page.TheVariants.{Bands, Refused}
 use Rattle.house_rows.specs.declared.query.Query.TheVariants as query
 use Rattle.house_rows.specs.declared.refusal.Refusal.TheVariants.{HouseOnly, MomentBehind, Range, Unknown}
-use Rattle.house_rows.specs.declared.told.Told.TheVariants.{Edition, Placed}
+use Rattle.house_rows.specs.declared.command_result.CommandResult.TheVariants.{Edition, Placed}
 use Rattle.house_rows.specs.History.{History, clock}
 use Rattle.house_rows.specs.Listings.{Listing, bands_by, edition_by, listing_at, listings}
 use Rattle.house_rows.specs.Pages.{page_of}

@@ -14,8 +14,8 @@ pub record InFlight (A : Type 0) : Type 0 where
   pub is_in : Bool
 
 -- a life: what was answered, in order, and what was in flight in the end, if anything was. As in
--- runs each element means a message. Answered is what got the reply of the definitions, and was
--- not told that memory or the store failed
+-- runs each element means a message. Answered is what got the reply of the definitions, and no
+-- report that memory or the store failed
 pub record Life (A : Type 0) : Type 0 where
   pub answered : List A
   pub in_flight : Option (InFlight A)

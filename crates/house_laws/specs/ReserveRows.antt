@@ -10,7 +10,7 @@ use Rattle.house_rows.specs.declared.query.Query.TheVariants as query
 use Rattle.house_rows.specs.declared.refusal.Refusal.TheVariants.{NoCaller, Range}
 use Rattle.house_rows.specs.declared.state.State.{State}
 use Rattle.house_rows.specs.declared.state.State.TheVariants.{Open, Unsold}
-use Rattle.house_rows.specs.declared.told.Told.TheVariants.{Closed, Placed}
+use Rattle.house_rows.specs.declared.command_result.CommandResult.TheVariants.{Closed, Placed}
 use Rattle.house_rows.specs.History.{History}
 use Rattle.house_rows.specs.Items.{items_shown, shown_at}
 use Rattle.house_rows.specs.Pages.{page_of}
@@ -37,17 +37,17 @@ abbrev pub bids_under : History
 bids_under = entry 1002 3 (Bid 2 750) ∷ bid_under
 
 -- what everybody sees of item 2: its state, its leader, its price, and whether its reserve is met
-abbrev pub item_told : ItemShown → State × Option ℕ × ℕ × Option Bool
-item_told it = (it.item.terms.state, it.item.terms.leader, it.item.terms.price, it.item.terms.met)
+abbrev pub item_reported : ItemShown → State × Option ℕ × ℕ × Option Bool
+item_reported it = (it.item.terms.state, it.item.terms.leader, it.item.terms.price, it.item.terms.met)
 
 abbrev pub Shows : History → State × Option ℕ × ℕ × Option Bool → Type 0
-Shows h told = option_map item_told (shown_at (items_shown settings h) 2) ≡ Some told
+Shows h report = option_map item_reported (shown_at (items_shown settings h) 2) ≡ Some report
 
 -- an item with no bid shows its start, and that its reserve isn't met; one without a reserve shows nothing of it
 abbrev pub UnbidReserveIsUnmet : Type 0
 UnbidReserveIsUnmet =
     Shows reserved (Open, None, 500, Some false)
-    × (option_map item_told (shown_at (items_shown settings reserved) 1) ≡ Some (Open, None, 500, None))
+    × (option_map item_reported (shown_at (items_shown settings reserved) 1) ≡ Some (Open, None, 500, None))
 
 -- bids under the reserve come to the price that they come to without one
 abbrev pub UnmetReserveLeavesThePrice : Type 0
@@ -96,11 +96,11 @@ abbrev pub run_reserved : {F : Type 0} → ℕ → List (Message F)
 run_reserved reserve = setup_messages ++
     (Order 1000 1 (lists_reserved reserve) ∷ Order 1001 2 (Bid 2 700) ∷ Read 2 (query.Item 2) ∷ [])
 
--- Ben can't tell whether the reserve is 9.00 or 20.00
+-- Ben can't know whether the reserve is 9.00 or 20.00
 abbrev pub SealedReservesMakeTwins : Type 0 → Type 0
 SealedReservesMakeTwins F = Twin {F = F} settings 2 (run_reserved 900) (run_reserved 2000)
 
--- but it can tell 6.00, which its bid meets
+-- but it can distinguish 6.00, which its bid meets
 abbrev pub MetReserveMakesNoTwin : Type 0 → Type 0
 MetReserveMakesNoTwin F = Twin {F = F} settings 2 (run_reserved 900) (run_reserved 600) → ⊥
 

@@ -1,4 +1,4 @@
--- What stands on a member's statement about one item.
+-- What is on a member's statement about one item.
 use Rattle.std.specs.Prelude.{◌≡◌, ℕ, List, ◌==◌, true, filter, Some}
 use Rattle.settle.specs.Statement.{statement_of}
 use Rattle.settle.specs.declared.line.Line.{Line}

@@ -9,7 +9,7 @@ use Rattle.house_rows.specs.declared.query.Query.TheVariants as query
 use Rattle.house_rows.specs.declared.reply.Reply.{Reply}
 use Rattle.house_rows.specs.declared.reply.Reply.TheVariants.{Done, Shows}
 use Rattle.house_rows.specs.declared.state.State.TheVariants.{Open}
-use Rattle.house_rows.specs.declared.told.Told.TheVariants.{Placed}
+use Rattle.house_rows.specs.declared.command_result.CommandResult.TheVariants.{Placed}
 use Rattle.house_laws.specs.Examples.{settings, setup}
 use Rattle.house_laws.specs.Lives.{AreTwinLives, Life, LivesLookAlike, replies_in_lives}
 
@@ -30,9 +30,9 @@ abbrev pub AreTwinsForBen : {F : Type 0} → List (Life (Message F)) → List (L
     → Type 0
 AreTwinsForBen left right = AreTwinLives (λ m. m) settings 2 setup setup left right
 
--- what Ben is told in them
-abbrev pub told_to_ben : {F : Type 0} → List (Life (Message F)) → List (List (Reply F))
-told_to_ben lives = replies_in_lives settings 2 setup lives
+-- the replies to Ben in them
+abbrev pub replies_to_ben : {F : Type 0} → List (Life (Message F)) → List (List (Reply F))
+replies_to_ben lives = replies_in_lives settings 2 setup lives
 
 -- Ana's item while it is open, at a price, with a leader, so many bids and a floor
 abbrev pub atlas_at : ℕ → Option ℕ → ℕ → ℕ → ItemShown
@@ -67,15 +67,15 @@ others_watch amount is_in = two_lives
     (Order 1001 2 (Bid 1 1000) ∷ Order 1002 3 (Bid 1 amount) ∷ [])
     (Order 1003 3 (Watch 1)) is_in (Read 2 (query.Item 1))
 
--- Ben can't tell whether Cid bid 30.00 or 80.00, nor whether the crash kept Cid's watch
+-- Ben can't know whether Cid bid 30.00 or 80.00, nor whether the crash kept Cid's watch
 abbrev pub SealedLivesAreTwins : Type 0 → Type 0
 SealedLivesAreTwins F =
     (others_watch {F = F} 3000 true ≢ others_watch 8000 false)
     × AreTwinsForBen {F = F} (others_watch 3000 true) (others_watch 8000 false)
 
--- what Ben is told in both: its bid leads at 5.00, and in the second life Cid leads at 10.50
+-- the replies to Ben in both: its bid leads at 5.00, and in the second life Cid leads at 10.50
 abbrev pub TwinLivesGetTheseReplies : Type 0 → Type 0
-TwinLivesGetTheseReplies F = told_to_ben {F = F} (others_watch 8000 false) ≡
+TwinLivesGetTheseReplies F = replies_to_ben {F = F} (others_watch 8000 false) ≡
     (Done (Placed 1 550 (Some 2) 500) ∷ [])
     ∷ (Shows (OneItem (atlas_at 1050 (Some 3) 2 1100)) ∷ []) ∷ []
 
@@ -84,19 +84,19 @@ abbrev pub own_watch : {F : Type 0} → Bool → List (Life (Message F))
 own_watch is_in = two_lives [] (Order 1001 2 (Watch 1)) is_in (Read 2 query.MyWatches)
 
 -- nobody else can see whether the crash kept the watch. So lives in which it did and didn't look
--- alike, and yet Ben is told another thing: that the choice on its own message is the same has to
--- be asked
-abbrev pub OwnChoiceIsTold : Type 0 → Type 0
-OwnChoiceIsTold F =
+-- alike, and yet Ben gets other replies: that the choice on its own message is the same has to be
+-- asked
+abbrev pub OwnChoiceIsAnswered : Type 0 → Type 0
+OwnChoiceIsAnswered F =
     LookAlikeToBen {F = F} (own_watch true) (own_watch false)
-    × (told_to_ben {F = F} (own_watch true)
+    × (replies_to_ben {F = F} (own_watch true)
     ≡ [] ∷ (Shows (Items (atlas_at 500 None 0 500 ∷ [])) ∷ []) ∷ [])
-    × (told_to_ben {F = F} (own_watch false) ≡ [] ∷ (Shows (Items []) ∷ []) ∷ [])
+    × (replies_to_ben {F = F} (own_watch false) ≡ [] ∷ (Shows (Items []) ∷ []) ∷ [])
 
 abbrev pub OwnChoiceMakesNoTwin : Type 0 → Type 0
 OwnChoiceMakesNoTwin F = AreTwinsForBen {F = F} (own_watch true) (own_watch false) → ⊥
 
--- Cid's bid is in flight: whether the crash kept it, the count of bids tells everybody
+-- Cid's bid is in flight: whether the crash kept it, the count of bids shows to everybody
 abbrev pub others_bid : {F : Type 0} → Bool → List (Life (Message F))
 others_bid is_in = two_lives [] (Order 1001 3 (Bid 1 1000)) is_in (Read 2 (query.Item 1))
 

@@ -8,7 +8,7 @@ use Rattle.house_rows.specs.declared.reply.Reply.TheVariants.{Done, Shows}
 use Rattle.house_rows.specs.declared.message.Message.{Message}
 use Rattle.house_rows.specs.declared.message.Message.TheVariants.{Order, Read}
 use Rattle.house_rows.specs.Runs.{Twin, replies_to}
-use Rattle.house_rows.specs.declared.told.Told.TheVariants.{Placed}
+use Rattle.house_rows.specs.declared.command_result.CommandResult.TheVariants.{Placed}
 use Rattle.house_laws.specs.Examples.{and_bid, lists, settings, setup}
 use Rattle.house_laws.specs.WorkedRows.{Tells}
 
@@ -26,13 +26,13 @@ abbrev pub run_with : {F : Type 0} → ℕ → List (Message F)
 run_with amount = setup_messages ++
     (Order 1001 2 (Bid 1 1000) ∷ Order 1002 3 (Bid 1 amount) ∷ Read 2 (query.Item 1) ∷ [])
 
--- Ben can't tell whether Cid bid 30.00 or 80.00: the price is 10.50 in both runs
+-- Ben can't know whether Cid bid 30.00 or 80.00: the price is 10.50 in both runs
 abbrev pub SealedMaximaMakeTwins : Type 0 → Type 0
 SealedMaximaMakeTwins F =
     (run_with {F = F} 3000 ≢ run_with 8000)
     × Twin {F = F} settings 2 (run_with 3000) (run_with 8000)
 
--- what Ben is told in both: its bid leads at 5.00, and later Cid leads at 10.50
+-- the replies to Ben in both: its bid leads at 5.00, and later Cid leads at 10.50
 abbrev pub TwinsGetTheseReplies : Type 0 → Type 0
 TwinsGetTheseReplies F = replies_to {F = F} settings 2 (run_with 8000) ≡
     Done (Placed 1 550 (Some 2) 500)
@@ -66,7 +66,7 @@ LowMaximumCapsThePrice =
     Tells (and_bid 1001 2 1000 setup) 1002 3 (Bid 1 3000) (Placed 2 1100 (Some 3) 1050)
     × Tells (and_bid 1001 2 1000 setup) 1002 3 (Bid 1 1040) (Placed 2 1090 (Some 3) 1040)
 
--- so Ben can tell 10.40 from 30.00: everybody sees the price
+-- so Ben can distinguish 10.40 from 30.00: everybody sees the price
 abbrev pub CappedPriceMakesNoTwin : Type 0 → Type 0
 CappedPriceMakesNoTwin F = Twin {F = F} settings 2 (run_with 3000) (run_with 1040) → ⊥
 

@@ -11,7 +11,7 @@ pub record MayCommand (h : History) (moment caller : ℕ) : Type 0 where
   pub moment_fits : moment ≤ last_moment
   pub not_house : 1 ≤ caller
   pub registered : caller ≤ length (members h)
-  pub not_behind : clock h ≤ moment
+  pub not_after : clock h ≤ moment
 
 -- whether a member watches an item
 abbrev pub is_watched : History → ℕ → ℕ → Bool

@@ -7,19 +7,19 @@ use Rattle.house_rows.specs.declared.query.Query.TheVariants as query
 use Rattle.house_rows.specs.declared.rating.Rating.TheVariants.{Plus}
 use Rattle.house_rows.specs.declared.refusal.Refusal.TheVariants.{NoCaller, HouseOnly, SellerOnly, Unknown, MomentBehind, Ended, NotOpen, OwnItem, Low, NotHigher, HasBids, NoBuyNow, LotExists, NameTaken, AlreadyAnswered, AlreadyGiven, NotParty, NotSold, Range}
 use Rattle.house_rows.specs.declared.state.State.TheVariants.{Open}
-use Rattle.house_rows.specs.declared.told.Told.{Told}
-use Rattle.house_rows.specs.declared.told.Told.TheVariants.{Bought, Closed, Placed, Question, Rated, Settlement}
+use Rattle.house_rows.specs.declared.command_result.CommandResult.{CommandResult}
+use Rattle.house_rows.specs.declared.command_result.CommandResult.TheVariants.{Bought, Closed, Placed, Question, Rated, Settlement}
 use Rattle.house_rows.specs.History.{History}
 use Rattle.house_rows.specs.Pages.{page_of}
 use Rattle.house_rows.specs.Runs.{entry}
-use Rattle.house_rows.specs.Told.{told}
+use Rattle.house_rows.specs.CommandResult.{result_of}
 use Rattle.house_rows.specs.Verdict.{verdict}
 use Rattle.house_laws.specs.Examples.{and_bid, answered_once, asked_twice, five_bids, lists, one_bid, rated_once, settings, settled_once, setup, sold_once, three_bids, two_bids, with_buy_now}
 
--- the command is accepted, and told this
-abbrev pub Tells : History → ℕ → ℕ → Command → Told → Type 0
+-- the command is accepted, and this is its result
+abbrev pub Tells : History → ℕ → ℕ → Command → CommandResult → Type 0
 Tells h moment caller command t =
-    (verdict settings h moment caller command ≡ None) × (told settings (entry moment caller command ∷ h) moment caller command h ≡ t)
+    (verdict settings h moment caller command ≡ None) × (result_of settings (entry moment caller command ∷ h) moment caller command h ≡ t)
 
 abbrev pub Accepts : History → ℕ → ℕ → Command → Type 0
 Accepts h moment caller command = verdict settings h moment caller command ≡ None

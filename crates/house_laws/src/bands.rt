@@ -17,7 +17,7 @@ ghost use Rattle.house_laws.specs.EditionRows.{EachItemKeepsItsTable, NewTableIs
 ghost use Rattle.house_laws.specs.Reads.{tells_clock_or_bands};
 
 /// A band table that is set changes nothing that anybody sees of any item: price, floor, leader, state
-/// and edition of each stay. Nor does it change any page but those that tell the clock or a table.
+/// and edition of each stay. Nor does it change any page but those that show the clock or a table.
 #[tactic(auto, using(crate::proofs::Still::items_still, crate::proofs::Still::pages_still))]
 pub fn new_tables_leave_items()
     ensures items { (settings : Settings) (h : History) (moment caller : ℕ) (bands : List (ℕ × ℕ))

@@ -16,7 +16,7 @@ ghost use Rattle.house_laws.specs.Asking.{IsOutsider, is_answered, new_question}
 /// A question is seen by its asker and the seller alone until it is answered. Its asker has it among
 /// its own, and it waits for the seller. To every other member the house looks as if nothing had
 /// been asked. Whatever follows, as long as the question has no answer, it looks as if another text
-/// had been asked. By `replies_depend_on_views` no read and no verdict tells such a member more.
+/// had been asked. By `replies_depend_on_views` no read and no verdict shows such a member more.
 pub fn questions_are_private_until_answered()
     ensures asker { (moment asker item : ℕ) (text : List ℕ) (h : History) (later : List Entry)
         → Contains (own_questions (later ++ entry moment asker (Ask item text) ∷ h) asker)

@@ -13,7 +13,7 @@ ghost use Rattle.house_rows.specs.Listings.{is_seller, listing_at, listings};
 ghost use Rattle.house_rows.specs.Pages.{page_of};
 ghost use Rattle.house_rows.specs.Questions.{waiting};
 ghost use Rattle.house_rows.specs.Runs.{AreTwins, AreTwinsFrom, Twin, entry, history_from, rendered_from, rendered_to, replies_to};
-ghost use Rattle.house_rows.specs.Told.{told};
+ghost use Rattle.house_rows.specs.CommandResult.{result_of};
 ghost use Rattle.house_rows.specs.Verdict.{IsHistory, verdict};
 ghost use Rattle.house_rows.specs.Views.{own_view, public_view};
 
@@ -98,16 +98,16 @@ pub fn commands_step_equally()
 {}
 
 /// Output: the verdict on a member's command and what each of its reads shows depend on the public
-/// view, its own view and what waits for it; what an accepted command is told depends on these, and on
-/// the public view after it.
-#[tactic(auto, using(crate::proofs::Output::verdict_same, crate::proofs::Alike::told_after, crate::proofs::Shown::page_same))]
+/// view, its own view and what waits for it; the result of an accepted command depends on these,
+/// and on the public view after it.
+#[tactic(auto, using(crate::proofs::Output::verdict_same, crate::proofs::Alike::report_after, crate::proofs::Shown::page_same))]
 pub fn replies_depend_on_views()
     ensures verdict { (settings : Settings) (c : ℕ) (h k : History) (moment : ℕ) (command : Command)
         → AreAlike settings c h k → verdict settings h moment c command ≡ verdict settings k moment c command }
     ensures page { (settings : Settings) (c : ℕ) (h k : History) (query : Query)
         → AreAlike settings c h k → page_of settings h c query ≡ page_of settings k c query }
-    ensures told { (settings : Settings) (c : ℕ) (h k : History) (moment : ℕ) (command : Command)
+    ensures report { (settings : Settings) (c : ℕ) (h k : History) (moment : ℕ) (command : Command)
         → AreAlike settings c h k
         → public_view settings (entry moment c command ∷ h) ≡ public_view settings (entry moment c command ∷ k)
-        → told settings (entry moment c command ∷ h) moment c command h ≡ told settings (entry moment c command ∷ k) moment c command k }
+        → result_of settings (entry moment c command ∷ h) moment c command h ≡ result_of settings (entry moment c command ∷ k) moment c command k }
 {}

@@ -1,4 +1,4 @@
-//! What stands on members' statements.
+//! What is on members' statements.
 ghost use Rattle.std.specs.Prelude.{◌≡◌, ◌≤◌, ◌∷◌, ◌&&◌, ℕ, [], length, true, false, Some, None};
 ghost use Rattle.settle.specs.Statement.{is_party, is_within, line_of};
 ghost use Rattle.settle.specs.declared.sale.Sold.{Sold};
@@ -38,5 +38,5 @@ pub fn statements_have_each_sale_once()
     ensures read { (settings : Settings) (h : History) (member from to : ℕ)
         → 1 ≤ member → member ≤ length (members h)
         → page_of settings h member (MyStatement from to)
-        ≡ Statement member from to (sales_of (items_shown settings h) member) }
+        ≡ Statement member from to settings.rate (sales_of (items_shown settings h) member) }
 {}

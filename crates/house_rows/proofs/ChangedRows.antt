@@ -119,12 +119,12 @@ open_unsold Settled is sold = cc
 
 bidders_may_lead : (bands : List (ℕ × ℕ)) (row : ItemRow) (bids : List bid.Bid) → ItemRowFits bands row → is_open row.item.terms.state ≡ true → row.standing ≡ standing_of bands (row_opening row) bids
     → IfSome (leader bids) (λ m. IsMember m × (m ≢ row.item.terms.seller))
-bidders_may_lead bands row bids fits is stands = by_told fits.told where
-  by_told : IsByBids row ⊎ IsBought row → IfSome (leader bids) (λ m. IsMember m × (m ≢ row.item.terms.seller))
-  by_told (inl by) =
-      let e : row.item.terms.leader ≡ leader bids = by.leader ∙ ap (λ (k : Kept). k.leader) stands in
+bidders_may_lead bands row bids fits is is_consistent = by_reported fits.report where
+  by_reported : IsByBids row ⊎ IsBought row → IfSome (leader bids) (λ m. IsMember m × (m ≢ row.item.terms.seller))
+  by_reported (inl by) =
+      let e : row.item.terms.leader ≡ leader bids = by.leader ∙ ap (λ (k : Kept). k.leader) is_consistent in
       subst (λ (o : Option ℕ). IfSome o (λ m. IsMember m × (m ≢ row.item.terms.seller))) e (may_lead row.item.terms.leader row.item.terms.seller fits.item.terms.leader fits.item.terms.apart)
-  by_told (inr bought) = absurd (open_unsold row.item.terms.state is bought.sold)
+  by_reported (inr bought) = absurd (open_unsold row.item.terms.state is bought.sold)
 
 greatest_most : (bids : List bid.Bid) → IfSome (greatest_if_any (maxima bids)) (λ amount. amount ≤ most_cents) → greatest_of (maxima bids) ≤ most_cents
 greatest_most [] within = omega arith
@@ -140,21 +140,21 @@ not_full raises low full f none = grind (arith, nat_tests, none)
 pub room_for : (bands : List (ℕ × ℕ)) (opening : Opening) (bids : List bid.Bid) (m x : ℕ) → refusal bands opening bids m x ≡ None → length bids < most_bids
 room_for bands opening bids m x none = let room = not_full _ _ (nat_le 10000 (length bids)) _ none in grind (arith, nat_tests, room)
 
--- the row of an item that stands as its bids do
+-- the row of an item whose standing is that of its bids
 abbrev with_bids : Kept → ItemRow → ItemRow
 with_bids kept row = record (with_terms (record row.item.terms { price = kept.price; leader = kept.leader; count = kept.count; met = kept_met kept }) row) { standing = kept }
 
 bid_row_fits : (bands : List (ℕ × ℕ)) (row : ItemRow) (bids : List bid.Bid) (m x : ℕ) → ItemRowFits bands row → is_open row.item.terms.state ≡ true → row.standing ≡ standing_of bands (row_opening row) bids
     → IsMember m → m ≢ row.item.terms.seller → x ≤ most_cents → AreAccepted bands (row_opening row) (one_more bids m x)
     → ItemRowFits bands (with_bids (standing_of bands (row_opening row) (one_more bids m x)) row)
-bid_row_fits bands row bids m x fits is stands member apart within accepted =
+bid_row_fits bands row bids m x fits is is_consistent member apart within accepted =
     let b : bid.Bid = record { member = m; maximum = x; no = length bids + 1 } in
     let more : List bid.Bid = one_more bids m x in
     let old : TermsFit row.item.terms = fits.item.terms in
     let room : length bids < most_bids = room_for bands (row_opening row) bids m x (accepted bids b [] refl).accepted in
     let few : length more ≤ most_bids = simp length-append (omega arith) in
-    let may : IfSome (leader more) (λ n. IsMember n × (n ≢ row.item.terms.seller)) = leader_more (λ n. IsMember n × (n ≢ row.item.terms.seller)) bids b (bidders_may_lead bands row bids fits is stands) (member, apart) in
-    let tops : IfSome (greatest_if_any (maxima bids)) (λ amount. amount ≤ most_cents) = subst (λ (k : Kept). IfSome k.top (λ amount. amount ≤ most_cents)) stands fits.top in
+    let may : IfSome (leader more) (λ n. IsMember n × (n ≢ row.item.terms.seller)) = leader_more (λ n. IsMember n × (n ≢ row.item.terms.seller)) bids b (bidders_may_lead bands row bids fits is is_consistent) (member, apart) in
+    let tops : IfSome (greatest_if_any (maxima bids)) (λ amount. amount ≤ most_cents) = subst (λ (k : Kept). IfSome k.top (λ amount. amount ≤ most_cents)) is_consistent fits.top in
     let top' : IfSome (greatest_if_any (maxima more)) (λ amount. amount ≤ most_cents) = top_more bids b (greatest_most bids tops) within in
     record {
       item = record {
@@ -180,11 +180,11 @@ bid_row_fits bands row bids m x fits is stands member apart within accepted =
       bids = more;
       accepted = accepted;
       few = few;
-      stands = refl;
+      is_consistent = refl;
       top = top';
       reserve = fits.reserve;
       count = refl;
-      told = inl (record { price = refl; leader = refl; met = refl });
+      report = inl (record { price = refl; leader = refl; met = refl });
     }
 
 standing_here : (i : ℕ) (kept : Kept) (row : ItemRow) → is_item i row ≡ true → with_standing i kept row ≡ with_bids kept row
@@ -197,10 +197,10 @@ standing_other i kept row other = rw other refl
 pub standing_fits : (bands : List (ℕ × ℕ)) (i : ℕ) (kept : Kept) (row : ItemRow) (bids : List bid.Bid) (m x : ℕ) → is_item i row ≡ true → ItemRowFits bands row → row.item.terms.state ≡ Open
     → row.standing ≡ standing_of bands (row_opening row) bids → IsMember m → m ≢ row.item.terms.seller → x ≤ most_cents → AreAccepted bands (row_opening row) (one_more bids m x)
     → kept ≡ standing_of bands (row_opening row) (one_more bids m x) → ItemRowFits bands (with_standing i kept row)
-standing_fits bands i kept row bids m x is fits state stands member apart within accepted after =
+standing_fits bands i kept row bids m x is fits state is_consistent member apart within accepted after =
     subst (λ (r : ItemRow). ItemRowFits bands r) (sym (standing_here i kept row is))
     (subst (λ (k : Kept). ItemRowFits bands (with_bids k row)) (sym after)
-    (bid_row_fits bands row bids m x fits (rw state refl) stands member apart within accepted))
+    (bid_row_fits bands row bids m x fits (rw state refl) is_consistent member apart within accepted))
 
 -- the row of an item that was bought at once
 abbrev bought_row : ℕ → ℕ → ℕ → ItemRow → ItemRow
@@ -231,7 +231,7 @@ bought_fits : (bands : List (ℕ × ℕ)) (buyer price moment : ℕ) (row : Item
 bought_fits bands buyer price moment row fits member apart moment_fits no_bid at_price =
     let old : TermsFit row.item.terms = fits.item.terms in
     let within : IsWithin row.item.terms.start most_cents price = subst (λ (o : Option ℕ). IfSome o (λ amount. IsWithin row.item.terms.start most_cents amount)) at_price old.buy_now in
-    let count : row.standing.count ≡ length fits.bids = ap (λ (k : Kept). k.count) fits.stands in
+    let count : row.standing.count ≡ length fits.bids = ap (λ (k : Kept). k.count) fits.is_consistent in
     record {
       item = record {
         terms = record {
@@ -256,11 +256,11 @@ bought_fits bands buyer price moment row fits member apart moment_fits no_bid at
       bids = fits.bids;
       accepted = fits.accepted;
       few = fits.few;
-      stands = fits.stands;
+      is_consistent = fits.is_consistent;
       top = fits.top;
       reserve = fits.reserve;
       count = fits.count;
-      told = inr (record { sold = refl; no_bid = count ∙ sym fits.count ∙ no_bid; price = at_price; met = met_now row fits.told });
+      report = inr (record { sold = refl; no_bid = count ∙ sym fits.count ∙ no_bid; price = at_price; met = met_now row fits.report });
     }
 
 -- after a purchase the row of its item fits
@@ -316,15 +316,15 @@ closed_fits bands row is fits =
       bids = fits.bids;
       accepted = fits.accepted;
       few = fits.few;
-      stands = fits.stands;
+      is_consistent = fits.is_consistent;
       top = fits.top;
       reserve = fits.reserve;
       count = fits.count;
-      told = by_told fits.told;
+      report = by_reported fits.report;
     } where
-      by_told : IsByBids row ⊎ IsBought row → IsByBids (closed_row row) ⊎ IsBought (closed_row row)
-      by_told (inl by) = inl (record { price = by.price; leader = by.leader; met = by.met })
-      by_told (inr bought) = absurd (open_unsold row.item.terms.state is bought.sold)
+      by_reported : IsByBids row ⊎ IsBought row → IsByBids (closed_row row) ⊎ IsBought (closed_row row)
+      by_reported (inl by) = inl (record { price = by.price; leader = by.leader; met = by.met })
+      by_reported (inr bought) = absurd (open_unsold row.item.terms.state is bought.sold)
 
 -- after a close every row fits
 pub close_fits : (bands : List (ℕ × ℕ)) (moment : ℕ) (row : ItemRow) → ItemRowFits bands row → ItemRowFits bands (with_close moment row)
@@ -371,15 +371,15 @@ settled_fits bands row sold fits =
       bids = fits.bids;
       accepted = fits.accepted;
       few = fits.few;
-      stands = fits.stands;
+      is_consistent = fits.is_consistent;
       top = fits.top;
       reserve = fits.reserve;
       count = fits.count;
-      told = by_told fits.told;
+      report = by_reported fits.report;
     } where
-      by_told : IsByBids row ⊎ IsBought row → IsByBids (settled_row row) ⊎ IsBought (settled_row row)
-      by_told (inl by) = inl (record { price = by.price; leader = by.leader; met = by.met })
-      by_told (inr bought) = inr (record { sold = refl; no_bid = bought.no_bid; price = bought.price; met = bought.met })
+      by_reported : IsByBids row ⊎ IsBought row → IsByBids (settled_row row) ⊎ IsBought (settled_row row)
+      by_reported (inl by) = inl (record { price = by.price; leader = by.leader; met = by.met })
+      by_reported (inr bought) = inr (record { sold = refl; no_bid = bought.no_bid; price = bought.price; met = bought.met })
 
 -- after a settlement the row of its item fits
 pub settlement_fits : (bands : List (ℕ × ℕ)) (i : ℕ) (row : ItemRow) → is_item i row ≡ true → ItemRowFits bands row → row.item.terms.state ≡ Sold → ItemRowFits bands (with_settlement i row)
@@ -400,8 +400,8 @@ pub settlement_number : (i : ℕ) (row : ItemRow) → (with_settlement i row).it
 settlement_number i row = elim (by_test (is_item i row)) [ inl is ↦ rw is refl | inr other ↦ rw other refl ]
 
 -- nobody leads an item that has just come, and its price is the start, whatever the band table
-new_stands : (bands other : List (ℕ × ℕ)) (opening : Opening) → standing_of bands opening [] ≡ standing_of other opening []
-new_stands bands other opening = standing-none bands opening ∙ sym (standing-none other opening)
+new_is_consistent : (bands other : List (ℕ × ℕ)) (opening : Opening) → standing_of bands opening [] ≡ standing_of other opening []
+new_is_consistent bands other opening = standing-none bands opening ∙ sym (standing-none other opening)
 
 new_price : (bands : List (ℕ × ℕ)) (opening : Opening) → opening.start ≡ (standing_of bands opening []).price
 new_price bands opening = sym (ap (λ (k : Kept). k.price) (standing-none bands opening))
@@ -441,9 +441,9 @@ new_fits bands number item number_fits seller_fits category_fits lot_fits title_
   bids = [];
   accepted = none_accepted bands (new_opening item);
   few = omega arith;
-  stands = new_stands [] bands (new_opening item);
+  is_consistent = new_is_consistent [] bands (new_opening item);
   top = tt;
   reserve = reserve_fits;
   count = refl;
-  told = inl (record { price = new_price [] (new_opening item); leader = new_leader [] (new_opening item); met = new_met [] (new_opening item) });
+  report = inl (record { price = new_price [] (new_opening item); leader = new_leader [] (new_opening item); met = new_met [] (new_opening item) });
 }

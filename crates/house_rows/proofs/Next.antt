@@ -10,7 +10,7 @@ use Rattle.house_rows.specs.declared.settings.Settings.{Settings}
 use Rattle.house_rows.specs.History.{History}
 use Rattle.house_rows.specs.Pages.{page_of}
 use Rattle.house_rows.specs.Runs.{entry, next, reply}
-use Rattle.house_rows.specs.Told.{told}
+use Rattle.house_rows.specs.CommandResult.{result_of}
 use Rattle.house_rows.specs.Verdict.{IsHistory, verdict}
 
 pub next_accepted : (F : Type 0) (settings : Settings) (h : History) (moment caller : ℕ) (command : Command) → verdict settings h moment caller command ≡ None
@@ -43,7 +43,7 @@ next_is_history {F = F} settings h (Read caller query) is = subst (IsHistory set
 next_is_history settings h (Broken caller fault) is = subst (IsHistory settings) (sym (next_broken settings h caller fault)) is
 
 pub reply_accepted : {F : Type 0} (settings : Settings) (h : History) (moment caller : ℕ) (command : Command) → verdict settings h moment caller command ≡ None
-    → reply {F = F} settings h (Order moment caller command) ≡ Done (told settings (entry moment caller command ∷ h) moment caller command h)
+    → reply {F = F} settings h (Order moment caller command) ≡ Done (result_of settings (entry moment caller command ∷ h) moment caller command h)
 unfolding reply
 reply_accepted settings h moment caller command e = rw e refl
 

@@ -13,7 +13,7 @@ use Rattle.house_rows.specs.Views.{Own, own_maxima, own_maximum, own_questions, 
 use Rattle.house_rows.specs.Watches.{WatchRow, is_watch, unwatched, watch_key, watches, with_watch}
 use Rattle.house_rows.proofs.Put.{IsInOrder, by_test, filter_in_order, filter_put, filter_put_other, filter_swap, put_in_order}
 
--- the tables that own views are taken from stand in the order of their keys
+-- the tables that own views are taken from are in the order of their keys
 questions_step : (qs : List Asked) (caller : ℕ) (command : Command) → IsInOrder asked_key qs → IsInOrder asked_key (with_question qs caller command)
 questions_step qs caller (Ask i text) order = put_in_order asked_key _ qs order
 questions_step qs caller (Register name) order = order

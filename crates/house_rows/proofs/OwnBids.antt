@@ -37,8 +37,8 @@ map_more : {A B : Type 0} (f : A → B) (xs : List A) (x : A) → map f (xs ++ x
 map_more f [] x = refl
 map_more f (y ∷ xs) x = ap (λ r. f y ∷ r) (map_more f xs x)
 
-behind : (i n : ℕ) (x row : BidRow) → x.item ≡ i → x.bid.no ≡ n + 1 → IsOn i n row → is_less (bid_key x) (bid_key row) ≡ false
-behind i n x row xi xn on = let a = on.0 in let b = on.1 in grind (arith, nat_tests)
+rest_after : (i n : ℕ) (x row : BidRow) → x.item ≡ i → x.bid.no ≡ n + 1 → IsOn i n row → is_less (bid_key x) (bid_key row) ≡ false
+rest_after i n x row xi xn on = let a = on.0 in let b = on.1 in grind (arith, nat_tests)
 
 bid_more : (i j caller maximum : ℕ) (h : History) (test : Bool) → (j == i) ≡ test → IsInOrder bid_key (bid_rows h) → Are (bid_rows h) (bids_on h i) i
     → Are (with_bid h (bid_rows h) caller (Bid j maximum)) (bids_on h i ++ bid_in i (length (bids_on h i) + 1) caller (Bid j maximum)) i
@@ -49,7 +49,7 @@ bid_more i j caller maximum h true is order are =
     let number : x.bid.no ≡ n + 1 = ap (λ k. length (bids_on h k) + 1) e in
     let placed : rows_on i (put_by bid_key x (bid_rows h)) ≡ rows_on i (bid_rows h) ++ x ∷ [] =
     filter_put bid_key (λ b. b.item == i) x (bid_rows h) is order
-    ∙ put_last bid_key x (rows_on i (bid_rows h)) (every_as (IsOn i n) (λ y. is_less (bid_key x) (bid_key y) ≡ false) (rows_on i (bid_rows h)) (λ row on. behind i n x row e number on) are.on) in
+    ∙ put_last bid_key x (rows_on i (bid_rows h)) (every_as (IsOn i n) (λ y. is_less (bid_key x) (bid_key y) ≡ false) (rows_on i (bid_rows h)) (λ row on. rest_after i n x row e number on) are.on) in
     let longer : length (bids_on h i ++ record { member = caller; maximum = maximum; no = n + 1 } ∷ []) ≡ n + 1 = length-append (bids_on h i) (record { member = caller; maximum = maximum; no = n + 1 } ∷ []) in
     rw is (record {
       same = rw placed (map_more (λ (b : BidRow). b.bid) (rows_on i (bid_rows h)) x ∙ rw (are.same, number) refl);
@@ -114,7 +114,7 @@ mine h c i =
       swapped : (rows : List BidRow) → filter (λ (b : BidRow). (b.bid.member == c) && (b.item == i)) rows ≡ filter (λ (b : BidRow). b.bid.member == c) (rows_on i rows)
       swapped rows = filter_alike _ (λ b. (b.item == i) && (b.bid.member == c)) rows (λ row. both (row.bid.member == c) (row.item == i)) ∙ sym (filter_twice (λ b. b.item == i) (λ b. b.bid.member == c) rows)
 
--- what the tables tell of them
+-- what the tables say of them
 pub best_is : (settings : Settings) (h : History) (c i : ℕ) → best_of (tables_of settings h) c i ≡ record { maximum = greatest (bids_on h i) c; mine = length (bids_by c (bids_on h i)) }
 unfolding tables_of greatest
 best_is settings h c i =

@@ -45,7 +45,7 @@ pub record Common (h : History) (moment caller : ℕ) (of_house : Bool) : Type 0
   pub registered : caller ≤ length (members h)
   pub member_if : of_house ≡ false → 1 ≤ caller
   pub house_if : of_house ≡ true → caller ≡ 0
-  pub not_behind : clock h ≤ moment
+  pub not_after : clock h ≤ moment
 
 pub common_pass : (settings : Settings) (h : History) (moment caller : ℕ) (command : Command) → verdict settings h moment caller command ≡ None
     → Common h moment caller (is_house_command command)
@@ -58,14 +58,14 @@ common_pass settings h moment caller command none =
         registered = grind (arith, nat_tests, pass);
         member_if = λ e. cc;
         house_if = λ e. grind (arith, nat_tests, pass);
-        not_behind = grind (arith, nat_tests, pass);
+        not_after = grind (arith, nat_tests, pass);
       }
       by_house false pass = record {
         moment_fits = grind (arith, nat_tests, pass);
         registered = grind (arith, nat_tests, pass);
         member_if = λ e. grind (arith, nat_tests, pass);
         house_if = λ e. cc;
-        not_behind = grind (arith, nat_tests, pass);
+        not_after = grind (arith, nat_tests, pass);
       }
 
 -- a command's own rules

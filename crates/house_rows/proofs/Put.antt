@@ -20,19 +20,19 @@ IsInOrder key [] = Unit {0}
 IsInOrder key (y ∷ ys) = AllByRecursion (λ z. is_less (key z) (key y) ≡ false) ys × IsInOrder key ys
 
 -- every row comes after x
-abbrev AreBehind : {A : Type 0} → (A → Key) → A → List A → Type 0
-AreBehind key x ys = AllByRecursion (λ z. is_less (key x) (key z) ≡ true) ys
+abbrev AreAfter : {A : Type 0} → (A → Key) → A → List A → Type 0
+AreAfter key x ys = AllByRecursion (λ z. is_less (key x) (key z) ≡ true) ys
 
-all_behind : {A : Type 0} (key : A → Key) (x y : A) (ys : List A) → is_less (key x) (key y) ≡ true → AllByRecursion (λ z. is_less (key z) (key y) ≡ false) ys → AreBehind key x ys
-all_behind key x y [] less all = tt
-all_behind key x y (z ∷ ys) less all = (after_both (key x) (key y) (key z) less all.0, all_behind key x y ys less all.1)
+all_after : {A : Type 0} (key : A → Key) (x y : A) (ys : List A) → is_less (key x) (key y) ≡ true → AllByRecursion (λ z. is_less (key z) (key y) ≡ false) ys → AreAfter key x ys
+all_after key x y [] less all = tt
+all_after key x y (z ∷ ys) less all = (after_both (key x) (key y) (key z) less all.0, all_after key x y ys less all.1)
 
-filter_behind : {A : Type 0} (key : A → Key) (x : A) (p : A → Bool) (ys : List A) → AreBehind key x ys → AreBehind key x (filter p ys)
-filter_behind key x p [] all = tt
-filter_behind key x p (y ∷ ys) all =
-    elim (by_test (p y)) [ inl is ↦ rw is (all.0, filter_behind key x p ys all.1) | inr not ↦ rw not (filter_behind key x p ys all.1) ]
+filter_after : {A : Type 0} (key : A → Key) (x : A) (p : A → Bool) (ys : List A) → AreAfter key x ys → AreAfter key x (filter p ys)
+filter_after key x p [] all = tt
+filter_after key x p (y ∷ ys) all =
+    elim (by_test (p y)) [ inl is ↦ rw is (all.0, filter_after key x p ys all.1) | inr not ↦ rw not (filter_after key x p ys all.1) ]
 
-put_first : {A : Type 0} (key : A → Key) (x : A) (ys : List A) → AreBehind key x ys → put_by key x ys ≡ x ∷ ys
+put_first : {A : Type 0} (key : A → Key) (x : A) (ys : List A) → AreAfter key x ys → put_by key x ys ≡ x ∷ ys
 put_first key x [] all = refl
 put_first key x (y ∷ ys) all = rw all.0 refl
 
@@ -50,8 +50,8 @@ pub filter_put : {A : Type 0} (key : A → Key) (p : A → Bool) (x : A) (xs : L
 filter_put key p x [] is order = rw is refl
 filter_put key p x (y ∷ ys) is order =
     elim (by_test (is_less (key x) (key y))) [
-      | inl less ↦ (let behind : AreBehind key x (y ∷ ys) = (less, all_behind key x y ys less order.0) in
-          rw (less, is) (ap (λ rest. x ∷ rest) refl ∙ sym (put_first key x (filter p (y ∷ ys)) (filter_behind key x p (y ∷ ys) behind))))
+      | inl less ↦ (let rest_after : AreAfter key x (y ∷ ys) = (less, all_after key x y ys less order.0) in
+          rw (less, is) (ap (λ rest. x ∷ rest) refl ∙ sym (put_first key x (filter p (y ∷ ys)) (filter_after key x p (y ∷ ys) rest_after))))
       | inr not ↦ elim (by_test (p y)) [
         | inl here ↦ rw (not, here) (rw not (ap (λ rest. y ∷ rest) (filter_put key p x ys is order.1)))
         | inr other ↦ rw (not, other) (filter_put key p x ys is order.1)
@@ -63,7 +63,7 @@ put_all key y x [] here all = (here, tt)
 put_all key y x (z ∷ ys) here all =
     elim (by_test (is_less (key x) (key z))) [ inl less ↦ rw less (here, all) | inr not ↦ rw not (all.0, put_all key y x ys here all.1) ]
 
-none_before : {A : Type 0} (key : A → Key) (x : A) (ys : List A) → AreBehind key x ys → AllByRecursion (λ z. is_less (key z) (key x) ≡ false) ys
+none_before : {A : Type 0} (key : A → Key) (x : A) (ys : List A) → AreAfter key x ys → AllByRecursion (λ z. is_less (key z) (key x) ≡ false) ys
 none_before key x [] all = tt
 none_before key x (y ∷ ys) all = (not_after (key x) (key y) all.0, none_before key x ys all.1)
 
@@ -71,7 +71,7 @@ pub put_in_order : {A : Type 0} (key : A → Key) (x : A) (xs : List A) → IsIn
 put_in_order key x [] order = (tt, tt)
 put_in_order key x (y ∷ ys) order =
     elim (by_test (is_less (key x) (key y))) [
-      | inl less ↦ rw less (none_before key x (y ∷ ys) (less, all_behind key x y ys less order.0), order)
+      | inl less ↦ rw less (none_before key x (y ∷ ys) (less, all_after key x y ys less order.0), order)
       | inr not ↦ rw not (put_all key y x ys not order.0, put_in_order key x ys order.1)
     ]
 

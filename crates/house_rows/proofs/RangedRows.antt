@@ -54,12 +54,12 @@ bought_sold bought taken led true is = refl
 bought_sold true taken led false is = refl
 bought_sold false taken led false is = cc
 
-told_by : (settings : Settings) (h : History) (l : Listing) → IsHistory settings h → listing_at (listings h) l.item ≡ Some l → (bought : Bool) → is_bought h l.item ≡ bought
+report_by : (settings : Settings) (h : History) (l : Listing) → IsHistory settings h → listing_at (listings h) l.item ≡ Some l → (bought : Bool) → is_bought h l.item ≡ bought
     → IsByBids (row_now settings h l) ⊎ IsBought (row_now settings h l)
-told_by settings h l is listed false by_bids =
+report_by settings h l is listed false by_bids =
     let none : purchase_of h l.item ≡ None = not_bought h l.item (purchase_of h l.item) refl by_bids in
     inl (record { price = rw by_bids refl; leader = rw none refl; met = rw by_bids refl })
-told_by settings h l is listed true bought =
+report_by settings h l is listed true bought =
     let known = bought_known settings h l is listed bought in
     inr (record {
       sold = bought_sold (is_bought h l.item) (is_taken h l) (close_sells (leader_of h l) (met_of h l)) (is_settled h l.item) bought;
@@ -76,11 +76,11 @@ row_fits settings h l is ranges listed =
       bids = bids_on h l.item;
       accepted = bids_are_accepted settings h is l listed;
       few = fits.room;
-      stands = refl;
+      is_consistent = refl;
       top = top_within most_cents (bids_on h l.item) (every_as (BidIn h l.item) (λ (b : bid.Bid). b.maximum ≤ most_cents) (bids_on h l.item) (λ b in'. in'.maximum) fits.all);
       reserve = ranges.reserve;
       count = refl;
-      told = told_by settings h l is listed (is_bought h l.item) refl;
+      report = report_by settings h l is listed (is_bought h l.item) refl;
     }
 
 pub rows_fit : (settings : Settings) (h : History) → IsHistory settings h → AllByRecursion (RowFits (tables_of settings h)) (map (row_now settings h) (listings h))

@@ -1,4 +1,5 @@
--- Editions by the tables that were set: an item has the table of its edition, and what is public tells with which items they begin.
+-- Editions by the tables that were set: an item has the table of its edition, and what is public
+-- says with which items they begin.
 use Rattle.std.proofs.Common.{◌≡◌, ℕ, suc, ◌+◌, ◌≤◌, List, [], ◌∷◌, ◌++◌, map, length, Bool, true, false, refl, ◌∙◌, ap, sym, arith, inl, inr, Some, append_assoc}
 use Rattle.std.specs.Prelude.{◌==◌, nat_lt}
 use Rattle.std.specs.List.{AllByRecursion}

@@ -305,7 +305,7 @@ bid_after t moment item placed standing sound fits =
     let row_fits : RowFits t (with_standing item standing row) =
     fits_at t item (with_standing item standing row) (standing_number item standing row ∙ there_numbered t item row fits.row_there)
     (standing_fits (bands_for t item) item standing row bids placed.member placed.maximum (there_is t item row fits.row_there) (there_fits_by t item row sound fits.row_there)
-    fits.is_open fits.stands member fits.apart fits.maximum_fits fits.accepted fits.stands_after) in
+    fits.is_open fits.is_consistent member fits.apart fits.maximum_fits fits.accepted fits.is_consistent_after) in
     bids_after (record t { clock = moment; items = map (with_standing item standing) t.items }) (put_by bid_key (record { item = item; bid = placed }) t.bids)
     (rows_after t moment (with_standing item standing) sound fits.moment_fits (standing_number item standing)
     (one_changed t item row (with_standing item standing) sound fits.row_there (standing_other item standing) row_fits))

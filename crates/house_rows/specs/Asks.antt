@@ -59,10 +59,10 @@ pub record BidFits (t : Tables) (moment item : ℕ) (placed : bid.Bid) (standing
   pub maximum_fits : placed.maximum ≤ most_cents
   -- some bids of which the row keeps the standing, whichever they are
   pub bids : List bid.Bid
-  pub stands : row.standing ≡ standing_of (bands_for t item) (row_opening row) bids
+  pub is_consistent : row.standing ≡ standing_of (bands_for t item) (row_opening row) bids
   pub accepted : AreAccepted (bands_for t item) (row_opening row) (one_more bids placed.member placed.maximum)
   pub numbered : placed.no ≡ length bids + 1
-  pub stands_after : standing ≡ standing_of (bands_for t item) (row_opening row) (one_more bids placed.member placed.maximum)
+  pub is_consistent_after : standing ≡ standing_of (bands_for t item) (row_opening row) (one_more bids placed.member placed.maximum)
 
 -- a purchase of another member's open item that has a buy-now price and no bid, at that price
 pub record PurchaseFits (t : Tables) (moment item buyer price : ℕ) : Type 0 where

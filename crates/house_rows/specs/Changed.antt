@@ -29,7 +29,7 @@ is_item i row = row.item.terms.item == i
 abbrev pub kept_met : Kept → Option Bool
 kept_met kept = met_by kept.reserve kept.top
 
--- the item of that number stands as its bids now do
+-- the standing of the item of that number is now that of its bids
 abbrev pub with_standing : ℕ → Kept → ItemRow → ItemRow
 with_standing i kept row =
     if is_item i row

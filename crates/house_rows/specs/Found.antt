@@ -5,6 +5,7 @@ use Rattle.proxy.specs.Bids.{greatest_of, is_leader}
 use Rattle.proxy.specs.Kept.{Kept}
 use Rattle.settle.specs.Statement.{is_party}
 use Rattle.settle.specs.declared.sale.Sold.{Sold}
+use Rattle.house_rows.specs.declared.auction.Auction.{Auction}
 use Rattle.house_rows.specs.declared.item.Due.{Due}
 use Rattle.house_rows.specs.declared.item.Item.{Item}
 use Rattle.house_rows.specs.declared.item.OwnBest.{OwnBest}
@@ -22,7 +23,7 @@ use Rattle.house_rows.specs.History.{counted}
 use Rattle.house_rows.specs.Bids.{BidRow}
 use Rattle.house_rows.specs.Changed.{is_item}
 use Rattle.house_rows.specs.Items.{close_sells, is_due}
-use Rattle.house_rows.specs.Pages.{reserve_told, sale_of}
+use Rattle.house_rows.specs.Pages.{reserve_reported, sale_of}
 use Rattle.house_rows.specs.Questions.{is_question}
 use Rattle.house_rows.specs.Tables.{ItemRow, Tables}
 use Rattle.house_rows.specs.Watches.{is_watch}
@@ -58,6 +59,13 @@ terms_at t i = option_map (λ (row : ItemRow). row.item.terms) (row_at t i)
 -- the standing of its bids
 abbrev pub standing_at : Tables → ℕ → Option Kept
 standing_at t i = option_map (λ (row : ItemRow). row.standing) (row_at t i)
+
+-- its terms and its standing, as a bid finds them
+abbrev pub auction_of : ItemRow → Auction
+auction_of row = record { terms = row.item.terms; standing = row.standing }
+
+abbrev pub auction_at : Tables → ℕ → Option Auction
+auction_at t i = option_map auction_of (row_at t i)
 
 -- the number of a seller's item with a lot
 abbrev pub item_with_lot : Tables → ℕ → List ℕ → Option ℕ
@@ -131,7 +139,7 @@ reserve_at t i = option_and_then (λ (row : ItemRow). row.standing.reserve) (row
 
 -- the reserve on an item, with whether it is met, if there is one
 abbrev pub own_reserve : ItemRow → List OwnReserve
-own_reserve row = reserve_told row.item.terms row.standing.reserve
+own_reserve row = reserve_reported row.item.terms row.standing.reserve
 
 -- the reserves on items, by number
 abbrev pub reserves_in : List ItemRow → List OwnReserve

@@ -50,23 +50,23 @@ pub record IsPurchase (t : Terms) : Type 0 where
   pub met : t.met ≢ Some false
 
 -- an item's row shows the standing of some bids, or that it was bought at once
-abbrev pub Stands : List (ℕ × ℕ) → Terms → Type 0
-Stands bands t = IsByStanding bands t ⊎ IsPurchase t
+abbrev pub IsConsistent : List (ℕ × ℕ) → Terms → Type 0
+IsConsistent bands t = IsByStanding bands t ⊎ IsPurchase t
 
 -- by its own band table
-abbrev pub StandsBy : BandTables → Terms → Type 0
-StandsBy editions terms = Stands (bands_in editions terms.item) terms
+abbrev pub IsConsistentBy : BandTables → Terms → Type 0
+IsConsistentBy editions terms = IsConsistent (bands_in editions terms.item) terms
 
-abbrev pub StandsIn : Tables → Terms → Type 0
-StandsIn t terms = StandsBy (band_tables t) terms
+abbrev pub IsConsistentIn : Tables → Terms → Type 0
+IsConsistentIn t terms = IsConsistentBy (band_tables t) terms
 
--- every item's row that passes a test stands, each by its own band table
-abbrev pub AllStand : (ItemRow → Bool) → Tables → Type 0
-AllStand test t = AllByRecursion (λ row. StandsIn t row.item.terms) (filter test t.items)
+-- every item's row that passes a test is consistent, each by its own band table
+abbrev pub AllConsistent : (ItemRow → Bool) → Tables → Type 0
+AllConsistent test t = AllByRecursion (λ row. IsConsistentIn t row.item.terms) (filter test t.items)
 
--- the item of a number stands, if there is one
-abbrev pub StandsAt : Tables → ℕ → Type 0
-StandsAt t item = IfSome (terms_at t item) (StandsIn t)
+-- the item of a number is consistent, if there is one
+abbrev pub IsConsistentAt : Tables → ℕ → Type 0
+IsConsistentAt t item = IfSome (terms_at t item) (IsConsistentIn t)
 
 -- the rows of an item fit: the item itself, and its standing, which is that of some accepted bids in range
 pub record ItemRowFits (bands : List (ℕ × ℕ)) (row : ItemRow) : Type 0 where
@@ -75,12 +75,12 @@ pub record ItemRowFits (bands : List (ℕ × ℕ)) (row : ItemRow) : Type 0 wher
   pub bids : List Bid
   pub accepted : AreAccepted bands (row_opening row) bids
   pub few : length bids ≤ most_bids
-  pub stands : row.standing ≡ standing_of bands (row_opening row) bids
+  pub is_consistent : row.standing ≡ standing_of bands (row_opening row) bids
   pub top : IfSome row.standing.top (λ amount. amount ≤ most_cents)
   pub reserve : ReserveFits row.item.terms.start row.item.terms.buy_now row.standing.reserve
   pub count : row.item.terms.count ≡ length bids
   -- what everybody sees of the row
-  pub told : IsByBids row ⊎ IsBought row
+  pub report : IsByBids row ⊎ IsBought row
 
 -- by the item's own band table
 abbrev pub FitsBy : BandTables → ItemRow → Type 0

@@ -13,7 +13,7 @@ pub mod Ratings
 pub mod Views
 pub mod Verdict
 pub mod Tables
-pub mod Told
+pub mod CommandResult
 pub mod Pages
 pub mod Runs
 pub mod Changed

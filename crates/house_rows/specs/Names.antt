@@ -1,4 +1,4 @@
--- The words and numbers by which answers tell refusals, states and faults.
+-- The words and numbers by which answers give refusals, states and faults.
 use Rattle.std.specs.Prelude.{ℕ, List, codes}
 use Rattle.status.specs.declared.Status.{Status}
 use Rattle.status.specs.declared.Status.TheVariants.{BadRequest, Forbidden, NotFound, Conflict}

@@ -48,9 +48,9 @@ is_met None = false
 is_met (Some it) = met_in it.item.terms
 
 -- the reserve of an item, if it has one, with whether it is met
-abbrev pub reserve_told : Terms → Option ℕ → List OwnReserve
-reserve_told terms None = []
-reserve_told terms (Some amount) = record { item = terms.item; met = met_in terms; reserve = amount } ∷ []
+abbrev pub reserve_reported : Terms → Option ℕ → List OwnReserve
+reserve_reported terms None = []
+reserve_reported terms (Some amount) = record { item = terms.item; met = met_in terms; reserve = amount } ∷ []
 
 -- what a member has bid on an item
 abbrev pub own_bid : History → ℕ → Terms → OwnBid
@@ -68,12 +68,12 @@ unfoldable pub own_bids : History → ℕ → List ItemShown → List OwnBid
 own_bids h c its = filter (λ b. nat_lt 0 b.mine) (map (λ it. own_bid h c it.item.terms) its)
 
 -- a reserve with whether it is met, as everybody sees of the item
-abbrev pub told_reserve : List ItemShown → ReserveRow → OwnReserve
-told_reserve its r = record { item = r.item; met = is_met (shown_at its r.item); reserve = r.amount }
+abbrev pub report_reserve : List ItemShown → ReserveRow → OwnReserve
+report_reserve its r = record { item = r.item; met = is_met (shown_at its r.item); reserve = r.amount }
 
 -- a member's reserves, each with whether it is met, by item
 unfoldable pub reserves_shown : History → ℕ → List ItemShown → List OwnReserve
-reserves_shown h c its = map (told_reserve its) (own_reserves h c)
+reserves_shown h c its = map (report_reserve its) (own_reserves h c)
 
 -- the sale of an item, if it was sold
 abbrev pub sale_of : Terms → List Sold
@@ -151,4 +151,4 @@ page_of settings h c (query.MyQuestions from) = for_member (members h) c (
     Questions (take most_shown (filter (λ q. (q.asker == c) && nat_le from q.item) (questions h))))
 page_of settings h c query.MyWaiting = for_member (members h) c (Questions (take most_shown (waiting h c)))
 page_of settings h c (query.MyStatement from to) = for_member (members h) c (
-    Statement c from to (sales_of (items_shown settings h) c))
+    Statement c from to settings.rate (sales_of (items_shown settings h) c))

@@ -7,11 +7,11 @@ use Rattle.house_rows.specs.declared.refusal.Refusal.{Refusal}
 use Rattle.house_rows.specs.declared.reply.Reply.{Reply}
 use Rattle.house_rows.specs.declared.reply.Reply.TheVariants.{Done, Denied, Shows, Faulty}
 use Rattle.house_rows.specs.declared.settings.Settings.{Settings}
-use Rattle.house_rows.specs.declared.told.Told.{Told}
+use Rattle.house_rows.specs.declared.command_result.CommandResult.{CommandResult}
 use Rattle.house_rows.specs.History.{Entry, History}
 use Rattle.house_rows.specs.Pages.{page_of}
 use Rattle.house_rows.specs.Questions.{waiting}
-use Rattle.house_rows.specs.Told.{told}
+use Rattle.house_rows.specs.CommandResult.{result_of}
 use Rattle.house_rows.specs.Verdict.{verdict}
 use Rattle.house_rows.specs.Views.{public_view}
 
@@ -39,15 +39,15 @@ history_from settings h (m ∷ ms) = history_from settings (next settings h m) m
 abbrev pub history_of : {F : Type 0} → Settings → List (Message F) → History
 history_of settings ms = history_from settings [] ms
 
--- what is told of an accepted command, or the refusal
-abbrev pub reply_if : {F : Type 0} → Option Refusal → Told → Reply F
-reply_if None told = Done told
-reply_if (Some refusal) told = Denied refusal
+-- the result of an accepted command, or the refusal
+abbrev pub reply_if : {F : Type 0} → Option Refusal → CommandResult → Reply F
+reply_if None result_of = Done result_of
+reply_if (Some refusal) result_of = Denied refusal
 
 -- the reply to a message
 unfoldable pub reply : {F : Type 0} → Settings → History → Message F → Reply F
 reply settings h (Order moment caller command) =
-    reply_if (verdict settings h moment caller command) (told settings (entry moment caller command ∷ h) moment caller command h)
+    reply_if (verdict settings h moment caller command) (result_of settings (entry moment caller command ∷ h) moment caller command h)
 reply settings h (Read caller query) = Shows (page_of settings h caller query)
 reply settings h (Broken caller fault) = Faulty fault
 

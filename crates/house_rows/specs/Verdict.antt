@@ -28,7 +28,7 @@ use Rattle.house_rows.specs.Ratings.{feedback}
 use Rattle.house_rows.specs.Views.{own_questions, own_watches}
 use Rattle.house_rows.specs.Watches.{WatchRow}
 
--- a rule: whether it fails, and what is then told
+-- a rule: whether it fails, and what is then reported
 abbrev pub Rule : Type 0
 Rule = Bool × Refusal
 

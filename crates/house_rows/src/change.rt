@@ -45,7 +45,7 @@ pub enum Change<'c> {
         moment: u64,
         item: NewItem<'c>,
     },
-    /// A bid was placed, and the item stands as told.
+    /// A bid was placed, and the item has this standing.
     Bid {
         moment: u64,
         item: u32,

@@ -2,7 +2,7 @@
 use steps::Bands;
 
 /// A band table that the house has set. The table that the house was set up with is edition 1.
-#[derive(Debug, Drop)]
+#[derive(Drop)]
 pub struct Edition {
     /// Its number, from 2 to 100, in the order in which they were set.
     pub edition: u32,

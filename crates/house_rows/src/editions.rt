@@ -12,7 +12,7 @@ use steps::Bands;
 
 /// What a house was set up with, its first band table among it, and the band tables that it has set
 /// since. Clauses see the `BandTables`.
-#[derive(Debug, Drop)]
+#[derive(Drop)]
 pub struct Editions {
     settings: Settings,
     later: Vec<Edition>,
@@ -38,19 +38,6 @@ fn edition_among(later: &[Edition], item: u64) -> u32
     for next in later {
         if u64::from(next.first) <= item {
             found = next.edition;
-        }
-    }
-    found
-}
-
-// And its table.
-fn bands_among<'e>(first: &'e Bands, later: &'e [Edition], item: u64) -> &'e Bands
-    ensures { result.now ≡ bands_among first.now later.now item }
-{
-    let mut found = first;
-    for next in later {
-        if u64::from(next.first) <= item {
-            found = &next.bands;
         }
     }
     found
@@ -121,7 +108,15 @@ impl Editions {
     pub fn bands_for(&self, item: u64) -> &Bands
         ensures { result.now ≡ bands_in self.now item }
     {
-        bands_among(&self.settings.bands, &self.later, item)
+        let first = &self.settings.bands;
+        let later = self.later();
+        let mut found = first;
+        for next in later {
+            if u64::from(next.first) <= item {
+                found = &next.bands;
+            }
+        }
+        found
     }
 
     /// The newest band table.

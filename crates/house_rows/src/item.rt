@@ -1,11 +1,11 @@
 //! Items as everybody sees them, and what a member has of its own on them. No sealed amount of
-//! another stands here.
+//! another is here.
 use crate::state::State;
 use crate::text::Text;
 use cents::Cents;
 
 /// All of an item but its texts.
-#[derive(Clone, Copy, Debug, PartialEq, Eq)]
+#[derive(Clone, Copy)]
 pub struct Terms {
     /// The number of the item, from 1 to 1000000, in order of listing.
     pub item: u32,
@@ -34,7 +34,7 @@ pub struct Terms {
 }
 
 /// An item.
-#[derive(Debug, Drop)]
+#[derive(Drop)]
 pub struct Item {
     /// All but the texts.
     pub terms: Terms,
@@ -47,7 +47,7 @@ pub struct Item {
 }
 
 /// An item as pages show it.
-#[derive(Debug, Drop)]
+#[derive(Drop)]
 pub struct ItemShown {
     /// The item.
     pub item: Item,
@@ -58,7 +58,7 @@ pub struct ItemShown {
 }
 
 /// What a member has bid on one item.
-#[derive(Clone, Copy, Debug, PartialEq, Eq)]
+#[derive(Clone, Copy)]
 pub struct OwnBest {
     /// The greatest of its maxima.
     pub maximum: Cents,
@@ -67,7 +67,7 @@ pub struct OwnBest {
 }
 
 /// An item on which a member has bid.
-#[derive(Clone, Copy, Debug, PartialEq, Eq)]
+#[derive(Clone, Copy)]
 pub struct OwnBid {
     /// The number of the item.
     pub item: u32,
@@ -84,7 +84,7 @@ pub struct OwnBid {
 }
 
 /// A reserve of a member on an item that it sells.
-#[derive(Clone, Copy, Debug, PartialEq, Eq)]
+#[derive(Clone, Copy)]
 pub struct OwnReserve {
     /// The number of the item.
     pub item: u32,
@@ -95,7 +95,7 @@ pub struct OwnReserve {
 }
 
 /// How many items a close takes.
-#[derive(Clone, Copy, Debug, PartialEq, Eq)]
+#[derive(Clone, Copy)]
 pub struct Due {
     /// How many it leaves sold.
     pub sold: u64,

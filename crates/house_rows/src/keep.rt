@@ -6,15 +6,16 @@ ghost use Rattle.house_rows.specs.Asks.{ChangeFits};
 ghost use Rattle.house_rows.specs.Changed.{changed, is_item};
 ghost use Rattle.house_rows.specs.Editions.{bands_of, newest_in};
 ghost use Rattle.house_rows.specs.Fits.{BidRowFits, CategoryFits, FeedbackFits, IsItem, IsMember, IsMoment, IsWithin, ItemFits, MemberFits, OwnBidFits, OwnReserveFits, QuestionFits, StandingFits, TermsFit, WatchRowFits};
-ghost use Rattle.house_rows.specs.Found.{all_items, all_published, ask_count, best_of, category_at, category_named, counts_of, due_at, feedback_to, first_waiting, is_given, is_watched, item_at, item_with_lot, items_in, items_watched, member_named, own_bids, own_reserves, published_on, question_at, questions_of, reserve_at, row_at, sales_to, sells, standing_at, terms_at, waiting_for, watch_count};
+ghost use Rattle.house_rows.specs.Found.{all_items, all_published, ask_count, auction_at, best_of, category_at, category_named, counts_of, due_at, feedback_to, first_waiting, is_given, is_watched, item_at, item_with_lot, items_in, items_watched, member_named, own_bids, own_reserves, published_on, question_at, questions_of, reserve_at, row_at, sales_to, sells, standing_at, terms_at, waiting_for, watch_count};
 ghost use Rattle.house_rows.specs.Items.{is_due};
-ghost use Rattle.house_rows.specs.Keeping.{AllStand, AreSound, ChangeFaults, Faults, IsRead, RowFits, StandsAt, StandsIn};
+ghost use Rattle.house_rows.specs.Keeping.{AllConsistent, AreSound, ChangeFaults, Faults, IsRead, RowFits, IsConsistentAt, IsConsistentIn};
 ghost use Rattle.house_rows.specs.Taken.{FirstFit, FitWhere, has_own_reserve, IsUndamaged, ItemsFitWhere, may_be_party, start_of};
 ghost use Rattle.house_rows.specs.Limits.{most_categories, most_items, most_shown};
 ghost use Rattle.house_rows.specs.Pages.{member_at, ratings_of, sale_of};
 ghost use Rattle.house_rows.specs.Reached.{FitsSoFar};
 ghost use Rattle.house_rows.specs.Tables.{Tables, band_tables, edition_for};
 
+use crate::auction::Auction;
 use crate::change::Change;
 use crate::editions::Editions;
 use crate::fault::KeepFault;
@@ -152,7 +153,7 @@ pub trait Keep {
     fn item(&mut self, item: u64) -> Result<Option<Item>, KeepFault>
         ensures value { is_honest self.new → IfOk result (λ v. v ≡ item_at (content self.old) item) }
         ensures fits { IfOk result (λ v. IfSome v ItemFits) }
-        ensures stands { is_honest self.new → IfOk result (λ v. IfSome v (λ it. StandsIn (content self.old) it.terms)) }
+        ensures is_consistent { is_honest self.new → IfOk result (λ v. IfSome v (λ it. IsConsistentIn (content self.old) it.terms)) }
         ensures faults { Faults result (is_honest self.new) (is_failed self.new) (content self.old) }
         ensures damaged { is_honest self.new
             → ItemsFitWhere (is_item item) (content self.old) → IsUndamaged result }
@@ -162,7 +163,7 @@ pub trait Keep {
     fn terms(&mut self, item: u64) -> Result<Option<Terms>, KeepFault>
         ensures value { is_honest self.new → IfOk result (λ v. v ≡ terms_at (content self.old) item) }
         ensures fits { IfOk result (λ v. IfSome v TermsFit) }
-        ensures stands { is_honest self.new → IfOk result (λ v. IfSome v (StandsIn (content self.old))) }
+        ensures is_consistent { is_honest self.new → IfOk result (λ v. IfSome v (IsConsistentIn (content self.old))) }
         ensures faults { Faults result (is_honest self.new) (is_failed self.new) (content self.old) }
         ensures damaged { is_honest self.new
             → ItemsFitWhere (is_item item) (content self.old) → IsUndamaged result }
@@ -181,6 +182,16 @@ pub trait Keep {
     fn standing(&mut self, item: u64) -> Result<Option<Standing>, KeepFault>
         ensures value { is_honest self.new → IfOk result (λ v. v ≡ standing_at (content self.old) item) }
         ensures fits { IfOk result (λ v. IfSome v StandingFits) }
+        ensures faults { Faults result (is_honest self.new) (is_failed self.new) (content self.old) }
+        ensures damaged { is_honest self.new
+            → ItemsFitWhere (is_item item) (content self.old) → IsUndamaged result }
+        ensures read { IsRead content is_failed is_honest may_leave self.old self.new };
+
+    /// An item without its texts, with the standing of its bids; of a bought item that of none.
+    fn auction(&mut self, item: u64) -> Result<Option<Auction>, KeepFault>
+        ensures value { is_honest self.new → IfOk result (λ v. v ≡ auction_at (content self.old) item) }
+        ensures fits { IfOk result (λ v. IfSome v (λ a. TermsFit a.terms × StandingFits a.standing)) }
+        ensures is_consistent { is_honest self.new → IfOk result (λ v. IfSome v (λ a. IsConsistentIn (content self.old) a.terms)) }
         ensures faults { Faults result (is_honest self.new) (is_failed self.new) (content self.old) }
         ensures damaged { is_honest self.new
             → ItemsFitWhere (is_item item) (content self.old) → IsUndamaged result }
@@ -255,7 +266,7 @@ pub trait Keep {
     /// How many items a close at the moment would leave sold, and how many unsold.
     fn due(&mut self, moment: u64) -> Result<Due, KeepFault>
         ensures value { is_honest self.new → IfOk result (λ v. v ≡ due_at (content self.old) moment) }
-        ensures stands { is_honest self.new → OnOk result (AllStand (λ row. is_due moment row.item.terms) (content self.old)) }
+        ensures is_consistent { is_honest self.new → OnOk result (AllConsistent (λ row. is_due moment row.item.terms) (content self.old)) }
         ensures faults { Faults result (is_honest self.new) (is_failed self.new) (content self.old) }
         ensures damaged { is_honest self.new
             → ItemsFitWhere (λ row. is_due moment row.item.terms) (content self.old)
@@ -266,7 +277,7 @@ pub trait Keep {
     fn items_in(&mut self, category: u64, from: u64) -> Result<Vec<Item>, KeepFault>
         ensures value { is_honest self.new → IfOk result (λ v. v.items ≡ items_in (content self.old) category from) }
         ensures fits { IfOk result (λ v. AllByRecursion ItemFits v.items) }
-        ensures stands { is_honest self.new → IfOk result (λ v. AllByRecursion (λ it. StandsIn (content self.old) it.terms) v.items) }
+        ensures is_consistent { is_honest self.new → IfOk result (λ v. AllByRecursion (λ it. IsConsistentIn (content self.old) it.terms) v.items) }
         ensures faults { Faults result (is_honest self.new) (is_failed self.new) (content self.old) }
         ensures damaged { is_honest self.new
             → AllByRecursion (RowFits (content self.old)) (take most_shown (filter
@@ -279,7 +290,7 @@ pub trait Keep {
     fn bids_of(&mut self, member: u64, from: u64) -> Result<Vec<OwnBid>, KeepFault>
         ensures value { is_honest self.new → IfOk result (λ v. v.items ≡ own_bids (content self.old) member from) }
         ensures fits { IfOk result (λ v. AllByRecursion OwnBidFits v.items) }
-        ensures stands { is_honest self.new → IfOk result (λ v. AllByRecursion (λ b. StandsAt (content self.old) b.item) v.items) }
+        ensures is_consistent { is_honest self.new → IfOk result (λ v. AllByRecursion (λ b. IsConsistentAt (content self.old) b.item) v.items) }
         ensures faults { Faults result (is_honest self.new) (is_failed self.new) (content self.old) }
         ensures damaged { is_honest self.new
             → FitsSoFar (band_tables (content self.old)) (content self.old) member from
@@ -332,7 +343,7 @@ pub trait Keep {
 
     /// The feedback to a member, from an item on; at most fifty.
     ///
-    /// Feedback whose rating is none of ours stands in the tables as if on no item: wherever it is
+    /// Feedback whose rating is none of ours is in the tables as if on no item: wherever it is
     /// stored, the list may take it.
     fn feedback_for(&mut self, member: u64, from: u64) -> Result<Vec<Feedback>, KeepFault>
         ensures value { is_honest self.new → IfOk result (λ v. v.items ≡ feedback_to (content self.old) member from) }
@@ -368,7 +379,7 @@ pub trait Keep {
     fn items(&mut self) -> Result<Vec<Item>, KeepFault>
         ensures value { is_honest self.new → IfOk result (λ v. v.items ≡ all_items (content self.old)) }
         ensures fits { IfOk result (λ v. AllByRecursion ItemFits v.items) }
-        ensures stands { is_honest self.new → IfOk result (λ v. AllByRecursion (λ it. StandsIn (content self.old) it.terms) v.items) }
+        ensures is_consistent { is_honest self.new → IfOk result (λ v. AllByRecursion (λ it. IsConsistentIn (content self.old) it.terms) v.items) }
         ensures faults { Faults result (is_honest self.new) (is_failed self.new) (content self.old) }
         ensures damaged { is_honest self.new
             → AllByRecursion (RowFits (content self.old)) (content self.old).items
@@ -398,7 +409,7 @@ pub trait Keep {
     fn watches_of(&mut self, member: u64) -> Result<Vec<Item>, KeepFault>
         ensures value { is_honest self.new → IfOk result (λ v. v.items ≡ items_watched (content self.old) member) }
         ensures fits { IfOk result (λ v. AllByRecursion ItemFits v.items) }
-        ensures stands { is_honest self.new → IfOk result (λ v. AllByRecursion (λ it. StandsIn (content self.old) it.terms) v.items) }
+        ensures is_consistent { is_honest self.new → IfOk result (λ v. AllByRecursion (λ it. IsConsistentIn (content self.old) it.terms) v.items) }
         ensures faults { Faults result (is_honest self.new) (is_failed self.new) (content self.old) }
         ensures damaged { is_honest self.new
             → FitWhere (λ w. w.member == member) WatchRowFits (content self.old).watches
@@ -411,7 +422,7 @@ pub trait Keep {
     fn waiting_for(&mut self, member: u64) -> Result<Vec<Question>, KeepFault>
         ensures value { is_honest self.new → IfOk result (λ v. v.items ≡ waiting_for (content self.old) member) }
         ensures fits { IfOk result (λ v. AllByRecursion QuestionFits v.items) }
-        ensures stands { is_honest self.new → IfOk result (λ v. AllByRecursion (λ q. StandsAt (content self.old) q.item) v.items) }
+        ensures is_consistent { is_honest self.new → IfOk result (λ v. AllByRecursion (λ q. IsConsistentAt (content self.old) q.item) v.items) }
         ensures faults { Faults result (is_honest self.new) (is_failed self.new) (content self.old) }
         ensures damaged { is_honest self.new
             → ItemsFitWhere (λ row. row.item.terms.seller == member) (content self.old)
@@ -425,7 +436,7 @@ pub trait Keep {
     fn first_waiting(&mut self, member: u64) -> Result<Vec<Question>, KeepFault>
         ensures value { is_honest self.new → IfOk result (λ v. v.items ≡ first_waiting (content self.old) member) }
         ensures fits { IfOk result (λ v. AllByRecursion QuestionFits v.items) }
-        ensures stands { is_honest self.new → IfOk result (λ v. AllByRecursion (λ q. StandsAt (content self.old) q.item) v.items) }
+        ensures is_consistent { is_honest self.new → IfOk result (λ v. AllByRecursion (λ q. IsConsistentAt (content self.old) q.item) v.items) }
         ensures faults { Faults result (is_honest self.new) (is_failed self.new) (content self.old) }
         ensures damaged { is_honest self.new
             → ItemsFitWhere (λ row. row.item.terms.seller == member) (content self.old)
@@ -437,7 +448,7 @@ pub trait Keep {
     /// The sales to which a member is a party, by item.
     fn sold_of(&mut self, member: u64) -> Result<Vec<Sold>, KeepFault>
         ensures value { is_honest self.new → IfOk result (λ v. v.items ≡ sales_to (content self.old) member) }
-        ensures stands { is_honest self.new → OnOk result (AllStand (λ row. list_any (is_party member) (sale_of row.item.terms)) (content self.old)) }
+        ensures is_consistent { is_honest self.new → OnOk result (AllConsistent (λ row. list_any (is_party member) (sale_of row.item.terms)) (content self.old)) }
         ensures fits { IfOk result (λ v. All IsSale v.items) }
         ensures apart { IfOk result (λ v. AllPairs (λ a b. a.item ≢ b.item) v.items) }
         ensures few { IfOk result (λ v. length v.items ≤ most_items) }

@@ -2,12 +2,14 @@
 //! a command is refused, and what every keep of the tables promises.
 //!
 //! Promised here is little, and said much: `specs/` holds the definitions that everything above
-//! meets. Read `specs/History.antt` first, then `Items`, `Verdict`, `Views`, `Tables`, `Told` and
+//! meets. Read `specs/History.antt` first, then `Items`, `Verdict`, `Views`, `Tables`, `CommandResult` and
 //! `Pages`; of the code read `keep`, whose clauses say what a look-up answers and what a change does.
 #![tactic(auto)]
 
+mod auction;
 mod change;
 mod command;
+mod command_result;
 mod edition;
 mod editions;
 mod ends;
@@ -27,10 +29,11 @@ mod settings;
 mod state;
 mod talk;
 mod text;
-mod told;
 
+pub use auction::Auction;
 pub use change::{Change, NewItem};
 pub use command::Command;
+pub use command_result::CommandResult;
 pub use edition::Edition;
 pub use editions::Editions;
 pub use ends::Ends;
@@ -53,4 +56,3 @@ pub use settings::{MOST_RATE, Rate, Settings};
 pub use state::State;
 pub use talk::{Feedback, Question};
 pub use text::Text;
-pub use told::Told;

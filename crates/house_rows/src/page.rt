@@ -56,6 +56,8 @@ pub enum Page {
         from: Day,
         /// The last day of the period.
         to: Day,
+        /// The rate of the fee.
+        rate: Rate,
         /// Every sale to which the caller is a party, of the period or not, by item.
         sales: Rows<Sold>,
     },

@@ -2,7 +2,7 @@
 use crate::text::Text;
 
 /// A member.
-#[derive(Debug, Drop)]
+#[derive(Drop)]
 pub struct Member {
     /// The number, from 1 to 100000, in order of registration.
     pub member: u32,
@@ -11,7 +11,7 @@ pub struct Member {
 }
 
 /// A category.
-#[derive(Debug, Drop)]
+#[derive(Drop)]
 pub struct Category {
     /// The number, from 1 to 1000.
     pub category: u32,
@@ -20,7 +20,7 @@ pub struct Category {
 }
 
 /// How many of each the house has.
-#[derive(Clone, Copy, Debug, PartialEq, Eq)]
+#[derive(Clone, Copy)]
 pub struct Counts {
     /// At most 100000.
     pub members: u32,
@@ -31,7 +31,7 @@ pub struct Counts {
 }
 
 /// How often a member was rated with each rating.
-#[derive(Clone, Copy, Debug, PartialEq, Eq)]
+#[derive(Clone, Copy)]
 pub struct Ratings {
     /// How often with 1.
     pub plus: u64,

@@ -2,7 +2,7 @@
 use settle::Day;
 
 /// What a caller asks the house to show. A list that begins at a number shows at most 50 entries.
-#[derive(Clone, Copy, Debug, PartialEq, Eq)]
+#[derive(Clone, Copy, Debug)]
 pub enum Query {
     /// The house's counts, clock, rate and zone.
     House,

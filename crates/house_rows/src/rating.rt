@@ -1,7 +1,7 @@
 //! What a party of a sale thinks of the other.
 
 /// A rating.
-#[derive(Clone, Copy, Debug, PartialEq, Eq)]
+#[derive(Clone, Copy)]
 pub enum Rating {
     /// -1.
     Minus,

@@ -5,7 +5,7 @@ ghost use Rattle.house_rows.specs.Names.{refusal_name, refusal_number, refusal_s
 use status::Status;
 
 /// Why a command, or a read, is refused: the first rule that fails.
-#[derive(Clone, Copy, Debug, PartialEq, Eq)]
+#[derive(Clone, Copy, Debug)]
 pub enum Refusal {
     /// The caller is no member.
     NoCaller,
@@ -53,7 +53,7 @@ pub enum Refusal {
 }
 
 impl Refusal {
-    /// The name that an answer tells.
+    /// The name that an answer gives.
     pub fn name(self) -> &'static str
         ensures { result.now ≡ refusal_name self }
     {
@@ -81,7 +81,7 @@ impl Refusal {
         }
     }
 
-    /// The number that an answer tells, from 1 to 20.
+    /// The number that an answer gives, from 1 to 20.
     pub fn number(self) -> u32
         ensures { result ≡ refusal_number self }
     {

@@ -1,13 +1,13 @@
 //! What a message is answered.
+use crate::command_result::CommandResult;
 use crate::page::Page;
 use crate::refusal::Refusal;
-use crate::told::Told;
 
 /// What a message is answered.
 #[derive(Drop)]
 pub enum Reply<F> {
-    /// The command was accepted, and this is told of it.
-    Done(Told),
+    /// The command was accepted, and this is its result.
+    Done(CommandResult),
     /// The command is refused.
     Denied(Refusal),
     /// The read shows this.

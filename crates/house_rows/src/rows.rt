@@ -4,7 +4,7 @@ ghost use Rattle.std.specs.Prelude.{◌≡◌};
 use std::marker::Model;
 
 /// The rows of a page, in order. Clauses see their list.
-#[derive(Debug, Drop)]
+#[derive(Drop)]
 pub struct Rows<T> {
     inner: Vec<T>,
 }

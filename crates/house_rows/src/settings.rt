@@ -9,7 +9,7 @@ use steps::Bands;
 pub const MOST_RATE: u64 = 2000;
 
 /// The rate of the fee in ten-thousandths of a price, from 0 to 2000. Clauses see the number.
-#[derive(Clone, Copy, Debug, PartialEq, Eq)]
+#[derive(Clone, Copy)]
 pub struct Rate {
     value: u64,
 }
@@ -49,7 +49,7 @@ impl Rate {
 }
 
 /// What a house is set up with. It never changes.
-#[derive(Debug, Drop)]
+#[derive(Drop)]
 pub struct Settings {
     /// The first band table.
     pub bands: Bands,

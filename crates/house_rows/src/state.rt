@@ -3,7 +3,7 @@ ghost use Rattle.std.specs.Prelude.{◌≡◌};
 ghost use Rattle.house_rows.specs.Names.{state_name};
 
 /// The state of an item. It moves from open to sold or unsold, and from sold to settled.
-#[derive(Clone, Copy, Debug, PartialEq, Eq)]
+#[derive(Clone, Copy, PartialEq, Eq)]
 pub enum State {
     /// It takes bids, or a purchase, until its end.
     Open,
@@ -16,7 +16,7 @@ pub enum State {
 }
 
 impl State {
-    /// The word that pages tell.
+    /// The word that pages give.
     pub fn name(self) -> &'static str
         ensures { result.now ≡ state_name self }
     {

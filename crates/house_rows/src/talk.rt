@@ -3,7 +3,7 @@ use crate::rating::Rating;
 use crate::text::Text;
 
 /// A question on an item.
-#[derive(Debug, Drop)]
+#[derive(Drop)]
 pub struct Question {
     /// The number of the item.
     pub item: u32,
@@ -18,7 +18,7 @@ pub struct Question {
 }
 
 /// What a party of a sale says of the other.
-#[derive(Debug, Drop)]
+#[derive(Drop)]
 pub struct Feedback {
     /// The number of the item.
     pub item: u32,

@@ -6,7 +6,7 @@ use std::alloc::{AllocError, Global};
 use std::marker::Model;
 
 /// A text. Clauses see its bytes, which are UTF-8.
-#[derive(Debug, Drop)]
+#[derive(Drop)]
 pub struct Text {
     inner: String,
 }

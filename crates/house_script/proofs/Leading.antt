@@ -7,10 +7,10 @@ use Rattle.house_rows.specs.Tables.{Tables, tables_of}
 use Rattle.house.specs.Filled.{FitInTurn, after}
 use Rattle.house_script.specs.Housed.{AreAccepted, LeadTo, set_up}
 
-pub fits_behind : (t : Tables) (changes : List Change) (change : Change) → FitInTurn t changes → ChangeFits (after t changes) change
+pub fits_after : (t : Tables) (changes : List Change) (change : Change) → FitInTurn t changes → ChangeFits (after t changes) change
     → FitInTurn t (changes ++ change ∷ [])
-fits_behind t [] change fits fit = (fit, tt)
-fits_behind t (first ∷ changes) change fits fit = (fits.0, fits_behind (changed t first) changes change fits.1 fit)
+fits_after t [] change fits fit = (fit, tt)
+fits_after t (first ∷ changes) change fits fit = (fits.0, fits_after (changed t first) changes change fits.1 fit)
 
 pub after_one_more : (t : Tables) (changes : List Change) (change : Change) → after t (changes ++ change ∷ []) ≡ changed (after t changes) change
 after_one_more t [] change = refl
@@ -22,7 +22,7 @@ pub one_more_leads : (changes : List Change) (t : Tables) (change : Change) (nex
     → LeadTo (changes ++ change ∷ []) next
 one_more_leads changes t change next lead housed fits made = record {
   housed = housed;
-  fits = fits_behind (tables_of set_up []) changes change lead.fits (subst (λ s. ChangeFits s change) (sym lead.leads) fits);
+  fits = fits_after (tables_of set_up []) changes change lead.fits (subst (λ s. ChangeFits s change) (sym lead.leads) fits);
   leads = after_one_more (tables_of set_up []) changes change ∙ ap (λ s. changed s change) lead.leads ∙ sym made;
 }
 

@@ -6,7 +6,7 @@ use std::num::ParseIntError;
 use thiserror::Error;
 
 /// Why a script isn't played on.
-#[derive(Clone, Copy, Debug, PartialEq, Eq, Error)]
+#[derive(Clone, Copy, Debug, Error)]
 pub enum Fault {
     /// The script isn't text, or can't be read.
     #[error("the script can't be read")]

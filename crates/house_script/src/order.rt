@@ -43,7 +43,7 @@ impl Order {
         ensures honest { K.is_honest keep.new → K.is_honest keep.old }
         ensures stays { K.is_failed keep.old ≡ true → K.is_failed keep.new ≡ true }
         ensures housed { IsHoused (K.is_honest keep.new) (K.is_failed keep.new) (K.content keep.new) }
-        ensures made { K.is_honest keep.new → IfOk result (λ told. IfOk told (λ change.
+        ensures made { K.is_honest keep.new → IfOk result (λ report. IfOk report (λ change.
             ChangeFits (K.content keep.old) change × (K.content keep.new ≡ changed (K.content keep.old) change))) }
     {
         match decide(keep, self.moment, self.caller, &self.command) {

@@ -1,6 +1,6 @@
 //! A house that commands are given to.
 use crate::fault::Fault;
-use crate::filling::{filled, settings};
+use crate::filled_keep::{fill_at_once, settings};
 use crate::makes::Makes;
 use crate::order::Order;
 use crate::question::answer;
@@ -59,7 +59,7 @@ impl<K: Keep + Drop> House<K> {
         answer(alloc, &mut self.keep, question)
     }
 
-    /// Gives it a command, and tells why it is refused, if it is.
+    /// Gives it a command, and says why it is refused, if it is.
     pub(crate) fn order(&mut self, order: Order) -> Result<Option<Refusal>, Fault> {
         let refusal = self.give(&order);
         if matches!(refusal, Ok(None)) {
@@ -95,7 +95,7 @@ impl<K: Keep + Drop> House<K> {
     /// Goes on with a new keep that is filled with the changes of what it has recorded.
     pub(crate) fn refill<M: Makes<K>>(&mut self, alloc: Global, makes: &M) -> Result<(), Fault> {
         let recorded = self.recorded.as_ref().ok_or(Fault::Script)?;
-        self.keep = filled(alloc, makes, recorded)?;
+        self.keep = fill_at_once(alloc, makes, recorded)?;
         Ok(())
     }
 }

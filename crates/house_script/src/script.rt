@@ -5,9 +5,10 @@
 //! from 1; the answer is the refusal, or `ok`. A question is `? NAME WORD..`, and its answer `-` where there is
 //! no such row. Where memory is wanted the answer is `Memory`, and nothing is changed.
 //!
-//! `new` begins with an empty house. So does `record`, and from then on `fill` goes on with a house that is
-//! filled with the changes so far; its answer is `ok`. An empty line, and one that begins with `--`, has no answer.
-//! Behind the mark `> `, with which `transcript` prints it before its answer, a line is played as without it.
+//! `new` begins with an empty house. So does `record`, and from then on `fill` goes on with a house
+//! that is filled with the changes so far; its answer is `ok`. An empty line, and one that begins
+//! with `--`, has no answer. After the mark `> `, with which `transcript` prints it before its
+//! answer, a line is played as without it.
 use crate::fault::Fault;
 use crate::makes::Makes;
 use crate::order::Order;
@@ -23,7 +24,7 @@ pub(crate) enum Answer {
     /// To a command, its refusal, if it is refused. It takes no memory, since the change is made.
     Ordered(Option<Refusal>),
     /// To a question.
-    Told(String),
+    Report(String),
 }
 
 impl fmt::Display for Answer {
@@ -32,12 +33,12 @@ impl fmt::Display for Answer {
             Answer::Ordered(None) => write!(f, "ok"),
             Answer::Ordered(Some(Refusal::Low { floor })) => write!(f, "Low {floor}"),
             Answer::Ordered(Some(refusal)) => write!(f, "{}", refusal.name()),
-            Answer::Told(text) => write!(f, "{text}"),
+            Answer::Report(text) => write!(f, "{text}"),
         }
     }
 }
 
-/// Plays a line, and tells what is answered to it, if anything is.
+/// Plays a line, and gives what is answered to it, if anything is.
 pub(crate) fn answer_to<K: Keep + Drop, M: Makes<K>>(
     alloc: Global,
     makes: &M,
@@ -59,13 +60,13 @@ pub(crate) fn answer_to<K: Keep + Drop, M: Makes<K>>(
             house.refill(alloc, makes)?;
             Ok(Some(Answer::Ordered(None)))
         }
-        "?" => Ok(Some(Answer::Told(house.answer(alloc, rest)?))),
+        "?" => Ok(Some(Answer::Report(house.answer(alloc, rest)?))),
         "times" => Ok(Some(Answer::Ordered(repeat(alloc, house, rest)?))),
         _ => Ok(Some(Answer::Ordered(order(alloc, house, line)?))),
     }
 }
 
-// Gives a command so many times as stands before it, until it is refused.
+// Gives a command so many times as is written before it, until it is refused.
 fn repeat<K: Keep + Drop>(
     alloc: Global,
     house: &mut House<K>,
@@ -74,7 +75,7 @@ fn repeat<K: Keep + Drop>(
     let (times, command) = counted.split_once(' ').ok_or(Fault::Script)?;
     let times: u64 = times.parse()?;
     for time in 1..=times {
-        let command = numbered(alloc, command, time)?;
+        let command = with_number(alloc, command, time)?;
         let refusal = order(alloc, house, command.as_str())?;
         if refusal.is_some() {
             return Ok(refusal);
@@ -84,7 +85,7 @@ fn repeat<K: Keep + Drop>(
 }
 
 // A line with a number in the place of each `#`.
-fn numbered(alloc: Global, line: &str, number: u64) -> Result<String, AllocError> {
+fn with_number(alloc: Global, line: &str, number: u64) -> Result<String, AllocError> {
     let mut text = String::new(alloc);
     for character in line.chars() {
         if character == '#' {
@@ -96,7 +97,7 @@ fn numbered(alloc: Global, line: &str, number: u64) -> Result<String, AllocError
     Ok(text)
 }
 
-// Gives a command, and tells why it is refused, if it is.
+// Gives a command, and says why it is refused, if it is.
 fn order<K: Keep + Drop>(
     alloc: Global,
     house: &mut House<K>,

@@ -139,7 +139,7 @@ impl Shown for Item {
     }
 }
 
-/// An item with its texts, but not how it stands.
+/// An item with its texts, but without its standing.
 #[derive(Drop)]
 pub(crate) struct Listing(pub(crate) Item);
 
@@ -158,7 +158,7 @@ impl Shown for Listing {
     }
 }
 
-/// How an item stands to everybody.
+/// The standing of an item, as everybody sees it.
 impl Shown for Terms {
     fn show(&self, line: &mut String) -> Result<(), AllocError> {
         let (state, price, count) = (self.state.name(), self.price.value(), self.count);

@@ -89,7 +89,7 @@ impl<'l> Words<'l> {
     }
 
     /// The text that the next word spells: `-` is an empty one, `_` a space, `%7f` a character by two
-    /// digits, and `*40` at the end writes what stands before it so often.
+    /// digits, and `*40` at the end writes what comes before it so often.
     pub(crate) fn text(&mut self) -> Result<Text, Fault> {
         let word = self.word()?;
         let (part, times) = match word.split_once('*') {

@@ -81,12 +81,12 @@ rows_then settings h k same = record {
   };
 }
 
-pub public_told : (settings : Settings) (h k : History) (t u : Tables) (same : Bool)
+pub public_reported : (settings : Settings) (h k : History) (t u : Tables) (same : Bool)
     → t ≡ tables_of settings h → u ≡ tables_of settings k → (same ≡ true) ↔ HaveSameRows t u
     → (same ≡ true) ↔ (public_view settings h ≡ public_view settings k)
-public_told settings h k t u same e d told =
-    let told' : (same ≡ true) ↔ HaveSameRows (tables_of settings h) (tables_of settings k) =
-    rw (e, d) at told in (
-      λ yes. view_then settings h k (told'.0 yes),
-      λ view. told'.1 (rows_then settings h k view),
+public_reported settings h k t u same e d report =
+    let report' : (same ≡ true) ↔ HaveSameRows (tables_of settings h) (tables_of settings k) =
+    rw (e, d) at report in (
+      λ yes. view_then settings h k (report'.0 yes),
+      λ view. report'.1 (rows_then settings h k view),
     )

@@ -25,13 +25,13 @@ waiting_is settings h c =
     (ap (λ (o : Option ItemRow). sells o c) (row_found settings h q.item)
     ∙ seller_is settings h c (listing_at (listings h) q.item)))
 
-pub waiting_told : (settings : Settings) (h k : History) (c : ℕ) (t u : Tables) (same : Bool)
+pub waiting_reported : (settings : Settings) (h k : History) (c : ℕ) (t u : Tables) (same : Bool)
     → t ≡ tables_of settings h → u ≡ tables_of settings k
     → (same ≡ true) ↔ (waiting_for t c ≡ waiting_for u c)
     → (same ≡ true) ↔ (waiting h c ≡ waiting k c)
-waiting_told settings h k c t u same e d told =
-    let told' : (same ≡ true) ↔ (waiting_for (tables_of settings h) c
-    ≡ waiting_for (tables_of settings k) c) = rw (e, d) at told in (
-      λ yes. sym (waiting_is settings h c) ∙ told'.0 yes ∙ waiting_is settings k c,
-      λ wait. told'.1 (waiting_is settings h c ∙ wait ∙ sym (waiting_is settings k c)),
+waiting_reported settings h k c t u same e d report =
+    let report' : (same ≡ true) ↔ (waiting_for (tables_of settings h) c
+    ≡ waiting_for (tables_of settings k) c) = rw (e, d) at report in (
+      λ yes. sym (waiting_is settings h c) ∙ report'.0 yes ∙ waiting_is settings k c,
+      λ wait. report'.1 (waiting_is settings h c ∙ wait ∙ sym (waiting_is settings k c)),
     )

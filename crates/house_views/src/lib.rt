@@ -1,6 +1,6 @@
 //! What two keeps show, compared: what everybody may see, and what waits for a member.
 //!
-//! Promised: over the tables of two histories each call tells whether the histories have the same
+//! Promised: over the tables of two histories each call says whether the histories have the same
 //! settings, the same public view, or the same questions waiting; both keeps stay as they were. Read
 //! `specs/Views.antt` first, and then `views`.
 #![tactic(auto)]

@@ -69,7 +69,7 @@ fn are_closed_alike(left: &Terms, right: &Terms) -> bool
     left.state == right.state && left.closed == right.closed && left.price == right.price
 }
 
-// Whether their bids stand alike.
+// Whether their bids are alike.
 fn are_led_alike(left: &Terms, right: &Terms) -> bool
     ensures { (result ≡ true) ↔ ((left.now.leader ≡ right.now.leader)
         × (left.now.count ≡ right.now.count)

@@ -17,7 +17,7 @@ fn are_same_settings(left: &Settings, right: &Settings) -> bool
 
 /// Whether two keeps were set up with the same bands, the same rate and the same rule of a zone.
 pub fn have_same_settings<K: Keep>(left: &K, right: &K) -> Result<bool, KeepFault>
-    ensures told { K.is_honest left.now → K.is_honest right.now → IfOk result (λ same.
+    ensures report { K.is_honest left.now → K.is_honest right.now → IfOk result (λ same.
         (same ≡ true) ↔ ((K.content left.now).settings ≡ (K.content right.now).settings)) }
     // A keep that answers was set up with a valid table.
     ensures valid { K.is_honest left.now

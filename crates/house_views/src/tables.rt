@@ -7,9 +7,9 @@ ghost use Rattle.house_views.specs.Views.{HaveSamePeople, HaveSameRows, HaveSame
 use crate::same::are_same;
 use house_rows::{Keep, KeepFault};
 
-// Whether the clocks stand alike.
+// Whether the clocks are alike.
 fn have_same_clock<K: Keep>(left: &mut K, right: &mut K) -> Result<bool, KeepFault>
-    ensures told { K.is_honest left.new → K.is_honest right.new → IfOk result (λ same.
+    ensures report { K.is_honest left.new → K.is_honest right.new → IfOk result (λ same.
         (same ≡ true) ↔ ((K.content left.old).clock ≡ (K.content right.old).clock)) }
     ensures faults { PairFaults result (K.is_honest left.new × K.is_honest right.new)
         (K.is_failed left.new) (K.is_failed right.new) (K.content left.old) (K.content right.old) }
@@ -23,7 +23,7 @@ fn have_same_clock<K: Keep>(left: &mut K, right: &mut K) -> Result<bool, KeepFau
 
 // Whether the members are the same.
 fn have_same_members<K: Keep>(left: &mut K, right: &mut K) -> Result<bool, KeepFault>
-    ensures told { K.is_honest left.new → K.is_honest right.new → IfOk result (λ same.
+    ensures report { K.is_honest left.new → K.is_honest right.new → IfOk result (λ same.
         (same ≡ true) ↔ ((K.content left.old).members ≡ (K.content right.old).members)) }
     ensures faults { PairFaults result (K.is_honest left.new × K.is_honest right.new)
         (K.is_failed left.new) (K.is_failed right.new) (K.content left.old) (K.content right.old) }
@@ -37,7 +37,7 @@ fn have_same_members<K: Keep>(left: &mut K, right: &mut K) -> Result<bool, KeepF
 
 // Whether the categories are the same.
 fn have_same_categories<K: Keep>(left: &mut K, right: &mut K) -> Result<bool, KeepFault>
-    ensures told { K.is_honest left.new → K.is_honest right.new → IfOk result (λ same.
+    ensures report { K.is_honest left.new → K.is_honest right.new → IfOk result (λ same.
         (same ≡ true) ↔ ((K.content left.old).categories
         ≡ (K.content right.old).categories)) }
     ensures faults { PairFaults result (K.is_honest left.new × K.is_honest right.new)
@@ -52,7 +52,7 @@ fn have_same_categories<K: Keep>(left: &mut K, right: &mut K) -> Result<bool, Ke
 
 // Whether the same band tables were set, each from the same item on.
 fn have_same_editions<K: Keep>(left: &K, right: &K) -> Result<bool, KeepFault>
-    ensures told { K.is_honest left.now → K.is_honest right.now → IfOk result (λ same.
+    ensures report { K.is_honest left.now → K.is_honest right.now → IfOk result (λ same.
         (same ≡ true) ↔ ((K.content left.now).editions ≡ (K.content right.now).editions)) }
     ensures faults { PairFaults result (K.is_honest left.now × K.is_honest right.now)
         (K.is_failed left.now) (K.is_failed right.now) (K.content left.now) (K.content right.now) }
@@ -64,7 +64,7 @@ fn have_same_editions<K: Keep>(left: &K, right: &K) -> Result<bool, KeepFault>
 
 // Whether the items are the same.
 fn have_same_items<K: Keep>(left: &mut K, right: &mut K) -> Result<bool, KeepFault>
-    ensures told { K.is_honest left.new → K.is_honest right.new → IfOk result (λ same.
+    ensures report { K.is_honest left.new → K.is_honest right.new → IfOk result (λ same.
         (same ≡ true) ↔ (all_items (K.content left.old) ≡ all_items (K.content right.old))) }
     ensures faults { PairFaults result (K.is_honest left.new × K.is_honest right.new)
         (K.is_failed left.new) (K.is_failed right.new) (K.content left.old) (K.content right.old) }
@@ -78,7 +78,7 @@ fn have_same_items<K: Keep>(left: &mut K, right: &mut K) -> Result<bool, KeepFau
 
 // Whether the published questions are the same.
 fn have_same_questions<K: Keep>(left: &mut K, right: &mut K) -> Result<bool, KeepFault>
-    ensures told { K.is_honest left.new → K.is_honest right.new → IfOk result (λ same.
+    ensures report { K.is_honest left.new → K.is_honest right.new → IfOk result (λ same.
         (same ≡ true) ↔ (all_published (K.content left.old)
         ≡ all_published (K.content right.old))) }
     ensures faults { PairFaults result (K.is_honest left.new × K.is_honest right.new)
@@ -93,7 +93,7 @@ fn have_same_questions<K: Keep>(left: &mut K, right: &mut K) -> Result<bool, Kee
 
 // Whether the feedback is the same.
 fn have_same_feedback<K: Keep>(left: &mut K, right: &mut K) -> Result<bool, KeepFault>
-    ensures told { K.is_honest left.new → K.is_honest right.new → IfOk result (λ same.
+    ensures report { K.is_honest left.new → K.is_honest right.new → IfOk result (λ same.
         (same ≡ true) ↔ ((K.content left.old).feedback ≡ (K.content right.old).feedback)) }
     ensures faults { PairFaults result (K.is_honest left.new × K.is_honest right.new)
         (K.is_failed left.new) (K.is_failed right.new) (K.content left.old) (K.content right.old) }
@@ -111,7 +111,7 @@ pub(crate) fn have_same_open<K: Keep>(
     right: &mut K,
     member: u64,
 ) -> Result<bool, KeepFault>
-    ensures told { K.is_honest left.new → K.is_honest right.new → IfOk result (λ same.
+    ensures report { K.is_honest left.new → K.is_honest right.new → IfOk result (λ same.
         (same ≡ true) ↔ (waiting_for (K.content left.old) member
         ≡ waiting_for (K.content right.old) member)) }
     ensures faults { PairFaults result (K.is_honest left.new × K.is_honest right.new)
@@ -126,7 +126,7 @@ pub(crate) fn have_same_open<K: Keep>(
 
 // Whether clock, members and categories are the same.
 fn have_same_people<K: Keep>(left: &mut K, right: &mut K) -> Result<bool, KeepFault>
-    ensures told { K.is_honest left.new → K.is_honest right.new → IfOk result (λ same.
+    ensures report { K.is_honest left.new → K.is_honest right.new → IfOk result (λ same.
         (same ≡ true) ↔ HaveSamePeople (K.content left.old) (K.content right.old)) }
     ensures faults { PairFaults result (K.is_honest left.new × K.is_honest right.new)
         (K.is_failed left.new) (K.is_failed right.new) (K.content left.old) (K.content right.old) }
@@ -145,7 +145,7 @@ fn have_same_people<K: Keep>(left: &mut K, right: &mut K) -> Result<bool, KeepFa
 
 // Whether what members say in public is the same.
 fn have_same_talk<K: Keep>(left: &mut K, right: &mut K) -> Result<bool, KeepFault>
-    ensures told { K.is_honest left.new → K.is_honest right.new → IfOk result (λ same.
+    ensures report { K.is_honest left.new → K.is_honest right.new → IfOk result (λ same.
         (same ≡ true) ↔ HaveSameTalk (K.content left.old) (K.content right.old)) }
     ensures faults { PairFaults result (K.is_honest left.new × K.is_honest right.new)
         (K.is_failed left.new) (K.is_failed right.new) (K.content left.old) (K.content right.old) }
@@ -161,7 +161,7 @@ fn have_same_talk<K: Keep>(left: &mut K, right: &mut K) -> Result<bool, KeepFaul
 
 // Whether everything public that may change is the same.
 pub(crate) fn have_same_rows<K: Keep>(left: &mut K, right: &mut K) -> Result<bool, KeepFault>
-    ensures told { K.is_honest left.new → K.is_honest right.new → IfOk result (λ same.
+    ensures report { K.is_honest left.new → K.is_honest right.new → IfOk result (λ same.
         (same ≡ true) ↔ HaveSameRows (K.content left.old) (K.content right.old)) }
     ensures faults { PairFaults result (K.is_honest left.new × K.is_honest right.new)
         (K.is_failed left.new) (K.is_failed right.new) (K.content left.old) (K.content right.old) }

@@ -15,7 +15,7 @@ use house_rows::{Keep, KeepFault};
 /// Whether everybody may see the same in both, over tables of the same settings. Rows are asked for
 /// list by list, and the first list that differs is the last that is asked for.
 pub fn have_same_public<K: Keep>(left: &mut K, right: &mut K) -> Result<bool, KeepFault>
-    ensures told { K.is_honest left.new → K.is_honest right.new
+    ensures report { K.is_honest left.new → K.is_honest right.new
         → (settings : TheSettings) (h k : History)
         → K.content left.old ≡ tables_of settings h → K.content right.old ≡ tables_of settings k
         → IfOk result (λ same. (same ≡ true) ↔ (public_view settings h ≡ public_view settings k)) }
@@ -33,7 +33,7 @@ pub fn have_same_waiting<K: Keep>(
     right: &mut K,
     member: u64,
 ) -> Result<bool, KeepFault>
-    ensures told { K.is_honest left.new → K.is_honest right.new
+    ensures report { K.is_honest left.new → K.is_honest right.new
         → (settings : TheSettings) (h k : History)
         → K.content left.old ≡ tables_of settings h → K.content right.old ≡ tables_of settings k
         → IfOk result (λ same. (same ≡ true) ↔ (waiting h member ≡ waiting k member)) }
@@ -47,7 +47,7 @@ pub fn have_same_waiting<K: Keep>(
 
 /// Whether what is public and what waits for a member agree.
 pub fn agree<K: Keep>(left: &mut K, right: &mut K, member: u64) -> Result<bool, KeepFault>
-    ensures told { K.is_honest left.new → K.is_honest right.new
+    ensures report { K.is_honest left.new → K.is_honest right.new
         → (settings : TheSettings) (h k : History)
         → K.content left.old ≡ tables_of settings h → K.content right.old ≡ tables_of settings k
         → IfOk result (λ same. (same ≡ true) ↔ Agrees settings member h k) }

@@ -27,11 +27,11 @@ none_seen bytes = record { all = λ _. refl; other = λ is. absurd (true≢false
 -- one byte more
 pub one_seen : (bytes : List ℕ) (i : ℕ) (is plain : Bool) → i < length bytes → (IsTrue is ↔ IsPlainByte (get_or bytes i 0))
     → AreSeen bytes i plain → AreSeen bytes (i + 1) (is && plain)
-one_seen bytes i true plain inside told seen = record {
-  all = λ plain. plain_step bytes i inside (seen.all plain) (told.0 refl);
+one_seen bytes i true plain inside report seen = record {
+  all = λ plain. plain_step bytes i inside (seen.all plain) (report.0 refl);
   other = λ not. let one = seen.other not in (one.0, omega (arith, one.1), one.2);
 }
-one_seen bytes i false plain inside told seen = record {
+one_seen bytes i false plain inside report seen = record {
   all = λ no. absurd (true≢false (sym no));
-  other = λ _. (i, omega arith, λ is. true≢false (sym (told.1 is)));
+  other = λ _. (i, omega arith, λ is. true≢false (sym (report.1 is)));
 }

@@ -1,7 +1,7 @@
 //! Bytes that stand for themselves in a string of JSON (RFC 8259, section 7).
 //!
-//! Promised: which bytes these are, how many of them stand in front, and whether all are such; together they
-//! are written as they are. Read `specs/Plain.antt` first.
+//! Promised: which bytes these are, how many of them are in front, and whether all are such;
+//! together they are written as they are. Read `specs/Plain.antt` first.
 #![tactic(auto)]
 
 ghost use Rattle.std.specs.Prelude.{◌≡◌, ◌↔◌, ◌<◌, ◌≤◌, ℕ, false, get_or, length, take, IsTrue};

@@ -1,4 +1,4 @@
--- What the tallies tell, as bids are placed.
+-- What the tallies say, as bids are placed.
 use Rattle.std.proofs.Common.{◌≡◌, ◌<◌, ◌≤◌, ◌+◌, ◌^◌, ℕ, zero, suc, List, [], ◌∷◌, map, filter, length, max, Bool, true, false, refl, ap, sym, subst, ◌∙◌, arith, inl, inr, Option, Some, None, Result, Ok, Err, Bor}
 use Rattle.std.specs.Prelude.{Vec, ◌&&◌, ◌||◌, IfErr, OnOk, find, is_some, option_map, ◌==◌}
 use Rattle.std.specs.List.{AllByRecursion, list_any}
@@ -53,9 +53,9 @@ own_few bids member item are =
 -- one bid more can be counted
 pub mine_fits : {Z : Type 0} (bids : List (Vec BidRow Z)) (tallies : List (Vec Tally Z)) (member item : ℕ) → AreTallied bids tallies → (tally_in (rows_of tallies) member item).mine + 1 < 2 ^ 64
 mine_fits bids tallies member item are =
-    let told : (tally_in (rows_of tallies) member item).mine ≡ length (filter (is_own member item) (rows_of bids)) = ap (λ (b : OwnBest). b.mine) (are.told member item) in
+    let report : (tally_in (rows_of tallies) member item).mine ≡ length (filter (is_own member item) (rows_of bids)) = ap (λ (b : OwnBest). b.mine) (are.report member item) in
     let few = own_few bids member item are.bids_blocked in
-    omega (arith, told, few)
+    omega (arith, report, few)
 
 -- a bid put among the others
 
@@ -112,35 +112,35 @@ find_changed key k w f (x ∷ xs) keeps =
 find_bettered : (k w : Key) (best : OwnBest) (ts : List Tally) → find (λ tally. same_key (tally_key tally) k) (map (bettered w best) ts) ≡ option_map (bettered w best) (find (λ tally. same_key (tally_key tally) k) ts)
 find_bettered k w best ts = find_changed tally_key k w (λ (tally : Tally). record tally { best = best }) ts (λ tally. refl)
 
-told_same : (w : Key) (best : OwnBest) (o : Option Tally) → is_some o ≡ true → ((t : Tally) → o ≡ Some t → same_key (tally_key t) w ≡ true) → tally_best (option_map (bettered w best) o) ≡ best
-told_same w best None there same = absurd (let e : false ≡ true = there in cc)
-told_same w best (Some t) there same = rw (same t refl) refl
+report_same : (w : Key) (best : OwnBest) (o : Option Tally) → is_some o ≡ true → ((t : Tally) → o ≡ Some t → same_key (tally_key t) w ≡ true) → tally_best (option_map (bettered w best) o) ≡ best
+report_same w best None there same = absurd (let e : false ≡ true = there in cc)
+report_same w best (Some t) there same = rw (same t refl) refl
 
-told_other : (w : Key) (best : OwnBest) (o : Option Tally) → ((t : Tally) → o ≡ Some t → same_key (tally_key t) w ≡ false) → tally_best (option_map (bettered w best) o) ≡ tally_best o
-told_other w best None other = refl
-told_other w best (Some t) other = rw (other t refl) refl
+report_other : (w : Key) (best : OwnBest) (o : Option Tally) → ((t : Tally) → o ≡ Some t → same_key (tally_key t) w ≡ false) → tally_best (option_map (bettered w best) o) ≡ tally_best o
+report_other w best None other = refl
+report_other w best (Some t) other = rw (other t refl) refl
 
 tally_here : (member item : ℕ) (best : OwnBest) (ts : List Tally) → is_some (find (is_tally member item) ts) ≡ true → tally_in (map (bettered (pair_key member item) best) ts) member item ≡ best
 tally_here member item best ts there =
     ap tally_best (find_bettered (pair_key member item) (pair_key member item) best ts)
-    ∙ told_same (pair_key member item) best (find (is_tally member item) ts) there (λ t found. found_is (is_tally member item) ts t found)
+    ∙ report_same (pair_key member item) best (find (is_tally member item) ts) there (λ t found. found_is (is_tally member item) ts t found)
 
 tally_there : (member item m i : ℕ) (best : OwnBest) (ts : List Tally) → same_key (pair_key m i) (pair_key member item) ≡ false → tally_in (map (bettered (pair_key member item) best) ts) m i ≡ tally_in ts m i
 tally_there member item m i best ts other =
     ap tally_best (find_bettered (pair_key m i) (pair_key member item) best ts)
-    ∙ told_other (pair_key member item) best (find (is_tally m i) ts)
+    ∙ report_other (pair_key member item) best (find (is_tally m i) ts)
     (λ t found. let e : tally_key t ≡ pair_key m i = same_is (tally_key t) (pair_key m i) (found_is (is_tally m i) ts t found) in subst (λ (a : Key). same_key a (pair_key member item) ≡ false) (sym e) other)
 
--- the tallies tell what the bids say, with one bid more
-pub told_after : (x : BidRow) (rows : List BidRow) (ts : List Tally) (best : OwnBest) → IsInOrder bid_key rows → ((m i : ℕ) → tally_in ts m i ≡ best_among rows m i) → is_some (find (is_tally x.bid.member x.item) ts) ≡ true
+-- the tallies say what the bids say, with one bid more
+pub report_after : (x : BidRow) (rows : List BidRow) (ts : List Tally) (best : OwnBest) → IsInOrder bid_key rows → ((m i : ℕ) → tally_in ts m i ≡ best_among rows m i) → is_some (find (is_tally x.bid.member x.item) ts) ≡ true
     → best ≡ with_bid (tally_in ts x.bid.member x.item) x.bid.maximum → (m i : ℕ) → tally_in (map (bettered (pair_key x.bid.member x.item) best) ts) m i ≡ best_among (put_by bid_key x rows) m i
-told_after x rows ts best order told there is m i =
+report_after x rows ts best order report there is m i =
     elim (by_test (is_own m i x)) [
       | inl own ↦ (let of_member : x.bid.member ≡ m = grind (arith, nat_tests) in
           let of_item : x.item ≡ i = grind (arith, nat_tests) in
-          rw (← of_member, ← of_item) (tally_here x.bid.member x.item best ts there ∙ is ∙ ap (λ (b : OwnBest). with_bid b x.bid.maximum) (told x.bid.member x.item) ∙ sym (best_put x rows x.bid.member x.item order (self x))))
+          rw (← of_member, ← of_item) (tally_here x.bid.member x.item best ts there ∙ is ∙ ap (λ (b : OwnBest). with_bid b x.bid.maximum) (report x.bid.member x.item) ∙ sym (best_put x rows x.bid.member x.item order (self x))))
       | inr other ↦ (let apart : same_key (pair_key m i) (pair_key x.bid.member x.item) ≡ false = grind (arith, nat_tests) in
-          tally_there x.bid.member x.item m i best ts apart ∙ told m i ∙ sym (best_put_other x rows m i other))
+          tally_there x.bid.member x.item m i best ts apart ∙ report m i ∙ sym (best_put_other x rows m i other))
     ] where
       self : (x : BidRow) → is_own x.bid.member x.item x ≡ true
       self x = grind (arith, nat_tests)
@@ -166,10 +166,10 @@ pub none_by_test : {A : Type 0} (o : Option A) → is_some o ≡ false → o ≡
 none_by_test None test = refl
 none_by_test (Some x) test = absurd (let e : true ≡ false = test in cc)
 
--- a tally of no bid tells what was told
-pub opened_told : (r : Result (Unit {0}) KeepFault) (ts new : List Tally) (member item : ℕ) (is_free : Type 0) → find (is_tally member item) ts ≡ None → Makes r ts new (put_by tally_key (opening member item) ts) is_free → (m i : ℕ) → tally_in new m i ≡ tally_in ts m i
-opened_told (Ok u) ts new member item is_free none made m i = ap (λ (xs : List Tally). tally_in xs m i) made.ok ∙ opened_same member item ts none m i
-opened_told (Err e) ts new member item is_free none made m i = ap (λ (xs : List Tally). tally_in xs m i) made.err
+-- with a tally of no bid more the tallies say what they said
+pub opened_reported : (r : Result (Unit {0}) KeepFault) (ts new : List Tally) (member item : ℕ) (is_free : Type 0) → find (is_tally member item) ts ≡ None → Makes r ts new (put_by tally_key (opening member item) ts) is_free → (m i : ℕ) → tally_in new m i ≡ tally_in ts m i
+opened_reported (Ok u) ts new member item is_free none made m i = ap (λ (xs : List Tally). tally_in xs m i) made.ok ∙ opened_same member item ts none m i
+opened_reported (Err e) ts new member item is_free none made m i = ap (λ (xs : List Tally). tally_in xs m i) made.err
 
 pub opened_found : (r : Result (Unit {0}) KeepFault) (ts new : List Tally) (member item : ℕ) (is_free : Type 0) → find (is_tally member item) ts ≡ None → Makes r ts new (put_by tally_key (opening member item) ts) is_free → OnOk r (is_some (find (is_tally member item) new) ≡ true)
 opened_found (Ok u) ts new member item is_free none made = ap (λ (xs : List Tally). is_some (find (is_tally member item) xs)) made.ok ∙ opened_there member item ts none
@@ -209,11 +209,11 @@ every_one [] = tt
 every_one (x ∷ xs) = (tt, every_one xs)
 
 any_filtered : {A : Type 0} (p q r : A → Bool) (xs : List A) → ((x : A) → q x ≡ true → p x ≡ true) → ((x : A) → q x ≡ true → r x ≡ true) → list_any q xs ≡ true → list_any r (filter p xs) ≡ true
-any_filtered p q r [] passes told any = any
-any_filtered p q r (x ∷ xs) passes told any =
+any_filtered p q r [] passes report any = any
+any_filtered p q r (x ∷ xs) passes report any =
     elim (by_test (q x)) [
-      | inl is ↦ rw (passes x is) (rw (told x is) refl)
-      | inr not ↦ (let rest : list_any r (filter p xs) ≡ true = any_filtered p q r xs passes told (rw not at any) in
+      | inl is ↦ rw (passes x is) (rw (report x is) refl)
+      | inr not ↦ (let rest : list_any r (filter p xs) ≡ true = any_filtered p q r xs passes report (rw not at any) in
           elim (by_test (p x)) [
             | inl yet ↦ rw yet (elim (by_test (r x)) [ inl so ↦ rw so refl | inr nor ↦ rw nor rest ])
             | inr nor ↦ rw nor rest
@@ -229,8 +229,8 @@ some_by_mine None some = absurd (omega (arith, some))
 some_by_mine (Some tally) some = refl
 
 -- each tally is the one that is found
-all_told : (ts : List Tally) → IsRising tally_key ts → AllByRecursion (λ tally. tally_in ts tally.member tally.item ≡ tally.best) ts
-all_told ts rising = every_by_places (λ tally. tally_in ts tally.member tally.item ≡ tally.best) ts (λ k d lt. ap tally_best (there_found tally_key ts k d rising lt))
+all_reported : (ts : List Tally) → IsRising tally_key ts → AllByRecursion (λ tally. tally_in ts tally.member tally.item ≡ tally.best) ts
+all_reported ts rising = every_by_places (λ tally. tally_in ts tally.member tally.item ≡ tally.best) ts (λ k d lt. ap tally_best (there_found tally_key ts k d rising lt))
 
 -- the items of a member's tallies rise
 numbers_rise : (member least : ℕ) (ts : List Tally) → AllByRecursion (λ tally. tally.member ≡ member) ts → AllByRecursion (λ tally. least ≤ tally.item) ts → IsRising tally_key ts → AreRisingFrom least (numbers_in ts)
@@ -251,7 +251,7 @@ any_map q f (x ∷ xs) = ap (λ rest. q (f x) || rest) (any_map q f xs)
 
 pub tallies_are : {Z : Type 0} (t : Tables) (bids : List (Vec BidRow Z)) (tallies : List (Vec Tally Z)) (member : ℕ) → AreTallied bids tallies → t.bids ≡ rows_of bids → AreTallies t member (filter (λ tally. tally.member == member) (rows_of tallies))
 tallies_are t bids tallies member are same =
-    let told : (m i : ℕ) → tally_in (rows_of tallies) m i ≡ best_of t m i = λ m i. are.told m i ∙ ap (λ (rows : List BidRow). best_among rows m i) (sym same) in
+    let report : (m i : ℕ) → tally_in (rows_of tallies) m i ≡ best_of t m i = λ m i. are.report m i ∙ ap (λ (rows : List BidRow). best_among rows m i) (sym same) in
     let rising : IsRising tally_key (rows_of tallies) = rows_rise tally_key 0 tallies are.tallies_blocked in
     let mine : AllByRecursion (λ (tally : Tally). tally.member ≡ member) (filter (λ (tally : Tally). tally.member == member) (rows_of tallies)) =
     filtered_as (λ (tally : Tally). Unit {0}) (λ (tally : Tally). tally.member ≡ member) (λ (tally : Tally). tally.member == member) (rows_of tallies) (λ tally one is. grind (arith, nat_tests)) (every_one (rows_of tallies)) in
@@ -260,11 +260,11 @@ tallies_are t bids tallies member are same =
     record {
       of_member = mine;
       rising = numbers_rise member 0 (filter (λ (tally : Tally). tally.member == member) (rows_of tallies)) mine above (rising_filter tally_key (λ (tally : Tally). tally.member == member) (rows_of tallies) rising);
-      told = filtered_as (λ (tally : Tally). tally_in (rows_of tallies) tally.member tally.item ≡ tally.best) (λ (tally : Tally). tally.best ≡ best_of t member tally.item) (λ (tally : Tally). tally.member == member) (rows_of tallies)
+      report = filtered_as (λ (tally : Tally). tally_in (rows_of tallies) tally.member tally.item ≡ tally.best) (λ (tally : Tally). tally.best ≡ best_of t member tally.item) (λ (tally : Tally). tally.member == member) (rows_of tallies)
           (λ tally found is. let m : tally.member ≡ member = grind (arith, nat_tests) in
-          sym found ∙ told tally.member tally.item ∙ ap (λ (n : ℕ). best_of t n tally.item) m) (all_told (rows_of tallies) rising);
+          sym found ∙ report tally.member tally.item ∙ ap (λ (n : ℕ). best_of t n tally.item) m) (all_reported (rows_of tallies) rising);
       complete = λ item some.
-          let count : (tally_in (rows_of tallies) member item).mine ≡ (best_of t member item).mine = ap (λ (b : OwnBest). b.mine) (told member item) in
+          let count : (tally_in (rows_of tallies) member item).mine ≡ (best_of t member item).mine = ap (λ (b : OwnBest). b.mine) (report member item) in
           let some_there : 0 < (tally_in (rows_of tallies) member item).mine = omega (arith, count, some) in
           any_map (λ n. n == item) (λ (tally : Tally). tally.item) (filter (λ (tally : Tally). tally.member == member) (rows_of tallies))
           ∙ any_filtered (λ (tally : Tally). tally.member == member) (is_tally member item) (λ (tally : Tally). tally.item == item) (rows_of tallies) (λ tally is. grind (arith, nat_tests)) (λ tally is. grind (arith, nat_tests))

@@ -38,15 +38,15 @@ tally_best (Some tally) = tally.best
 abbrev pub is_tally : ℕ → ℕ → Tally → Bool
 is_tally member item tally = same_key (tally_key tally) (pair_key member item)
 
--- what the tallies tell of a member and an item
+-- what the tallies say of a member and an item
 abbrev pub tally_in : List Tally → ℕ → ℕ → OwnBest
 tally_in tallies member item = tally_best (find (is_tally member item) tallies)
 
--- bids in blocks by item, tallies in blocks by member, and the tallies tell what the bids say
+-- bids in blocks by item, tallies in blocks by member, and the tallies say what the bids say
 pub record AreTallied {Z : Type 0} (bids : List (Vec BidRow Z)) (tallies : List (Vec Tally Z)) : Type 0 where
   pub bids_blocked : IsBlocked bid_key bids
   pub tallies_blocked : IsBlocked tally_key tallies
-  pub told : (member item : ℕ) → tally_in (rows_of tallies) member item ≡ best_among (rows_of bids) member item
+  pub report : (member item : ℕ) → tally_in (rows_of tallies) member item ≡ best_among (rows_of bids) member item
 
 -- the items of tallies
 abbrev pub numbers_in : List Tally → List ℕ
@@ -57,9 +57,10 @@ abbrev pub AreRisingFrom : ℕ → List ℕ → Type 0
 AreRisingFrom least [] = Unit {0}
 AreRisingFrom least (n ∷ ns) = (least ≤ n) × AreRisingFrom (n + 1) ns
 
--- a member's tallies, by item: each tells what it has bid there, and each item on which it has bid has one. A tally may tell of no bid
+-- a member's tallies, by item: each says what it has bid there, and each item on which it has bid
+-- has one. A tally may be of no bid
 pub record AreTallies (t : Tables) (member : ℕ) (tallies : List Tally) : Type 0 where
   pub of_member : AllByRecursion (λ tally. tally.member ≡ member) tallies
   pub rising : AreRisingFrom 0 (numbers_in tallies)
-  pub told : AllByRecursion (λ tally. tally.best ≡ best_of t member tally.item) tallies
+  pub report : AllByRecursion (λ tally. tally.best ≡ best_of t member tally.item) tallies
   pub complete : (item : ℕ) → 0 < (best_of t member item).mine → list_any (λ n. n == item) (numbers_in tallies) ≡ true

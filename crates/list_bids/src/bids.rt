@@ -17,7 +17,7 @@ use std::alloc::Global;
 use std::marker::Model;
 
 /// All bids. Clauses see the list of them, by item and number.
-#[derive(Debug, Drop)]
+#[derive(Drop)]
 pub struct Bids {
     // In blocks by item.
     bids: Vec<Vec<BidEntry>>,
@@ -53,7 +53,7 @@ impl Bids {
     pub fn best(&self, member: u64, item: u64) -> OwnBest
         ensures { (t : Tables) → t.bids ≡ self.now → result ≡ best_of t member item }
     {
-        places::told(&self.tallies, member, item)
+        places::best_at(&self.tallies, member, item)
     }
 
     /// A bid was placed.
@@ -65,7 +65,7 @@ impl Bids {
         places::place(alloc, &mut self.bids, &mut self.tallies, item, bid)
     }
 
-    /// A member's tallies, by item: one for each item on which it has bid. A tally may tell of no
+    /// A member's tallies, by item: one for each item on which it has bid. A tally may be of no
     /// bid.
     pub fn tallies_of(&self, member: u64) -> &[Tally]
         ensures { (t : Tables) → t.bids ≡ self.now → AreTallies t member result.now }

@@ -3,7 +3,7 @@
 //! Promised: a `Bids` is the plain list of all bids, by item and number; a bid is placed whole or
 //! not at all. Read `bids`.
 //!
-//! What a member has bid is told without a look at others' bids, which no clause says.
+//! What a member has bid is answered without a look at others' bids, which no clause says.
 #![tactic(auto)]
 
 mod bids;

@@ -15,8 +15,8 @@ use list_rows::{BidEntry, RowKey, put, row, update};
 use proxy::Bid;
 use std::alloc::Global;
 
-/// What the tallies tell of a member and an item.
-pub(crate) fn told(tallies: &[Vec<Tally>], member: u64, item: u64) -> OwnBest
+/// What the tallies say of a member and an item.
+pub(crate) fn best_at(tallies: &[Vec<Tally>], member: u64, item: u64) -> OwnBest
     requires { IsBlocked tally_key tallies.now }
     ensures { result ≡ tally_in (rows_of tallies.now) member item }
 {
@@ -59,7 +59,10 @@ pub(crate) fn place(
     let Ok(()) = open(alloc, tallies, member, item) else {
         return Err(KeepFault::Memory);
     };
-    let best = better(told(tallies, u64::from(member), u64::from(item)), maximum);
+    let best = better(
+        best_at(tallies, u64::from(member), u64::from(item)),
+        maximum,
+    );
     let Ok(()) = put(alloc, bids, BidEntry { item, bid }) else {
         return Err(KeepFault::Memory);
     };
@@ -88,7 +91,7 @@ fn better(best: OwnBest, maximum: Cents) -> OwnBest
 }
 
 // Whether there is a tally of a member and an item.
-fn is_told(tallies: &[Vec<Tally>], member: u64, item: u64) -> bool
+fn is_reported(tallies: &[Vec<Tally>], member: u64, item: u64) -> bool
     requires { IsBlocked tally_key tallies.now }
     ensures { result ≡ is_some (find (is_tally member item) (rows_of tallies.now)) }
 {
@@ -108,7 +111,7 @@ fn open(
     ensures there { OnOk result (is_some (find (is_tally member item) (rows_of tallies.new.items)) ≡ true) }
     ensures memory { IfErr result (λ e. e ≡ fault.Memory) }
 {
-    if is_told(tallies, u64::from(member), u64::from(item)) {
+    if is_reported(tallies, u64::from(member), u64::from(item)) {
         return Ok(());
     }
     let best = none();

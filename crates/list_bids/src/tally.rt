@@ -5,7 +5,7 @@ use house_rows::OwnBest;
 use list_rows::{Changes, Keyed, RowKey};
 
 /// What a member has bid on an item: a row of the tallies.
-#[derive(Clone, Copy, Debug)]
+#[derive(Clone, Copy)]
 pub struct Tally {
     /// The number of the member.
     pub member: u32,

@@ -24,7 +24,7 @@ pub among_last : (ks : List ℕ) (k : ℕ) → is_among (ks ++ k ∷ []) k ≡ t
 among_last [] k = or_left (k == k) false (is_number k k refl)
 among_last (i ∷ ks) k = or_right (i == k) (is_among (ks ++ k ∷ []) k) (among_last ks k)
 
--- what is among the numbers stands somewhere
+-- what is among the numbers is at some place
 pub among_there : (ks : List ℕ) (n : ℕ) → is_among ks n ≡ true → Contains ks n
 among_there ks n among =
     let any = Any-from_list_any (λ k. k == n) ks among in

@@ -29,71 +29,71 @@ pub rows_less : {A : Type 0} (number : A → ℕ) (ks : List ℕ) (i k : ℕ) (r
 rows_less number ks i k rows lt at' none =
     ap (λ js. rows_at number js rows) (take_more ks i 0 lt ∙ ap (λ j. take i ks ++ j ∷ []) (sym at')) ∙ filter_map-append (λ j. find (λ row. number row == j) rows) (take i ks) (k ∷ []) ∙ rw none (append-nil (rows_at number (take i ks) rows))
 
--- what is told of the rows of some numbers, where it passes
+-- what is reported of the rows of some numbers, where it passes
 abbrev pub passed_at : {A B : Type 0} → (A → B) → (B → Bool) → (A → ℕ) → List A → List ℕ → List B
-passed_at told test number rows ks = filter test (map told (rows_at number ks rows))
+passed_at report test number rows ks = filter test (map report (rows_at number ks rows))
 
-told_of : {A B : Type 0} (told : A → B) (o : Option A) (y : B) → Some y ≡ option_map told o → (x : A) × (o ≡ Some x) × (told x ≡ y)
-told_of told None y some = absurd (nothing y some) where
+report_of : {A B : Type 0} (report : A → B) (o : Option A) (y : B) → Some y ≡ option_map report o → (x : A) × (o ≡ Some x) × (report x ≡ y)
+report_of report None y some = absurd (nothing y some) where
   nothing : {B : Type 0} (y : B) → Some y ≡ None → ⊥
   nothing y e = cc
-told_of told (Some x) y some = (x, refl, one (told x) y some) where
+report_of report (Some x) y some = (x, refl, one (report x) y some) where
   one : {B : Type 0} (x y : B) → Some y ≡ Some x → x ≡ y
   one x y e = cc
 
-not_told : {A B : Type 0} (told : A → B) (o : Option A) → None ≡ option_map told o → o ≡ None
-not_told told None none = refl
-not_told told (Some x) none = absurd (nothing (told x) none) where
+not_reported : {A B : Type 0} (report : A → B) (o : Option A) → None ≡ option_map report o → o ≡ None
+not_reported report None none = refl
+not_reported report (Some x) none = absurd (nothing (report x) none) where
   nothing : {B : Type 0} (y : B) → None ≡ Some y → ⊥
   nothing y e = cc
 
 -- a number's row passes, doesn't pass, or isn't there
-pub passed_more : {A B : Type 0} (told : A → B) (test : B → Bool) (number : A → ℕ) (rows : List A) (ks : List ℕ) (i k : ℕ) (y : B) → i < length ks → k ≡ get_or ks i 0 → Some y ≡ option_map told (find (λ row. number row == k) rows) → test y ≡ true
-    → passed_at told test number rows (take (i + 1) ks) ≡ passed_at told test number rows (take i ks) ++ y ∷ []
-passed_more told test number rows ks i k y lt at' some passes =
-    let there = told_of told (find (λ row. number row == k) rows) y some in
-    ap (λ js. filter test (map told js)) (rows_more number ks i k rows there.0 lt at' there.1) ∙ ap (filter test) (map-append told (rows_at number (take i ks) rows) (there.0 ∷ []))
-    ∙ filter-append test (map told (rows_at number (take i ks) rows)) (told there.0 ∷ []) ∙ rw (there.2, passes) refl
+pub passed_more : {A B : Type 0} (report : A → B) (test : B → Bool) (number : A → ℕ) (rows : List A) (ks : List ℕ) (i k : ℕ) (y : B) → i < length ks → k ≡ get_or ks i 0 → Some y ≡ option_map report (find (λ row. number row == k) rows) → test y ≡ true
+    → passed_at report test number rows (take (i + 1) ks) ≡ passed_at report test number rows (take i ks) ++ y ∷ []
+passed_more report test number rows ks i k y lt at' some passes =
+    let there = report_of report (find (λ row. number row == k) rows) y some in
+    ap (λ js. filter test (map report js)) (rows_more number ks i k rows there.0 lt at' there.1) ∙ ap (filter test) (map-append report (rows_at number (take i ks) rows) (there.0 ∷ []))
+    ∙ filter-append test (map report (rows_at number (take i ks) rows)) (report there.0 ∷ []) ∙ rw (there.2, passes) refl
 
-pub passed_less : {A B : Type 0} (told : A → B) (test : B → Bool) (number : A → ℕ) (rows : List A) (ks : List ℕ) (i k : ℕ) (y : B) → i < length ks → k ≡ get_or ks i 0 → Some y ≡ option_map told (find (λ row. number row == k) rows) → test y ≡ false
-    → passed_at told test number rows (take (i + 1) ks) ≡ passed_at told test number rows (take i ks)
-passed_less told test number rows ks i k y lt at' some fails =
-    let there = told_of told (find (λ row. number row == k) rows) y some in
-    ap (λ js. filter test (map told js)) (rows_more number ks i k rows there.0 lt at' there.1) ∙ ap (filter test) (map-append told (rows_at number (take i ks) rows) (there.0 ∷ []))
-    ∙ filter-append test (map told (rows_at number (take i ks) rows)) (told there.0 ∷ []) ∙ rw (there.2, fails) (append-nil (passed_at told test number rows (take i ks)))
+pub passed_less : {A B : Type 0} (report : A → B) (test : B → Bool) (number : A → ℕ) (rows : List A) (ks : List ℕ) (i k : ℕ) (y : B) → i < length ks → k ≡ get_or ks i 0 → Some y ≡ option_map report (find (λ row. number row == k) rows) → test y ≡ false
+    → passed_at report test number rows (take (i + 1) ks) ≡ passed_at report test number rows (take i ks)
+passed_less report test number rows ks i k y lt at' some fails =
+    let there = report_of report (find (λ row. number row == k) rows) y some in
+    ap (λ js. filter test (map report js)) (rows_more number ks i k rows there.0 lt at' there.1) ∙ ap (filter test) (map-append report (rows_at number (take i ks) rows) (there.0 ∷ []))
+    ∙ filter-append test (map report (rows_at number (take i ks) rows)) (report there.0 ∷ []) ∙ rw (there.2, fails) (append-nil (passed_at report test number rows (take i ks)))
 
-pub passed_none : {A B : Type 0} (told : A → B) (test : B → Bool) (number : A → ℕ) (rows : List A) (ks : List ℕ) (i k : ℕ) → i < length ks → k ≡ get_or ks i 0 → None ≡ option_map told (find (λ row. number row == k) rows)
-    → passed_at told test number rows (take (i + 1) ks) ≡ passed_at told test number rows (take i ks)
-passed_none told test number rows ks i k lt at' none =
-    ap (λ js. filter test (map told js)) (rows_less number ks i k rows lt at' (not_told told (find (λ row. number row == k) rows) none))
+pub passed_none : {A B : Type 0} (report : A → B) (test : B → Bool) (number : A → ℕ) (rows : List A) (ks : List ℕ) (i k : ℕ) → i < length ks → k ≡ get_or ks i 0 → None ≡ option_map report (find (λ row. number row == k) rows)
+    → passed_at report test number rows (take (i + 1) ks) ≡ passed_at report test number rows (take i ks)
+passed_none report test number rows ks i k lt at' none =
+    ap (λ js. filter test (map report js)) (rows_less number ks i k rows lt at' (not_reported report (find (λ row. number row == k) rows) none))
 
 -- a page with room takes one more
 pub page_more : {B : Type 0} (most : ℕ) (front next found : List B) (y : B) → found ≡ take most front → next ≡ front ++ y ∷ [] → length found < most → found ++ y ∷ [] ≡ take most next
 page_more most front next found y is more room =
     ap (λ ys. ys ++ y ∷ []) is ∙ sym (front_more most front y (rw is at room)) ∙ ap (take most) (sym more)
 
-filter_told : {A B : Type 0} (told : A → B) (test : B → Bool) (xs : List A) → filter test (map told xs) ≡ map told (filter (λ x. test (told x)) xs)
-filter_told told test [] = refl
-filter_told told test (x ∷ xs) = elim (by_test (test (told x))) [ inl is ↦ rw is (ap (λ rest. told x ∷ rest) (filter_told told test xs)) | inr not ↦ rw not (filter_told told test xs) ]
+filter_reported : {A B : Type 0} (report : A → B) (test : B → Bool) (xs : List A) → filter test (map report xs) ≡ map report (filter (λ x. test (report x)) xs)
+filter_reported report test [] = refl
+filter_reported report test (x ∷ xs) = elim (by_test (test (report x))) [ inl is ↦ rw is (ap (λ rest. report x ∷ rest) (filter_reported report test xs)) | inr not ↦ rw not (filter_reported report test xs) ]
 
 -- at the end the page has what a search of all rows would have
-pub passed_all : {A B : Type 0} (told : A → B) (test : B → Bool) (number : A → ℕ) (rows : List A) (ks : List ℕ) → AreInTurn number 1 rows → IsRisingFrom 0 ks → HasAll number (λ row. test (told row)) ks rows
-    → passed_at told test number rows ks ≡ filter test (map told rows)
-passed_all told test number rows ks are rising has =
-    filter_told told test (rows_at number ks rows) ∙ ap (map told) (sym (joined number (λ row. test (told row)) rows ks are rising has)) ∙ sym (filter_told told test rows)
+pub passed_all : {A B : Type 0} (report : A → B) (test : B → Bool) (number : A → ℕ) (rows : List A) (ks : List ℕ) → AreInTurn number 1 rows → IsRisingFrom 0 ks → HasAll number (λ row. test (report row)) ks rows
+    → passed_at report test number rows ks ≡ filter test (map report rows)
+passed_all report test number rows ks are rising has =
+    filter_reported report test (rows_at number ks rows) ∙ ap (map report) (sym (joined number (λ row. test (report row)) rows ks are rising has)) ∙ sym (filter_reported report test rows)
 
 -- a full page is the front of what all the numbers give
-pub page_full : {A B : Type 0} (told : A → B) (test : B → Bool) (number : A → ℕ) (rows : List A) (ks : List ℕ) (i most : ℕ) (found : List B) → found ≡ take most (passed_at told test number rows (take i ks)) → most ≤ length found
-    → found ≡ take most (passed_at told test number rows ks)
-page_full told test number rows ks i most found is full =
-    let front = passed_at told test number rows (take i ks) in
+pub page_full : {A B : Type 0} (report : A → B) (test : B → Bool) (number : A → ℕ) (rows : List A) (ks : List ℕ) (i most : ℕ) (found : List B) → found ≡ take most (passed_at report test number rows (take i ks)) → most ≤ length found
+    → found ≡ take most (passed_at report test number rows ks)
+page_full report test number rows ks i most found is full =
+    let front = passed_at report test number rows (take i ks) in
     let long : most ≤ length front = (let l = length-take most front in let f : length found ≡ length (take most front) = ap length is in omega arith) in
-    let split : passed_at told test number rows ks ≡ front ++ passed_at told test number rows (drop i ks) =
-    ap (passed_at told test number rows) (sym (take-append-drop i ks))
-    ∙ ap (λ js. filter test (map told js)) (filter_map-append (λ j. find (λ row. number row == j) rows) (take i ks) (drop i ks))
-    ∙ ap (filter test) (map-append told (rows_at number (take i ks) rows) (rows_at number (drop i ks) rows))
-    ∙ filter-append test (map told (rows_at number (take i ks) rows)) (map told (rows_at number (drop i ks) rows)) in
-    is ∙ sym (take-append-le most front (passed_at told test number rows (drop i ks)) long) ∙ ap (take most) (sym split)
+    let split : passed_at report test number rows ks ≡ front ++ passed_at report test number rows (drop i ks) =
+    ap (passed_at report test number rows) (sym (take-append-drop i ks))
+    ∙ ap (λ js. filter test (map report js)) (filter_map-append (λ j. find (λ row. number row == j) rows) (take i ks) (drop i ks))
+    ∙ ap (filter test) (map-append report (rows_at number (take i ks) rows) (rows_at number (drop i ks) rows))
+    ∙ filter-append test (map report (rows_at number (take i ks) rows)) (map report (rows_at number (drop i ks) rows)) in
+    is ∙ sym (take-append-le most front (passed_at report test number rows (drop i ks)) long) ∙ ap (take most) (sym split)
 
 -- sales, from number to number
 abbrev pub sold_at : ℕ → List ItemRow → List ℕ → List Sold
@@ -134,24 +134,24 @@ sold_kept member (row ∷ rows) =
       | inr unsold ↦ rw unsold (sold_kept member rows)
     ]
 
--- they are those that pages tell
-sold_told : (member : ℕ) (rows : List ItemRow) → filter_map (λ (row : ItemRow). sale_with member (sale_if_sold row.item.terms)) rows ≡ filter (is_party member) (sales_in (map (λ (row : ItemRow). row.item) rows))
-sold_told member [] = refl
-sold_told member (row ∷ rows) =
+-- they are those that pages give
+sold_reported : (member : ℕ) (rows : List ItemRow) → filter_map (λ (row : ItemRow). sale_with member (sale_if_sold row.item.terms)) rows ≡ filter (is_party member) (sales_in (map (λ (row : ItemRow). row.item) rows))
+sold_reported member [] = refl
+sold_reported member (row ∷ rows) =
     let sale : Sold = record { item = row.item.terms.item; seller = row.item.terms.seller; buyer = unwrap_or row.item.terms.leader 0; closed = unwrap_or row.item.terms.closed 0; price = row.item.terms.price } in
     elim (by_test (was_sold row.item.terms.state)) [
       | inl sold ↦ elim (by_test (is_party member sale)) [
-        | inl party ↦ rw (sold, party) (ap (λ rest. sale ∷ rest) (sold_told member rows))
-        | inr other ↦ rw (sold, other) (sold_told member rows)
+        | inl party ↦ rw (sold, party) (ap (λ rest. sale ∷ rest) (sold_reported member rows))
+        | inr other ↦ rw (sold, other) (sold_reported member rows)
       ]
-      | inr unsold ↦ rw unsold (sold_told member rows)
+      | inr unsold ↦ rw unsold (sold_reported member rows)
     ]
 
 pub sold_all : (member : ℕ) (t : Tables) (rows : List ItemRow) (ks : List ℕ) → t.items ≡ rows → AreInTurn number_of 1 rows → IsRisingFrom 0 ks → HasAll number_of (is_sold_with member) ks rows → sold_at member rows ks ≡ sales_to t member
 sold_all member t rows ks same are rising has =
     sold_kept member (rows_at number_of ks rows)
     ∙ ap (filter_map (λ (row : ItemRow). sale_with member (sale_if_sold row.item.terms))) (sym (joined number_of (is_sold_with member) rows ks are rising has))
-    ∙ sym (sold_kept member rows) ∙ sold_told member rows ∙ ap (λ rs. filter (is_party member) (sales_in (map (λ (row : ItemRow). row.item) rs))) (sym same)
+    ∙ sym (sold_kept member rows) ∙ sold_reported member rows ∙ ap (λ rs. filter (is_party member) (sales_in (map (λ (row : ItemRow). row.item) rs))) (sym same)
 
 -- rising numbers are at least the least
 rising_least : (least : ℕ) (ks : List ℕ) (j d : ℕ) → IsRisingFrom least ks → j < length ks → least ≤ get_or ks j d

@@ -1,5 +1,5 @@
--- Rows with numbers in turn: the row of a number stands at its place, and a rising list of numbers that has every row that
--- passes a test gives those rows in order.
+-- Rows with numbers in turn: the row of a number is at its place, and a rising list of numbers that
+-- has every row that passes a test gives those rows in order.
 use Rattle.std.proofs.Common.{◌≡◌, ◌≢◌, ℕ, suc, zero, ◌+◌, ◌≤◌, ◌<◌, List, [], ◌∷◌, filter, Bool, true, false, refl, ◌∙◌, ap, arith, inl, inr, None}
 use Rattle.std.specs.Prelude.{◌==◌, find, slice_get, nat_lt}
 use Rattle.std.proofs.lemmas.Bool.Decides.{nat_tests}
@@ -31,7 +31,7 @@ none_below number next (x ∷ xs) k are lt =
     let apart : (number x == k) ≡ false = other_number (number x) k (let ne : number x ≢ k = omega arith in ne) in
     rw apart (none_below number (next + 1) xs k are.1 (omega arith))
 
--- the row of a number stands at its place
+-- the row of a number is at its place
 pub found_at : {A : Type 0} (number : A → ℕ) (next : ℕ) (rows : List A) (place : ℕ) → AreInTurn number next rows → find (has_number number (next + place)) rows ≡ slice_get rows place
 found_at number next [] place are = refl
 found_at number next (x ∷ xs) zero are = rw (is_number (number x) (next + 0) (let first : number x ≡ next = are.0 in omega arith)) refl

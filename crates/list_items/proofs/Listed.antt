@@ -19,21 +19,21 @@ use Rattle.list_items.proofs.Joined.{both_ways, is_number}
 use Rattle.list_items.proofs.Known.{ends_added, lot_added, row_added}
 use Rattle.list_items.proofs.ByLot.{has_lot}
 
-none_told : {A B : Type 0} (f : A → B) (o : Option A) → is_some (option_map f o) ≡ false → o ≡ None
-none_told f None none = refl
-none_told f (Some x) none = absurd (let e : true ≡ false = none in cc)
+none_reported : {A B : Type 0} (f : A → B) (o : Option A) → is_some (option_map f o) ≡ false → o ≡ None
+none_reported f None none = refl
+none_reported f (Some x) none = absurd (let e : true ≡ false = none in cc)
 
 -- a lot that a look-up doesn't find is free
-pub lot_untold : (rows : List ItemRow) (seller s : ℕ) (lot : List ℕ) (r : Option ℕ) (b : Bool) → s ≡ seller → r ≡ option_map number_of (find (has_lot s lot) rows) → b ≡ is_some r → b ≡ false
+pub lot_unreported : (rows : List ItemRow) (seller s : ℕ) (lot : List ℕ) (r : Option ℕ) (b : Bool) → s ≡ seller → r ≡ option_map number_of (find (has_lot s lot) rows) → b ≡ is_some r → b ≡ false
     → option_map number_of (find (has_lot seller lot) rows) ≡ None
-lot_untold rows seller s lot r b is found some none = rw (← is) (sym found ∙ nothing r (sym some ∙ none)) where
+lot_unreported rows seller s lot r b is found some none = rw (← is) (sym found ∙ nothing r (sym some ∙ none)) where
   nothing : (o : Option ℕ) → is_some o ≡ false → o ≡ None
   nothing None none = refl
   nothing (Some n) none = absurd (let e : true ≡ false = none in cc)
 
 pub lot_free : (rows : List ItemRow) (seller s : ℕ) (lot : List ℕ) (r : Option ℕ) (b : Bool) → s ≡ seller → r ≡ option_map number_of (find (has_lot s lot) rows) → b ≡ is_some r → b ≡ false → find (has_lot seller lot) rows ≡ None
 lot_free rows seller s lot r b is found some none =
-    none_told number_of (find (has_lot seller lot) rows) (ap is_some (lot_untold rows seller s lot r b is found some none))
+    none_reported number_of (find (has_lot seller lot) rows) (ap is_some (lot_unreported rows seller s lot r b is found some none))
 
 -- and one that it finds is taken
 pub lot_taken : (rows : List ItemRow) (seller s : ℕ) (lot : List ℕ) (r : Option ℕ) (b : Bool) → s ≡ seller → r ≡ option_map number_of (find (has_lot s lot) rows) → b ≡ is_some r → b ≡ true
@@ -51,7 +51,7 @@ cond_stays : (b old new : Bool) → new ≡ cond b true old → old ≡ true →
 cond_stays true old new made was = made
 cond_stays false old new made was = made ∙ was
 
--- what stood among the ends stays there
+-- what was among the ends stays there
 pub ends_stay : (old new : BTreeSet (ℕ × ℕ)) (key : ℕ × ℕ) → set.Updates (λ x y. ordering_then (nat_cmp x.0 y.0) (nat_cmp x.1 y.1)) old new key true → (e n : ℕ) → has_end old e n ≡ true → has_end new e n ≡ true
 ends_stay old new key updates e n was = cond_stays _ (has_end old e n) (has_end new e n) (updates.0 (e, n)) was
 

@@ -33,7 +33,7 @@ changed_at number f next (suc place) (x ∷ xs) d are same lt =
     let e : next + suc place ≡ (next + 1) + place = omega arith in
     rw (same x (let ne : number x ≢ next + suc place = omega arith in ne)) (ap (λ rest. x ∷ rest) (changed_at number f (next + 1) place xs d are.1 (rw e at same) (let long : length (x ∷ xs) ≡ length xs + 1 = omega arith in omega arith)))
 
--- the row of a number, changed where it stands
+-- the row of a number, changed where it is
 pub placed : {A : Type 0} (number : A → ℕ) (f : A → A) (rows : List A) (place i : ℕ) (row new : A) → AreInTurn number 1 rows → ((x : A) → number x ≢ i → f x ≡ x) → place < length rows → place + 1 ≡ i
     → row ≡ get_or rows place row → new ≡ f row → set rows place new ≡ map f rows
 placed number f rows place i row new are same lt here at' made =

@@ -62,11 +62,11 @@ made_kept {A = A} {B = B} make (x ∷ xs) = by_made (make x) refl (made_kept mak
   by_made None is rest = rw is rest
   by_made (Some y) is rest = rw is (rw is (ap (λ more. y ∷ more) rest))
 
--- they are those that pages tell
-reserves_told : (member from : ℕ) (rows : List ItemRow)
+-- they are those that pages give
+reserves_reported : (member from : ℕ) (rows : List ItemRow)
     → filter_map (reserve_with member from) rows ≡ filter (λ r. nat_le from r.item) (reserves_in (filter (λ row. row.item.terms.seller == member) rows))
-reserves_told member from [] = refl
-reserves_told member from (row ∷ rows) = by_reserve row.standing.reserve refl (reserves_told member from rows) where
+reserves_reported member from [] = refl
+reserves_reported member from (row ∷ rows) = by_reserve row.standing.reserve refl (reserves_reported member from rows) where
   by_reserve : (o : Option ℕ) → row.standing.reserve ≡ o
       → filter_map (reserve_with member from) rows ≡ filter (λ r. nat_le from r.item) (reserves_in (filter (λ row. row.item.terms.seller == member) rows))
       → filter_map (reserve_with member from) (row ∷ rows) ≡ filter (λ r. nat_le from r.item) (reserves_in (filter (λ row. row.item.terms.seller == member) (row ∷ rows)))
@@ -115,5 +115,5 @@ reserves_all t rows sold_by member from same are rising has =
     ap (take most_shown) (
     made_kept make (rows_at number_of ks rows)
     ∙ ap (filter_map make) (sym (joined number_of (λ row. is_some (make row)) rows ks are (rising_filter (nat_le from) 0 (sold_by member) rising) (own_has rows sold_by member from has)))
-    ∙ sym (made_kept make rows) ∙ reserves_told member from rows)
+    ∙ sym (made_kept make rows) ∙ reserves_reported member from rows)
     ∙ ap (λ rs. take most_shown (filter (λ r. nat_le from r.item) (reserves_in (filter (λ row. row.item.terms.seller == member) rs)))) (sym same)

@@ -16,15 +16,15 @@ numbers_at {Z} groups shared = option_map_or (λ (numbers : Vec ℕ Z). numbers.
 abbrev pub has_room : {Z : Type 0} → BTreeMap ℕ (Vec ℕ Z) → ℕ → Bool
 has_room {Z} groups shared = option_map_or (λ (numbers : Vec ℕ Z). nat_lt (vec_len numbers) (vec_capacity numbers)) (tree.get nat_cmp groups shared) false
 
--- the number that stands at a lot, among the lots of a seller
+-- the number that is at a lot, among the lots of a seller
 abbrev pub number_of_lot : {Z : Type 0} → Option (BTreeMap (String Z) ℕ) → List ℕ → Option ℕ
 number_of_lot None lot = None
 number_of_lot (Some lots) lot = get_by_text lots lot
 
--- the number that stands at a seller's lot
+-- the number that is at a seller's lot
 abbrev pub number_at : {Z : Type 0} → BTreeMap ℕ (BTreeMap (String Z) ℕ) → ℕ → List ℕ → Option ℕ
 number_at {Z} sellers seller lot = number_of_lot {Z = Z} (tree.get nat_cmp sellers seller) lot
 
--- whether an end and a number stand among the ends
+-- whether an end and a number are among the ends
 abbrev pub has_end : BTreeSet (ℕ × ℕ) → ℕ → ℕ → Bool
 has_end ends end number = set.contains (λ x y. ordering_then (nat_cmp x.0 y.0) (nat_cmp x.1 y.1)) ends (end, number)

@@ -16,7 +16,7 @@ category_of row = row.item.terms.category
 abbrev pub seller_of : ItemRow → ℕ
 seller_of row = row.item.terms.seller
 
--- the numbers that stand with what items share are those of items, rise, and have every item
+-- the numbers that lie with what items share are those of items, rise, and have every item
 pub record AreGrouped (shared : ItemRow → ℕ) (numbers : ℕ → List ℕ) (rows : List ItemRow) : Type 0 where
   pub rising : (k : ℕ) → IsRising (numbers k)
   pub within : (k : ℕ) → AllByRecursion (λ n. n ≤ length rows) (numbers k)
@@ -26,8 +26,8 @@ pub record AreGrouped (shared : ItemRow → ℕ) (numbers : ℕ → List ℕ) (r
 abbrev pub IsNoted : (ℕ → List ℕ) → ItemRow → Type 0
 IsNoted bought_by row = (m : ℕ) → is_leader row.item.terms.leader m ≡ true → (is_leader row.standing.leader m || is_among (bought_by m) (number_of row)) ≡ true
 
--- the number that stands at a seller's lot, the numbers of a category, of a seller and of a buyer, and whether an end and a
--- number stand among the ends
+-- the number that is at a seller's lot, the numbers of a category, of a seller and of a buyer, and
+-- whether an end and a number are among the ends
 pub record IsIndexed (rows : List ItemRow) (at_lot : ℕ → List ℕ → Option ℕ) (in_category sold_by bought_by : ℕ → List ℕ) (ends_at : ℕ → ℕ → Bool) : Type 0 where
   pub in_turn : AreInTurn number_of 1 rows
   pub lots : AllByRecursion (λ row. at_lot row.item.terms.seller row.item.lot ≡ Some (number_of row)) rows

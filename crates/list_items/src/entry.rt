@@ -5,14 +5,14 @@ ghost use Rattle.house_rows.specs.Text.{same_text};
 ghost use Rattle.list_items.specs.Closing.{close_at};
 ghost use Rattle.list_items.specs.Reserves.{reserve_with};
 
-use crate::ending::close_sells;
+use crate::closure::close_sells;
 use cents::Cents;
 use house_rows::{Item, OwnReserve, State};
 use proxy::Standing;
 use std::marker::Model;
 
 /// An item with the standing of its bids, whose maxima are sealed. Clauses see an `ItemRow`.
-#[derive(Debug, Drop)]
+#[derive(Drop)]
 pub struct ItemEntry {
     pub(crate) item: Item,
     pub(crate) standing: Standing,
@@ -57,7 +57,7 @@ impl ItemEntry {
         })
     }
 
-    /// The item of that number stands as its bids now do.
+    /// The standing of the item of that number is now that of its bids.
     pub(crate) fn stand(&mut self, item: u32, standing: Standing)
         ensures { self.new ≡ with_standing item standing self.old }
     {
@@ -65,7 +65,7 @@ impl ItemEntry {
             self.item.terms.price = standing.price();
             self.item.terms.leader = standing.leader();
             self.item.terms.count = standing.count();
-            self.item.terms.met = standing.met();
+            self.item.terms.met = standing.is_reserve_met();
             self.standing = standing;
         }
     }

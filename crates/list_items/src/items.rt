@@ -3,7 +3,7 @@ ghost use Rattle.std.specs.Prelude.{◌≡◌, ◌<◌, ◌+◌, ◌++◌, ◌�
 ghost use Rattle.std.specs.List.{AllByRecursion};
 ghost use Rattle.std.specs.Option.{option_copied, option_map_or};
 ghost use Rattle.house_rows.specs.Changed.{is_item, new_item, with_close, with_purchase, with_settlement, with_standing};
-ghost use Rattle.house_rows.specs.Found.{due_at, own_reserves, sales_to, sells};
+ghost use Rattle.house_rows.specs.Found.{auction_of, due_at, own_reserves, sales_to, sells};
 ghost use Rattle.house_rows.specs.History.{counted};
 ghost use Rattle.house_rows.specs.Limits.{most_items, most_shown};
 ghost use Rattle.house_rows.specs.Tables.{ItemRow, Tables};
@@ -19,15 +19,15 @@ ghost use Rattle.list_items.specs.Rising.{HasAll, IsRising, is_among};
 ghost use Rattle.list_items.specs.Sales.{is_sold_with, sale_of_row};
 ghost use Rattle.list_items.specs.Reserves.{reserve_with};
 
-use crate::ending::{close_sells, ended_by, is_due, next_due};
+use crate::closure::{close_sells, ended_by, is_due, next_due};
 use crate::entry::ItemEntry;
 use crate::groups::{add, numbers_of, reserve};
 use crate::listing::new_entry;
 use crate::lots::{add_lot, number_at};
-use crate::numbers::{make_rising, merged, numbers_from};
+use crate::numbers::{make_rising, merge, numbers_from};
 use crate::sale::sale;
 use cents::Cents;
-use house_rows::{Due, Item, KeepFault, MOST_SHOWN, NewItem, OwnReserve, Terms};
+use house_rows::{Auction, Due, Item, KeepFault, MOST_SHOWN, NewItem, OwnReserve, Terms};
 use list_rows::{push, push_copy};
 use proxy::Standing;
 use settle::Sold;
@@ -36,13 +36,13 @@ use std::collections::{BTreeMap, BTreeSet};
 use std::marker::Model;
 
 /// The items by number, with their standings. Clauses see the list of their rows.
-#[derive(Debug, Drop)]
+#[derive(Drop)]
 pub struct Items {
-    // The item of number n stands at place n - 1.
+    // The item of number n is at place n - 1.
     rows: Vec<ItemEntry>,
     // By seller, then by lot.
     lots: BTreeMap<u64, BTreeMap<String, u32>>,
-    // By category, and by seller. An item's number stands once in each.
+    // By category, and by seller. An item's number is once in each.
     categories: BTreeMap<u64, Vec<u32>>,
     sellers: BTreeMap<u64, Vec<u32>>,
     // By the buyer of an item that was bought at once, in the order of the purchases.
@@ -127,6 +127,19 @@ impl Items {
         }
     }
 
+    /// The item of a number without its texts, with the standing of its bids.
+    pub fn auction(&self, number: u64) -> Option<Auction>
+        ensures { result ≡ option_map auction_of (find (is_item number) self.now) }
+    {
+        match self.entry(number) {
+            Some(row) => Some(Auction {
+                terms: row.item.terms,
+                standing: row.standing,
+            }),
+            None => None,
+        }
+    }
+
     /// The number of a seller's item with a lot.
     pub fn number_with_lot(&self, seller: u64, lot: &str) -> Option<u32>
         ensures { result ≡ option_map (λ (row : ItemRow). row.item.terms.item)
@@ -185,7 +198,7 @@ impl Items {
 
     /// Copies of the first items that pass, at most so many, where each that passes has its number
     /// among the numbers.
-    pub fn joined<F: Fn(&Item) -> bool + Drop>(
+    pub fn first_passing<F: Fn(&Item) -> bool + Drop>(
         &self,
         alloc: Global,
         numbers: &[u32],
@@ -228,7 +241,7 @@ impl Items {
         ensures memory { IfErr result (λ e. e ≡ fault.Memory) }
     {
         let numbers = numbers_from(numbers_of(&self.categories, category), from);
-        self.joined(alloc, numbers, MOST_SHOWN, |item| {
+        self.first_passing(alloc, numbers, MOST_SHOWN, |item| {
             u64::from(item.terms.category) == category && from <= u64::from(item.terms.item)
         })
     }
@@ -282,14 +295,14 @@ impl Items {
         bid_on: &[u32],
     ) -> Result<Vec<Sold>, KeepFault>
         requires complete { AllByRecursion (λ row. row.standing.leader ≡ Some member → is_among bid_on.now (number_of row) ≡ true) self.now }
-        // What was sold has a buyer, so that nobody is told of a sale to nobody.
+        // What was sold has a buyer, so that no result has a sale to nobody.
         requires led { AllByRecursion (λ row. was_sold row.item.terms.state ≡ true → is_some row.item.terms.leader ≡ true) self.now }
         ensures value { (t : Tables) → t.items ≡ self.now → IfOk result (λ v. v.items ≡ sales_to t member) }
         ensures memory { IfErr result (λ e. e ≡ fault.Memory) }
     {
         let own = numbers_of(&self.sellers, member);
         let bought = numbers_of(&self.purchases, member);
-        let numbers = merged(alloc, own, bought, bid_on)?;
+        let numbers = merge(alloc, own, bought, bid_on)?;
         self.sales_among(alloc, &numbers, member)
     }
 
@@ -310,7 +323,7 @@ impl Items {
         self.append(alloc, item)
     }
 
-    /// The item of that number stands as its bids now do.
+    /// The standing of the item of that number is now that of its bids.
     pub fn stand(&mut self, item: u32, standing: Standing)
         ensures { self.new ≡ map (with_standing item standing) self.old }
     {
@@ -464,7 +477,7 @@ fn close_row(rows: &mut Vec<ItemEntry>, number: u32, moment: u64)
     row.close_if(number, moment);
 }
 
-// Where the item of a number stands.
+// Where the item of a number is.
 fn place_of(rows: &[ItemEntry], item: u32) -> Option<usize>
     ensures within { IfSome result (λ place. (place < length rows.now) × (place + 1 ≡ item)) }
     ensures none { result ≡ None → (item ≡ 0) ⊎ (length rows.now < item) }

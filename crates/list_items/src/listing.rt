@@ -32,7 +32,7 @@ pub(crate) fn new_entry(
         price: start,
         leader: None,
         count: 0,
-        met: standing.met(),
+        met: standing.is_reserve_met(),
     };
     let lot = text_of(alloc, item.lot)?;
     let title = text_of(alloc, item.title)?;

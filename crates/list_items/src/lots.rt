@@ -9,7 +9,7 @@ use house_rows::KeepFault;
 use std::alloc::Global;
 use std::collections::BTreeMap;
 
-/// The number that stands at a seller's lot.
+/// The number that is at a seller's lot.
 pub(crate) fn number_at(
     sellers: &BTreeMap<u64, BTreeMap<String, u32>>,
     seller: u64,
@@ -23,7 +23,7 @@ pub(crate) fn number_at(
     }
 }
 
-/// A number comes to stand at a seller's lot.
+/// A number comes to be at a seller's lot.
 pub(crate) fn add_lot(
     alloc: Global,
     sellers: &mut BTreeMap<u64, BTreeMap<String, u32>>,

@@ -16,7 +16,7 @@ pub(crate) fn make_rising(numbers: &mut Vec<u32>)
 }
 
 /// The numbers of three lists in rising order, each of them once.
-pub(crate) fn merged(
+pub(crate) fn merge(
     alloc: Global,
     first: &[u32],
     second: &[u32],

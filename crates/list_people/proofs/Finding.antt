@@ -24,7 +24,7 @@ turn_below number next (x ∷ rows) n are lt =
     let other : (number x == n) ≡ false = grind (arith, nat_tests) in
     rw other (turn_below number (next + 1) rows n are.1 (omega arith))
 
--- the row of a number stands as far after the first as its number is
+-- the row of a number is as far after the first as its number is
 turn_from : {A : Type 0} (number : A → ℕ) (next : ℕ) (rows : List A) (n i : ℕ) → AreInTurn number next rows → n ≡ i + next → find (λ row. number row == n) rows ≡ slice_get rows i
 turn_from number next [] n i are is = refl
 turn_from number next (x ∷ rows) n zero are is =
@@ -77,7 +77,7 @@ at_none p xs none =
       | inr not ↦ find_at p xs ∙ slice_get_past xs (position_or_len p xs) (grind (arith, nat_tests, not))
     ]
 
--- where no row passes, the first that does would stand after all
+-- where no row passes, the first that does would come after all
 past_all : {A : Type 0} (p : A → Bool) (xs : List A) → find p xs ≡ None → position_or_len p xs ≡ length xs
 past_all p [] none = refl
 past_all p (x ∷ xs) none =

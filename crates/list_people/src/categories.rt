@@ -5,14 +5,14 @@ ghost use Rattle.house_rows.specs.Limits.{most_categories};
 ghost use Rattle.house_rows.specs.Text.{same_text};
 ghost use Rattle.list_rows.specs.Makes.{Makes};
 
-use crate::names::{Names, numbered};
+use crate::names::{Names, row_at};
 use house_rows::{Category, KeepFault};
 use list_rows::text_of;
 use std::alloc::Global;
 use std::marker::Model;
 
 /// The categories. Clauses see the list of them, in the order in which they were added.
-#[derive(Debug, Drop)]
+#[derive(Drop)]
 pub struct Categories {
     rows: Vec<Category>,
     names: Names,
@@ -53,11 +53,11 @@ impl Categories {
     pub fn category(&self, number: u64) -> Option<&Category>
         ensures { option_copied result ≡ find (λ k. k.category == number) self.now }
     {
-        numbered(&self.rows, number)
+        row_at(&self.rows, number)
     }
 
     /// The category of a name.
-    pub fn named(&self, name: &str) -> Option<&Category>
+    pub fn by_name(&self, name: &str) -> Option<&Category>
         ensures { option_copied result ≡ find (λ k. same_text k.name name.now) self.now }
     {
         let place = self.names.place(name)?;
@@ -73,7 +73,7 @@ impl Categories {
             (self.old ++ record { category = length self.old + 1; name = name.now } ∷ [])
             (find (λ k. same_text k.name name.now) self.old ≡ None) }
     {
-        if self.named(name).is_some() {
+        if self.by_name(name).is_some() {
             return Err(KeepFault::Damaged);
         }
         let category = Category {

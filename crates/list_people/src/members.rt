@@ -6,14 +6,14 @@ ghost use Rattle.house_rows.specs.Pages.{member_at};
 ghost use Rattle.house_rows.specs.Text.{same_text};
 ghost use Rattle.list_rows.specs.Makes.{Makes};
 
-use crate::names::{Names, numbered};
+use crate::names::{Names, row_at};
 use house_rows::{KeepFault, Member};
 use list_rows::text_of;
 use std::alloc::Global;
 use std::marker::Model;
 
 /// The members. Clauses see the list of them, in order of registration.
-#[derive(Debug, Drop)]
+#[derive(Drop)]
 pub struct Members {
     rows: Vec<Member>,
     names: Names,
@@ -54,11 +54,11 @@ impl Members {
     pub fn member(&self, number: u64) -> Option<&Member>
         ensures { option_copied result ≡ member_at self.now number }
     {
-        numbered(&self.rows, number)
+        row_at(&self.rows, number)
     }
 
     /// The member of a name.
-    pub fn named(&self, name: &str) -> Option<&Member>
+    pub fn by_name(&self, name: &str) -> Option<&Member>
         ensures { option_copied result ≡ find (λ m. same_text m.name name.now) self.now }
     {
         let place = self.names.place(name)?;
@@ -74,7 +74,7 @@ impl Members {
             (self.old ++ record { member = length self.old + 1; name = name.now } ∷ [])
             (find (λ m. same_text m.name name.now) self.old ≡ None) }
     {
-        if self.named(name).is_some() {
+        if self.by_name(name).is_some() {
             return Err(KeepFault::Damaged);
         }
         let member = Member {

@@ -12,7 +12,7 @@ use std::collections::BTreeMap;
 /// For each name the place of its row, counted from 0.
 // A tree and not a table of hashes: the hashes of std have a fixed seed, and a stranger who
 // chooses names could make them fall together.
-#[derive(Debug, Drop)]
+#[derive(Drop)]
 pub(crate) struct Names {
     places: BTreeMap<String, u32>,
 }
@@ -71,7 +71,7 @@ impl Names {
 }
 
 /// The row of a number, where numbers run from 1 on.
-pub(crate) fn numbered<R>(rows: &[R], number: u64) -> Option<&R>
+pub(crate) fn row_at<R>(rows: &[R], number: u64) -> Option<&R>
     ensures { option_copied result ≡ (if number == 0 then None else slice_get rows.now (number - 1)) }
 {
     let place = number.checked_sub(1)?;

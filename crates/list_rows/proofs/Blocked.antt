@@ -59,8 +59,8 @@ map_whole f (x ∷ xs) all = rw all.0 (ap (λ rest. x ∷ rest) (map_whole f xs 
 -- rows of other blocks
 
 -- what holds of rows of other numbers holds of all the blocks after
-others_behind : {A Z : Type 0} (key : A → Key) (P : A → Type 0) (number from : ℕ) (blocks : List (Vec A Z)) → AreBlocksFrom key from blocks → number < from → ((row : A) → ((key row).first ≡ number → ⊥) → P row) → AllByRecursion P (rows_of blocks)
-others_behind key P number from blocks are less other =
+others_after : {A Z : Type 0} (key : A → Key) (P : A → Type 0) (number from : ℕ) (blocks : List (Vec A Z)) → AreBlocksFrom key from blocks → number < from → ((row : A) → ((key row).first ≡ number → ⊥) → P row) → AllByRecursion P (rows_of blocks)
+others_after key P number from blocks are less other =
     every_as (λ row. from ≤ (key row).first) P (rows_of blocks) (λ row le. other row (λ same. omega arith)) (from_on key from blocks are)
 
 others_before : {A : Type 0} (key : A → Key) (P : A → Type 0) (number from : ℕ) (rows : List A) → AllByRecursion (λ row. (key row).first ≡ from) rows → from < number → ((row : A) → ((key row).first ≡ number → ⊥) → P row) → AllByRecursion P rows
@@ -70,14 +70,14 @@ others_before key P number from rows are less other = every_as (λ row. (key row
 pub filter_block : {A Z : Type 0} (key : A → Key) (p : A → Bool) (from n : ℕ) (blocks : List (Vec A Z)) → AreBlocksFrom key from blocks → ((row : A) → ((key row).first ≡ from + n → ⊥) → p row ≡ false) → filter p (rows_of blocks) ≡ filter p (block_at n blocks)
 filter_block key p from n [] are other = refl
 filter_block key p from zero (block ∷ blocks) are other =
-    rw (filter_both p block.items (rows_of blocks), filter_none p (rows_of blocks) (others_behind key (λ row. p row ≡ false) (from + 0) (from + 1) blocks are.1 (omega arith) other)) (append-nil (filter p block.items))
+    rw (filter_both p block.items (rows_of blocks), filter_none p (rows_of blocks) (others_after key (λ row. p row ≡ false) (from + 0) (from + 1) blocks are.1 (omega arith) other)) (append-nil (filter p block.items))
 filter_block key p from (suc n) (block ∷ blocks) are other =
     rw (filter_both p block.items (rows_of blocks), filter_none p block.items (others_before key (λ row. p row ≡ false) (from + suc n) from block.items are.0.begins (omega arith) other))
     (filter_block key p (from + 1) n blocks are.1 (let e : from + suc n ≡ (from + 1) + n = omega arith in rw e at other))
 
-find_behind : {A : Type 0} (p : A → Bool) (xs ys : List A) → AllByRecursion (λ x. p x ≡ false) xs → find p (xs ++ ys) ≡ find p ys
-find_behind p [] ys all = refl
-find_behind p (x ∷ xs) ys all = rw all.0 (find_behind p xs ys all.1)
+find_after : {A : Type 0} (p : A → Bool) (xs ys : List A) → AllByRecursion (λ x. p x ≡ false) xs → find p (xs ++ ys) ≡ find p ys
+find_after p [] ys all = refl
+find_after p (x ∷ xs) ys all = rw all.0 (find_after p xs ys all.1)
 
 find_before : {A : Type 0} (p : A → Bool) (xs ys : List A) → AllByRecursion (λ x. p x ≡ false) ys → find p (xs ++ ys) ≡ find p xs
 find_before p [] ys all = nothing p ys all where
@@ -89,14 +89,14 @@ find_before p (x ∷ xs) ys all = elim (by_test (p x)) [ inl is ↦ rw is refl |
 pub find_block : {A Z : Type 0} (key : A → Key) (p : A → Bool) (from n : ℕ) (blocks : List (Vec A Z)) → AreBlocksFrom key from blocks → ((row : A) → ((key row).first ≡ from + n → ⊥) → p row ≡ false) → find p (rows_of blocks) ≡ find p (block_at n blocks)
 find_block key p from n [] are other = refl
 find_block key p from zero (block ∷ blocks) are other =
-    find_before p block.items (rows_of blocks) (others_behind key (λ row. p row ≡ false) (from + 0) (from + 1) blocks are.1 (omega arith) other)
+    find_before p block.items (rows_of blocks) (others_after key (λ row. p row ≡ false) (from + 0) (from + 1) blocks are.1 (omega arith) other)
 find_block key p from (suc n) (block ∷ blocks) are other =
-    find_behind p block.items (rows_of blocks) (others_before key (λ row. p row ≡ false) (from + suc n) from block.items are.0.begins (omega arith) other)
+    find_after p block.items (rows_of blocks) (others_before key (λ row. p row ≡ false) (from + suc n) from block.items are.0.begins (omega arith) other)
     ∙ find_block key p (from + 1) n blocks are.1 (let e : from + suc n ≡ (from + 1) + n = omega arith in rw e at other)
 
-any_behind : {A : Type 0} (p : A → Bool) (xs ys : List A) → AllByRecursion (λ x. p x ≡ false) xs → list_any p (xs ++ ys) ≡ list_any p ys
-any_behind p [] ys all = refl
-any_behind p (x ∷ xs) ys all = rw all.0 (any_behind p xs ys all.1)
+any_after : {A : Type 0} (p : A → Bool) (xs ys : List A) → AllByRecursion (λ x. p x ≡ false) xs → list_any p (xs ++ ys) ≡ list_any p ys
+any_after p [] ys all = refl
+any_after p (x ∷ xs) ys all = rw all.0 (any_after p xs ys all.1)
 
 any_before : {A : Type 0} (p : A → Bool) (xs ys : List A) → AllByRecursion (λ x. p x ≡ false) ys → list_any p (xs ++ ys) ≡ list_any p xs
 any_before p [] ys all = nothing p ys all where
@@ -108,9 +108,9 @@ any_before p (x ∷ xs) ys all = elim (by_test (p x)) [ inl is ↦ rw is refl | 
 pub any_block : {A Z : Type 0} (key : A → Key) (p : A → Bool) (from n : ℕ) (blocks : List (Vec A Z)) → AreBlocksFrom key from blocks → ((row : A) → ((key row).first ≡ from + n → ⊥) → p row ≡ false) → list_any p (rows_of blocks) ≡ list_any p (block_at n blocks)
 any_block key p from n [] are other = refl
 any_block key p from zero (block ∷ blocks) are other =
-    any_before p block.items (rows_of blocks) (others_behind key (λ row. p row ≡ false) (from + 0) (from + 1) blocks are.1 (omega arith) other)
+    any_before p block.items (rows_of blocks) (others_after key (λ row. p row ≡ false) (from + 0) (from + 1) blocks are.1 (omega arith) other)
 any_block key p from (suc n) (block ∷ blocks) are other =
-    any_behind p block.items (rows_of blocks) (others_before key (λ row. p row ≡ false) (from + suc n) from block.items are.0.begins (omega arith) other)
+    any_after p block.items (rows_of blocks) (others_before key (λ row. p row ≡ false) (from + suc n) from block.items are.0.begins (omega arith) other)
     ∙ any_block key p (from + 1) n blocks are.1 (let e : from + suc n ≡ (from + 1) + n = omega arith in rw e at other)
 
 -- a change of one block
@@ -126,9 +126,9 @@ put_before key x [] [] all = refl
 put_before key x [] (z ∷ zs) all = rw all.0 refl
 put_before key x (y ∷ ys) zs all = elim (by_test (is_less (key x) (key y))) [ inl less ↦ rw less refl | inr not ↦ rw not (ap (λ rest. y ∷ rest) (put_before key x ys zs all)) ]
 
-put_behind : {A : Type 0} (key : A → Key) (x : A) (ys zs : List A) → AllByRecursion (λ y. is_less (key x) (key y) ≡ false) ys → put_by key x (ys ++ zs) ≡ ys ++ put_by key x zs
-put_behind key x [] zs all = refl
-put_behind key x (y ∷ ys) zs all = rw all.0 (ap (λ rest. y ∷ rest) (put_behind key x ys zs all.1))
+put_after : {A : Type 0} (key : A → Key) (x : A) (ys zs : List A) → AllByRecursion (λ y. is_less (key x) (key y) ≡ false) ys → put_by key x (ys ++ zs) ≡ ys ++ put_by key x zs
+put_after key x [] zs all = refl
+put_after key x (y ∷ ys) zs all = rw all.0 (ap (λ rest. y ∷ rest) (put_after key x ys zs all.1))
 
 -- a row put in its block is put among all
 pub put_in_block : {A Z : Type 0} (key : A → Key) (x : A) (from n : ℕ) (blocks : List (Vec A Z)) (block : Vec A Z) → AreBlocksFrom key from blocks → n < length blocks → (key x).first ≡ from + n → block.items ≡ put_by key x (block_at n blocks)
@@ -139,7 +139,7 @@ put_in_block key x from zero (old ∷ blocks) block are lt here is =
     (every_as (λ row. from + 1 ≤ (key row).first) (λ row. is_less (key x) (key row) ≡ true) (rows_of blocks) (λ row le. less_by_first (key x) (key row) (omega arith)) (from_on key (from + 1) blocks are.1))))
 put_in_block key x from (suc n) (old ∷ blocks) block are lt here is =
     ap (λ rest. old.items ++ rest) (put_in_block key x (from + 1) n blocks block are.1 (omega arith) (omega arith) is)
-    ∙ sym (put_behind key x old.items (rows_of blocks)
+    ∙ sym (put_after key x old.items (rows_of blocks)
     (every_as (λ row. (key row).first ≡ from) (λ row. is_less (key x) (key row) ≡ false) old.items (λ row first. not_less_by_first (key row) (key x) (omega arith)) are.0.begins))
 
 -- a test that rows of other numbers pass
@@ -148,7 +148,7 @@ pub filter_in_block : {A Z : Type 0} (key : A → Key) (p : A → Bool) (from n 
 filter_in_block key p from n [] block are lt other is = absurd (omega arith)
 filter_in_block key p from zero (old ∷ blocks) block are lt other is =
     rw (is, filter_both p old.items (rows_of blocks)) (ap (λ rest. filter p old.items ++ rest)
-    (sym (filter_whole p (rows_of blocks) (others_behind key (λ row. p row ≡ true) (from + 0) (from + 1) blocks are.1 (omega arith) other))))
+    (sym (filter_whole p (rows_of blocks) (others_after key (λ row. p row ≡ true) (from + 0) (from + 1) blocks are.1 (omega arith) other))))
 filter_in_block key p from (suc n) (old ∷ blocks) block are lt other is =
     rw (filter_both p old.items (rows_of blocks), filter_whole p old.items (others_before key (λ row. p row ≡ true) (from + suc n) from old.items are.0.begins (omega arith) other))
     (ap (λ rest. old.items ++ rest) (filter_in_block key p (from + 1) n blocks block are.1 (omega arith) (let e : from + suc n ≡ (from + 1) + n = omega arith in rw e at other) is))
@@ -159,7 +159,7 @@ pub map_in_block : {A Z : Type 0} (key : A → Key) (f : A → A) (from n : ℕ)
 map_in_block key f from n [] block are lt other is = absurd (omega arith)
 map_in_block key f from zero (old ∷ blocks) block are lt other is =
     rw (is, map-append f old.items (rows_of blocks)) (ap (λ rest. map f old.items ++ rest)
-    (sym (map_whole f (rows_of blocks) (others_behind key (λ row. f row ≡ row) (from + 0) (from + 1) blocks are.1 (omega arith) other))))
+    (sym (map_whole f (rows_of blocks) (others_after key (λ row. f row ≡ row) (from + 0) (from + 1) blocks are.1 (omega arith) other))))
 map_in_block key f from (suc n) (old ∷ blocks) block are lt other is =
     rw (map-append f old.items (rows_of blocks), map_whole f old.items (others_before key (λ row. f row ≡ row) (from + suc n) from old.items are.0.begins (omega arith) other))
     (ap (λ rest. old.items ++ rest) (map_in_block key f (from + 1) n blocks block are.1 (omega arith) (let e : from + suc n ≡ (from + 1) + n = omega arith in rw e at other) is))

@@ -71,12 +71,12 @@ front_twice most ys zs =
     ]
 
 -- what is put after need be no longer than the front
-pub front_behind : {A : Type 0} (most many : ℕ) (ys zs : List A) → most ≤ many → take most (ys ++ take many zs) ≡ take most (ys ++ zs)
-front_behind zero many ys zs le = refl
-front_behind (suc most) zero ys zs le = absurd (omega arith)
-front_behind (suc most) (suc many) [] [] le = refl
-front_behind (suc most) (suc many) [] (z ∷ zs) le = ap (λ rest. z ∷ rest) (front_behind most many [] zs (omega arith))
-front_behind (suc most) (suc many) (y ∷ ys) zs le = ap (λ rest. y ∷ rest) (front_behind most (suc many) ys zs (omega arith))
+pub front_after : {A : Type 0} (most many : ℕ) (ys zs : List A) → most ≤ many → take most (ys ++ take many zs) ≡ take most (ys ++ zs)
+front_after zero many ys zs le = refl
+front_after (suc most) zero ys zs le = absurd (omega arith)
+front_after (suc most) (suc many) [] [] le = refl
+front_after (suc most) (suc many) [] (z ∷ zs) le = ap (λ rest. z ∷ rest) (front_after most many [] zs (omega arith))
+front_after (suc most) (suc many) (y ∷ ys) zs le = ap (λ rest. y ∷ rest) (front_after most (suc many) ys zs (omega arith))
 
 -- a front is no longer than it may be
 pub front_short : {A : Type 0} (most : ℕ) (ys found : List A) → found ≡ take most ys → length found ≤ most
@@ -136,7 +136,7 @@ whole_filter f p xs n is = take_all n (filter p (map f xs)) (let few = filter_fe
 pub whole_list : {A B : Type 0} (f : A → B) (xs : List A) (n : ℕ) → n ≡ length xs → take n (filter (λ _. true) (map f xs)) ≡ map f xs
 whole_list f xs n is = whole_filter f (λ _. true) xs n is ∙ filter_every (map f xs)
 
--- the greatest of what is told of the rows that pass
+-- the greatest of what is reported of the rows that pass
 pub greatest_passed : {A : Type 0} (f : A → ℕ) (p : A → Bool) (xs : List A) (i : ℕ) (x : A) (most : ℕ) → i < length xs → x ≡ get_or xs i x → most ≡ greatest_of (map f (filter p (take i xs)))
     → p x ≡ true → max most (f x) ≡ greatest_of (map f (filter p (take (i + 1) xs)))
 greatest_passed f p xs i x most lt at' is passes =

@@ -17,7 +17,7 @@ apart key xs i j d rising here there same =
     elim (by_test (nat_lt i j)) [
       | inl before ↦ absurd (let e : true ≡ false = sym same ∙ less_apart (key (get_or xs i d)) (key (get_or xs j d)) (rising_at key xs i j d rising (grind (arith, nat_tests, before)) there) in cc)
       | inr not ↦ elim (by_test (nat_lt j i)) [
-        | inl behind ↦ absurd (let e : true ≡ false = sym same ∙ greater_apart (key (get_or xs i d)) (key (get_or xs j d)) (rising_at key xs j i d rising (grind (arith, nat_tests, behind)) here) in cc)
+        | inl rest_after ↦ absurd (let e : true ≡ false = sym same ∙ greater_apart (key (get_or xs i d)) (key (get_or xs j d)) (rising_at key xs j i d rising (grind (arith, nat_tests, rest_after)) here) in cc)
         | inr nor ↦ grind (arith, nat_tests, not, nor)
       ]
     ]

@@ -94,26 +94,26 @@ index_most a b =
       | inr not ↦ elim (by_test (same_key a b)) [ inl same ↦ rw (not, same) (omega arith) | inr apart ↦ rw (not, apart) (omega arith) ]
     ]
 
--- a greater key stands no lower to a third
+-- a greater key has no lower order to a third
 pub order_rises : (a b w : Key) → is_less a b ≡ true → ordering_index (order_of a w) ≤ ordering_index (order_of b w)
 order_rises a b w less =
     elim (by_test (is_less a w)) [
       | inl before ↦ rw before (omega arith)
       | inr not ↦ (let later : is_less b w ≡ false = grind (arith, nat_tests) in
-          let behind : same_key b w ≡ false = grind (arith, nat_tests) in
-          rw (later, behind) (index_most a w))
+          let rest_after : same_key b w ≡ false = grind (arith, nat_tests) in
+          rw (later, rest_after) (index_most a w))
     ]
 
 -- a row put before the others rises with them
-behind_both : {A : Type 0} (key : A → Key) (x y : A) (ys : List A) → is_less (key x) (key y) ≡ true → AllByRecursion (λ z. is_less (key y) (key z) ≡ true) ys → AllByRecursion (λ z. is_less (key x) (key z) ≡ true) ys
-behind_both key x y ys less all = every_as (λ z. is_less (key y) (key z) ≡ true) (λ z. is_less (key x) (key z) ≡ true) ys (λ z later. less_twice (key x) (key y) (key z) less later) all
+after_both : {A : Type 0} (key : A → Key) (x y : A) (ys : List A) → is_less (key x) (key y) ≡ true → AllByRecursion (λ z. is_less (key y) (key z) ≡ true) ys → AllByRecursion (λ z. is_less (key x) (key z) ≡ true) ys
+after_both key x y ys less all = every_as (λ z. is_less (key y) (key z) ≡ true) (λ z. is_less (key x) (key z) ≡ true) ys (λ z later. less_twice (key x) (key y) (key z) less later) all
 
 -- rows that rise go on rising with one more, of a key that is free
 pub rising_put : {A : Type 0} (key : A → Key) (x : A) (xs : List A) → IsRising key xs → list_any (λ y. same_key (key y) (key x)) xs ≡ false → IsRising key (put_by key x xs)
 rising_put key x [] rising free = (tt, tt)
 rising_put key x (y ∷ ys) rising free =
     elim (by_test (is_less (key x) (key y))) [
-      | inl less ↦ rw less ((less, behind_both key x y ys less rising.0), rising)
+      | inl less ↦ rw less ((less, after_both key x y ys less rising.0), rising)
       | inr not ↦ elim (by_test (same_key (key y) (key x))) [
         | inl same ↦ absurd (let e : true ≡ false = rw same at free in cc)
         | inr apart ↦ (let before : is_less (key y) (key x) ≡ true = grind (arith, nat_tests) in

@@ -1,4 +1,4 @@
--- Where a row stands among rows that rise.
+-- Where a row is among rows that rise.
 use Rattle.std.proofs.Common.{◌≡◌, ◌<◌, ◌≤◌, ◌+◌, ◌-◌, ℕ, zero, suc, List, [], ◌∷◌, map, filter, length, get_or, set, Bool, true, false, not, refl, ap, sym, ◌∙◌, arith, inl, inr, Some, None, Result, Ok, Err}
 use Rattle.std.specs.Prelude.{if◌then◌else◌, find, position, nat_lt, IfOk, IfErr, OnErr}
 use Rattle.std.specs.List.{AllByRecursion, HoldsAt, insert, list_any, position_or_len, remove}
@@ -124,10 +124,10 @@ absent_apart key w xs i point = every_by_places (λ y. same_key (key y) w ≡ fa
     ])
 
 between : {A : Type 0} (key : A → Key) (w : Key) (xs : List A) (i : ℕ) → i ≤ length xs → ((k : ℕ) (d : A) → k < i → is_less (key (get_or xs k d)) w ≡ true) → ((k : ℕ) (d : A) → i ≤ k → k < length xs → is_less w (key (get_or xs k d)) ≡ true) → position_or_len (λ y. is_less w (key y)) xs ≡ i
-between key w [] i le before behind = omega arith
-between key w (x ∷ xs) zero le before behind = rw (behind 0 x (omega arith) (omega arith)) refl
-between key w (x ∷ xs) (suc i) le before behind =
-    let rest = between key w xs i (omega arith) (λ k d lt. before (suc k) d (omega arith)) (λ k d ge lt. behind (suc k) d (omega arith) (omega arith)) in
+between key w [] i le before rest_after = omega arith
+between key w (x ∷ xs) zero le before rest_after = rw (rest_after 0 x (omega arith) (omega arith)) refl
+between key w (x ∷ xs) (suc i) le before rest_after =
+    let rest = between key w xs i (omega arith) (λ k d lt. before (suc k) d (omega arith)) (λ k d ge lt. rest_after (suc k) d (omega arith) (omega arith)) in
     rw (less_not_after (key x) w (before 0 x (omega arith))) (omega arith)
 
 pub absent_place : {A : Type 0} (key : A → Key) (w : Key) (xs : List A) (i : ℕ) → i ≤ length xs → IsPartitionPoint (λ y. order_of (key y) w ≡ Less) (λ y. order_of (key y) w ≡ Greater) xs i → position_or_len (λ y. is_less w (key y)) xs ≡ i

@@ -8,7 +8,7 @@ use Rattle.house_rows.specs.History.{Key, is_less}
 abbrev pub same_key : Key → Key → Bool
 same_key a b = (a.first == b.first) && ((a.second == b.second) && (a.third == b.third))
 
--- how a key stands to another
+-- the order of a key to another
 abbrev pub order_of : Key → Key → Ordering
 order_of a b = cond (is_less a b) Less (cond (same_key a b) Equal Greater)
 

@@ -9,14 +9,14 @@ use std::alloc::{AllocError, Global};
 /// A row that can be copied.
 pub trait Copied {
     /// A copy of it.
-    fn copied(&self, alloc: Global) -> Result<Self, AllocError>
+    fn try_clone(&self, alloc: Global) -> Result<Self, AllocError>
     where
         Self: Sized,
         ensures { IfOk result (λ copy. copy ≡ self.now) };
 }
 
 impl Copied for Member {
-    fn copied(&self, alloc: Global) -> Result<Member, AllocError> {
+    fn try_clone(&self, alloc: Global) -> Result<Member, AllocError> {
         Ok(Member {
             member: self.member,
             name: Text::copy_of(alloc, self.name.as_str())?,
@@ -25,7 +25,7 @@ impl Copied for Member {
 }
 
 impl Copied for Category {
-    fn copied(&self, alloc: Global) -> Result<Category, AllocError> {
+    fn try_clone(&self, alloc: Global) -> Result<Category, AllocError> {
         Ok(Category {
             category: self.category,
             name: Text::copy_of(alloc, self.name.as_str())?,
@@ -34,7 +34,7 @@ impl Copied for Category {
 }
 
 impl Copied for Item {
-    fn copied(&self, alloc: Global) -> Result<Item, AllocError> {
+    fn try_clone(&self, alloc: Global) -> Result<Item, AllocError> {
         Ok(Item {
             terms: self.terms,
             lot: Text::copy_of(alloc, self.lot.as_str())?,
@@ -45,7 +45,7 @@ impl Copied for Item {
 }
 
 impl Copied for Question {
-    fn copied(&self, alloc: Global) -> Result<Question, AllocError> {
+    fn try_clone(&self, alloc: Global) -> Result<Question, AllocError> {
         let answer = match &self.answer {
             Some(text) => Some(Text::copy_of(alloc, text.as_str())?),
             None => None,
@@ -61,7 +61,7 @@ impl Copied for Question {
 }
 
 impl Copied for Feedback {
-    fn copied(&self, alloc: Global) -> Result<Feedback, AllocError> {
+    fn try_clone(&self, alloc: Global) -> Result<Feedback, AllocError> {
         Ok(Feedback {
             item: self.item,
             from: self.from,
@@ -84,12 +84,12 @@ pub fn text_of(alloc: Global, text: &str) -> Result<Text, KeepFault>
 }
 
 /// A copy of what was found.
-pub fn found<R: Copied>(alloc: Global, row: Option<&R>) -> Result<Option<R>, KeepFault>
+pub fn clone_found<R: Copied>(alloc: Global, row: Option<&R>) -> Result<Option<R>, KeepFault>
     ensures value { IfOk result (λ copy. copy ≡ option_copied row.entry) }
     ensures memory { IfErr result (λ e. e ≡ fault.Memory) }
 {
     match row {
-        Some(row) => match row.copied(alloc) {
+        Some(row) => match row.try_clone(alloc) {
             Ok(copy) => Ok(Some(copy)),
             Err(_) => Err(KeepFault::Memory),
         },
@@ -118,7 +118,7 @@ pub fn push_copy<R: Copied + Drop>(
     ensures ok { OnOk result (rows.new.items ≡ rows.old.items ++ row.now ∷ []) }
     ensures memory { IfErr result (λ e. e ≡ fault.Memory) }
 {
-    match row.copied(alloc) {
+    match row.try_clone(alloc) {
         Ok(copy) => push(rows, copy),
         Err(_) => Err(KeepFault::Memory),
     }

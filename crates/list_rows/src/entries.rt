@@ -3,7 +3,7 @@ use proxy::Bid;
 use std::marker::Model;
 
 /// A bid and its item. Clauses see a `BidRow`.
-#[derive(Clone, Copy, Debug)]
+#[derive(Clone, Copy)]
 pub struct BidEntry {
     /// The number of the item.
     pub item: u32,
@@ -22,7 +22,7 @@ impl Model for BidEntry {
 }
 
 /// That a member watches an item. Clauses see a `WatchRow`.
-#[derive(Clone, Copy, Debug)]
+#[derive(Clone, Copy)]
 pub struct WatchEntry {
     /// The number of the member.
     pub member: u32,

@@ -13,7 +13,7 @@ use std::cmp::Ordering;
 use std::marker::Model;
 
 /// A key of up to three numbers; those that a table doesn't have are 0. Clauses see a `Key`.
-#[derive(Clone, Copy, Debug)]
+#[derive(Clone, Copy)]
 pub struct RowKey {
     first: u64,
     second: u64,

@@ -1,4 +1,4 @@
--- The questions on an item stand by asker, so that an asker's are a part of them.
+-- The questions on an item are ordered by asker, so that an asker's are a part of them.
 use Rattle.std.proofs.Common.{◌≡◌, ◌≤◌, ◌<◌, ℕ, zero, suc, List, [], ◌∷◌, length, take, drop, filter, get_or, Bool, true, false, not, refl, ap, sym, ◌∙◌, arith, inl, inr}
 use Rattle.std.specs.Prelude.{◌==◌, ◌&&◌, nat_le, nat_lt, is_some}
 use Rattle.std.specs.List.{AllByRecursion, AllWithin}
@@ -34,7 +34,7 @@ none_front p (x ∷ xs) fails =
     let rest = none_front p xs (λ k d low high. fails (suc k) d (omega arith) (omega arith)) in
     rw here (rest.0, ap (λ ys. x ∷ ys) rest.1)
 
--- what passes stands before what doesn't
+-- what passes comes before what doesn't
 pub parted : {A : Type 0} (p : A → Bool) (xs : List A) (i : ℕ) → AllWithin (λ y. p y ≡ true) xs 0 i → AllWithin (λ y. p y ≡ false) xs i (length xs) → (take i xs ≡ filter p xs) × (drop i xs ≡ filter (λ x. not (p x)) xs)
 parted p xs zero passes fails = none_front p xs fails
 parted p [] (suc i) passes fails = (refl, refl)
@@ -44,9 +44,9 @@ parted p (x ∷ xs) (suc i) passes fails =
     rw here (ap (λ ys. x ∷ ys) rest.0, rest.1)
 
 -- from a number on
-pub behind_point : {A : Type 0} (number : A → ℕ) (n : ℕ) (xs : List A) (i : ℕ) → IsPartitionPoint (λ y. nat_lt (number y) n ≡ true) (λ y. nat_lt (number y) n ≡ false) xs i
+pub after_point : {A : Type 0} (number : A → ℕ) (n : ℕ) (xs : List A) (i : ℕ) → IsPartitionPoint (λ y. nat_lt (number y) n ≡ true) (λ y. nat_lt (number y) n ≡ false) xs i
     → drop i xs ≡ filter (λ x. nat_le n (number x)) xs
-behind_point number n xs i point =
+after_point number n xs i point =
     (parted (λ x. nat_lt (number x) n) xs i point.0 point.1).1 ∙ filter_alike (λ x. not (nat_lt (number x) n)) (λ x. nat_le n (number x)) xs (λ x. grind (arith, nat_tests))
 
 -- up to a number, of those from it on

@@ -10,7 +10,7 @@ use std::alloc::Global;
 use std::marker::Model;
 
 /// That a member is concerned with an item.
-#[derive(Clone, Copy, Debug)]
+#[derive(Clone, Copy)]
 pub(crate) struct Concern {
     /// The number of the member.
     pub member: u32,
@@ -28,7 +28,7 @@ impl Keyed for Concern {
 
 /// For each member the items that it is concerned with. Clauses see the list, by member and item. It
 /// need only be complete: who looks up a row tests it again.
-#[derive(Debug, Drop)]
+#[derive(Drop)]
 pub(crate) struct Concerns {
     blocks: Vec<Vec<Concern>>,
 }

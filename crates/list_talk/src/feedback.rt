@@ -23,7 +23,7 @@ const UNRATED: Ratings = Ratings {
 };
 
 /// Feedback. Clauses see the list of it, by item and giver.
-#[derive(Debug, Drop)]
+#[derive(Drop)]
 pub struct FeedbackTable {
     // Block n has the feedback on item n.
     blocks: Vec<Vec<Feedback>>,

@@ -18,7 +18,7 @@ use std::alloc::Global;
 use std::marker::Model;
 
 /// Questions. Clauses see the list of them, by item, asker and number.
-#[derive(Debug, Drop)]
+#[derive(Drop)]
 pub struct Questions {
     // Block n has the questions on item n.
     blocks: Vec<Vec<Question>>,

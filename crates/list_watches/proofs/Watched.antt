@@ -51,10 +51,10 @@ key_free member item [] = refl
 key_free member item (w ∷ rows) = rw (named member item w, key_free member item rows) refl
 
 -- none of the rows after a key has it
-none_behind : (member item : ℕ) (rows : List WatchRow) → AllByRecursion (λ w. is_less (key_of member item) (watch_key w) ≡ true) rows → list_any (is_watch member item) rows ≡ false
-none_behind member item [] all = refl
-none_behind member item (w ∷ rows) all =
-    let less = all.0 in let other : is_watch member item w ≡ false = grind (arith, nat_tests, less) in rw other (none_behind member item rows all.1)
+none_after : (member item : ℕ) (rows : List WatchRow) → AllByRecursion (λ w. is_less (key_of member item) (watch_key w) ≡ true) rows → list_any (is_watch member item) rows ≡ false
+none_after member item [] all = refl
+none_after member item (w ∷ rows) all =
+    let less = all.0 in let other : is_watch member item w ≡ false = grind (arith, nat_tests, less) in rw other (none_after member item rows all.1)
 
 -- a row that comes before all others is put first
 put_first : (member item : ℕ) (rows : List WatchRow) → AllByRecursion (λ w. is_less (key_of member item) (watch_key w) ≡ true) rows
@@ -82,8 +82,8 @@ pub put_back : (member item : ℕ) (rows : List WatchRow) → IsRising watch_key
 put_back member item [] rising any = absurd (let e : false ≡ true = any in cc)
 put_back member item (w ∷ rows) rising any =
     elim (by_test (is_watch member item w)) [
-      | inl is ↦ (let same = is_same member item w is in let behind : AllByRecursion (λ v. is_less (key_of member item) (watch_key v) ≡ true) rows = rw same at rising.0 in
-          rw (is, unwatched_none member item rows (none_behind member item rows behind), put_first member item rows behind) (ap (λ first. first ∷ rows) same))
+      | inl is ↦ (let same = is_same member item w is in let rest_after : AllByRecursion (λ v. is_less (key_of member item) (watch_key v) ≡ true) rows = rw same at rising.0 in
+          rw (is, unwatched_none member item rows (none_after member item rows rest_after), put_first member item rows rest_after) (ap (λ first. first ∷ rows) same))
       | inr other ↦ (let there : list_any (is_watch member item) rows ≡ true = rw other at any in
           rw (other, not_before member item w rows rising.0 there) (ap (λ rest. w ∷ rest) (put_back member item rows rising.1 there)))
     ]

@@ -12,7 +12,7 @@ use std::alloc::Global;
 use std::marker::Model;
 
 /// What members watch. Clauses see the list of it, by member and item.
-#[derive(Debug, Drop)]
+#[derive(Drop)]
 pub struct Watches {
     // Block n has what member n watches.
     blocks: Vec<Vec<WatchEntry>>,
@@ -67,7 +67,7 @@ impl Watches {
         ensures { Makes result self.old self.new
             (put_by watch_key (record { member = member; item = item }) (unwatched member item self.old)) ⊤ }
     {
-        // A watch that is there already would be put where it stands.
+        // A watch that is there already would be put where it is.
         if self.is_watched(u64::from(member), u64::from(item)) {
             return Ok(());
         }

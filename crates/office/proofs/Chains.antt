@@ -12,8 +12,8 @@ use Rattle.office.specs.declared.order.Lister.{Lister}
 use Rattle.office.specs.declared.outcome.Outcome.{Outcome}
 use Rattle.office.specs.declared.outcome.Outcome.TheVariants as outcome
 use Rattle.office.specs.declared.tally.Imported.{Imported}
-use Rattle.office.specs.Imports.{EndsAtLot, HasImported, HasOrdered, IsCounted, IsDone, IsOrder, IsRow, IsTold, UnlessWrite}
-use Rattle.office.specs.Lines.{told_line}
+use Rattle.office.specs.Imports.{EndsAtLot, HasImported, HasOrdered, IsCounted, IsDone, IsOrder, IsRow, IsReported, UnlessWrite}
+use Rattle.office.specs.Lines.{report_line}
 use Rattle.office.specs.Listings.{IsListable, IsOrderOf}
 use Rattle.office.specs.Orders.{body_of, message_of, order_text}
 use Rattle.office.specs.Outcomes.{Fails}
@@ -51,10 +51,10 @@ sums Step by (row ∷ rows) p q (mid, step, rest) =
     omega (arith, later, one)
 
 pub all_counted : {K : Type 0} (Step : Asked → List ℕ → K → K → Type 0) (by : Lister)
-    (rows : List (List (List ℕ))) (a b : K) (told : Imported) (printed : List ℕ)
-    → HasImported Step by rows a b told printed → sum_of told ≡ length rows
-all_counted Step by rows a b told printed has =
-    let all = sums Step by rows (a, nothing, []) (b, told, printed) has in
+    (rows : List (List (List ℕ))) (a b : K) (report : Imported) (printed : List ℕ)
+    → HasImported Step by rows a b report printed → sum_of report ≡ length rows
+all_counted Step by rows a b report printed has =
+    let all = sums Step by rows (a, nothing, []) (b, report, printed) has in
     omega (arith, all)
 
 -- a message that fits is the order of its lot
@@ -68,84 +68,84 @@ fits_is by lot text = go (nat_lt 16384 (length (body_of lot)))
     go false e = cc
 
 -- the order of a lot was answered
-pub told_ordered : {K : Type 0} (Step : Asked → List ℕ → K → K → Type 0)
+pub report_ordered : {K : Type 0} (Step : Asked → List ℕ → K → K → Type 0)
     (Prints : List ℕ → Type 0) (by : Lister) (lot : Lot) (text : List ℕ) (number : ℕ)
     (result : Result Outcome ImportFault) (old new : K) → IsListable lot
-    → message_of by lot ≡ Some text → IsTold Step Prints text number result old new → HasOrdered Step by old new
-told_ordered Step Prints by lot text number result old new listable fits told = record {
+    → message_of by lot ≡ Some text → IsReported Step Prints text number result old new → HasOrdered Step by old new
+report_ordered Step Prints by lot text number result old new listable fits report = record {
   lots = lot ∷ [];
   orders = (
     new,
     record {
-      asked = told.asked;
-      order = order_of by lot text told.asked listable fits told.by_text;
-      reply = told.reply;
-      step = told.step;
+      asked = report.asked;
+      order = order_of by lot text report.asked listable fits report.by_text;
+      reply = report.reply;
+      step = report.step;
     },
     refl,
   );
 }
 
--- and came to what the answer tells
-pub told_done : {K : Type 0} (Step : Asked → List ℕ → K → K → Type 0)
+-- and came to what the answer says
+pub report_done : {K : Type 0} (Step : Asked → List ℕ → K → K → Type 0)
     (Prints : List ℕ → Type 0) (by : Lister) (lot : Lot) (text : List ℕ) (number : ℕ)
     (result : Result Outcome ImportFault) (old new : K) → IsListable lot
-    → message_of by lot ≡ Some text → IsTold Step Prints text number result old new
+    → message_of by lot ≡ Some text → IsReported Step Prints text number result old new
     → IfOk result (λ o. (line : List ℕ) × IsDone Step by number lot o line old new × Prints line)
-told_done Step Prints by lot text number (Ok o) old new listable fits told =
+report_done Step Prints by lot text number (Ok o) old new listable fits report =
     let same = fits_is by lot text fits in (
-      told_line number o told.reply,
+      report_line number o report.reply,
       inr (record {
         fits = rw same at fits;
-        asked = told.asked;
-        order = order_of by lot text told.asked listable fits told.by_text;
-        reply = told.reply;
-        step = told.step;
-        told = told.told.0;
+        asked = report.asked;
+        order = order_of by lot text report.asked listable fits report.by_text;
+        reply = report.reply;
+        step = report.step;
+        report = report.report.0;
         line_is = refl;
       }),
-      told.told.1,
+      report.report.1,
     )
-told_done Step Prints by lot text number (Err fault) old new listable fits told = tt
+report_done Step Prints by lot text number (Err fault) old new listable fits report = tt
 
 -- or ended the import
-pub told_ended : {K : Type 0} (Step : Asked → List ℕ → K → K → Type 0)
+pub report_ended : {K : Type 0} (Step : Asked → List ℕ → K → K → Type 0)
     (Prints : List ℕ → Type 0) (by : Lister) (lot : Lot) (text : List ℕ) (number : ℕ)
     (result : Result Outcome ImportFault) (old new : K) → IsListable lot
-    → message_of by lot ≡ Some text → IsTold Step Prints text number result old new
+    → message_of by lot ≡ Some text → IsReported Step Prints text number result old new
     → IfErr result (λ fault. EndsAtLot Step by number lot fault old new)
-told_ended Step Prints by lot text number (Ok o) old new listable fits told = tt
-told_ended Step Prints by lot text number (Err fault) old new listable fits told =
+report_ended Step Prints by lot text number (Ok o) old new listable fits report = tt
+report_ended Step Prints by lot text number (Err fault) old new listable fits report =
     let same = fits_is by lot text fits in
-    at fault told.failed (order_of by lot text told.asked listable fits told.by_text) (rw same at fits)
+    at fault report.failed (order_of by lot text report.asked listable fits report.by_text) (rw same at fits)
   where
-    at : (f : ImportFault) → Fails told.reply f → IsOrderOf by lot told.asked
+    at : (f : ImportFault) → Fails report.reply f → IsOrderOf by lot report.asked
         → message_of by lot ≡ Some (order_text by lot) → EndsAtLot Step by number lot f old new
     at importing.Memory is order fits = inr (record {
-      asked = told.asked;
+      asked = report.asked;
       order = order;
-      step = rw is at told.step;
+      step = rw is at report.step;
     })
     at importing.Store is order fits = record {
-      asked = told.asked;
+      asked = report.asked;
       order = order;
-      step = rw is at told.step;
+      step = rw is at report.step;
     }
     at importing.Damaged is order fits = record {
-      asked = told.asked;
+      asked = report.asked;
       order = order;
-      step = rw is at told.step;
+      step = rw is at report.step;
     }
     at importing.Write is order fits = (
       is.0,
-      told_line number is.0 told.reply,
+      report_line number is.0 report.reply,
       inr (record {
         fits = fits;
-        asked = told.asked;
+        asked = report.asked;
         order = order;
-        reply = told.reply;
-        step = told.step;
-        told = is.1;
+        reply = report.reply;
+        step = report.step;
+        report = is.1;
         line_is = refl;
       }),
     )
@@ -156,27 +156,27 @@ told_ended Step Prints by lot text number (Err fault) old new listable fits told
 
 -- no row, and then one more
 pub imported_none : {K : Type 0} (Step : Asked → List ℕ → K → K → Type 0) (by : Lister) (k : K)
-    (told : Imported) → told ≡ nothing → HasImported Step by [] k k told []
-imported_none Step by k told none = rw none refl
+    (report : Imported) → report ≡ nothing → HasImported Step by [] k k report []
+imported_none Step by k report none = rw none refl
 
 pub imported_more : {K : Type 0} (Step : Asked → List ℕ → K → K → Type 0) (by : Lister)
-    (rows : List (List (List ℕ))) (fields : List (List ℕ)) (a b c : K) (told more : Imported)
-    (printed line : List ℕ) (o : Outcome) → HasImported Step by rows a b told printed
-    → IsRow Step by (sum_of told + 1) fields o line b c → more ≡ counted told o
+    (rows : List (List (List ℕ))) (fields : List (List ℕ)) (a b c : K) (report more : Imported)
+    (printed line : List ℕ) (o : Outcome) → HasImported Step by rows a b report printed
+    → IsRow Step by (sum_of report + 1) fields o line b c → more ≡ counted report o
     → HasImported Step by (rows ++ fields ∷ []) a c more (printed ++ line)
-imported_more Step by rows fields a b c told more printed line o has row count =
-    FoldsTo-push (IsCounted Step by) (a, nothing, []) rows (b, told, printed) fields
+imported_more Step by rows fields a b c report more printed line o has row count =
+    FoldsTo-push (IsCounted Step by) (a, nothing, []) rows (b, report, printed) fields
     (c, more, printed ++ line) has
     (record { outcome = o; line = line; row = row; count = count; printed = refl })
 
--- what was printed stands where the rest of a call printed nothing
-pub stands_on : (a b c : Option (List ℕ)) (printed : List ℕ) (fault : ImportFault)
+-- what was printed stays where the rest of a call printed nothing
+pub is_consistent_on : (a b c : Option (List ℕ)) (printed : List ℕ) (fault : ImportFault)
     → Appends a b printed → UnlessWrite fault (c ≡ b) → UnlessWrite fault (Appends a c printed)
-stands_on a b c printed importing.Write has same = tt
-stands_on a b c printed importing.Memory has same = rw same has
-stands_on a b c printed importing.Store has same = rw same has
-stands_on a b c printed importing.Damaged has same = rw same has
-stands_on a b c printed importing.Member has same = rw same has
-stands_on a b c printed importing.Head has same = rw same has
-stands_on a b c printed importing.Csv has same = rw same has
-stands_on a b c printed importing.Read has same = rw same has
+is_consistent_on a b c printed importing.Write has same = tt
+is_consistent_on a b c printed importing.Memory has same = rw same has
+is_consistent_on a b c printed importing.Store has same = rw same has
+is_consistent_on a b c printed importing.Damaged has same = rw same has
+is_consistent_on a b c printed importing.Member has same = rw same has
+is_consistent_on a b c printed importing.Head has same = rw same has
+is_consistent_on a b c printed importing.Csv has same = rw same has
+is_consistent_on a b c printed importing.Read has same = rw same has

@@ -12,7 +12,7 @@ use Rattle.csv.specs.Records.{field_at}
 use Rattle.pages_json.specs.Words.{object_of, text_of}
 use Rattle.site_request.specs.Asked.{IsAsked, asked_of}
 use Rattle.site_request.specs.declared.asked.Asked.{Asked}
-use Rattle.site_digits.specs.Digits.{digits_behind}
+use Rattle.site_digits.specs.Digits.{digits_after}
 use Rattle.site_request.specs.Commands.{command_of}
 use Rattle.site_request.specs.declared.order.Order.TheVariants as order
 use Rattle.office.specs.Listings.{CanList, IsListable, IsOrderOf, listing_by, listing_of}
@@ -28,14 +28,14 @@ use Rattle.office.proofs.ReadNumbers.{digits_own}
 -- ---- what a row spells is in range
 
 -- what was read after n is digits, and they write it
-behind_are : (n m : ℕ) (s : List ℕ) → digits_behind n s ≡ Some m
+after_are : (n m : ℕ) (s : List ℕ) → digits_after n s ≡ Some m
     → (all_ascii_digits s ≡ true) × (digits_value_after 10 n s ≡ m)
-behind_are n m [] e = (refl, cc)
-behind_are n m (b ∷ bs) e = go (behind_are (n * 10 + (b - 48)) m bs) (is_ascii_digit b) refl e where
-  go : (digits_behind (n * 10 + (b - 48)) bs ≡ Some m
+after_are n m [] e = (refl, cc)
+after_are n m (b ∷ bs) e = go (after_are (n * 10 + (b - 48)) m bs) (is_ascii_digit b) refl e where
+  go : (digits_after (n * 10 + (b - 48)) bs ≡ Some m
       → (all_ascii_digits bs ≡ true) × (digits_value_after 10 (n * 10 + (b - 48)) bs ≡ m))
       → (digit : Bool) → is_ascii_digit b ≡ digit
-      → (if digit then digits_behind (n * 10 + (b - 48)) bs else None) ≡ Some m
+      → (if digit then digits_after (n * 10 + (b - 48)) bs else None) ≡ Some m
       → (all_ascii_digits (b ∷ bs) ≡ true) × (digits_value_after 10 n (b ∷ bs) ≡ m)
   go rest false is e = cc
   go rest true is e =
@@ -44,10 +44,10 @@ behind_are n m (b ∷ bs) e = go (behind_are (n * 10 + (b - 48)) m bs) (is_ascii
       (rw (is, (rest e).0) refl, rw value (rest e).1)
 
 few_digits : (s : List ℕ) (n : ℕ) (few : Bool) → (nat_le 1 (length s) && nat_le (length s) 10) ≡ few
-    → (if few then digits_behind 0 s else None) ≡ Some n → n < 2 ^ 64
+    → (if few then digits_after 0 s else None) ≡ Some n → n < 2 ^ 64
 few_digits s n false is e = cc
 few_digits s n true is e =
-    let read = behind_are 0 n s e in
+    let read = after_are 0 n s e in
     let few : length s ≤ 10 = leb-true (length s) 10 (and_parts (nat_le 1 (length s)) (nat_le (length s) 10) is).1 in
     let small = digits_value_short digits_own s 10 read.0 few in
     omega (arith, small, read.1)

@@ -55,7 +55,7 @@ begins_with_head a b c body =
     to_the_right first_bytes a (codes "\r\nx-moment: ") b (codes "\r\ncontent-length: ") c (codes "\r\n\r\n") body
     ∙ ap (λ l. first_bytes ++ l) (regroup a b c (codes "x-moment: ") (codes "content-length: ") (codes "\r\n") body)
 
--- digits stand in a field's value
+-- digits are bytes of a field's value
 digit_is_value : (s : List ℕ) → all_ascii_digits s ≡ true → list_all is_value_byte s ≡ true
 digit_is_value [] all = refl
 digit_is_value (b ∷ bs) all =

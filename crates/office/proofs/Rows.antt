@@ -101,8 +101,8 @@ unprinted_row Step by number fields column (Err e) k whole fault write = inr (in
   };
 }))
 
--- of an output that failed nothing is told
-pub write_stands : (result : Result Outcome ImportFault) (P : Type 0)
+-- of an output that failed nothing is said
+pub write_is_consistent : (result : Result Outcome ImportFault) (P : Type 0)
     → IfErr result (λ fault. fault ≡ importing.Write) → IfErr result (λ fault. UnlessWrite fault P)
-write_stands (Ok o) P write = tt
-write_stands (Err fault) P write = rw write tt
+write_is_consistent (Ok o) P write = tt
+write_is_consistent (Err fault) P write = rw write tt

@@ -16,7 +16,7 @@ use Rattle.office.specs.declared.order.Lister.{Lister}
 use Rattle.office.specs.declared.outcome.Outcome.{Outcome}
 use Rattle.office.specs.declared.outcome.Outcome.TheVariants.{Refused}
 use Rattle.office.specs.declared.tally.Imported.{Imported}
-use Rattle.office.specs.Lines.{fault_line, range_line, told_line}
+use Rattle.office.specs.Lines.{fault_line, range_line, report_line}
 use Rattle.office.specs.Lots.{IsFirstFault, Spells, head}
 use Rattle.office.specs.Listings.{IsOrderOf}
 use Rattle.office.specs.Orders.{message_of, order_text}
@@ -27,15 +27,15 @@ use Rattle.office.specs.Tallies.{counted, nothing, sum_of}
 abbrev pub keep_of : {K : Type 0} → Site K → K
 keep_of site = site.keep
 
--- a message was answered, and what the answer tells was printed, or it ended the import
-pub record IsTold {K : Type 0} (Step : Asked → List ℕ → K → K → Type 0)
+-- a message was answered, and what the answer says was printed, or it ended the import
+pub record IsReported {K : Type 0} (Step : Asked → List ℕ → K → K → Type 0)
     (Prints : List ℕ → Type 0) (text : List ℕ) (number : ℕ) (result : Result Outcome ImportFault)
     (old new : K) : Type 0 where
   pub asked : Asked
   pub by_text : IsAsked text asked
   pub reply : List ℕ
   pub step : Step asked reply old new
-  pub told : IfOk result (λ outcome. Tells reply outcome × Prints (told_line number outcome reply))
+  pub report : IfOk result (λ outcome. Tells reply outcome × Prints (report_line number outcome reply))
   pub failed : IfErr result (Fails reply)
 
 -- the order of a lot was answered
@@ -60,7 +60,7 @@ pub record IsTooLong {K : Type 0} (by : Lister) (number : ℕ) (lot : Lot) (outc
   pub line_is : line ≡ range_line number
   pub same : new ≡ old
 
--- the order of a lot was answered, and came to what the answer tells
+-- the order of a lot was answered, and came to what the answer says
 pub record IsListing {K : Type 0} (Step : Asked → List ℕ → K → K → Type 0) (by : Lister)
     (number : ℕ) (lot : Lot) (outcome : Outcome) (line : List ℕ) (old new : K) : Type 0 where
   pub fits : message_of by lot ≡ Some (order_text by lot)
@@ -68,8 +68,8 @@ pub record IsListing {K : Type 0} (Step : Asked → List ℕ → K → K → Typ
   pub order : IsOrderOf by lot asked
   pub reply : List ℕ
   pub step : Step asked reply old new
-  pub told : Tells reply outcome
-  pub line_is : line ≡ told_line number outcome reply
+  pub report : Tells reply outcome
+  pub line_is : line ≡ report_line number outcome reply
 
 -- what became of a lot, and the line about it
 abbrev pub IsDone : {K : Type 0} → (Asked → List ℕ → K → K → Type 0) → Lister → ℕ → Lot → Outcome
@@ -107,17 +107,17 @@ pub record IsCounted {K : Type 0} (Step : Asked → List ℕ → K → K → Typ
 -- rows were dealt with in turn, this is their count, and these are their lines
 abbrev pub HasImported : {K : Type 0} → (Asked → List ℕ → K → K → Type 0) → Lister
     → List (List (List ℕ)) → K → K → Imported → List ℕ → Type 0
-HasImported Step by rows old new told printed =
-    FoldsTo (IsCounted Step by) (old, nothing, []) rows (new, told, printed)
+HasImported Step by rows old new report printed =
+    FoldsTo (IsCounted Step by) (old, nothing, []) rows (new, report, printed)
 
 -- all rows of a file were dealt with in turn, and their lines printed
 pub record HasListed {K : Type 0} (Step : Asked → List ℕ → K → K → Type 0)
-    (Prints : List ℕ → Type 0) (by : Lister) (records : List (List (List ℕ))) (told : Imported)
+    (Prints : List ℕ → Type 0) (by : Lister) (records : List (List (List ℕ))) (report : Imported)
     (old new : K) : Type 0 where
   pub rows : List (List (List ℕ))
   pub all : records ≡ head ∷ rows
   pub printed : List ℕ
-  pub imported : HasImported Step by rows old new told printed
+  pub imported : HasImported Step by rows old new report printed
   pub shown : Prints printed
 
 -- the order of a lot was answered by the text of a fault
@@ -217,11 +217,11 @@ pub record IsCut {K : Type 0} (Step : Asked → List ℕ → K → K → Type 0)
   pub rest : List (List (List ℕ))
   pub all : records ≡ head ∷ rows ++ rest
   pub mid : K
-  pub told : Imported
+  pub report : Imported
   pub printed : List ℕ
-  pub before : HasImported Step by rows old mid told printed
+  pub before : HasImported Step by rows old mid report printed
   pub shown : UnlessWrite fault (Prints printed)
-  pub why : IsBetween fault rest mid new ⊎ IsAtRow Step by (sum_of told + 1) fault rest mid new
+  pub why : IsBetween fault rest mid new ⊎ IsAtRow Step by (sum_of report + 1) fault rest mid new
 
 -- the reader fails for itself or for memory
 abbrev pub IsReading : ImportFault → Type 0

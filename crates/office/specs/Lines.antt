@@ -12,7 +12,7 @@ from_byte byte [] = []
 from_byte byte (first ∷ rest) =
     if nat_eq first byte then first ∷ rest else from_byte byte rest
 
--- what stands before it
+-- what comes before it
 abbrev pub before_byte : ℕ → List ℕ → List ℕ
 before_byte byte text = take (length text - length (from_byte byte text)) text
 
@@ -24,16 +24,16 @@ item_in reply = before_byte 125 (drop 8 (from_byte 123 reply))
 abbrev pub name_in : List ℕ → List ℕ
 name_in reply = before_byte 34 (drop 10 (from_byte 123 reply))
 
--- a line about a row: a word, and what is told of it
+-- a line about a row: a word, and what is reported of it
 abbrev pub row_line : ℕ → List ℕ → List ℕ → List ℕ
-row_line number word told =
-    codes "row " ++ decimal number ++ codes ": " ++ word ++ codes " " ++ told ++ codes "\n"
+row_line number word report =
+    codes "row " ++ decimal number ++ codes ": " ++ word ++ codes " " ++ report ++ codes "\n"
 
--- what the answer to a row's order tells
-abbrev pub told_line : ℕ → Outcome → List ℕ → List ℕ
-told_line number outcome.Listed reply = row_line number (codes "item") (item_in reply)
-told_line number outcome.There reply = row_line number (codes "there") (codes "already")
-told_line number outcome.Refused reply = row_line number (codes "refused") (name_in reply)
+-- what the answer to a row's order says
+abbrev pub report_line : ℕ → Outcome → List ℕ → List ℕ
+report_line number outcome.Listed reply = row_line number (codes "item") (item_in reply)
+report_line number outcome.There reply = row_line number (codes "there") (codes "already")
+report_line number outcome.Refused reply = row_line number (codes "refused") (name_in reply)
 
 -- a field of a row can't be read
 abbrev pub fault_line : ℕ → Column → List ℕ

@@ -5,7 +5,7 @@ use Rattle.std.specs.List.{AllByRecursion}
 use Rattle.std.specs.Str.{IsUtf8}
 use Rattle.cents.specs.Spelling.{IsSpelling}
 use Rattle.csv.specs.Records.{field_at}
-use Rattle.site_digits.specs.Digits.{digits_behind}
+use Rattle.site_digits.specs.Digits.{digits_after}
 use Rattle.office.specs.declared.column.Column.{Column}
 use Rattle.office.specs.declared.column.Column.TheVariants as column
 use Rattle.office.specs.declared.lot.Lot.{Lot}
@@ -28,7 +28,7 @@ head = codes "lot" ∷ codes "category" ∷ codes "title" ∷ codes "text" ∷ c
 -- the number that 1 to 10 digits write, of which zeros may lead
 abbrev pub digits_in : List ℕ → Option ℕ
 digits_in field =
-    if nat_le 1 (length field) && nat_le (length field) 10 then digits_behind 0 field else None
+    if nat_le 1 (length field) && nat_le (length field) 10 then digits_after 0 field else None
 
 -- the number of the field at a place
 abbrev pub number_at : List (List ℕ) → ℕ → Option ℕ

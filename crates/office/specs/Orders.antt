@@ -5,7 +5,7 @@ use Rattle.serde_json.specs.Data.{Data, string}
 use Rattle.office.specs.declared.lot.Lot.{Lot}
 use Rattle.office.specs.declared.order.Lister.{Lister}
 
--- the tree of a lot, by its price for buying at once. Keys stand in byte order
+-- the tree of a lot, by its price for buying at once. Keys are in byte order
 abbrev pub tree_with : Lot → Option ℕ → Data
 tree_with lot None = object_of (
     (codes "category", whole lot.category)

@@ -1,4 +1,4 @@
--- What the answer to an order tells.
+-- What the answer to an order says.
 use Rattle.std.specs.Prelude.{◌≡◌, ◌≢◌, ℕ, List, ◌++◌, codes, false}
 use Rattle.house_rows.specs.declared.fault.KeepFault.TheVariants as fault
 use Rattle.site_replies.specs.Texts.{fault_text}
@@ -24,13 +24,13 @@ pub record IsRefusal (reply : List ℕ) : Type 0 where
   pub no_store : reply ≢ fault_text fault.Store false
   pub no_damage : reply ≢ fault_text fault.Damaged false
 
--- what an answer tells
+-- what an answer says
 abbrev pub Tells : List ℕ → Outcome → Type 0
 Tells reply outcome.Listed = IsCreated reply
 Tells reply outcome.There = reply ≡ there_text
 Tells reply outcome.Refused = IsRefusal reply
 
--- why an answer ends an import: it is the text of the fault, or what it tells can't be printed
+-- why an answer ends an import: it is the text of the fault, or what it says can't be printed
 abbrev pub Fails : List ℕ → ImportFault → Type 0
 Fails reply importing.Memory = reply ≡ fault_text fault.Memory false
 Fails reply importing.Store = reply ≡ fault_text fault.Store false

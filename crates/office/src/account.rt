@@ -8,12 +8,13 @@ ghost use Rattle.settle.specs.Zoned.{IsZoneOf};
 ghost use Rattle.site.specs.Answers.{IsReadable};
 ghost use Rattle.settle.specs.declared.zone.Zone.{Zone as TheZone};
 
+use crate::zone::read_zone;
 use house_rows::{Keep, KeepFault};
-use settle::{Day, SettleFault, Statement, Zone, lines};
+use settle::{Day, SettleFault, Statement, lines};
 use std::alloc::Global;
 
 /// Why there is no statement.
-#[derive(Clone, Copy, Debug, PartialEq, Eq)]
+#[derive(Clone, Copy)]
 pub enum StatementFault {
     /// Memory was refused.
     Memory,
@@ -30,7 +31,7 @@ pub enum StatementFault {
 impl From<KeepFault> for StatementFault {
     ghost use Rattle.office.specs.Faults.{fault_of_keep};
 
-    ghost from_gives = { λ fault told. told ≡ fault_of_keep fault };
+    ghost from_gives = { λ fault report. report ≡ fault_of_keep fault };
 
     fn from(fault: KeepFault) -> StatementFault {
         match fault {
@@ -41,7 +42,8 @@ impl From<KeepFault> for StatementFault {
     }
 }
 
-/// The statement of a member for the days from `from` to `to`, by the kept sales, zone and rate.
+/// The statement of a member for the days from `from` to `to`, by the kept sales, zone and rate. A
+/// zone that can't be read is reported before a member whom nobody knows.
 pub fn statement<K: Keep>(
     alloc: Global,
     keep: &mut K,
@@ -65,15 +67,13 @@ pub fn statement<K: Keep>(
     ensures store { IsErrOf result StatementFault.Store ↔ (K.is_failed keep.new ≡ true) }
     ensures read { IsRead K.content K.is_failed K.is_honest K.may_leave keep.old keep.new }
 {
+    let settings = keep.settings()?;
+    let zone = read_zone(settings)?;
+    let rate = settings.rate.value();
     if !keep.has_member(member)? {
         return Err(StatementFault::Member);
     }
     let sales = keep.sold_of(member)?;
-    let settings = keep.settings()?;
-    let Ok(zone) = Zone::read(settings.zone.as_str()) else {
-        return Err(StatementFault::Damaged);
-    };
-    let rate = settings.rate.value();
     match lines(alloc, &sales, member as u32, from, to, &zone, rate) {
         Ok(statement) => Ok(statement),
         Err(SettleFault::Order) => Err(StatementFault::Order),

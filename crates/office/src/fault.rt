@@ -4,9 +4,9 @@ ghost use Rattle.std.specs.Prelude.{◌≡◌};
 use house_rows::KeepFault;
 use std::alloc::AllocError;
 
-/// Why an import ended before the end of its file. What was printed before stands, and so does what
+/// Why an import ended before the end of its file. What was printed before stays, and so does what
 /// was listed.
-#[derive(Clone, Copy, Debug, PartialEq, Eq)]
+#[derive(Clone, Copy)]
 pub enum ImportFault {
     /// Memory was refused.
     Memory,
@@ -29,7 +29,7 @@ pub enum ImportFault {
 impl From<KeepFault> for ImportFault {
     ghost use Rattle.office.specs.Faults.{import_fault};
 
-    ghost from_gives = { λ fault told. told ≡ import_fault fault };
+    ghost from_gives = { λ fault report. report ≡ import_fault fault };
 
     fn from(fault: KeepFault) -> ImportFault {
         match fault {
@@ -43,7 +43,7 @@ impl From<KeepFault> for ImportFault {
 impl From<AllocError> for ImportFault {
     ghost use Rattle.office.specs.declared.fault.ImportFault.TheVariants.{Memory};
 
-    ghost from_gives = { λ _ told. told ≡ Memory };
+    ghost from_gives = { λ _ report. report ≡ Memory };
 
     fn from(_error: AllocError) -> ImportFault {
         ImportFault::Memory

@@ -7,8 +7,8 @@ ghost use Rattle.house_rows.specs.Pages.{member_at};
 ghost use Rattle.site.specs.Answers.{IsStep, zone_of};
 ghost use Rattle.steps.specs.Reading.{HasRead, records_of};
 ghost use Rattle.office.specs.Faults.{IsLookUpFault};
-ghost use Rattle.office.specs.Imports.{EndsAtLot, EndsAtRow, HasEnded, HasListed, HasOrdered, IsCut, IsDone, IsRow, IsTold, UnlessWrite, keep_of};
-ghost use Rattle.office.specs.Lines.{fault_line, range_line, told_line, totals_line};
+ghost use Rattle.office.specs.Imports.{EndsAtLot, EndsAtRow, HasEnded, HasListed, HasOrdered, IsCut, IsDone, IsRow, IsReported, UnlessWrite, keep_of};
+ghost use Rattle.office.specs.Lines.{fault_line, range_line, report_line, totals_line};
 ghost use Rattle.office.specs.Listings.{IsListable};
 ghost use Rattle.office.specs.Lots.{head};
 ghost use Rattle.office.specs.Outcomes.{Fails, Tells};
@@ -16,7 +16,7 @@ ghost use Rattle.office.specs.Tallies.{sum_of};
 
 use crate::column::Column;
 use crate::fault::ImportFault;
-use crate::lines::{print_fault, print_range, print_told, print_totals};
+use crate::lines::{print_fault, print_range, print_reported, print_totals};
 use crate::lot::{Lot, lot_of};
 use crate::order::{Lister, Room};
 use crate::outcome::{Outcome, outcome_of};
@@ -48,28 +48,28 @@ pub fn check_member<K: Keep>(keep: &mut K, member: u64) -> Result<(), ImportFaul
     }
 }
 
-// Prints what the answer to a row's order tells.
+// Prints what the answer to a row's order says.
 fn tell<W: Write>(reply: &[u8], number: u64, output: &mut W) -> Result<Outcome, ImportFault>
-    ensures told { IfOk result (λ outcome. Tells reply.now outcome
+    ensures report { IfOk result (λ outcome. Tells reply.now outcome
         × Appends (W.contents output.old) (W.contents output.new)
-        (told_line number outcome reply.now)) }
+        (report_line number outcome reply.now)) }
     ensures failed { IfErr result (Fails reply.now) }
     ensures quiet { IfErr result (λ fault.
         UnlessWrite fault (W.contents output.new ≡ W.contents output.old)) }
 {
     let outcome = outcome_of(reply)?;
-    print_told(output, number, outcome, reply)?;
+    print_reported(output, number, outcome, reply)?;
     Ok(outcome)
 }
 
-// Has the order of a row answered, and prints what the answer tells.
+// Has the order of a row answered, and prints what the answer says.
 fn ask<W: Write, K: Keep + Drop>(
     site: &mut Site<K>,
     message: &[u8],
     number: u64,
     output: &mut W,
 ) -> Result<Outcome, ImportFault>
-    ensures told { IsTold
+    ensures report { IsReported
         (IsStep K.content K.is_failed K.is_honest K.may_leave (zone_of site.old))
         (Appends (W.contents output.old) (W.contents output.new))
         message.now number result (keep_of site.old) (keep_of site.new) }
@@ -179,11 +179,11 @@ fn import_rows<R: Read + Drop, W: Write, K: Keep + Drop>(
     row: &mut ByteRecord,
     output: &mut W,
 ) -> Result<Imported, ImportFault>
-    ensures imported { IfOk result (λ told. (text : List ℕ)
+    ensures imported { IfOk result (λ report. (text : List ℕ)
         → HasRead R.remaining reader.old (head ∷ []) text → HasListed
         (IsStep K.content K.is_failed K.is_honest K.may_leave (zone_of site.old))
         (Appends (W.contents output.old) (W.contents output.new))
-        by (records_of text) told (keep_of site.old) (keep_of site.new)) }
+        by (records_of text) report (keep_of site.old) (keep_of site.new)) }
     ensures ended { IfErr result (λ fault. (text : List ℕ)
         → HasRead R.remaining reader.old (head ∷ []) text → IsCut
         (IsStep K.content K.is_failed K.is_honest K.may_leave (zone_of site.old))
@@ -194,13 +194,13 @@ fn import_rows<R: Read + Drop, W: Write, K: Keep + Drop>(
         by (keep_of site.old) (keep_of site.new) }
     ensures zone { zone_of site.new ≡ zone_of site.old }
 {
-    let mut told = Imported::none();
+    let mut report = Imported::none();
     for before in 0..u64::MAX {
         if !next(reader, row)? {
-            return Ok(told);
+            return Ok(report);
         }
         let outcome = import_row(room, site, by, row, before + 1, output)?;
-        told = told.counted(outcome);
+        report = report.with_outcome(outcome);
     }
     Err(ImportFault::Read)
 }
@@ -209,7 +209,7 @@ fn import_rows<R: Read + Drop, W: Write, K: Keep + Drop>(
 /// what became of each, and at the end how many became what.
 ///
 /// The first record has to be the head of a lot file, and each other record needs as many fields.
-/// At a fault the rows before it stand, and what was printed for them; their number isn't printed.
+/// At a fault the rows before it stay, and what was printed for them; their number isn't printed.
 pub fn import<R: Read + Drop, W: Write, K: Keep + Drop>(
     alloc: Global,
     site: &mut Site<K>,
@@ -219,13 +219,13 @@ pub fn import<R: Read + Drop, W: Write, K: Keep + Drop>(
 ) -> Result<Imported, ImportFault>
     // The rows are those of the file, each was dealt with in turn, and their lines and the totals
     // were printed.
-    ensures imported { IfOk result (λ told. (text : List ℕ) → R.remaining lots ≡ Some text
+    ensures imported { IfOk result (λ report. (text : List ℕ) → R.remaining lots ≡ Some text
         → HasListed (IsStep K.content K.is_failed K.is_honest K.may_leave (zone_of site.old))
         (λ printed. Appends (W.contents output.old) (W.contents output.new)
-        (printed ++ totals_line told))
-        by (records_of text) told (keep_of site.old) (keep_of site.new)) }
-    ensures counted { IfOk result (λ told. (text : List ℕ) → R.remaining lots ≡ Some text
-        → length (records_of text) ≡ sum_of told + 1) }
+        (printed ++ totals_line report))
+        by (records_of text) report (keep_of site.old) (keep_of site.new)) }
+    ensures counted { IfOk result (λ report. (text : List ℕ) → R.remaining lots ≡ Some text
+        → length (records_of text) ≡ sum_of report + 1) }
     // Before an error the same holds of the rows up to it, and the error says why it came.
     ensures ended { IfErr result (λ fault. (text : List ℕ) → R.remaining lots ≡ Some text
         → HasEnded (IsStep K.content K.is_failed K.is_honest K.may_leave (zone_of site.old))
@@ -241,7 +241,7 @@ pub fn import<R: Read + Drop, W: Write, K: Keep + Drop>(
     let mut row = ByteRecord::new(alloc);
     let mut room = Room::new(alloc);
     read_head(&mut reader, &mut row)?;
-    let told = import_rows(&mut room, site, by, &mut reader, &mut row, output)?;
-    print_totals(output, told)?;
-    Ok(told)
+    let report = import_rows(&mut room, site, by, &mut reader, &mut row, output)?;
+    print_totals(output, report)?;
+    Ok(report)
 }

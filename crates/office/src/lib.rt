@@ -3,7 +3,7 @@
 //! Promised, over any keep: a statement is the one of the kept sales of a member, by the kept zone
 //! and rate; who isn't registered has none; the tables stay. A lot file is read as far as each
 //! record has its fields, each row that can be read is one order of the member at the moment, made
-//! through the site, and what is counted is what the answers told. Read `account` first, then
+//! through the site, and what is counted is what the answers said. Read `account` first, then
 //! `specs/Lots.antt` and `specs/Imports.antt`, and `imports`.
 #![tactic(auto)]
 
@@ -18,6 +18,7 @@ mod order;
 mod outcome;
 mod records;
 mod tally;
+mod zone;
 
 pub use account::{StatementFault, statement};
 pub use fault::ImportFault;
@@ -25,3 +26,4 @@ pub use imports::{check_member, import};
 pub use laws::orders_ask_for_their_listing;
 pub use order::Lister;
 pub use tally::Imported;
+pub use zone::check_zone;

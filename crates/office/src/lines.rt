@@ -1,7 +1,7 @@
 //! The lines that an import prints.
 ghost use Rattle.std.specs.Prelude.{◌≡◌, ◌≤◌, IfErr, OnOk, drop, length};
 ghost use Rattle.std.specs.Io.KnownBytes.{Appends};
-ghost use Rattle.office.specs.Lines.{before_byte, fault_line, from_byte, item_in, name_in, range_line, row_line, told_line, totals_line};
+ghost use Rattle.office.specs.Lines.{before_byte, fault_line, from_byte, item_in, name_in, range_line, row_line, report_line, totals_line};
 
 use crate::column::Column;
 use crate::fault::ImportFault;
@@ -9,7 +9,7 @@ use crate::outcome::Outcome;
 use crate::tally::Imported;
 use std::io::{Error, Write};
 
-// What stands in a text from its first such byte on.
+// What is in a text from its first such byte on.
 fn from_byte(text: &[u8], byte: u8) -> &[u8]
     ensures from { result.now ≡ from_byte byte text.now }
     ensures within { length result.now ≤ length text.now }
@@ -24,12 +24,12 @@ fn from_byte(text: &[u8], byte: u8) -> &[u8]
     rest
 }
 
-// What stands before it.
+// What comes before it.
 fn before_byte(text: &[u8], byte: u8) -> &[u8]
     ensures { result.now ≡ before_byte byte text.now }
 {
-    let behind = from_byte(text, byte);
-    &text[..text.len() - behind.len()]
+    let rest_after = from_byte(text, byte);
+    &text[..text.len() - rest_after.len()]
 }
 
 // A text without its first bytes.
@@ -57,13 +57,13 @@ fn name(reply: &[u8]) -> &[u8]
     before_byte(without_first(from_byte(reply, b'{'), 10), b'"')
 }
 
-// Writes a line about a row: a word, and what is told of it.
-fn write_row<W: Write>(output: &mut W, number: u64, word: &str, told: &[u8]) -> Result<(), Error>
+// Writes a line about a row: a word, and what is reported of it.
+fn write_row<W: Write>(output: &mut W, number: u64, word: &str, report: &[u8]) -> Result<(), Error>
     ensures { OnOk result (Appends (W.contents output.old) (W.contents output.new)
-        (row_line number word.now told.now)) }
+        (row_line number word.now report.now)) }
 {
     write!(output, "row {number}: {word} ")?;
-    output.write_all(told)?;
+    output.write_all(report)?;
     output.write_all(b"\n")
 }
 
@@ -72,27 +72,27 @@ fn print_row<W: Write>(
     output: &mut W,
     number: u64,
     word: &str,
-    told: &[u8],
+    report: &[u8],
 ) -> Result<(), ImportFault>
     ensures line { OnOk result (Appends (W.contents output.old) (W.contents output.new)
-        (row_line number word.now told.now)) }
+        (row_line number word.now report.now)) }
     ensures fault { IfErr result (λ fault. fault ≡ ImportFault.Write) }
 {
-    match write_row(output, number, word, told) {
+    match write_row(output, number, word, report) {
         Ok(()) => Ok(()),
         Err(_) => Err(ImportFault::Write),
     }
 }
 
-/// Prints what the answer to a row's order tells. Rows are numbered from 1.
-pub fn print_told<W: Write>(
+/// Prints what the answer to a row's order says. Rows are numbered from 1.
+pub fn print_reported<W: Write>(
     output: &mut W,
     number: u64,
     outcome: Outcome,
     reply: &[u8],
 ) -> Result<(), ImportFault>
     ensures line { OnOk result (Appends (W.contents output.old) (W.contents output.new)
-        (told_line number outcome reply.now)) }
+        (report_line number outcome reply.now)) }
     ensures fault { IfErr result (λ fault. fault ≡ ImportFault.Write) }
 {
     match outcome {
@@ -121,16 +121,16 @@ pub fn print_range<W: Write>(output: &mut W, number: u64) -> Result<(), ImportFa
 }
 
 /// Prints how many rows became what.
-pub fn print_totals<W: Write>(output: &mut W, told: Imported) -> Result<(), ImportFault>
+pub fn print_totals<W: Write>(output: &mut W, report: Imported) -> Result<(), ImportFault>
     ensures line { OnOk result (Appends (W.contents output.old) (W.contents output.new)
-        (totals_line told)) }
+        (totals_line report)) }
     ensures fault { IfErr result (λ fault. fault ≡ ImportFault.Write) }
 {
     let Imported {
         listed,
         there,
         refused,
-    } = told;
+    } = report;
     match writeln!(
         output,
         "{listed} listed, {there} there already, {refused} refused"

@@ -1,7 +1,7 @@
 //! What a row of a lot file spells.
 ghost use Rattle.std.specs.Prelude.{◌≡◌, ◌≤◌, ℕ, List, Option, IfErr, IfOk, IfSome, IsNone, length};
 ghost use Rattle.csv.specs.Records.{fields_of};
-ghost use Rattle.site_digits.specs.Digits.{digits_behind};
+ghost use Rattle.site_digits.specs.Digits.{digits_after};
 ghost use Rattle.office.specs.Lots.{IsAmountAt, IsChoiceAt, IsFirstFault, IsTextAt, Spells, digits_in, number_at};
 
 use crate::column::Column;
@@ -12,7 +12,7 @@ use csv::ByteRecord;
 const MOST_DIGITS: usize = 10;
 
 /// What a row of a lot file spells: an item to be listed, its amounts in cents.
-#[derive(Clone, Copy, Debug, PartialEq, Eq)]
+#[derive(Clone, Copy)]
 pub struct Lot<'a> {
     /// The seller's code of the item.
     pub lot: &'a str,
@@ -33,7 +33,7 @@ pub struct Lot<'a> {
 // The number that so few digits write.
 fn value(digits: &[u8]) -> Option<u64>
     requires { length digits.now ≤ 10 }
-    ensures { result ≡ digits_behind 0 digits.now }
+    ensures { result ≡ digits_after 0 digits.now }
 {
     let mut number = 0u64;
     for byte in digits {

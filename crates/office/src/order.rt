@@ -13,7 +13,7 @@ use std::alloc::{AllocError, Global};
 const MOST_BODY: usize = 16_384;
 
 /// Who lists, and when.
-#[derive(Clone, Copy, Debug, PartialEq, Eq)]
+#[derive(Clone, Copy)]
 pub struct Lister {
     /// The number of the member.
     pub member: u64,

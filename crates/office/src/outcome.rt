@@ -1,4 +1,4 @@
-//! What the answer to an order tells.
+//! What the answer to an order says.
 ghost use Rattle.std.specs.Prelude.{◌≡◌, false, IfErr, IfOk};
 ghost use Rattle.site_replies.specs.Texts.{fault_text};
 ghost use Rattle.office.specs.Outcomes.{Tells};
@@ -11,7 +11,7 @@ const THERE: &[u8] = b"HTTP/1.1 409 Conflict\r\ncontent-type: application/json\r
     content-length: 33\r\n\r\n{\"error\":\"LotExists\",\"number\":13}";
 
 /// What became of a row of a lot file.
-#[derive(Clone, Copy, Debug, PartialEq, Eq)]
+#[derive(Clone, Copy)]
 pub enum Outcome {
     /// Its item was listed.
     Listed,
@@ -21,9 +21,9 @@ pub enum Outcome {
     Refused,
 }
 
-/// What an answer tells of the order that it is to. An error is told of memory or of the keep.
+/// What an answer says of the order that it is to. An error is one of memory or of the keep.
 pub fn outcome_of(reply: &[u8]) -> Result<Outcome, KeepFault>
-    ensures told { IfOk result (Tells reply.now) }
+    ensures report { IfOk result (Tells reply.now) }
     ensures fault { IfErr result (λ fault. reply.now ≡ fault_text fault false) }
 {
     if reply.starts_with(b"HTTP/1.1 201 ") {

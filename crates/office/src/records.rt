@@ -22,7 +22,7 @@ fn fault_of(error: &Error) -> ImportFault
     match error.kind() {
         ErrorKind::Io(_) => ImportFault::Read,
         ErrorKind::OutOfMemory => ImportFault::Memory,
-        // A flexible reader of bytes tells nothing else.
+        // A flexible reader of bytes reports nothing else.
         _ => ImportFault::Csv,
     }
 }

@@ -5,7 +5,7 @@ ghost use Rattle.office.specs.Tallies.{counted, nothing, sum_of};
 use crate::outcome::Outcome;
 
 /// How many rows of a lot file became what.
-#[derive(Clone, Copy, Debug, PartialEq, Eq)]
+#[derive(Clone, Copy)]
 pub struct Imported {
     /// Rows whose item was listed.
     pub listed: u64,
@@ -28,7 +28,7 @@ impl Imported {
     }
 
     /// The count with one row more.
-    pub(crate) fn counted(self, outcome: Outcome) -> Imported
+    pub(crate) fn with_outcome(self, outcome: Outcome) -> Imported
         requires { sum_of self < 18446744073709551615 }
         ensures { result ≡ counted self outcome }
     {

@@ -12,4 +12,4 @@ use Rattle.pages_text.specs.Trees.{page_tree}
 use Rattle.pages.specs.Showing.{shown_text}
 
 pub text_same : (settings : Settings) (zone : Zone) (c : ℕ) (h k : History) (query : Query) → AreAlike settings c h k → shown_text settings zone h c query ≡ shown_text settings zone k c query
-text_same settings zone c h k query alike = ap (λ (page : Page). text_of (page_tree zone settings.rate page)) (page_same settings c h k query alike)
+text_same settings zone c h k query alike = ap (λ (page : Page). text_of (page_tree zone page)) (page_same settings c h k query alike)

@@ -15,20 +15,20 @@ use Rattle.pages_text.specs.Trees.{page_tree}
 
 -- the text of what a read shows
 abbrev pub shown_text : Settings → Zone → History → ℕ → Query → List ℕ
-shown_text settings zone h caller query = text_of (page_tree zone settings.rate (page_of settings h caller query))
+shown_text settings zone h caller query = text_of (page_tree zone (page_of settings h caller query))
 
--- whether a page tells why nothing is shown
+-- whether a page says why nothing is shown
 abbrev pub is_refused : Page → Bool
 is_refused (Refused refusal) = true
 is_refused _ = false
 
--- the text of the page stands after what was there, or the read is refused and nothing does
-abbrev pub IsTold : Zone → ℕ → Page → Result (Unit {0}) Refusal → List ℕ → List ℕ → Type 0
-IsTold zone rate page (Ok u) old new =
-    (is_refused page ≡ false) × (new ≡ old ++ text_of (page_tree zone rate page))
-IsTold zone rate page (Err refusal) old new = (page ≡ Refused refusal) × (new ≡ old)
+-- the text of the page comes after what was there, or the read is refused and nothing does
+abbrev pub IsReported : Zone → Page → Result (Unit {0}) Refusal → List ℕ → List ℕ → Type 0
+IsReported zone page (Ok u) old new =
+    (is_refused page ≡ false) × (new ≡ old ++ text_of (page_tree zone page))
+IsReported zone page (Err refusal) old new = (page ≡ Refused refusal) × (new ≡ old)
 
 -- what is made is the tree of the page, or the read is refused
-abbrev pub IsGrown : Zone → ℕ → Page → Result Value Refusal → Type 0
-IsGrown zone rate page (Ok v) = (is_refused page ≡ false) × (view v ≡ page_tree zone rate page)
-IsGrown zone rate page (Err refusal) = page ≡ Refused refusal
+abbrev pub IsGrown : Zone → Page → Result Value Refusal → Type 0
+IsGrown zone page (Ok v) = (is_refused page ≡ false) × (view v ≡ page_tree zone page)
+IsGrown zone page (Err refusal) = page ≡ Refused refusal

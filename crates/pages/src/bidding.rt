@@ -47,11 +47,13 @@ pub(crate) fn statement<K: Keep>(
     ensures faults { Faults result (K.is_honest keep.new) (K.is_failed keep.new) (K.content keep.old) }
     ensures read { IsRead K.content K.is_failed K.is_honest K.may_leave keep.old keep.new }
 {
+    let rate = keep.settings()?.rate;
     let sales = keep.sold_of(caller)?;
     Ok(Page::Statement {
         member: caller,
         from,
         to,
+        rate,
         sales: Rows::new(sales),
     })
 }

@@ -2,21 +2,21 @@
 //!
 //! Promised: for every history whose tables the keep has, `read` gives the page that `page_of`
 //! defines, `show` appends its text, whole or not at all, and `page` makes its tree; the tables
-//! stay. Read `showing` first, and then `reading` and `growing`.
+//! stay. Read `page_text` first, and then `reading`; what makes trees is apart in `trees`.
 #![tactic(auto)]
 
 mod bidding;
-mod growing;
 mod items;
 mod laws;
+mod page_text;
 mod people;
 mod reading;
 mod settings;
-mod showing;
 mod talk;
+mod trees;
 
-pub use growing::page;
 pub use laws::alike_histories_show_the_same_text;
+pub use page_text::show;
 pub use pages_text::PageFault;
 pub use reading::read;
-pub use showing::show;
+pub use trees::page;

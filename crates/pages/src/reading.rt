@@ -55,12 +55,12 @@ pub(crate) fn read_tables<K: Keep>(
     if !may_read(members, caller, is_own(query)) {
         return Ok(Page::Refused(Refusal::NoCaller));
     }
-    admitted(alloc, keep, caller, query)
+    page_allowed(alloc, keep, caller, query)
 }
 
 // What whoever may read it is shown.
 #[tactic(auto, unfolding(pages_laws::specs::ByTables::shown_by))]
-fn admitted<K: Keep>(
+fn page_allowed<K: Keep>(
     alloc: Global,
     keep: &mut K,
     caller: u64,
@@ -109,7 +109,7 @@ fn is_own(query: &Query) -> bool
 
 // Whether a caller may read, by how many members there are: the house has no pages of its own.
 fn may_read(members: u32, caller: u64, own: bool) -> bool
-    ensures told { result ≡ may_read members caller own }
+    ensures report { result ≡ may_read members caller own }
     ensures number { IsTrue result → caller < 2 ^ 32 }
 {
     (!own || caller >= 1) && caller <= u64::from(members)

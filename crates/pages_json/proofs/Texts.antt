@@ -16,7 +16,7 @@ use Rattle.serde_json.specs.View.{items_of}
 use Rattle.serde_json.specs.Written as written
 use Rattle.pages_json.specs.Words.{array_of, enclosed, entries_text, is_key, key_text, keyed, members_text, name_in, object_of, text_of}
 
--- ---- what stands in front
+-- ---- what comes in front
 
 -- what begins with a begins with what a begins with
 pub front_then : (a b c : List ℕ) → take (length a) b ≡ a → take (length b) c ≡ b → take (length a) c ≡ a
@@ -24,7 +24,7 @@ front_then a b c ab bc =
     let short : length a ≤ length b = omega (arith, ap length ab, length-take (length a) b) in
     sym (take-take (length a) (length b) c short) ∙ ap (take (length a)) bc ∙ ab
 
--- what is appended leaves what stood before it
+-- what is appended leaves what was before it
 pub front_kept : (a b c : List ℕ) → b ≡ a ++ c → take (length a) b ≡ a
 front_kept a b c is = ap (take (length a)) is ∙ take_at a c (length a) refl
 
@@ -90,10 +90,10 @@ unfolding text_of entries_text
 entries_enclosed tree [] = refl
 entries_enclosed tree (x ∷ xs) = ap (λ s. 91 ∷ drop 1 s) (sym (entries_then tree (x ∷ xs)))
 
--- what stands after a place is enclosed there
-behind : (old inner now : List ℕ) (start first last : ℕ) → start ≡ length old → now ≡ old ++ inner
+-- what comes after a place is enclosed there
+rest_after : (old inner now : List ℕ) (start first last : ℕ) → start ≡ length old → now ≡ old ++ inner
     → take start now ++ enclosed first last (drop start now) ≡ old ++ enclosed first last inner
-behind old inner now start first last at is =
+rest_after old inner now start first last at is =
     ap (λ i. take i now ++ enclosed first last (drop i now)) at
     ∙ ap (λ s. take (length old) s ++ enclosed first last (drop (length old) s)) is
     ∙ ap (λ s. s ++ enclosed first last (drop (length old) (old ++ inner))) (take_at old inner (length old) refl)
@@ -102,7 +102,7 @@ behind old inner now start first last at is =
 pub enclosed_none : (old : List ℕ) (start first last : ℕ) → start ≡ length old
     → (old ++ first ∷ []) ++ last ∷ [] ≡ take start old ++ enclosed first last (drop start old)
 enclosed_none old start first last at =
-    append_assoc old (first ∷ []) (last ∷ []) ∙ sym (behind old [] old start first last at (sym (append-nil old)))
+    append_assoc old (first ∷ []) (last ∷ []) ∙ sym (rest_after old [] old start first last at (sym (append-nil old)))
 
 pub enclosed_some : (old : List ℕ) (start first last : ℕ) → start < length old
     → set old start first ++ last ∷ [] ≡ take start old ++ enclosed first last (drop start old)
@@ -112,11 +112,11 @@ enclosed_some old start first last lt =
 
 pub object_enclosed : (ms : List (List ℕ × Data)) (old now : List ℕ) (start : ℕ) → start ≡ length old → now ≡ old ++ members_text ms
     → take start now ++ enclosed 123 125 (drop start now) ≡ old ++ text_of (object_of ms)
-object_enclosed ms old now start at is = behind old (members_text ms) now start 123 125 at is ∙ ap (λ s. old ++ s) (members_enclosed ms)
+object_enclosed ms old now start at is = rest_after old (members_text ms) now start 123 125 at is ∙ ap (λ s. old ++ s) (members_enclosed ms)
 
 pub array_enclosed : {A : Type 0} (tree : A → Data) (xs : List A) (old now : List ℕ) (start : ℕ) → start ≡ length old → now ≡ old ++ entries_text tree xs
     → take start now ++ enclosed 91 93 (drop start now) ≡ old ++ text_of (array_of tree xs)
-array_enclosed tree xs old now start at is = behind old (entries_text tree xs) now start 91 93 at is ∙ ap (λ s. old ++ s) (entries_enclosed tree xs)
+array_enclosed tree xs old now start at is = rest_after old (entries_text tree xs) now start 91 93 at is ∙ ap (λ s. old ++ s) (entries_enclosed tree xs)
 
 -- members one after the other
 pub members_append : (a b : List (List ℕ × Data)) → members_text (a ++ b) ≡ members_text a ++ members_text b

@@ -20,6 +20,6 @@ field_tree (MaybeFlag holds) = boolean_or_null holds
 abbrev pub member_of : Bor (List ℕ) × Field → List ℕ × Data
 member_of m = (name_in m.0.now, field_tree m.1)
 
--- each key stands as in a text
+-- each key is written as in a text
 abbrev pub are_keys : List (Bor (List ℕ) × Field) → Bool
 are_keys fields = list_all (λ m. is_key m.0.now) fields

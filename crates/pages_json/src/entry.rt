@@ -6,14 +6,14 @@ ghost use Rattle.pages_json.specs.Words.{array_of, entries_text, text_of};
 use crate::object::enclose;
 use std::alloc::{AllocError, Global};
 
-/// A way to show entries: what stands on a page for each.
+/// A way to show entries: what is on a page for each.
 pub trait Shows<E> {
     ghost use Rattle.serde_json.specs.Data.{Data};
 
     /// The tree of an entry.
     ghost tree: { Self → E → Data };
 
-    /// Appends its text. After an `Err` a part of it may stand.
+    /// Appends its text. After an `Err` a part of it may be there.
     fn put(&self, alloc: Global, out: &mut Vec<u8>, entry: &E) -> Result<(), AllocError>
         ensures text { OnOk result
             (out.new.items ≡ out.old.items ++ text_of (tree self.now entry.now)) }
@@ -38,7 +38,7 @@ fn put_entries<E, F: Shows<E>>(
     Ok(())
 }
 
-/// Appends a list. After an `Err` a part of it may stand.
+/// Appends a list. After an `Err` a part of it may be there.
 #[tactic(auto, using(crate::proofs::Texts::array_enclosed, crate::proofs::Texts::front_then))]
 pub fn put_array<E, F: Shows<E>>(
     alloc: Global,

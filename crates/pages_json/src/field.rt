@@ -52,7 +52,7 @@ fn put_escaped(alloc: Global, out: &mut Vec<u8>, text: &str) -> Result<(), Alloc
     put
 }
 
-// Appends a text between quotes. One without escapes is copied as it stands: a writer clears a kilobyte
+// Appends a text between quotes. One without escapes is copied as it is: a writer clears a kilobyte
 // for each text.
 #[tactic(auto, using(crate::proofs::Texts::plain_quoted))]
 fn put_text(alloc: Global, out: &mut Vec<u8>, text: &str) -> Result<(), AllocError>

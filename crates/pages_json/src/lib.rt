@@ -1,5 +1,5 @@
 //! Objects and lists of JSON, said by trees, and written as text with no tree in memory or made as
-//! trees. Nothing of a house stands here.
+//! trees. Nothing of a house is here.
 //!
 //! Promised: what is appended is the compact text of its tree, whole or not at all, and what is made
 //! is the tree. Brackets, commas and keys are written here; numbers are written by `itoa`, texts by

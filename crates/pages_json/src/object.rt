@@ -11,7 +11,7 @@ use crate::entry::{Shows, put_array};
 use crate::field::{Field, put_value};
 use std::alloc::{AllocError, Global};
 
-/// A key as it stands in a text: after its comma, between quotes, and with its colon.
+/// A key as it is written in a text: after its comma, between quotes, and with its colon.
 #[macro_export]
 macro_rules! key {
     ($name:literal) => {
@@ -42,8 +42,8 @@ pub(crate) fn enclose(
     Ok(())
 }
 
-/// Makes an object of the members that were written from a place on. After an `Err` they may stand
-/// in part.
+/// Makes an object of the members that were written from a place on. After an `Err` they may be
+/// there in part.
 pub fn end_object(out: &mut Vec<u8>, start: usize) -> Result<(), AllocError>
     requires { start ≤ length out.old.items }
     ensures text { OnOk result (out.new.items
@@ -53,7 +53,7 @@ pub fn end_object(out: &mut Vec<u8>, start: usize) -> Result<(), AllocError>
     enclose(out, start, b'{', b'}')
 }
 
-/// Appends members of an object, each after a comma. After an `Err` a part of them may stand.
+/// Appends members of an object, each after a comma. After an `Err` a part of them may be there.
 pub fn put_members(
     alloc: Global,
     out: &mut Vec<u8>,
@@ -72,7 +72,7 @@ pub fn put_members(
 }
 
 /// Appends a member of an object that is a list, after a comma. After an `Err` a part of it may
-/// stand.
+/// be there.
 #[tactic(auto, using(crate::proofs::Texts::one_member, crate::proofs::Texts::front_then))]
 pub fn put_member_list<E, F: Shows<E>>(
     alloc: Global,
@@ -91,7 +91,7 @@ pub fn put_member_list<E, F: Shows<E>>(
     Ok(())
 }
 
-/// Appends an object of these keys. After an `Err` a part of it may stand.
+/// Appends an object of these keys. After an `Err` a part of it may be there.
 #[tactic(auto, using(crate::proofs::Texts::object_enclosed, crate::proofs::Texts::front_then))]
 pub fn put_object(
     alloc: Global,
@@ -109,7 +109,7 @@ pub fn put_object(
     Ok(())
 }
 
-/// Appends an object with one key, which has a list. After an `Err` a part of it may stand.
+/// Appends an object with one key, which has a list. After an `Err` a part of it may be there.
 #[tactic(auto, using(crate::proofs::Texts::object_enclosed, crate::proofs::Texts::front_then))]
 pub fn put_list<E, F: Shows<E>>(
     alloc: Global,
@@ -130,7 +130,7 @@ pub fn put_list<E, F: Shows<E>>(
 }
 
 /// Appends an object of the keys `front`, then one that has a list, then the keys `back`. After an
-/// `Err` a part of it may stand.
+/// `Err` a part of it may be there.
 #[tactic(auto, using(crate::proofs::Texts::three_parts, crate::proofs::Texts::front_then))]
 pub fn put_object_around<E, F: Shows<E>>(
     alloc: Global,

@@ -88,7 +88,7 @@ pub fn grow_array<E, F: Grows<E>>(
     Ok(Value::Array(trees))
 }
 
-/// Makes an object of these keys, which stand in byte order.
+/// Makes an object of these keys, which are in byte order.
 pub fn grow_object(alloc: Global, fields: &[(&str, Field<'_>)]) -> Result<Value, AllocError>
     requires keys { IsTrue (are_keys fields.now) }
     requires order { AreInOrder (map member_of fields.now) }

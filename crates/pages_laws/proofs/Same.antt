@@ -27,7 +27,7 @@ use Rattle.house_rows.specs.Limits.{most_shown}
 use Rattle.house_rows.specs.Listings.{Listing, is_seller, listing_at, listings, newest_of, ReserveRow, reserve_row, reserve_rows}
 use Rattle.house_rows.specs.Pages as pages
 use Rattle.house_rows.specs.declared.page.Page.TheVariants as page
-use Rattle.house_rows.specs.Pages.{all_sales, for_all, for_member, if_known, item_page, page_of, reserve_told, table_page, told_reserve}
+use Rattle.house_rows.specs.Pages.{all_sales, for_all, for_member, if_known, item_page, page_of, reserve_reported, table_page, report_reserve}
 use Rattle.house_rows.specs.People.{categories, members}
 use Rattle.house_rows.specs.Questions.{published, questions, waiting}
 use Rattle.house_rows.specs.Tables.{ItemRow, Tables, row_now, tables_of}
@@ -75,7 +75,7 @@ sales_are t [] = refl
 sales_are t (it ∷ its) = rw (sales_are t its) refl
 
 own_is : (settings : Settings) (h : History) (c : ℕ) (it : Item) → own_bid (tables_of settings h) c it ≡ pages.own_bid h c it.terms
-own_is settings h c it = let told : OwnBest → OwnBid = λ best. record { item = it.terms.item; leading = is_leader it.terms.leader c; maximum = best.maximum; mine = best.mine; price = it.terms.price; state = it.terms.state } in ap told (best_is settings h c it.terms.item)
+own_is settings h c it = let report : OwnBest → OwnBid = λ best. record { item = it.terms.item; leading = is_leader it.terms.leader c; maximum = best.maximum; mine = best.mine; price = it.terms.price; state = it.terms.state } in ap report (best_is settings h c it.terms.item)
 
 bids_are : (settings : Settings) (h : History) (c : ℕ) → map (own_bid (tables_of settings h) c) (all_items (tables_of settings h)) ≡ map (λ (it : ItemShown). pages.own_bid h c it.item.terms) (items_shown settings h)
 bids_are settings h c =
@@ -128,15 +128,15 @@ bids_same settings h c from =
     (sym (filter_twice (λ (b : OwnBid). nat_lt 0 b.mine) (λ (b : OwnBid). nat_le from b.item) (map (λ (it : ItemShown). pages.own_bid h c it.item.terms) (items_shown settings h))))
 
 reserve_one : (settings : Settings) (h : History) (l : Listing) (o : Option ℕ) (rest : List OwnReserve) (rows : List ReserveRow)
-    → shown_at (items_shown settings h) l.item ≡ Some (shown_now settings h l) → rest ≡ map (told_reserve (items_shown settings h)) rows
-    → reserve_told (terms_now settings h l) o ++ rest ≡ map (told_reserve (items_shown settings h)) (reserve_row l.item o ++ rows)
+    → shown_at (items_shown settings h) l.item ≡ Some (shown_now settings h l) → rest ≡ map (report_reserve (items_shown settings h)) rows
+    → reserve_reported (terms_now settings h l) o ++ rest ≡ map (report_reserve (items_shown settings h)) (reserve_row l.item o ++ rows)
 reserve_one settings h l None rest rows here same = same
 reserve_one settings h l (Some r) rest rows here same = rw (here, same) refl
 
-reserves_told : (settings : Settings) (h : History) (ls : List Listing) → AllByRecursion (λ l. shown_at (items_shown settings h) l.item ≡ Some (shown_now settings h l)) ls
-    → reserves_in (map (row_now settings h) ls) ≡ map (told_reserve (items_shown settings h)) (reserve_rows ls)
-reserves_told settings h [] all = refl
-reserves_told settings h (l ∷ ls) all = reserve_one settings h l l.reserve _ _ all.0 (reserves_told settings h ls all.1)
+reserves_reported : (settings : Settings) (h : History) (ls : List Listing) → AllByRecursion (λ l. shown_at (items_shown settings h) l.item ≡ Some (shown_now settings h l)) ls
+    → reserves_in (map (row_now settings h) ls) ≡ map (report_reserve (items_shown settings h)) (reserve_rows ls)
+reserves_reported settings h [] all = refl
+reserves_reported settings h (l ∷ ls) all = reserve_one settings h l l.reserve _ _ all.0 (reserves_reported settings h ls all.1)
 
 each_shown : (settings : Settings) (h : History) → AllByRecursion (λ l. shown_at (items_shown settings h) l.item ≡ Some (shown_now settings h l)) (listings h)
 each_shown settings h =
@@ -149,7 +149,7 @@ unfolding shown_by tables_of pages.reserves_shown own_reserves
 reserves_same settings h c from =
     ap (λ (rs : List OwnReserve). page.Reserves (take most_shown (filter (λ (r : OwnReserve). nat_le from r.item) rs)))
     (ap reserves_in (filter_made (λ (row : ItemRow). row.item.terms.seller == c) (row_now settings h) (listings h))
-    ∙ reserves_told settings h (filter (λ (l : Listing). l.seller == c) (listings h)) (every_filter _ (λ (l : Listing). l.seller == c) (listings h) (each_shown settings h)))
+    ∙ reserves_reported settings h (filter (λ (l : Listing). l.seller == c) (listings h)) (every_filter _ (λ (l : Listing). l.seller == c) (listings h) (each_shown settings h)))
 
 watches_same : (settings : Settings) (h : History) (c : ℕ) → shown_by (tables_of settings h) c query.MyWatches
     ≡ page.Items (filter (λ (it : ItemShown). list_any (λ (w : WatchRow). w.item == it.item.terms.item) (own_watches h c)) (items_shown settings h))
@@ -166,10 +166,10 @@ waiting_same settings h c =
     (ap (λ (o : Option ItemRow). sells o c) (row_found settings h q.item) ∙ seller_is settings h c (listing_at (listings h) q.item))))
 
 statement_same : (settings : Settings) (h : History) (c from to : ℕ) → shown_by (tables_of settings h) c (query.MyStatement from to)
-    ≡ page.Statement c from to (pages.sales_of (items_shown settings h) c)
-unfolding shown_by
+    ≡ page.Statement c from to settings.rate (pages.sales_of (items_shown settings h) c)
+unfolding shown_by tables_of
 statement_same settings h c from to =
-    ap (λ (sales : List Sold). page.Statement c from to (filter (is_party c) sales)) (sales_are (tables_of settings h) (all_items (tables_of settings h)) ∙ ap all_sales (all_shown settings h))
+    ap (λ (sales : List Sold). page.Statement c from to settings.rate (filter (is_party c) sales)) (sales_are (tables_of settings h) (all_items (tables_of settings h)) ∙ ap all_sales (all_shown settings h))
 
 pub page_same : (settings : Settings) (h : History) (c : ℕ) (q : Query) → page_by (tables_of settings h) c q ≡ page_of settings h c q
 unfolding page_by shown_by page_of tables_of published

@@ -52,7 +52,7 @@ shown_by t c (query.MyReserves from) = Reserves (own_reserves t c from)
 shown_by t c query.MyWatches = Items (map (shown_in t) (items_watched t c))
 shown_by t c (query.MyQuestions from) = Questions (questions_of t c from)
 shown_by t c query.MyWaiting = Questions (take most_shown (waiting_for t c))
-shown_by t c (query.MyStatement from to) = Statement c from to (sales_to t c)
+shown_by t c (query.MyStatement from to) = Statement c from to t.settings.rate (sales_to t c)
 
 -- the page of a read
 unfoldable pub page_by : Tables → ℕ → Query → Page

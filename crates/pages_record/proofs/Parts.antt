@@ -6,7 +6,7 @@ use Rattle.pages_json.specs.Words.{AreInOrder, enclosed, members_text, put_all, 
 use Rattle.pages_json.proofs.Texts.{object_enclosed}
 use Rattle.pages_record.specs.Record.{back_by, front_by, middle_by, record_by}
 
--- the keys of the record stand in byte order
+-- the keys of the record are in byte order
 in_order : (t : Tables) → AreInOrder (front_by t ++ (middle_by t ++ back_by t))
 unfolding front_by middle_by back_by
 in_order t = refl

@@ -1,4 +1,4 @@
--- What the record tells of the public view.
+-- What the record says of the public view.
 use Rattle.std.proofs.Common.{◌≡◌, ap, refl}
 use Rattle.house_rows.specs.declared.settings.Settings.{Settings}
 use Rattle.house_rows.specs.History.{History}

@@ -3,9 +3,8 @@ ghost use Rattle.std.specs.Prelude.{◌≡◌, [], IfOk, option_map, unwrap_or};
 ghost use Rattle.std.specs.List.{range_with_len};
 
 use house_rows::Editions;
-use pages_json::{Field, Grows, Shows, grow_object_around, key, put_object_around};
+use pages_json::{Field, Shows, key, put_object_around};
 use pages_text::AsBands;
-use serde_json::Value;
 use std::alloc::{AllocError, Global};
 use steps::Bands;
 
@@ -22,7 +21,7 @@ pub(crate) fn numbers_to(alloc: Global, most: u32) -> Result<Vec<u32>, AllocErro
 }
 
 // The rows of a table, if there is one.
-fn rows_of(bands: Option<&Bands>) -> &[(u64, u64)]
+pub(crate) fn rows_of(bands: Option<&Bands>) -> &[(u64, u64)]
     ensures { result.now ≡ unwrap_or (option_map (λ b. b.now) bands.entry) [] }
 {
     match bands {
@@ -52,21 +51,6 @@ impl Shows<u32> for AsEditions<'_> {
             out,
             &[],
             key!("bands"),
-            &AsBands,
-            rows,
-            &[(key!("edition"), Field::Number(number))],
-        )
-    }
-}
-
-impl Grows<u32> for AsEditions<'_> {
-    fn grow(&self, alloc: Global, number: &u32) -> Result<Value, AllocError> {
-        let number = u64::from(*number);
-        let rows = rows_of(self.editions.bands_of(number));
-        grow_object_around(
-            alloc,
-            &[],
-            "bands",
             &AsBands,
             rows,
             &[(key!("edition"), Field::Number(number))],

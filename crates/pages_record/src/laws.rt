@@ -1,4 +1,4 @@
-//! What the public record tells of the public view.
+//! What the public record says of the public view.
 ghost use Rattle.std.specs.Prelude.{◌≡◌};
 ghost use Rattle.house_rows.specs.declared.settings.Settings.{Settings};
 ghost use Rattle.house_rows.specs.History.{History};

@@ -3,15 +3,15 @@
 //! Promised: for every history whose tables a keep has, what is appended is the text of the public
 //! view's tree, whole or not at all, and what is made is that tree; the tables stay. Rows are asked
 //! for list by list, and no more than one list is held beside the text or the tree. Read
-//! `specs/Record.antt` first, and then `writing` and `growing`.
+//! `specs/Record.antt` first, and then `record_text`; what makes the tree is apart in `trees`.
 #![tactic(auto)]
 
 mod editions;
-mod growing;
 mod laws;
-mod writing;
+mod record_text;
+mod trees;
 
-pub use growing::record;
 pub use laws::{the_lists_tell_the_public_view, the_record_is_of_the_public_view};
 pub use pages_text::PageFault;
-pub use writing::append_record;
+pub use record_text::append_record;
+pub use trees::record;

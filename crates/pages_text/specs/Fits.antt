@@ -14,5 +14,5 @@ pub record AreSales (sales : List Sold) : Type 0 where
 
 -- a statement has such sales, and the number of its member is one of 32 bits
 abbrev pub PageFits : Page → Type 0
-PageFits (page.Statement member from to sales) = (member < 2 ^ 32) × AreSales sales
+PageFits (page.Statement member from to rate sales) = (member < 2 ^ 32) × AreSales sales
 PageFits _ = Unit {0}

@@ -1,4 +1,4 @@
--- The tree of everything that is shown. Keys stand in byte order.
+-- The tree of everything that is shown. Keys are in byte order.
 use Rattle.std.specs.Prelude.{ℕ, ℤ, pos, negsuc, List, [], ◌∷◌, Bool, if◌then◌else◌, codes, Option, Some, None}
 use Rattle.serde_json.specs.Data.{Data, boolean, string}
 use Rattle.settle.specs.Calendar.{day_text}
@@ -23,8 +23,8 @@ use Rattle.house_rows.specs.declared.refusal.Refusal.{Refusal}
 use Rattle.house_rows.specs.declared.refusal.Refusal.TheVariants.{Low}
 use Rattle.house_rows.specs.declared.talk.Feedback.{Feedback}
 use Rattle.house_rows.specs.declared.talk.Question.{Question}
-use Rattle.house_rows.specs.declared.told.Told.{Told}
-use Rattle.house_rows.specs.declared.told.Told.TheVariants as told
+use Rattle.house_rows.specs.declared.command_result.CommandResult.{CommandResult}
+use Rattle.house_rows.specs.declared.command_result.CommandResult.TheVariants as report
 use Rattle.house_rows.specs.Names.{refusal_name, refusal_number, state_name}
 use Rattle.pages_json.specs.Words.{array_of, boolean_or_null, integer, object_of, text_or_null, whole, whole_or_null}
 
@@ -153,10 +153,10 @@ statement_tree account = statement_from account.member account.rows (totals_of a
 
 -- ---- why nothing is shown or done
 
--- the floor that is told of a bid under it
-abbrev pub floor_told : Refusal → Option ℕ
-floor_told (Low floor) = Some floor
-floor_told _ = None
+-- the floor that is reported of a bid under it
+abbrev pub floor_reported : Refusal → Option ℕ
+floor_reported (Low floor) = Some floor
+floor_reported _ = None
 
 abbrev pub refused_with : List ℕ → ℕ → Option ℕ → Data
 refused_with name number None = object_of (
@@ -170,7 +170,7 @@ refused_with name number (Some floor) = object_of (
     )
 
 abbrev pub refusal_tree : Refusal → Data
-refusal_tree refusal = refused_with (refusal_name refusal) (refusal_number refusal) (floor_told refusal)
+refusal_tree refusal = refused_with (refusal_name refusal) (refusal_number refusal) (floor_reported refusal)
 
 abbrev pub fault_word : KeepFault → List ℕ
 fault_word Memory = codes "memory"
@@ -196,61 +196,61 @@ house_tree counts clock rate zone = object_of (
     ∷ (codes "zone", string zone) ∷ []
     )
 
--- a page; the days of a statement are those of the zone, and its fees are by the rate
-abbrev pub page_tree : Zone → ℕ → Page → Data
-page_tree zone rate (page.Refused refusal) = refusal_tree refusal
-page_tree zone rate (page.House counts clock its_rate its_zone) = house_tree counts clock its_rate its_zone
-page_tree zone rate (page.Bands bands) = list_tree (codes "bands") band_tree bands
-page_tree zone rate (page.Categories ks) = list_tree (codes "categories") category_tree ks
-page_tree zone rate (page.Items its) = list_tree (codes "items") item_tree its
-page_tree zone rate (page.OneItem it) = item_tree it
-page_tree zone rate (page.Questions qs) = list_tree (codes "questions") question_tree qs
-page_tree zone rate (page.OneMember m ratings) = rated_tree m ratings
-page_tree zone rate (page.Feedbacks fs) = list_tree (codes "feedback") feedback_tree fs
-page_tree zone rate (page.Bids bs) = list_tree (codes "bids") own_bid_tree bs
-page_tree zone rate (page.Reserves rs) = list_tree (codes "reserves") own_reserve_tree rs
-page_tree zone rate (page.Statement member from to sales) =
+-- a page; the days of a statement are those of the zone
+abbrev pub page_tree : Zone → Page → Data
+page_tree zone (page.Refused refusal) = refusal_tree refusal
+page_tree zone (page.House counts clock rate its_zone) = house_tree counts clock rate its_zone
+page_tree zone (page.Bands bands) = list_tree (codes "bands") band_tree bands
+page_tree zone (page.Categories ks) = list_tree (codes "categories") category_tree ks
+page_tree zone (page.Items its) = list_tree (codes "items") item_tree its
+page_tree zone (page.OneItem it) = item_tree it
+page_tree zone (page.Questions qs) = list_tree (codes "questions") question_tree qs
+page_tree zone (page.OneMember m ratings) = rated_tree m ratings
+page_tree zone (page.Feedbacks fs) = list_tree (codes "feedback") feedback_tree fs
+page_tree zone (page.Bids bs) = list_tree (codes "bids") own_bid_tree bs
+page_tree zone (page.Reserves rs) = list_tree (codes "reserves") own_reserve_tree rs
+page_tree zone (page.Statement member from to rate sales) =
     statement_tree (statement_of sales member from to zone rate)
 
--- ---- what is told of an accepted command
+-- ---- the result of an accepted command
 
-abbrev pub told_tree : Told → Data
-told_tree (told.Registered member) = object_of ((codes "member", whole member) ∷ [])
-told_tree (told.Added category) = object_of ((codes "category", whole category) ∷ [])
-told_tree (told.Listing item) = object_of ((codes "item", whole item) ∷ [])
-told_tree (told.Placed count floor leader price) = object_of (
+abbrev pub result_tree : CommandResult → Data
+result_tree (report.Registered member) = object_of ((codes "member", whole member) ∷ [])
+result_tree (report.Added category) = object_of ((codes "category", whole category) ∷ [])
+result_tree (report.Listing item) = object_of ((codes "item", whole item) ∷ [])
+result_tree (report.Placed count floor leader price) = object_of (
     (codes "count", whole count)
     ∷ (codes "floor", whole floor)
     ∷ (codes "leader", whole_or_null leader)
     ∷ (codes "price", whole price) ∷ []
     )
-told_tree (told.Bought item price) = object_of (
+result_tree (report.Bought item price) = object_of (
     (codes "item", whole item)
     ∷ (codes "price", whole price) ∷ []
     )
-told_tree (told.Closed sold unsold) = object_of (
+result_tree (report.Closed sold unsold) = object_of (
     (codes "sold", whole sold)
     ∷ (codes "unsold", whole unsold) ∷ []
     )
-told_tree (told.Settlement fee item net price) = object_of (
+result_tree (report.Settlement fee item net price) = object_of (
     (codes "fee", whole fee)
     ∷ (codes "item", whole item)
     ∷ (codes "net", whole net)
     ∷ (codes "price", whole price) ∷ []
     )
-told_tree (told.Watched item watched) = object_of (
+result_tree (report.Watched item watched) = object_of (
     (codes "item", whole item)
     ∷ (codes "watched", boolean watched) ∷ []
     )
-told_tree (told.Question asker item number) = object_of (
+result_tree (report.Question asker item number) = object_of (
     (codes "asker", whole asker)
     ∷ (codes "item", whole item)
     ∷ (codes "number", whole number) ∷ []
     )
-told_tree (told.Rated item rating to) = object_of (
+result_tree (report.Rated item rating to) = object_of (
     (codes "item", whole item)
     ∷ (codes "rating", integer (rating_value rating))
     ∷ (codes "to", whole to) ∷ []
     )
-told_tree (told.Edition edition) = object_of ((codes "edition", whole edition) ∷ [])
-told_tree told.Nothing = object_of []
+result_tree (report.Edition edition) = object_of ((codes "edition", whole edition) ∷ [])
+result_tree report.Nothing = object_of []

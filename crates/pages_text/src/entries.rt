@@ -1,16 +1,15 @@
-//! Entries that stand on pages as they are.
+//! Entries that are on pages as they are.
 ghost use Rattle.std.specs.Prelude.{◌≡◌, IsTrue, map};
 ghost use Rattle.pages_json.specs.Fields.{are_keys, member_of};
 ghost use Rattle.pages_json.specs.Words.{AreInOrder, object_of};
 ghost use Rattle.pages_text.specs.Trees.{band_tree, category_tree, feedback_tree, member_tree, own_bid_tree, own_reserve_tree, question_tree, rating_value};
 
 use house_rows::{Category, Feedback, Member, OwnBid, OwnReserve, Question, Rating, Text};
-use pages_json::{Field, Grows, Shows, grow_object, key, put_object};
-use serde_json::Value;
+use pages_json::{Field, Shows, key, put_object};
 use std::alloc::{AllocError, Global};
 
 // The keys of a band, and what they have.
-fn band_fields(band: &(u64, u64)) -> [(&'static str, Field<'_>); 2]
+pub(crate) fn band_fields(band: &(u64, u64)) -> [(&'static str, Field<'_>); 2]
     ensures tree { object_of (map member_of result) ≡ band_tree band.now }
     ensures order { AreInOrder (map member_of result) }
     ensures keys { IsTrue (are_keys result) }
@@ -35,14 +34,8 @@ impl Shows<(u64, u64)> for AsBands {
     }
 }
 
-impl Grows<(u64, u64)> for AsBands {
-    fn grow(&self, alloc: Global, band: &(u64, u64)) -> Result<Value, AllocError> {
-        grow_object(alloc, &band_fields(band))
-    }
-}
-
 // The keys of a category, and what they have.
-fn category_fields(category: &Category) -> [(&'static str, Field<'_>); 2]
+pub(crate) fn category_fields(category: &Category) -> [(&'static str, Field<'_>); 2]
     ensures tree { object_of (map member_of result) ≡ category_tree category.now }
     ensures order { AreInOrder (map member_of result) }
     ensures keys { IsTrue (are_keys result) }
@@ -70,14 +63,8 @@ impl Shows<Category> for AsCategories {
     }
 }
 
-impl Grows<Category> for AsCategories {
-    fn grow(&self, alloc: Global, category: &Category) -> Result<Value, AllocError> {
-        grow_object(alloc, &category_fields(category))
-    }
-}
-
 // The keys of a member, as the record shows it, and what they have.
-fn member_fields(member: &Member) -> [(&'static str, Field<'_>); 2]
+pub(crate) fn member_fields(member: &Member) -> [(&'static str, Field<'_>); 2]
     ensures tree { object_of (map member_of result) ≡ member_tree member.now }
     ensures order { AreInOrder (map member_of result) }
     ensures keys { IsTrue (are_keys result) }
@@ -102,14 +89,8 @@ impl Shows<Member> for AsMembers {
     }
 }
 
-impl Grows<Member> for AsMembers {
-    fn grow(&self, alloc: Global, member: &Member) -> Result<Value, AllocError> {
-        grow_object(alloc, &member_fields(member))
-    }
-}
-
 // The keys of what a member has bid on an item, and what they have.
-fn own_bid_fields(bid: &OwnBid) -> [(&'static str, Field<'_>); 6]
+pub(crate) fn own_bid_fields(bid: &OwnBid) -> [(&'static str, Field<'_>); 6]
     ensures tree { object_of (map member_of result) ≡ own_bid_tree bid.now }
     ensures order { AreInOrder (map member_of result) }
     ensures keys { IsTrue (are_keys result) }
@@ -138,14 +119,8 @@ impl Shows<OwnBid> for AsOwnBids {
     }
 }
 
-impl Grows<OwnBid> for AsOwnBids {
-    fn grow(&self, alloc: Global, bid: &OwnBid) -> Result<Value, AllocError> {
-        grow_object(alloc, &own_bid_fields(bid))
-    }
-}
-
 // The keys of a member's reserve on an item, and what they have.
-fn own_reserve_fields(reserve: &OwnReserve) -> [(&'static str, Field<'_>); 3]
+pub(crate) fn own_reserve_fields(reserve: &OwnReserve) -> [(&'static str, Field<'_>); 3]
     ensures tree { object_of (map member_of result) ≡ own_reserve_tree reserve.now }
     ensures order { AreInOrder (map member_of result) }
     ensures keys { IsTrue (are_keys result) }
@@ -176,14 +151,8 @@ impl Shows<OwnReserve> for AsOwnReserves {
     }
 }
 
-impl Grows<OwnReserve> for AsOwnReserves {
-    fn grow(&self, alloc: Global, reserve: &OwnReserve) -> Result<Value, AllocError> {
-        grow_object(alloc, &own_reserve_fields(reserve))
-    }
-}
-
 // The keys of a question, and what they have.
-fn question_fields(question: &Question) -> [(&'static str, Field<'_>); 5]
+pub(crate) fn question_fields(question: &Question) -> [(&'static str, Field<'_>); 5]
     ensures tree { object_of (map member_of result) ≡ question_tree question.now }
     ensures order { AreInOrder (map member_of result) }
     ensures keys { IsTrue (are_keys result) }
@@ -214,12 +183,6 @@ impl Shows<Question> for AsQuestions {
     }
 }
 
-impl Grows<Question> for AsQuestions {
-    fn grow(&self, alloc: Global, question: &Question) -> Result<Value, AllocError> {
-        grow_object(alloc, &question_fields(question))
-    }
-}
-
 // The number of a rating, from -1 to 1.
 pub(crate) fn rating_value(rating: Rating) -> i64
     ensures { result ≡ rating_value rating }
@@ -232,7 +195,7 @@ pub(crate) fn rating_value(rating: Rating) -> i64
 }
 
 // The keys of feedback, and what they have.
-fn feedback_fields(feedback: &Feedback) -> [(&'static str, Field<'_>); 5]
+pub(crate) fn feedback_fields(feedback: &Feedback) -> [(&'static str, Field<'_>); 5]
     ensures tree { object_of (map member_of result) ≡ feedback_tree feedback.now }
     ensures order { AreInOrder (map member_of result) }
     ensures keys { IsTrue (are_keys result) }
@@ -260,11 +223,5 @@ impl Shows<Feedback> for AsFeedback {
 
     fn put(&self, alloc: Global, out: &mut Vec<u8>, feedback: &Feedback) -> Result<(), AllocError> {
         put_object(alloc, out, &feedback_fields(feedback))
-    }
-}
-
-impl Grows<Feedback> for AsFeedback {
-    fn grow(&self, alloc: Global, feedback: &Feedback) -> Result<Value, AllocError> {
-        grow_object(alloc, &feedback_fields(feedback))
     }
 }

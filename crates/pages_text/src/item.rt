@@ -8,8 +8,7 @@ ghost use Rattle.pages_text.specs.Trees.{item_tree};
 
 use cents::Cents;
 use house_rows::{Editions, Item, ItemShown, State, Terms};
-use pages_json::{Field, Grows, Shows, grow_object, key, put_object};
-use serde_json::Value;
+use pages_json::{Field, Shows, key, put_object};
 use std::alloc::{AllocError, Global};
 use steps::Bands;
 
@@ -27,7 +26,11 @@ pub fn floor(bands: &Bands, terms: &Terms) -> Option<u64>
 }
 
 // The keys of an item with the edition and the floor that are shown of it, and what they have.
-fn item_fields(item: &Item, edition: u32, floor: Option<u64>) -> [(&'static str, Field<'_>); 17]
+pub(crate) fn item_fields(
+    item: &Item,
+    edition: u32,
+    floor: Option<u64>,
+) -> [(&'static str, Field<'_>); 17]
     ensures tree { object_of (map member_of result)
         ≡ item_tree (record { item = item.now; edition = edition; floor = floor }) }
     ensures order { AreInOrder (map member_of result) }
@@ -76,12 +79,6 @@ impl Shows<ItemShown> for AsItems {
     }
 }
 
-impl Grows<ItemShown> for AsItems {
-    fn grow(&self, alloc: Global, shown: &ItemShown) -> Result<Value, AllocError> {
-        grow_object(alloc, &item_fields(&shown.item, shown.edition, shown.floor))
-    }
-}
-
 /// Items, each with its edition and the floor that its band table gives it.
 #[derive(Clone, Copy)]
 pub struct ByEditions<'e> {
@@ -90,7 +87,7 @@ pub struct ByEditions<'e> {
 }
 
 // The floor that is shown of an item.
-fn floor_by(editions: &Editions, terms: &Terms) -> Option<u64>
+pub(crate) fn floor_by(editions: &Editions, terms: &Terms) -> Option<u64>
     ensures { result ≡ floor_of (bands_in editions.now terms.now.item) terms.now }
 {
     floor(editions.bands_for(u64::from(terms.item)), terms)
@@ -107,13 +104,5 @@ impl Shows<Item> for ByEditions<'_> {
         let edition = self.editions.edition_of(u64::from(item.terms.item));
         let floor = floor_by(self.editions, &item.terms);
         put_object(alloc, out, &item_fields(item, edition, floor))
-    }
-}
-
-impl Grows<Item> for ByEditions<'_> {
-    fn grow(&self, alloc: Global, item: &Item) -> Result<Value, AllocError> {
-        let edition = self.editions.edition_of(u64::from(item.terms.item));
-        let floor = floor_by(self.editions, &item.terms);
-        grow_object(alloc, &item_fields(item, edition, floor))
     }
 }

@@ -1,6 +1,5 @@
 //! Pages.
-ghost use Rattle.std.specs.Prelude.{◌≡◌, ◌++◌, IfOk, IsTrue, OnErr, OnOk, map};
-ghost use Rattle.serde_json.specs.View.{view};
+ghost use Rattle.std.specs.Prelude.{◌≡◌, ◌++◌, IsTrue, OnErr, OnOk, map};
 ghost use Rattle.std.specs.Io.{StartsWith};
 ghost use Rattle.pages_json.specs.Fields.{are_keys, member_of};
 ghost use Rattle.pages_json.specs.Words.{AreInOrder, object_of, text_of};
@@ -10,15 +9,14 @@ ghost use Rattle.pages_text.specs.Trees.{house_tree, page_tree, rated_tree};
 use crate::entries::{AsBands, AsCategories, AsFeedback, AsOwnBids, AsOwnReserves, AsQuestions};
 use crate::item::AsItems;
 use crate::refused::AsRefusals;
-use crate::statement::{grow_statement, put_statement};
+use crate::statement::put_statement;
 use house_rows::{Counts, Member, Page, Rate, Ratings};
-use pages_json::{Field, Grows, Shows, finish, grow_list, grow_object, key, put_list, put_object};
-use serde_json::Value;
+use pages_json::{Field, Shows, finish, key, put_list, put_object};
 use settle::Zone;
 use std::alloc::{AllocError, Global};
 
 // The keys of what the house shows of itself, and what they have.
-fn house_fields<'z>(
+pub(crate) fn house_fields<'z>(
     counts: &Counts,
     clock: u64,
     rate: Rate,
@@ -42,7 +40,10 @@ fn house_fields<'z>(
 }
 
 // The keys of a member with its ratings, and what they have.
-fn rated_fields<'m>(member: &'m Member, ratings: &Ratings) -> [(&'static str, Field<'m>); 5]
+pub(crate) fn rated_fields<'m>(
+    member: &'m Member,
+    ratings: &Ratings,
+) -> [(&'static str, Field<'m>); 5]
     ensures tree { object_of (map member_of result) ≡ rated_tree member.now ratings.now }
     ensures order { AreInOrder (map member_of result) }
     ensures keys { IsTrue (are_keys result) }
@@ -57,16 +58,10 @@ fn rated_fields<'m>(member: &'m Member, ratings: &Ratings) -> [(&'static str, Fi
 }
 
 // Appends a page.
-fn put_page(
-    alloc: Global,
-    out: &mut Vec<u8>,
-    zone: &Zone,
-    rate: Rate,
-    page: &Page,
-) -> Result<(), AllocError>
+fn put_page(alloc: Global, out: &mut Vec<u8>, zone: &Zone, page: &Page) -> Result<(), AllocError>
     requires { PageFits page.now }
     ensures text { OnOk result
-        (out.new.items ≡ out.old.items ++ text_of (page_tree zone.now rate page.now)) }
+        (out.new.items ≡ out.old.items ++ text_of (page_tree zone.now page.now)) }
     ensures front { StartsWith out.new.items out.old.items }
 {
     match page {
@@ -74,13 +69,13 @@ fn put_page(
         Page::House {
             counts,
             clock,
-            rate: its_rate,
+            rate,
             zone: its_zone,
         } => {
             put_object(
                 alloc,
                 out,
-                &house_fields(counts, *clock, *its_rate, its_zone.as_str()),
+                &house_fields(counts, *clock, *rate, its_zone.as_str()),
             )
         }
         Page::Bands(bands) => put_list(alloc, out, key!("bands"), &AsBands, bands.as_slice()),
@@ -124,12 +119,13 @@ fn put_page(
             member,
             from,
             to,
+            rate,
             sales,
         } => put_statement(
             alloc,
             out,
             zone,
-            rate,
+            *rate,
             *member,
             *from,
             *to,
@@ -138,55 +134,20 @@ fn put_page(
     }
 }
 
-/// Appends the text of a page to a buffer; a statement is by the zone and the rate. After an `Err`
+/// Appends the text of a page to a buffer; the days of a statement are those of the zone. After an `Err`
 /// the buffer has what it had.
 pub fn append_page(
     alloc: Global,
     out: &mut Vec<u8>,
     zone: &Zone,
-    rate: Rate,
     page: &Page,
 ) -> Result<(), AllocError>
     requires { PageFits page.now }
     ensures ok { OnOk result
-        (out.new.items ≡ out.old.items ++ text_of (page_tree zone.now rate page.now)) }
+        (out.new.items ≡ out.old.items ++ text_of (page_tree zone.now page.now)) }
     ensures err { OnErr result (out.new.items ≡ out.old.items) }
 {
     let before = out.len();
-    let put = put_page(alloc, out, zone, rate, page);
+    let put = put_page(alloc, out, zone, page);
     finish(out, before, put)
-}
-
-/// Makes the tree of a page; a statement is by the zone and the rate.
-pub fn grow_page(alloc: Global, zone: &Zone, rate: Rate, page: &Page) -> Result<Value, AllocError>
-    requires { PageFits page.now }
-    ensures { IfOk result (λ v. view v ≡ page_tree zone.now rate page.now) }
-{
-    match page {
-        Page::Refused(refusal) => AsRefusals.grow(alloc, refusal),
-        Page::House {
-            counts,
-            clock,
-            rate: its_rate,
-            zone: its_zone,
-        } => grow_object(
-            alloc,
-            &house_fields(counts, *clock, *its_rate, its_zone.as_str()),
-        ),
-        Page::Bands(bands) => grow_list(alloc, "bands", &AsBands, bands.as_slice()),
-        Page::Categories(rows) => grow_list(alloc, "categories", &AsCategories, rows.as_slice()),
-        Page::Items(items) => grow_list(alloc, "items", &AsItems, items.as_slice()),
-        Page::OneItem(item) => AsItems.grow(alloc, item),
-        Page::Questions(rows) => grow_list(alloc, "questions", &AsQuestions, rows.as_slice()),
-        Page::OneMember { member, ratings } => grow_object(alloc, &rated_fields(member, ratings)),
-        Page::Feedbacks(rows) => grow_list(alloc, "feedback", &AsFeedback, rows.as_slice()),
-        Page::Bids(bids) => grow_list(alloc, "bids", &AsOwnBids, bids.as_slice()),
-        Page::Reserves(rows) => grow_list(alloc, "reserves", &AsOwnReserves, rows.as_slice()),
-        Page::Statement {
-            member,
-            from,
-            to,
-            sales,
-        } => grow_statement(alloc, zone, rate, *member, *from, *to, sales.as_slice()),
-    }
 }

@@ -3,16 +3,15 @@ ghost use Rattle.std.specs.Prelude.{◌≡◌, IsTrue, map, Some, None};
 ghost use Rattle.house_rows.specs.Names.{refusal_name, refusal_number};
 ghost use Rattle.pages_json.specs.Fields.{are_keys, member_of};
 ghost use Rattle.pages_json.specs.Words.{AreInOrder, object_of};
-ghost use Rattle.pages_text.specs.Trees.{fault_word, floor_told, refused_with};
+ghost use Rattle.pages_text.specs.Trees.{fault_word, floor_reported, refused_with};
 
 use house_rows::{KeepFault, Refusal};
-use pages_json::{Field, Grows, Shows, grow_object, key, put_object};
-use serde_json::Value;
+use pages_json::{Field, Shows, key, put_object};
 use std::alloc::{AllocError, Global};
 
-// The floor that is told of a bid under it, in cents.
-fn floor_told(refusal: Refusal) -> Option<u64>
-    ensures { result ≡ floor_told refusal }
+// The floor that is reported of a bid under it, in cents.
+pub(crate) fn floor_reported(refusal: Refusal) -> Option<u64>
+    ensures { result ≡ floor_reported refusal }
 {
     match refusal {
         Refusal::Low { floor } => Some(floor),
@@ -20,8 +19,8 @@ fn floor_told(refusal: Refusal) -> Option<u64>
     }
 }
 
-// The keys of a refusal that tells no floor, and what they have.
-fn plain_fields(refusal: Refusal) -> [(&'static str, Field<'static>); 2]
+// The keys of a refusal that gives no floor, and what they have.
+pub(crate) fn plain_fields(refusal: Refusal) -> [(&'static str, Field<'static>); 2]
     ensures tree { object_of (map member_of result)
         ≡ refused_with (refusal_name refusal) (refusal_number refusal) None }
     ensures order { AreInOrder (map member_of result) }
@@ -33,8 +32,8 @@ fn plain_fields(refusal: Refusal) -> [(&'static str, Field<'static>); 2]
     ]
 }
 
-// And those of one that tells it.
-fn fields_with(refusal: Refusal, floor: u64) -> [(&'static str, Field<'static>); 3]
+// And those of one that gives it.
+pub(crate) fn fields_with(refusal: Refusal, floor: u64) -> [(&'static str, Field<'static>); 3]
     ensures tree { object_of (map member_of result)
         ≡ refused_with (refusal_name refusal) (refusal_number refusal) (Some floor) }
     ensures order { AreInOrder (map member_of result) }
@@ -57,23 +56,14 @@ impl Shows<Refusal> for AsRefusals {
     ghost tree = { λ _ refusal. refusal_tree refusal };
 
     fn put(&self, alloc: Global, out: &mut Vec<u8>, refusal: &Refusal) -> Result<(), AllocError> {
-        match floor_told(*refusal) {
+        match floor_reported(*refusal) {
             None => put_object(alloc, out, &plain_fields(*refusal)),
             Some(floor) => put_object(alloc, out, &fields_with(*refusal, floor)),
         }
     }
 }
 
-impl Grows<Refusal> for AsRefusals {
-    fn grow(&self, alloc: Global, refusal: &Refusal) -> Result<Value, AllocError> {
-        match floor_told(*refusal) {
-            None => grow_object(alloc, &plain_fields(*refusal)),
-            Some(floor) => grow_object(alloc, &fields_with(*refusal, floor)),
-        }
-    }
-}
-
-// The word that is told of a fault.
+// The word that is reported of a fault.
 fn fault_word(fault: KeepFault) -> &'static str
     ensures { result.now ≡ fault_word fault }
 {

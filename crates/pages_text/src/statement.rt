@@ -1,6 +1,5 @@
 //! Statements.
 ghost use Rattle.std.specs.Prelude.{◌≡◌, ◌++◌, ◌∷◌, [], ◌<◌, ◌^◌, IfOk, IsTrue, OnOk, codes, map};
-ghost use Rattle.serde_json.specs.View.{view};
 ghost use Rattle.settle.specs.Statement.{statement_of};
 ghost use Rattle.std.specs.Io.{StartsWith};
 ghost use Rattle.pages_json.specs.Fields.{are_keys, member_of};
@@ -9,16 +8,13 @@ ghost use Rattle.pages_text.specs.Trees.{line_with, role_of, statement_from, sta
 ghost use Rattle.pages_text.specs.Fits.{AreSales};
 
 use house_rows::Rate;
-use pages_json::{
-    Field, Grows, Shows, grow_object, grow_object_around, key, put_object, put_object_around,
-};
-use serde_json::Value;
+use pages_json::{Field, Shows, key, put_object, put_object_around};
 use settle::{Day, Line, Sold, Totals, Zone, lines};
 use std::alloc::{AllocError, Global};
 
 // Lines of statements.
 #[derive(Clone, Copy)]
-struct AsLines;
+pub(crate) struct AsLines;
 
 // The word for a seller's line, and for a buyer's.
 #[tactic(auto, unfolding(crate::specs::Trees::role_of))]
@@ -29,7 +25,7 @@ fn role(sell: bool) -> &'static str
 }
 
 // The keys of a line, whose day is written so, and what they have.
-fn line_fields<'d>(day: &'d str, line: &Line) -> [(&'static str, Field<'d>); 7]
+pub(crate) fn line_fields<'d>(day: &'d str, line: &Line) -> [(&'static str, Field<'d>); 7]
     ensures tree { object_of (map member_of result)
         ≡ line_with day.now (role_of line.now.sell) line.now }
     ensures order { AreInOrder (map member_of result) }
@@ -57,15 +53,8 @@ impl Shows<Line> for AsLines {
     }
 }
 
-impl Grows<Line> for AsLines {
-    fn grow(&self, alloc: Global, line: &Line) -> Result<Value, AllocError> {
-        let day = format!(in alloc; "{}", line.day)?;
-        grow_object(alloc, &line_fields(day.as_str(), line))
-    }
-}
-
 // The keys before the lines of a statement, and what they have.
-fn front_fields(totals: Totals) -> [(&'static str, Field<'static>); 2]
+pub(crate) fn front_fields(totals: Totals) -> [(&'static str, Field<'static>); 2]
     ensures members { map member_of result
         ≡ (codes "bought", whole totals.bought) ∷ (codes "fees", whole totals.fees) ∷ [] }
     ensures keys { IsTrue (are_keys result) }
@@ -77,7 +66,7 @@ fn front_fields(totals: Totals) -> [(&'static str, Field<'static>); 2]
 }
 
 // And those after them.
-fn back_fields(member: u64, totals: Totals) -> [(&'static str, Field<'static>); 3]
+pub(crate) fn back_fields(member: u64, totals: Totals) -> [(&'static str, Field<'static>); 3]
     ensures members { map member_of result
         ≡ (codes "member", whole member) ∷ (codes "net", whole totals.net)
         ∷ (codes "sold", whole totals.sold) ∷ [] }
@@ -113,20 +102,6 @@ fn put_rows(
     )
 }
 
-// Makes a statement of these lines and totals.
-fn grow_rows(alloc: Global, member: u64, rows: &[Line], totals: Totals) -> Result<Value, AllocError>
-    ensures { IfOk result (λ v. view v ≡ statement_from member rows.now totals) }
-{
-    grow_object_around(
-        alloc,
-        &front_fields(totals),
-        "lines",
-        &AsLines,
-        rows,
-        &back_fields(member, totals),
-    )
-}
-
 /// Appends the statement of a member for a period, made of its sales. A period that ends before it
 /// begins has no lines.
 #[tactic(auto, using(crate::proofs::Periods::no_rows))]
@@ -151,31 +126,6 @@ pub(crate) fn put_statement(
     }
     match lines(alloc, sales, member as u32, from, to, zone, rate.value()) {
         Ok(statement) => put_rows(alloc, out, member, statement.rows(), statement.totals()),
-        Err(_) => Err(AllocError),
-    }
-}
-
-/// Makes the tree of the statement of a member for a period, made of its sales, likewise.
-#[tactic(auto, using(crate::proofs::Periods::no_rows))]
-pub(crate) fn grow_statement(
-    alloc: Global,
-    zone: &Zone,
-    rate: Rate,
-    member: u64,
-    from: Day,
-    to: Day,
-    sales: &[Sold],
-) -> Result<Value, AllocError>
-    requires member { member < 2 ^ 32 }
-    requires sales { AreSales sales.now }
-    ensures { IfOk result (λ v. view v
-        ≡ statement_tree (statement_of sales.now member from to zone.now rate)) }
-{
-    if to < from {
-        return grow_rows(alloc, member, &[], Totals::of(&[]));
-    }
-    match lines(alloc, sales, member as u32, from, to, zone, rate.value()) {
-        Ok(statement) => grow_rows(alloc, member, statement.rows(), statement.totals()),
         Err(_) => Err(AllocError),
     }
 }

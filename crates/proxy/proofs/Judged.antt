@@ -22,14 +22,14 @@ is_leader_no : (o : Option ℕ) (m : ℕ) → o ≢ Some m → is_leader o m ≡
 is_leader_no None m ne = refl
 is_leader_no (Some l) m ne = grind (arith, nat_tests)
 
--- what a leader is told
+-- what a leader is answered
 refusal-leader : (bands : List (ℕ × ℕ)) (opening : Opening) (bids : List Bid) (m x : ℕ) → leader bids ≡ Some m →
     refusal bands opening bids m x ≡ (if nat_le x (top bids) then Some NotHigher else (if nat_le 10000 (length bids) then Some Full else None))
 refusal-leader bands opening bids m x led =
     let leads : is_leader (leader bids) m ≡ true = is_leader_yes (leader bids) m led in
     rw (leads, leader_greatest bids m led) refl
 
--- what anybody else is told
+-- what anybody else is answered
 pub refusal-other : (bands : List (ℕ × ℕ)) (opening : Opening) (bids : List Bid) (m x : ℕ) → leader bids ≢ Some m →
     refusal bands opening bids m x ≡ (if nat_lt x (floor bands opening bids) then Some (Low (floor bands opening bids)) else (if nat_le 10000 (length bids) then Some Full else None))
 refusal-other bands opening bids m x ne =

@@ -1,4 +1,4 @@
--- Accepted bids leave a standing that its row tells.
+-- Accepted bids leave a standing that its row gives.
 use Rattle.std.proofs.Common.{◌≡◌, ◌≢◌, ℕ, ◌+◌, ◌≤◌, List, [], ◌∷◌, ◌++◌, length, Option, Some, None, Bool, true, false, refl, ◌⊎◌, ◌∙◌, ap, sym, arith, inl, inr, append_assoc}
 use Rattle.std.specs.Prelude.{◌==◌, unwrap_or, IfSome}
 use Rattle.std.specs.List.{AllByRecursion}

@@ -74,8 +74,8 @@ abbrev pub reserved : Opening
 reserved = record { start = 500; reserve = Some 900 }
 
 -- what bids come to where there is a reserve: whether it is met, the price, and the floor
-abbrev pub IsTold : List Bid → Bool → ℕ → ℕ → Type 0
-IsTold bids is_met public least =
+abbrev pub IsReported : List Bid → Bool → ℕ → ℕ → Type 0
+IsReported bids is_met public least =
     (met reserved bids ≡ Some is_met) × (price example_table reserved bids ≡ public) × (floor example_table reserved bids ≡ least)
 
 -- member 2 bids 700
@@ -88,19 +88,19 @@ still_under = one_more under_reserve 3 750
 
 -- a first bid under the reserve takes the start
 abbrev pub UnmetReserveLeavesTheStart : Type 0
-UnmetReserveLeavesTheStart = IsTold under_reserve false 500 550
+UnmetReserveLeavesTheStart = IsReported under_reserve false 500 550
 
 -- and a second one the price by the bids
 abbrev pub UnmetReserveLeavesThePrice : Type 0
-UnmetReserveLeavesThePrice = IsTold still_under false 750 800
+UnmetReserveLeavesThePrice = IsReported still_under false 750 800
 
 -- a bid that meets the reserve raises the price to it
 abbrev pub MetReserveIsThePrice : Type 0
-MetReserveIsThePrice = IsTold (one_more still_under 2 1000) true 900 950
+MetReserveIsThePrice = IsReported (one_more still_under 2 1000) true 900 950
 
 -- so does a raise of a sole bidder, and however far it raises, the price stays
 abbrev pub RaiseToTheReserve : Type 0
-RaiseToTheReserve = IsTold (one_more under_reserve 2 900) true 900 950
+RaiseToTheReserve = IsReported (one_more under_reserve 2 900) true 900 950
 
 abbrev pub RaiseOverTheReserve : Type 0
-RaiseOverTheReserve = IsTold (one_more (one_more under_reserve 2 900) 2 5000) true 900 950
+RaiseOverTheReserve = IsReported (one_more (one_more under_reserve 2 900) 2 5000) true 900 950

@@ -7,7 +7,7 @@ use std::error::Error;
 use std::fmt;
 
 /// An accepted bid.
-#[derive(Clone, Copy, Debug, PartialEq, Eq, Hash)]
+#[derive(Clone, Copy)]
 pub struct Bid {
     /// Who bids.
     pub member: u32,
@@ -18,7 +18,7 @@ pub struct Bid {
 }
 
 /// Why a bid is refused. The standing is then as it was.
-#[derive(Clone, Copy, Debug, PartialEq, Eq, Hash)]
+#[derive(Clone, Copy, Debug)]
 pub enum BidRefusal {
     /// The bidder doesn't lead, and the maximum is under the floor.
     Low {

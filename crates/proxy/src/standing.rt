@@ -17,7 +17,7 @@ pub const MOST_BIDS: u32 = 10_000;
 
 /// The standing of one item: what its accepted bids amount to. Clauses see its fields as a
 /// `Kept`.
-#[derive(Clone, Copy, Debug, PartialEq, Eq)]
+#[derive(Clone, Copy, PartialEq, Eq)]
 pub struct Standing {
     start: Cents,
     reserve: Option<Cents>,
@@ -83,13 +83,19 @@ impl Standing {
             Some(best) => {
                 let second = other_greatest(bids, best.member);
                 let count = bids.len() as u32;
-                Standing::open(start, reserve).led(bands, best.member, best.maximum, second, count)
+                Standing::open(start, reserve).with_leader(
+                    bands,
+                    best.member,
+                    best.maximum,
+                    second,
+                    count,
+                )
             }
             None => Standing::open(start, reserve),
         }
     }
 
-    /// The standing of a row that tells it, if the values of the row fit together.
+    /// The standing of a row that gives it, if the values of the row fit together.
     ///
     /// Either nobody has bid, and the price is the start. Or one member has, and the price is the
     /// start. Or several have, the second lies between start and top, and the price is one step
@@ -150,7 +156,7 @@ impl Standing {
     }
 
     /// Whether the reserve is met; none where there is none.
-    pub fn met(&self) -> Option<bool>
+    pub fn is_reserve_met(&self) -> Option<bool>
         ensures { result ≡ met_by self.now.reserve self.now.top }
     {
         match (self.reserve, self.top) {
@@ -259,18 +265,18 @@ impl Standing {
         match (self.leader, self.top) {
             (Some(leader), Some(top)) if leader != member => {
                 if top < maximum {
-                    self.led(bands, member, maximum, Some(top), count)
+                    self.with_leader(bands, member, maximum, Some(top), count)
                 } else {
                     let second = greatest_with(self.second, maximum);
-                    self.led(bands, leader, top, Some(second), count)
+                    self.with_leader(bands, leader, top, Some(second), count)
                 }
             }
-            _ => self.led(bands, member, maximum, self.second, count),
+            _ => self.with_leader(bands, member, maximum, self.second, count),
         }
     }
 
     // The standing where somebody leads.
-    fn led(
+    fn with_leader(
         &self,
         bands: &Bands,
         leader: u32,

@@ -48,7 +48,7 @@ sum_by-swap h xs (y ∷ ys) =
     let two = sum_by-both (λ x. h x y) (λ x. sum_by (h x) ys) xs in
     parts ∙ two ∙ ap (λ n. sum_by (λ x. h x y) xs + n) (sum_by-swap h xs ys) ∙ sym (sum_by-cons (λ y. sum_by (λ x. h x y) xs) y ys)
 
--- how often a number stands in a list
+-- how often a number is in a list
 abbrev times : ℕ → List ℕ → ℕ
 times k ms = sum_by (λ m. if k == m then 1 else 0) ms
 
@@ -74,7 +74,7 @@ none_step : (b c : Bool) (rest : ℕ) → b || c ≡ false → (c ≡ false → 
 none_step true c rest e f = cc
 none_step false c rest e f = omega (arith, f e)
 
--- a number that is there stands there, and one that is not does not
+-- a number that is there is counted, and one that is not is not counted
 any_times : (k : ℕ) (ms : List ℕ) → list_any (λ m. k == m) ms ≡ true → 1 ≤ times k ms
 any_times k [] e = cc
 any_times k (m ∷ ms) e =

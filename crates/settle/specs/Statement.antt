@@ -55,7 +55,7 @@ buy_line zone s = record {
 abbrev pub line_of : ℕ → Zone → ℕ → Sold → Line
 line_of member zone rate s = if s.seller == member then sell_line zone rate s else buy_line zone s
 
--- the first line stands before the second: by day, then by item
+-- the first line is before the second: by day, then by item
 abbrev pub is_before : Line → Line → Bool
 is_before a b = nat_lt a.day b.day || ((a.day == b.day) && nat_lt a.item b.item)
 

@@ -9,7 +9,7 @@ use Rattle.settle.specs.declared.columns.Form.TheVariants.{Csv, Padded}
 use Rattle.settle.specs.declared.line.Line.{Line}
 use Rattle.settle.specs.declared.totals.Totals.{Totals}
 
--- what stands in the seven columns of a record
+-- what is in the seven columns of a record
 pub record Fields : Type 0 where
   pub day : List ℕ
   pub item : List ℕ

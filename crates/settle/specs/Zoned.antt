@@ -9,7 +9,7 @@ use Rattle.settle.specs.declared.zone.Zone.{Zone}
 abbrev pub IsPlainByte : ℕ → Type 0
 IsPlainByte b = (32 ≤ b) × (b ≢ 127)
 
--- no character below U+0020 stands in the text, and no U+007F
+-- no character below U+0020 is in the text, and no U+007F
 abbrev pub IsPlainText : List ℕ → Type 0
 IsPlainText text = All IsPlainByte text
 

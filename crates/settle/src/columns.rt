@@ -6,7 +6,7 @@ use csv::Writer;
 use std::alloc::{AllocError, Global};
 
 /// How a table is written.
-#[derive(Clone, Copy, Debug, PartialEq, Eq)]
+#[derive(Clone, Copy)]
 pub enum Form {
     /// In columns, filled up with spaces.
     Padded,
@@ -14,7 +14,7 @@ pub enum Form {
     Csv,
 }
 
-/// What stands in the columns of a record.
+/// What is in the columns of a record.
 #[derive(Clone, Copy)]
 pub struct Columns<'t> {
     pub day: &'t str,
@@ -49,12 +49,12 @@ impl<'t> Columns<'t> {
         ensures { IfOk result (λ v. v.items ≡ record_text form (texts_of self.now)) }
     {
         match form {
-            Form::Padded => self.padded(alloc),
-            Form::Csv => self.separated(alloc),
+            Form::Padded => self.padded_text(alloc),
+            Form::Csv => self.csv_text(alloc),
         }
     }
 
-    fn padded(&self, alloc: Global) -> Result<Vec<u8>, AllocError>
+    fn padded_text(&self, alloc: Global) -> Result<Vec<u8>, AllocError>
         ensures { IfOk result (λ v. v.items ≡ padded (texts_of self.now)) }
     {
         let mut text = Vec::new(alloc);
@@ -70,7 +70,7 @@ impl<'t> Columns<'t> {
         Ok(text)
     }
 
-    fn separated(&self, alloc: Global) -> Result<Vec<u8>, AllocError>
+    fn csv_text(&self, alloc: Global) -> Result<Vec<u8>, AllocError>
         ensures { IfOk result (λ v. v.items ≡ separated (texts_of self.now)) }
     {
         let fields = [

@@ -15,7 +15,7 @@ pub const LAST_DAY: u32 = 47_846;
 
 /// A day of the calendar from 1970-01-01 to 2100-12-31. Clauses see its number: how many days lie
 /// between 1970-01-01 and it.
-#[derive(Clone, Copy, Debug, PartialEq, Eq, PartialOrd, Ord, Hash)]
+#[derive(Clone, Copy, Debug, PartialEq, Eq, PartialOrd, Ord)]
 pub struct Day {
     number: u32,
 }

@@ -7,7 +7,7 @@ use std::alloc::AllocError;
 use thiserror::Error;
 
 /// Why a call of this crate failed.
-#[derive(Clone, Copy, Debug, PartialEq, Eq, Hash, Error)]
+#[derive(Clone, Copy, Debug, Error)]
 pub enum SettleFault {
     /// The text is no day of 1970 to 2100, written `YYYY-MM-DD`.
     #[error("not a day of 1970 to 2100")]

@@ -8,7 +8,7 @@ use crate::zone::{LAST_MOMENT, Zone};
 use cents::Cents;
 
 /// What a member reads of one sale.
-#[derive(Clone, Copy, Debug, PartialEq, Eq)]
+#[derive(Clone, Copy)]
 pub struct Line {
     /// The civil day on which the sale closed.
     pub day: Day,

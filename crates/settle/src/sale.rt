@@ -5,7 +5,7 @@ ghost use Rattle.settle.specs.Fee.{fee_of};
 use cents::Cents;
 
 /// An item that was sold.
-#[derive(Clone, Copy, Debug, PartialEq, Eq)]
+#[derive(Clone, Copy)]
 pub struct Sold {
     /// The number of the item.
     pub item: u32,

@@ -14,7 +14,7 @@ use std::alloc::{AllocError, Global};
 use std::marker::Model;
 
 /// What a member sold and bought in a period. Clauses see whose it is and its lines.
-#[derive(Debug, Drop)]
+#[derive(Drop)]
 pub struct Statement {
     member: u32,
     rows: Vec<Line>,

@@ -5,7 +5,7 @@ ghost use Rattle.settle.specs.Statement.{totals_of};
 use crate::line::Line;
 
 /// The four totals of a statement, in cents.
-#[derive(Clone, Copy, Debug, PartialEq, Eq)]
+#[derive(Clone, Copy)]
 pub struct Totals {
     /// The prices of what the member sold.
     pub sold: u64,

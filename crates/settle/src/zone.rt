@@ -13,7 +13,7 @@ use jiff::tz::TimeZone;
 pub const LAST_MOMENT: u64 = 4_102_444_800;
 
 /// A time zone that is given by a POSIX rule, as `CET-1CEST,M3.5.0,M10.5.0/3` (IEEE Std 1003.1, 8.3).
-#[derive(Clone, Copy, Debug, PartialEq, Eq)]
+#[derive(Clone, Copy)]
 pub struct Zone {
     rule: TimeZone<'static>,
 }

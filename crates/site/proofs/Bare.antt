@@ -147,22 +147,22 @@ empty_blank : (settings : Settings) → AreBlank (tables_of settings [])
 unfolding tables_of
 empty_blank settings = (refl, refl, refl, refl, refl)
 
-pub blank_told : (settings : Settings) (h : History) (t : Tables) (blank : Bool)
+pub blank_reported : (settings : Settings) (h : History) (t : Tables) (blank : Bool)
     → IsHistory settings h → t ≡ tables_of settings h
     → (blank ≡ true) ↔ AreBlank t → (blank ≡ true) ↔ (t ≡ tables_of settings [])
-blank_told settings h t blank is e told = (
-  λ yes. let (alone, no_members, no_categories, no_items, clock) = rw e at (told.0 yes) in
+blank_reported settings h t blank is e report = (
+  λ yes. let (alone, no_members, no_categories, no_items, clock) = rw e at (report.0 yes) in
       rw e (bare_if settings h is alone no_members no_categories clock),
-  λ same. told.1 (rw same (empty_blank settings)),
+  λ same. report.1 (rw same (empty_blank settings)),
 )
 
--- the newest edition, counts and clock tell it, whichever call they are read by
-pub new_told : (settings : Settings) (h : History) (t mid : Tables) (newest : ℕ) (counts : Counts) (moment : ℕ)
+-- the newest edition, counts and clock say whether it is new, whichever call they are read by
+pub new_reported : (settings : Settings) (h : History) (t mid : Tables) (newest : ℕ) (counts : Counts) (moment : ℕ)
     (blank : Bool) → IsHistory settings h → t ≡ tables_of settings h
     → newest ≡ length t.editions + 1 → counts ≡ counts_of t → mid ≡ t → moment ≡ mid.clock
     → (blank ≡ true) ↔ ((newest ≡ 1) × (counts.members ≡ 0) × (counts.categories ≡ 0) × (counts.items ≡ 0)
     × (moment ≡ 0))
     → (blank ≡ true) ↔ (t ≡ tables_of settings [])
-new_told settings h t mid newest counts moment blank is e alone counted same now told =
-    let told' : (blank ≡ true) ↔ AreBlank t = rw (now, same, counted, alone) at told in
-    blank_told settings h t blank is e told'
+new_reported settings h t mid newest counts moment blank is e alone counted same now report =
+    let report' : (blank ≡ true) ↔ AreBlank t = rw (now, same, counted, alone) at report in
+    blank_reported settings h t blank is e report'

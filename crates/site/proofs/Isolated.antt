@@ -13,9 +13,9 @@ use Rattle.settle.specs.declared.zone.Zone.{Zone}
 use Rattle.site_request.specs.Asked.{IsAsked}
 use Rattle.site_request.specs.declared.asked.Asked.{Asked}
 use Rattle.site_replies.specs.Texts.{IsServed}
-use Rattle.site_replies.proofs.StatusLemmas.{memory_told}
+use Rattle.site_replies.proofs.StatusLemmas.{memory_reported}
 use Rattle.site.specs.Answers.{IsStep, answer_of, next_of}
-use Rattle.site.specs.Lives.{IsToldTheSame, LivesOn, TwinRunsFrom, asked_history}
+use Rattle.site.specs.Lives.{IsAnsweredTheSame, LivesOn, TwinRunsFrom, asked_history}
 use Rattle.site.specs.Runs.{InTurn, IsGoing, IsRun, TwinRuns, answers_from, answers_to, at_places, is_from, meant, rendered}
 use Rattle.site.proofs.Steps.{not_both}
 use Rattle.site.proofs.Turns.{Turns, one_asked, ran_of, ran_texts}
@@ -31,7 +31,7 @@ served_run settings zone h (m ∷ ms) [] after run served = absurd run
 served_run settings zone h (m ∷ ms) (r ∷ rs) after (inl (e, run)) served =
     rw (e, served_run settings zone (next_of settings h m) ms rs after run served.1) refl
 served_run settings zone h (m ∷ ms) (r ∷ rs) after (inr (e, run)) served =
-    absurd (not_both _ (memory_told m.closes) (rw e at served.0.not_wanting))
+    absurd (not_both _ (memory_reported m.closes) (rw e at served.0.not_wanting))
 
 -- and the history after them is that of all messages
 served_after : (settings : Settings) (zone : Zone) (h : History) (ms : List Asked)
@@ -45,7 +45,7 @@ served_after settings zone h (m ∷ ms) [] after run served = absurd run
 served_after settings zone h (m ∷ ms) (r ∷ rs) after (inl (e, run)) served =
     served_after settings zone (next_of settings h m) ms rs after run served.1
 served_after settings zone h (m ∷ ms) (r ∷ rs) after (inr (e, run)) served =
-    absurd (not_both _ (memory_told m.closes) (rw e at served.0.not_wanting))
+    absurd (not_both _ (memory_reported m.closes) (rw e at served.0.not_wanting))
 
 served_going : (rs : List (List ℕ)) → AllByRecursion IsServed rs → AllByRecursion IsGoing rs
 served_going [] served = tt
@@ -54,7 +54,7 @@ served_going (r ∷ rs) served = (served.0.not_failed, served_going rs served.1)
 -- the answers at a member's places are those to it
 pub places_are : (settings : Settings) (zone : Zone) (c : ℕ) (h : History) (ms : List Asked)
     → at_places c ms (answers_from settings zone h ms)
-    ≡ rendered_from meant (rendered settings zone) settings c h ms
+    ≡ rendered_from meant (rendered zone) settings c h ms
 unfolding answer_of next_of
 places_are settings zone c h [] = refl
 places_are settings zone c h (m ∷ ms) =
@@ -65,19 +65,19 @@ pub isolated : (settings : Settings) (zone : Zone) (c : ℕ) (left right : List 
     → TwinRuns settings c left right
     → answers_to settings zone c left ≡ answers_to settings zone c right
 isolated settings zone c left right twin =
-    laws.isolation meant (rendered settings zone) settings c left right twin
+    laws.isolation meant (rendered zone) settings c left right twin
 
--- a run that was served tells a member what any twin run tells it
-told_the_same : (settings : Settings) (zone : Zone) (h : History) (asked : List Asked)
+-- a run that was served gives a member the replies that any twin run gives it
+report_the_same : (settings : Settings) (zone : Zone) (h : History) (asked : List Asked)
     (rs : List (List ℕ)) (after : History)
     → IsRun settings zone h asked rs after → AllByRecursion IsServed rs
     → (c : ℕ) (k : History) (second : List Asked)
     → AreAlike settings c h k → TwinRunsFrom settings c h k asked second
-    → IsToldTheSame settings zone c h k asked second rs
-told_the_same settings zone h asked rs after run served c k second alike twin = record {
+    → IsAnsweredTheSame settings zone c h k asked second rs
+report_the_same settings zone h asked rs after run served c k second alike twin = record {
   same = ap (at_places c asked) (served_run settings zone h asked rs after run served)
       ∙ places_are settings zone c h asked
-      ∙ laws.rendered_same meant (rendered settings zone) settings c h k asked second alike twin;
+      ∙ laws.rendered_same meant (rendered zone) settings c h k asked second alike twin;
   alike = laws.alike_again meant settings c h k asked second alike twin;
 }
 
@@ -96,7 +96,7 @@ lives_on content is_failed is_honest may_leave settings zone h asked rs old new 
     let last = served_after settings zone h asked rs ran.after ran.run served in
     record {
       isolated = λ c k texts second are alike twin.
-          told_the_same settings zone h asked rs ran.after ran.run served c k second alike twin;
+          report_the_same settings zone h asked rs ran.after ran.run served c k second alike twin;
       history = rw last at ran.history;
       tables = ran.tables ∙ ap (tables_of settings) last;
     }
@@ -127,5 +127,5 @@ run_isolated content is_failed is_honest may_leave settings zone texts rs old ne
     served c firsts seconds are twin =
     let ran = ran_texts content is_failed is_honest may_leave settings zone [] texts rs old new
     turns honest tt e firsts are (served_going rs served) in
-    (told_the_same settings zone [] firsts rs ran.after ran.run served c [] seconds
+    (report_the_same settings zone [] firsts rs ran.after ran.run served c [] seconds
     (record { public = refl; own = refl; waiting = refl }) twin).same

@@ -11,7 +11,7 @@ use Rattle.settle.specs.declared.zone.Zone.{Zone}
 use Rattle.site_request.specs.Asked.{IsAsked}
 use Rattle.site_request.specs.declared.asked.Asked.{Asked}
 use Rattle.site_replies.specs.Texts.{is_failure, is_refusal_of_memory}
-use Rattle.site_replies.proofs.StatusLemmas.{memory_told, reply_served}
+use Rattle.site_replies.proofs.StatusLemmas.{memory_reported, reply_served}
 use Rattle.site.specs.Answers.{IsStep, answer_of, next_of}
 use Rattle.site.specs.Lives.{AreAnswered, LeavesALife, WasCut, asked_history, served_among, served_replies}
 use Rattle.site.specs.Runs.{InTurn, IsGoing, IsRun, Ran, Stopped, answers_from, at_places}
@@ -25,15 +25,15 @@ answer_is_no_refusal : (settings : Settings) (zone : Zone) (h : History) (m : As
     → is_refusal_of_memory (answer_of settings zone h m) ≡ false
 unfolding answer_of
 answer_is_no_refusal settings zone h m =
-    (reply_served zone settings.rate m.closes (reply settings h m.message)).not_wanting
+    (reply_served zone m.closes (reply settings h m.message)).not_wanting
 
 answer_goes : (settings : Settings) (zone : Zone) (h : History) (m : Asked)
     → IsGoing (answer_of settings zone h m)
 unfolding answer_of
 answer_goes settings zone h m =
-    (reply_served zone settings.rate m.closes (reply settings h m.message)).not_failed
+    (reply_served zone m.closes (reply settings h m.message)).not_failed
 
--- no reply of a run tells that the store failed
+-- no reply of a run says that the store failed
 run_goes : (settings : Settings) (zone : Zone) (h : History) (ms : List Asked)
     (rs : List (List ℕ)) (after : History) → IsRun settings zone h ms rs after
     → AllByRecursion IsGoing rs
@@ -59,7 +59,7 @@ run_served settings zone h (m ∷ ms) (r ∷ rs) after (inl (e, run)) =
     rw (ap is_refusal_of_memory e ∙ answer_is_no_refusal settings zone h m)
     (run_served settings zone (next_of settings h m) ms rs after run)
 run_served settings zone h (m ∷ ms) (r ∷ rs) after (inr (e, run)) =
-    rw (ap is_refusal_of_memory e ∙ memory_told m.closes)
+    rw (ap is_refusal_of_memory e ∙ memory_reported m.closes)
     (run_served settings zone h ms rs after run)
 
 -- and the replies to that are its answers
@@ -73,7 +73,7 @@ run_tells settings zone h (m ∷ ms) (r ∷ rs) after (inl (e, run)) =
     rw (ap is_refusal_of_memory e ∙ answer_is_no_refusal settings zone h m)
     (rw (e, run_tells settings zone (next_of settings h m) ms rs after run) refl)
 run_tells settings zone h (m ∷ ms) (r ∷ rs) after (inr (e, run)) =
-    rw (ap is_refusal_of_memory e ∙ memory_told m.closes)
+    rw (ap is_refusal_of_memory e ∙ memory_reported m.closes)
     (run_tells settings zone h ms rs after run)
 
 answered_by : (settings : Settings) (zone : Zone) (h : History) (ms : List Asked)
@@ -82,7 +82,7 @@ answered_by : (settings : Settings) (zone : Zone) (h : History) (ms : List Asked
 answered_by settings zone h ms rs after run = record {
   going = run_goes settings zone h ms rs after run;
   are = refl;
-  told = λ c. ap (at_places c (served_among ms rs)) (run_tells settings zone h ms rs after run)
+  report = λ c. ap (at_places c (served_among ms rs)) (run_tells settings zone h ms rs after run)
       ∙ places_are settings zone c h (served_among ms rs);
 }
 

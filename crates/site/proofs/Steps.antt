@@ -25,7 +25,7 @@ use Rattle.site_request.specs.declared.asked.Asked.{Asked}
 use Rattle.site_request.specs.declared.fault.Fault.{Fault}
 use Rattle.site_request.specs.declared.fault.Fault.TheVariants as fault
 use Rattle.site_replies.specs.Texts.{digits_in, fault_text, is_failure, reply_text}
-use Rattle.site_replies.proofs.StatusLemmas.{reply_served, store_told}
+use Rattle.site_replies.proofs.StatusLemmas.{reply_served, store_reported}
 use Rattle.status.specs.Status.{phrase_of}
 use Rattle.wire.specs.Answer.{answer_bytes, head_start, status_line}
 use Rattle.wire.specs.Frame.{IsFrame}
@@ -33,13 +33,13 @@ use Rattle.wire.specs.Message.{Message as Framed}
 use Rattle.wire.specs.declared.fault.WireFault.{WireFault}
 use Rattle.wire.specs.declared.fault.WireFault.TheVariants as wire
 use Rattle.wire.proofs.OneFrame.{one_frame}
-use Rattle.site.specs.Answers.{IsAppended, IsStep, IsTold, IsUnmade, answer_of, broken_text, next_of}
+use Rattle.site.specs.Answers.{IsAppended, IsStep, IsReported, IsUnmade, answer_of, broken_text, next_of}
 
 pub not_both : (b : Bool) → b ≡ true → b ≡ false → ⊥
 not_both true is not = cc
 not_both false is not = cc
 
--- want of memory isn't told as a failure
+-- want of memory isn't reported as a failure
 pub memory_goes : (closes : Bool) → is_failure (fault_text Memory closes) ≡ false
 unfolding fault_text digits_in answer_bytes head_start status_line
 memory_goes closes = refl
@@ -56,11 +56,11 @@ damage_is_not : (closes : Bool) → is_of_17 (fault_text Damaged closes) ≡ fal
 unfolding fault_text answer_bytes head_start status_line phrase_of digits
 damage_is_not closes = refl
 
--- a text that isn't told as a failure doesn't tell that the store failed
+-- a text that isn't reported as a failure doesn't say that the store failed
 served_not_store : (text : List ℕ) (closes : Bool) → is_failure text ≡ false
     → text ≡ fault_text Store closes → ⊥
 served_not_store text closes served e =
-    not_both _ (store_told closes) (rw e at served)
+    not_both _ (store_reported closes) (rw e at served)
 
 damage_not_store : (closes : Bool) → fault_text Damaged closes ≡ fault_text Store closes → ⊥
 damage_not_store closes e = not_both _ (store_is_of_17 closes) (rw e at (damage_is_not closes))
@@ -72,7 +72,7 @@ asks_may (Read caller query) asks = refl
 asks_may (Broken caller f) asks = absurd (let wrong : false ≡ true = asks in cc)
 
 -- a message that asks for nothing leaves the keep; another was asked of one that hasn't failed,
--- where no failure was told
+-- where no failure was reported
 idle_or_going : {K : Type 0} (is_failed : K → Bool) (old new : K) (asks : Bool)
     → (asks ≡ false → new ≡ old)
     → ((is_failed new ≡ true) × (asks ≡ true) → ⊥) → (new ≡ old) ⊎ (is_failed new ≡ false)
@@ -111,13 +111,13 @@ same_left is_failed may_leave old new left (inr going) t may = left going t may
 read_shown : (message : Message Fault) (zone : Zone) (t : Tables) (closes : Bool) (u : Unit {0})
     (before after text : List ℕ) → after ≡ before ++ text
     → IfRead message (λ caller query. OnOk {E = KeepFault} (Ok u) (after ≡ before
-    ++ reply_text zone t.settings.rate closes (Shows (page_by t caller query))))
+    ++ reply_text zone closes (Shows (page_by t caller query))))
     → IfRead message (λ caller query.
-    text ≡ reply_text zone t.settings.rate closes (Shows (page_by t caller query)))
+    text ≡ reply_text zone closes (Shows (page_by t caller query)))
 read_shown (Order moment caller command) zone t closes u before after text e shown = tt
 read_shown (Read caller query) zone t closes u before after text e shown =
     append_cancel_left before text
-    (reply_text zone t.settings.rate closes (Shows (page_by t caller query))) (sym e ∙ shown)
+    (reply_text zone closes (Shows (page_by t caller query))) (sym e ∙ shown)
 read_shown (Broken caller fault) zone t closes u before after text e shown = tt
 
 -- where it met a fault nothing has acted, unless the store failed
@@ -143,45 +143,44 @@ step_ok : {K : Type 0} (content : K → Tables) (is_failed : K → Bool) (is_hon
     × IsStep content is_failed is_honest may_leave zone asked text old new
 unfolding answer_of next_of
 step_ok content is_failed is_honest may_leave zone asked u before after old new acted =
-    let (rate, r, e) = acted.text in
+    let (r, e) = acted.text in
     let still : (new ≡ old) ⊎ (is_failed new ≡ false) =
     idle_or_going is_failed old new (is_asking asked.message) acted.asleep
     (λ failed. let wrong = acted.store.1 failed in cc) in (
-      reply_text zone rate asked.closes r,
+      reply_text zone asked.closes r,
       e,
       record {
         answer = λ honest settings h is same. record {
           outcome = inl (record {
-            told = append_cancel_left before (reply_text zone rate asked.closes r)
-                (reply_text zone settings.rate asked.closes (reply settings h asked.message)) (sym e
-                ∙ acted.told honest settings h is same);
+            report = append_cancel_left before (reply_text zone asked.closes r)
+                (reply_text zone asked.closes (reply settings h asked.message)) (sym e
+                ∙ acted.report honest settings h is same);
             tables = acted.tables honest settings h is same;
             same = same_failed is_failed old new acted.stays still;
             kept = λ entered t may. acted.kept honest settings h is same entered t may;
           });
           crash = λ t may. acted.crash_next honest settings h is same t may;
         };
-        told = inl (record {
-          text = (rate, r, refl);
+        report = inl (record {
+          text = (r, refl);
           shown = λ honest. read_shown asked.message zone (content old) asked.closes u before after
-              (reply_text zone rate asked.closes r) e (acted.shown honest);
+              (reply_text zone asked.closes r) e (acted.shown honest);
           accepted = λ honest going. elim (acted.accepted honest going) [
             | inl same ↦ inl same
             | inr done ↦ inr (
               done.0,
-              done.1,
-              append_cancel_left before (reply_text zone rate asked.closes r)
-                  (reply_text zone done.0 asked.closes (Done done.1)) (sym e ∙ done.2),
+              append_cancel_left before (reply_text zone asked.closes r)
+                  (reply_text zone asked.closes (Done done.0)) (sym e ∙ done.1),
             )
           ];
         });
         made = acted.made;
         crash = acted.crash;
         failure = λ honest sound failing.
-            absurd (not_both _ failing (reply_served zone rate asked.closes r).not_failed);
+            absurd (not_both _ failing (reply_served zone asked.closes r).not_failed);
         down = λ failed asks. absurd (let wrong = acted.store.1 (failed, asks) in cc);
-        store = λ told. absurd (served_not_store (reply_text zone rate asked.closes r)
-            asked.closes (reply_served zone rate asked.closes r).not_failed told);
+        store = λ report. absurd (served_not_store (reply_text zone asked.closes r)
+            asked.closes (reply_served zone asked.closes r).not_failed report);
         honest = acted.honest;
         stays = acted.stays;
         asleep = acted.asleep;
@@ -203,20 +202,20 @@ step_err content is_failed is_honest may_leave zone asked Memory before after ol
     record {
       answer = λ honest settings h is same. record {
         outcome = inr (inl (record {
-          told = refl;
+          report = refl;
           tables = same_tables content is_failed old new (acted.unmade honest) still;
           same = same_failed is_failed old new acted.stays still;
           left = same_left is_failed may_leave old new (acted.left honest) still;
         }));
         crash = λ t may. acted.crash_next honest settings h is same t may;
       };
-      told = inr (unmade content is_failed is_honest may_leave zone asked Memory before after old new acted);
+      report = inr (unmade content is_failed is_honest may_leave zone asked Memory before after old new acted);
       made = acted.made;
       crash = acted.crash;
       failure = λ honest sound failing. absurd (not_both _ failing (memory_goes asked.closes));
       down = λ failed asks. absurd (let wrong = acted.store.1 (failed, asks) in cc);
-      store = λ told. absurd (served_not_store (fault_text Memory asked.closes) asked.closes
-          (memory_goes asked.closes) told);
+      store = λ report. absurd (served_not_store (fault_text Memory asked.closes) asked.closes
+          (memory_goes asked.closes) report);
       honest = acted.honest;
       stays = acted.stays;
       asleep = acted.asleep;
@@ -225,18 +224,18 @@ step_err content is_failed is_honest may_leave zone asked Store before after old
     record {
       answer = λ honest settings h is same. record {
         outcome = inr (inr (record {
-          told = refl;
+          report = refl;
           asking = asks_may asked.message (acted.store.0 refl).1;
           failed = (acted.store.0 refl).0;
         }));
         crash = λ t may. acted.crash_next honest settings h is same t may;
       };
-      told = inr (unmade content is_failed is_honest may_leave zone asked Store before after old new acted);
+      report = inr (unmade content is_failed is_honest may_leave zone asked Store before after old new acted);
       made = acted.made;
       crash = acted.crash;
       failure = λ honest sound failing. inl (acted.store.0 refl).0;
       down = λ failed asks. refl;
-      store = λ told. ((acted.store.0 refl).0, asks_may asked.message (acted.store.0 refl).1);
+      store = λ report. ((acted.store.0 refl).0, asks_may asked.message (acted.store.0 refl).1);
       honest = acted.honest;
       stays = acted.stays;
       asleep = acted.asleep;
@@ -244,12 +243,12 @@ step_err content is_failed is_honest may_leave zone asked Store before after old
 step_err content is_failed is_honest may_leave zone asked Damaged before after old new acted =
     record {
       answer = λ honest settings h is same. absurd (acted.whole honest settings h is same refl);
-      told = inr (unmade content is_failed is_honest may_leave zone asked Damaged before after old new acted);
+      report = inr (unmade content is_failed is_honest may_leave zone asked Damaged before after old new acted);
       made = acted.made;
       crash = acted.crash;
       failure = λ honest sound failing. inr (acted.damaged honest sound refl);
       down = λ failed asks. absurd (let wrong = acted.store.1 (failed, asks) in cc);
-      store = λ told. absurd (damage_not_store asked.closes told);
+      store = λ report. absurd (damage_not_store asked.closes report);
       honest = acted.honest;
       stays = acted.stays;
       asleep = acted.asleep;
@@ -261,23 +260,23 @@ pub step_acted : {K : Type 0} (content : K → Tables) (is_failed : K → Bool) 
     (zone : Zone) (asked : Asked) (acted : Result (Unit {0}) KeepFault)
     (result : Result (Unit {0}) (Bor (List ℕ))) (before after : List ℕ) (old new : K)
     → IsActed content is_failed is_honest may_leave zone asked.closes asked.message acted before
-    after old new → IsTold asked.closes acted result
+    after old new → IsReported asked.closes acted result
     → (text : List ℕ) × IsAppended result before after text
     × IsStep content is_failed is_honest may_leave zone asked text old new
 step_acted content is_failed is_honest may_leave zone asked (Ok u) (Ok v) before after old new acted
-    told =
+    report =
     step_ok content is_failed is_honest may_leave zone asked u before after old new acted
 step_acted content is_failed is_honest may_leave zone asked (Err f) (Err text) before after old new
-    acted told = (
+    acted report = (
       fault_text f asked.closes,
-      (told, acted.err),
+      (report, acted.err),
       step_err content is_failed is_honest may_leave
           zone asked f before after old new acted,
     )
 step_acted content is_failed is_honest may_leave zone asked (Ok u) (Err text) before after old new
-    acted told = absurd told
+    acted report = absurd report
 step_acted content is_failed is_honest may_leave zone asked (Err f) (Ok v) before after old new
-    acted told = absurd told
+    acted report = absurd report
 
 -- memory was refused for the body, over a keep that goes on
 unread_going : {K : Type 0} (content : K → Tables) (is_failed : K → Bool)
@@ -286,10 +285,10 @@ unread_going : {K : Type 0} (content : K → Tables) (is_failed : K → Bool)
     → IsStep content is_failed is_honest may_leave zone asked (fault_text Memory asked.closes) k k
 unread_going content is_failed is_honest may_leave zone asked k going = record {
   answer = λ honest settings h is e. record {
-    outcome = inr (inl (record { told = refl; tables = refl; same = refl; left = λ t may. may }));
+    outcome = inr (inl (record { report = refl; tables = refl; same = refl; left = λ t may. may }));
     crash = λ t may. inl may;
   };
-  told = inr (record {
+  report = inr (record {
     text = (Memory, refl);
     tables = λ honest going. refl;
     left = λ honest going t may. may;
@@ -298,8 +297,8 @@ unread_going content is_failed is_honest may_leave zone asked k going = record {
   crash = λ honest t may. inl may;
   failure = λ honest sound failing. absurd (not_both _ failing (memory_goes asked.closes));
   down = λ failed asks. absurd (not_both _ failed going);
-  store = λ told. absurd (served_not_store (fault_text Memory asked.closes) asked.closes
-      (memory_goes asked.closes) told);
+  store = λ report. absurd (served_not_store (fault_text Memory asked.closes) asked.closes
+      (memory_goes asked.closes) report);
   honest = λ honest. honest;
   stays = λ failed. failed;
   asleep = λ idle. refl;
@@ -312,10 +311,10 @@ unread_down : {K : Type 0} (content : K → Tables) (is_failed : K → Bool)
     → IsStep content is_failed is_honest may_leave zone asked (fault_text Store asked.closes) k k
 unread_down content is_failed is_honest may_leave zone asked k may failed = record {
   answer = λ honest settings h is e. record {
-    outcome = inr (inr (record { told = refl; asking = may; failed = failed }));
+    outcome = inr (inr (record { report = refl; asking = may; failed = failed }));
     crash = λ t may. inl may;
   };
-  told = inr (record {
+  report = inr (record {
     text = (Store, refl);
     tables = λ honest going. refl;
     left = λ honest going t may. may;
@@ -324,7 +323,7 @@ unread_down content is_failed is_honest may_leave zone asked k may failed = reco
   crash = λ honest t may. inl may;
   failure = λ honest sound failing. inl failed;
   down = λ failed asks. refl;
-  store = λ told. (failed, may);
+  store = λ report. (failed, may);
   honest = λ honest. honest;
   stays = λ failed. failed;
   asleep = λ idle. refl;
@@ -346,17 +345,16 @@ step_unread content is_failed is_honest may_leave zone asked closes reply k same
           (unread_going content is_failed is_honest may_leave zone asked k goes)
     ]
 
--- the text that stands ready for a broken frame is that of the reply
+-- the text that is ready for a broken frame is that of the reply
 broken_replied : (settings : Settings) (zone : Zone) (h : History) (f : WireFault)
     → broken_text f ≡ answer_of settings zone h (asked_of (Err f))
 unfolding answer_of asked_of reply reply_text
 broken_replied settings zone h f = refl
 
 broken_reply : (zone : Zone) (f : WireFault)
-    → (rate : ℕ) × (r : Reply Fault)
-    × (broken_text f ≡ reply_text zone rate (asked_of (Err f)).closes r)
+    → (r : Reply Fault) × (broken_text f ≡ reply_text zone (asked_of (Err f)).closes r)
 unfolding asked_of reply_text
-broken_reply zone f = (0, Faulty (fault.Frame f), refl)
+broken_reply zone f = (Faulty (fault.Frame f), refl)
 
 broken_reads : (f : WireFault) (P : ℕ → Query → Type 0) → IfRead (asked_of (Err f)).message P
 unfolding asked_of
@@ -394,14 +392,14 @@ pub step_broken : {K : Type 0} (content : K → Tables) (is_failed : K → Bool)
 step_broken content is_failed is_honest may_leave zone f k = record {
   answer = λ honest settings h is e. record {
     outcome = inl (record {
-      told = broken_replied settings zone h f;
+      report = broken_replied settings zone h f;
       tables = e ∙ ap (tables_of settings) (sym (broken_leaves settings h f));
       same = refl;
       kept = λ entered. absurd (not_both _ entered (broken_enters settings h f));
     });
     crash = λ t may. inl may;
   };
-  told = inl (record {
+  report = inl (record {
     text = broken_reply zone f;
     shown = λ honest. broken_reads f _;
     accepted = λ honest going. inl refl;
@@ -410,8 +408,8 @@ step_broken content is_failed is_honest may_leave zone f k = record {
   crash = λ honest t may. inl may;
   failure = λ honest sound failing. absurd (not_both _ failing (broken_goes f));
   down = λ failed asks. absurd (not_both _ asks (broken_asks f));
-  store = λ told. absurd (served_not_store (broken_text f) (asked_of (Err f)).closes (broken_goes f)
-      told);
+  store = λ report. absurd (served_not_store (broken_text f) (asked_of (Err f)).closes (broken_goes f)
+      report);
   honest = λ honest. honest;
   stays = λ failed. failed;
   asleep = λ idle. refl;

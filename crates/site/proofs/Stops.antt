@@ -1,4 +1,4 @@
--- Runs in which a reply told of a failure.
+-- Runs in which a reply reported a failure.
 use Rattle.std.proofs.Common.{◌≡◌, ◌∙◌, ◌∷◌, [], ℕ, List, Bool, true, false, refl, sym, ap, inl, inr}
 use Rattle.std.specs.List.{AllByRecursion, AllZip}
 use Rattle.house_rows.specs.declared.settings.Settings.{Settings}
@@ -11,7 +11,7 @@ use Rattle.settle.specs.declared.zone.Zone.{Zone}
 use Rattle.site_request.specs.Asked.{IsAsked}
 use Rattle.site_request.specs.declared.asked.Asked.{Asked}
 use Rattle.site_replies.specs.Texts.{is_failure}
-use Rattle.site_replies.proofs.StatusLemmas.{reply_served, store_told}
+use Rattle.site_replies.proofs.StatusLemmas.{reply_served, store_reported}
 use Rattle.site.specs.Answers.{Answers, IsDown, IsFailed, IsStep, answer_of, next_of}
 use Rattle.site.specs.Runs.{AreDown, InTurn, IsGoing, StaysDown, Stopped}
 use Rattle.site.proofs.Steps.{memory_goes, not_both}
@@ -32,7 +32,7 @@ failed_after content is_failed is_honest may_leave zone (m ∷ ms) (r ∷ rs) ol
     failed =
     failed_after content is_failed is_honest may_leave zone ms rs mid new turn (step.stays failed)
 
--- each command and each read is told so
+-- each command and each read is answered so
 pub down_after : {K : Type 0} (content : K → Tables) (is_failed : K → Bool) (is_honest : K → Type 0)
     (may_leave : K → Tables → Type 0)
     (zone : Zone) (ms : List Asked) (rs : List (List ℕ)) (old new : K)
@@ -57,8 +57,8 @@ stays_down content is_failed is_honest may_leave zone [] (r ∷ rs) old new turn
 stays_down content is_failed is_honest may_leave zone (m ∷ ms) [] old new turn = absurd turn
 stays_down content is_failed is_honest may_leave zone (m ∷ ms) (r ∷ rs) old new
     (mid, step, turn) = (
-      (λ told. down_after content is_failed is_honest may_leave zone ms rs mid new turn
-          (step.store told).0),
+      (λ report. down_after content is_failed is_honest may_leave zone ms rs mid new turn
+          (step.store report).0),
       stays_down content is_failed is_honest may_leave zone ms rs mid new turn,
     )
 
@@ -108,7 +108,7 @@ stopped_later content is_failed may_leave settings zone h m r ms rs old mid new 
             later_replies = stop.later_replies;
             replied = ap (λ x. r ∷ x) stop.replied;
             after = stop.after;
-            run = inl (done.told, stop.run);
+            run = inl (done.report, stop.run);
             history = stop.history;
             down = stop.down;
             failed = stop.failed;
@@ -126,7 +126,7 @@ stopped_later content is_failed may_leave settings zone h m r ms rs old mid new 
           later_replies = stop.later_replies;
           replied = ap (λ x. r ∷ x) stop.replied;
           after = stop.after;
-          run = inr (wanting.told, stop.run);
+          run = inr (wanting.report, stop.run);
           history = stop.history;
           down = stop.down;
           failed = stop.failed;
@@ -136,7 +136,7 @@ stopped_later content is_failed may_leave settings zone h m r ms rs old mid new 
       ]
     ]
 
--- an answer and a refusal of memory don't tell of a failure
+-- an answer and a refusal of memory don't report a failure
 failed_if : {K : Type 0} (content : K → Tables) (is_failed : K → Bool)
     (may_leave : K → Tables → Type 0) (settings : Settings) (zone : Zone) (h : History)
     (m : Asked) (r : List ℕ) (old mid : K)
@@ -145,19 +145,19 @@ failed_if : {K : Type 0} (content : K → Tables) (is_failed : K → Bool)
 unfolding answer_of
 failed_if content is_failed may_leave settings zone h m r old mid answers failing =
     elim answers.outcome [
-      | inl done ↦ absurd (not_both _ (rw done.told at failing)
-          (reply_served zone settings.rate m.closes (reply settings h m.message)).not_failed)
+      | inl done ↦ absurd (not_both _ (rw done.report at failing)
+          (reply_served zone m.closes (reply settings h m.message)).not_failed)
       | inr other ↦ elim other [
-        | inl wanting ↦ absurd (not_both _ (rw wanting.told at failing) (memory_goes m.closes))
+        | inl wanting ↦ absurd (not_both _ (rw wanting.report at failing) (memory_goes m.closes))
         | inr failed ↦ failed
       ]
     ]
 
 not_failed_if : (m : Asked) (r : List ℕ) (failed : Bool) → is_failure r ≡ false
     → ¬ (IsFailed m r failed)
-not_failed_if m r failed going is = not_both _ (store_told m.closes) (rw is.told at going)
+not_failed_if m r failed going is = not_both _ (store_reported m.closes) (rw is.report at going)
 
--- a run in which a reply told of a failure stopped
+-- a run in which a reply reported a failure stopped
 pub stopped_of : {K : Type 0} (content : K → Tables) (is_failed : K → Bool) (is_honest : K → Type 0)
     (may_leave : K → Tables → Type 0)
     (settings : Settings) (zone : Zone) (h : History) (ms : List Asked) (rs : List (List ℕ))
@@ -184,7 +184,7 @@ stopped_of content is_failed is_honest may_leave settings zone h (m ∷ ms) (r �
             parts = refl;
             first_replies = [];
             later_replies = rs;
-            replied = ap (λ x. x ∷ rs) failed.told;
+            replied = ap (λ x. x ∷ rs) failed.report;
             after = h;
             run = refl;
             history = is;

@@ -18,7 +18,7 @@ use Rattle.site_acts.specs.Acted.{is_entered}
 use Rattle.site_request.specs.Asked.{IsAsked, asked_of}
 use Rattle.site_request.specs.declared.asked.Asked.{Asked}
 use Rattle.site_request.specs.declared.fault.Fault.{Fault}
-use Rattle.site_replies.proofs.StatusLemmas.{store_told}
+use Rattle.site_replies.proofs.StatusLemmas.{store_reported}
 use Rattle.wire.proofs.OneFrame.{one_frame}
 use Rattle.site.specs.Answers.{Answers, IsAnswered, IsStep, next_of}
 use Rattle.site.specs.Runs.{InTurn, IsGoing, Ran}
@@ -115,7 +115,7 @@ ran_step content is_failed may_leave settings zone h m r ms rs old mid new is e 
       | inl done ↦ (let ran = rest (next_of settings h m) (next_is settings h m is) done.tables in
           record {
             after = ran.after;
-            run = inl (done.told, ran.run);
+            run = inl (done.report, ran.run);
             history = ran.history;
             tables = ran.tables;
             same = ran.same ∙ done.same;
@@ -126,18 +126,18 @@ ran_step content is_failed may_leave settings zone h m r ms rs old mid new is e 
       | inr other ↦ elim other [
         | inl wanting ↦ (let ran = rest h is (wanting.tables ∙ e) in record {
           after = ran.after;
-          run = inr (wanting.told, ran.run);
+          run = inr (wanting.report, ran.run);
           history = ran.history;
           tables = ran.tables;
           same = ran.same ∙ wanting.same;
           settled = λ first. ran.settled (λ t may. first t (wanting.left t may)
               ∙ sym wanting.tables);
         })
-        | inr failed ↦ absurd (not_both _ (store_told m.closes) (rw failed.told at going))
+        | inr failed ↦ absurd (not_both _ (store_reported m.closes) (rw failed.report at going))
       ]
     ]
 
--- where none was told a failure, the replies are a run of the history whose tables there were
+-- where none reported a failure, the replies are a run of the history whose tables there were
 pub ran_of : {K : Type 0} (content : K → Tables) (is_failed : K → Bool) (is_honest : K → Type 0)
     (may_leave : K → Tables → Type 0)
     (settings : Settings) (zone : Zone) (h : History) (ms : List Asked) (rs : List (List ℕ))

@@ -32,7 +32,7 @@ zone_of site = site.writer.zone
 -- the text of the answer to what is asked
 unfoldable pub answer_of : Settings → Zone → History → Asked → List ℕ
 answer_of settings zone h asked =
-    reply_text zone settings.rate asked.closes (reply settings h asked.message)
+    reply_text zone asked.closes (reply settings h asked.message)
 
 -- the history that it leaves
 unfoldable pub next_of : Settings → History → Asked → History
@@ -44,7 +44,7 @@ pub record IsAnswered {K : Type 0} (content : K → Tables) (is_failed : K → B
     (may_leave : K → Tables → Type 0)
     (settings : Settings) (zone : Zone) (h : History) (asked : Asked) (reply : List ℕ)
     (old new : K) : Type 0 where
-  pub told : reply ≡ answer_of settings zone h asked
+  pub report : reply ≡ answer_of settings zone h asked
   pub tables : content new ≡ tables_of settings (next_of settings h asked)
   pub same : is_failed new ≡ is_failed old
   pub kept : is_entered settings h asked.message ≡ true → (t : Tables) → may_leave new t
@@ -54,19 +54,19 @@ pub record IsAnswered {K : Type 0} (content : K → Tables) (is_failed : K → B
 pub record IsWanting {K : Type 0} (content : K → Tables) (is_failed : K → Bool)
     (may_leave : K → Tables → Type 0)
     (asked : Asked) (reply : List ℕ) (old new : K) : Type 0 where
-  pub told : reply ≡ fault_text fault.Memory asked.closes
+  pub report : reply ≡ fault_text fault.Memory asked.closes
   pub tables : content new ≡ content old
   pub same : is_failed new ≡ is_failed old
   pub left : (t : Tables) → may_leave new t → may_leave old t
 
--- a command or a read is told that the store has failed
+-- a command or a read is answered that the store has failed
 abbrev pub IsDown : Asked → List ℕ → Type 0
 IsDown asked reply = is_asking asked.message ≡ true → reply ≡ fault_text fault.Store asked.closes
 
--- the store failed, in this call or an earlier one; only what asks it for anything is told so, or
--- might, were its body read
+-- the store failed, in this call or an earlier one; only what asks it for anything, or might, were
+-- its body read, is answered so
 pub record IsFailed (asked : Asked) (reply : List ℕ) (is_failed : Bool) : Type 0 where
-  pub told : reply ≡ fault_text fault.Store asked.closes
+  pub report : reply ≡ fault_text fault.Store asked.closes
   pub asking : may_ask asked.message ≡ true
   pub failed : is_failed ≡ true
 
@@ -85,18 +85,18 @@ pub record Answers {K : Type 0} (content : K → Tables) (is_failed : K → Bool
       × (t ≡ tables_of settings (next_of settings h asked)))
 
 -- over any tables, the text of a reply: that of a read shows the page of the kept tables, and
--- nothing is changed but where it tells that a command was accepted
+-- nothing is changed but where it says that a command was accepted
 pub record IsReplied {K : Type 0} (content : K → Tables) (is_failed : K → Bool)
     (is_honest : K → Type 0) (zone : Zone) (asked : Asked) (reply : List ℕ) (old new : K)
     : Type 0 where
-  pub text : (rate : ℕ) × (r : Reply Fault) × (reply ≡ reply_text zone rate asked.closes r)
+  pub text : (r : Reply Fault) × (reply ≡ reply_text zone asked.closes r)
   pub shown : is_honest new → IfRead asked.message (λ caller query.
-      reply ≡ reply_text zone (content old).settings.rate asked.closes
+      reply ≡ reply_text zone asked.closes
       (Shows (page_by (content old) caller query)))
   pub accepted : is_honest new → is_failed new ≡ false → (content new ≡ content old)
       ⊎ TellsDone zone asked.closes [] reply
 
--- or a text of 500 or 503 that stands ready: nothing has acted, unless the store failed
+-- or a text of 500 or 503 that is ready: nothing has acted, unless the store failed
 pub record IsUnmade {K : Type 0} (content : K → Tables) (is_failed : K → Bool)
     (is_honest : K → Type 0) (may_leave : K → Tables → Type 0) (asked : Asked) (reply : List ℕ)
     (old new : K) : Type 0 where
@@ -113,7 +113,7 @@ pub record IsStep {K : Type 0} (content : K → Tables) (is_failed : K → Bool)
       → content old ≡ tables_of settings h
       → Answers content is_failed may_leave settings zone h asked reply old new
   -- over any tables, of a history or not
-  pub told : IsReplied content is_failed is_honest zone asked reply old new
+  pub report : IsReplied content is_failed is_honest zone asked reply old new
       ⊎ IsUnmade content is_failed is_honest may_leave asked reply old new
   -- nothing is changed but by a change, and a crash leaves no more
   pub made : is_honest new → is_failed new ≡ false → (content new ≡ content old)
@@ -124,10 +124,10 @@ pub record IsStep {K : Type 0} (content : K → Tables) (is_failed : K → Bool)
   -- command's change is taken
   pub failure : is_honest new → AreSound (content old) → is_failure reply ≡ true
       → (is_failed new ≡ true) ⊎ IsTaken (content old) asked.message
-  -- and where the store has failed, each command and each read is told so, and never that memory
-  -- was refused
+  -- and where the store has failed, each command and each read is answered so, and never that
+  -- memory was refused
   pub down : is_failed new ≡ true → IsDown asked reply
-  -- nothing else is told so, but what no memory was found to read
+  -- nothing else is answered so, but what no memory was found to read
   pub store : reply ≡ fault_text fault.Store asked.closes
       → (is_failed new ≡ true) × (may_ask asked.message ≡ true)
   pub honest : is_honest new → is_honest old
@@ -135,7 +135,7 @@ pub record IsStep {K : Type 0} (content : K → Tables) (is_failed : K → Bool)
   -- what asks the keep for nothing leaves it as it was
   pub asleep : is_asking asked.message ≡ false → new ≡ old
 
--- the answer stands after what a buffer held; or it is a text that stands ready, and the buffer
+-- the answer comes after what a buffer held; or it is a text that is ready, and the buffer
 -- has what it had
 abbrev pub IsAppended : Result (Unit {0}) (Bor (List ℕ)) → List ℕ → List ℕ → List ℕ → Type 0
 IsAppended (Ok u) before after reply = after ≡ before ++ reply
@@ -146,18 +146,18 @@ abbrev pub broken_text : WireFault → List ℕ
 broken_text f = answer_bytes (status_of f) None true (error_body (word_of f))
 
 -- what is answered ready where a keep's call failed
-abbrev pub IsTold : Bool → Result (Unit {0}) KeepFault → Result (Unit {0}) (Bor (List ℕ)) → Type 0
-IsTold closes (Ok u) (Ok v) = Unit {0}
-IsTold closes (Err f) (Err text) = text.now ≡ fault_text f closes
-IsTold closes (Ok u) (Err text) = ⊥
-IsTold closes (Err f) (Ok v) = ⊥
+abbrev pub IsReported : Bool → Result (Unit {0}) KeepFault → Result (Unit {0}) (Bor (List ℕ)) → Type 0
+IsReported closes (Ok u) (Ok v) = Unit {0}
+IsReported closes (Err f) (Err text) = text.now ≡ fault_text f closes
+IsReported closes (Ok u) (Err text) = ⊥
+IsReported closes (Err f) (Ok v) = ⊥
 
 -- a zone can be read
 abbrev pub IsReadable : List ℕ → Type 0
 IsReadable zone = IsPlainText zone × IsSome (read_whole zone)
 
 -- why a site can't be made over a keep: Store exactly where the keep has failed, and Damaged only
--- where the zone can't be read. Where it can't, that is told as Damaged, unless memory was refused
+-- where the zone can't be read. Where it can't, the fault is Damaged, unless memory was refused
 -- before the zone was looked at
 pub record IsBegun {S : Type 0} (result : Result S KeepFault) (is_honest : Type 0)
     (is_failed : Bool) (content : Tables) : Type 0 where

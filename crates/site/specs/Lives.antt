@@ -1,4 +1,4 @@
--- A run over whatever history a house has: what it tells a member, and what it leaves.
+-- A run over whatever history a house has: its replies to a member, and what it leaves.
 use Rattle.std.specs.Prelude.{if◌then◌else◌, ◌≡◌, ℕ, List, [], ◌∷◌, ◌++◌, map, Option, Some, None}
 use Rattle.std.specs.List.{AllByRecursion, AllZip}
 use Rattle.house_laws.specs.Alike.{AreAlike}
@@ -18,7 +18,7 @@ use Rattle.site.specs.Runs.{AreDown, IsGoing, at_places, meant, rendered}
 -- the answers to one member, from a history on
 abbrev pub answers_to_from : Settings → Zone → ℕ → History → List Asked → List (List ℕ)
 answers_to_from settings zone c h asked =
-    rendered_from meant (rendered settings zone) settings c h asked
+    rendered_from meant (rendered zone) settings c h asked
 
 -- twin runs for a member, from two histories on
 abbrev pub TwinRunsFrom : Settings → ℕ → History → History → List Asked → List Asked → Type 0
@@ -30,7 +30,7 @@ asked_history settings h asked = history_from settings h (map meant asked)
 
 -- the replies to a run at a member's places are the answers to a second one, from its history on;
 -- and the histories after both are alike for the member, so that this can be said of the next two
-pub record IsToldTheSame (settings : Settings) (zone : Zone) (c : ℕ) (h k : History)
+pub record IsAnsweredTheSame (settings : Settings) (zone : Zone) (c : ℕ) (h k : History)
     (asked second : List Asked) (replies : List (List ℕ)) : Type 0 where
   pub same : at_places c asked replies ≡ answers_to_from settings zone c k second
   pub alike : AreAlike settings c (asked_history settings h asked)
@@ -43,7 +43,7 @@ IsIsolated settings zone h asked replies =
     (c : ℕ) (k : History) (texts : List (List ℕ)) (second : List Asked)
     → AllZip IsAsked texts second
     → AreAlike settings c h k → TwinRunsFrom settings c h k asked second
-    → IsToldTheSame settings zone c h k asked second replies
+    → IsAnsweredTheSame settings zone c h k asked second replies
 
 -- a run from a history on is isolated, and leaves the tables of the history after it
 pub record LivesOn {K : Type 0} (content : K → Tables) (settings : Settings) (zone : Zone)
@@ -52,7 +52,7 @@ pub record LivesOn {K : Type 0} (content : K → Tables) (settings : Settings) (
   pub history : IsHistory settings (asked_history settings h asked)
   pub tables : content new ≡ tables_of settings (asked_history settings h asked)
 
--- the messages that were served, in order: all but those that were told that memory was refused
+-- the messages that were served, in order: all but those that were answered that memory was refused
 abbrev pub served_among : List Asked → List (List ℕ) → List Asked
 served_among [] replies = []
 served_among (m ∷ ms) [] = []
@@ -64,17 +64,17 @@ abbrev pub served_replies : List (List ℕ) → List (List ℕ)
 served_replies [] = []
 served_replies (r ∷ rs) = (if is_refusal_of_memory r then [] else r ∷ []) ++ served_replies rs
 
--- what was answered of a life: of messages of which none was told that the store failed those that
--- were served. At each member's places their replies are the answers to it
+-- what was answered of a life: of messages of which none was answered that the store failed those
+-- that were served. At each member's places their replies are the answers to it
 pub record AreAnswered (settings : Settings) (zone : Zone) (h : History) (asked : List Asked)
     (replies : List (List ℕ)) (served : List Asked) : Type 0 where
   pub going : AllByRecursion IsGoing replies
   pub are : served ≡ served_among asked replies
-  pub told : (c : ℕ) → at_places c served (served_replies replies)
+  pub report : (c : ℕ) → at_places c served (served_replies replies)
       ≡ answers_to_from settings zone c h served
 
 -- the same up to a message in which the store failed, so that it was in flight. After it each
--- command and each read was told of the failure
+-- command and each read was answered with the failure
 pub record WasCut (settings : Settings) (zone : Zone) (h : History) (asked : List Asked)
     (replies : List (List ℕ)) (served : List Asked) (last : Asked) : Type 0 where
   pub first : List Asked

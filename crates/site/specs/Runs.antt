@@ -34,14 +34,14 @@ abbrev pub meant : Asked → Message Fault
 meant asked = asked.message
 
 -- the text of a reply to it
-abbrev pub rendered : Settings → Zone → Asked → Reply Fault → List ℕ
-rendered settings zone asked reply = reply_text zone settings.rate asked.closes reply
+abbrev pub rendered : Zone → Asked → Reply Fault → List ℕ
+rendered zone asked reply = reply_text zone asked.closes reply
 
 -- the answers to one member, from the empty history on
 abbrev pub answers_to : Settings → Zone → ℕ → List Asked → List (List ℕ)
-answers_to settings zone c ms = rendered_to meant (rendered settings zone) settings c ms
+answers_to settings zone c ms = rendered_to meant (rendered zone) settings c ms
 
--- the answer to a broken frame tells its fault
+-- the answer to a broken frame reports its fault
 abbrev pub TellsFault : List ℕ → List ℕ → Type 0
 TellsFault text reply = (fault : WireFault) → IsFrame text (Err fault) → reply ≡ broken_text fault
 
@@ -90,11 +90,11 @@ IsRun settings zone h (m ∷ ms) (r ∷ rs) after =
 IsRun settings zone h [] (r ∷ rs) after = ⊥
 IsRun settings zone h (m ∷ ms) [] after = ⊥
 
--- a reply that doesn't tell that the store failed or is damaged
+-- a reply that doesn't say that the store failed or is damaged
 abbrev pub IsGoing : List ℕ → Type 0
 IsGoing reply = is_failure reply ≡ false
 
--- the replies to messages over a history whose tables the keep had, where none told of a failure:
+-- the replies to messages over a history whose tables the keep had, where none reported a failure:
 -- the tables are then those of the history after them. Where a crash could leave the tables alone
 -- before, it can do so now
 pub record Ran {K : Type 0} (content : K → Tables) (is_failed : K → Bool)
@@ -109,11 +109,12 @@ pub record Ran {K : Type 0} (content : K → Tables) (is_failed : K → Bool)
   pub settled : ((t : Tables) → may_leave old t → t ≡ content old) → (t : Tables) → may_leave new t
       → t ≡ content new
 
--- the answers to messages over a store that has failed: each command and each read is told so
+-- the answers to messages over a store that has failed: each command and each read is answered so
 abbrev pub AreDown : List Asked → List (List ℕ) → Type 0
 AreDown asked replies = AllZip IsDown asked replies
 
--- once one of them is told that the store has failed, each command and each read after it is told so
+-- once one of them is answered that the store has failed, each command and each read after it is
+-- answered so
 abbrev pub StaysDown : List Asked → List (List ℕ) → Type 0
 StaysDown [] [] = Unit {0}
 StaysDown (m ∷ ms) (r ∷ rs) =
@@ -121,7 +122,7 @@ StaysDown (m ∷ ms) (r ∷ rs) =
 StaysDown [] (r ∷ rs) = ⊥
 StaysDown (m ∷ ms) [] = ⊥
 
--- the replies to messages of which one told that the store failed: before the first such they are a
+-- the replies to messages of which one said that the store failed: before the first such they are a
 -- run, and after it the store stays failed. A crash leaves the tables before its message or after
 -- it, so no message after it has acted
 pub record Stopped {K : Type 0} (content : K → Tables) (is_failed : K → Bool)

@@ -15,7 +15,7 @@ ghost use Rattle.site_request.specs.declared.asked.Asked.{Asked as TheAsked};
 ghost use Rattle.site_replies.specs.Texts.{fault_text};
 ghost use Rattle.wire.specs.Frame.{IsFrame};
 ghost use Rattle.wire.specs.declared.fault.WireFault.{WireFault};
-ghost use Rattle.site.specs.Answers.{IsAppended, IsBegun, IsDown, IsReadable, IsStep, IsTold, broken_text, zone_of};
+ghost use Rattle.site.specs.Answers.{IsAppended, IsBegun, IsDown, IsReadable, IsStep, IsReported, broken_text, zone_of};
 ghost use Rattle.site.specs.Lent.{LendsKeep};
 
 use house_rows::{Counts, Keep, KeepFault, Settings};
@@ -29,7 +29,7 @@ use std::alloc::Global;
 use std::borrow::CowSlice;
 use wire::{Request, broken_frame, whole};
 
-/// The bytes of an answer. Those that tell of want of memory or of a failure take none.
+/// The bytes of an answer. Those that report want of memory or a failure take none.
 pub type Reply = CowSlice<'static, u8>;
 
 /// The engine over a keep.
@@ -57,9 +57,9 @@ fn read_zone(settings: &Settings) -> Result<Zone, KeepFault>
     }
 }
 
-// The text of a fault stands ready.
-fn told(acted: Result<(), KeepFault>, closes: bool) -> Result<(), &'static [u8]>
-    ensures { IsTold closes acted result }
+// The text of a fault is ready.
+fn or_fault_text(acted: Result<(), KeepFault>, closes: bool) -> Result<(), &'static [u8]>
+    ensures { IsReported closes acted result }
 {
     match acted {
         Ok(()) => Ok(()),
@@ -67,7 +67,7 @@ fn told(acted: Result<(), KeepFault>, closes: bool) -> Result<(), &'static [u8]>
     }
 }
 
-// What a message is told for whose body memory was refused. A failed store goes first.
+// The answer to a message for whose body memory was refused. A failed store goes first.
 fn unread_text<K: Keep>(keep: &K, closes: bool) -> &'static [u8]
     ensures failed { K.is_failed keep.now ≡ true → result.now ≡ fault_text KeepFault.Store closes }
     ensures going { K.is_failed keep.now ≡ false → result.now ≡ fault_text KeepFault.Memory closes }
@@ -127,7 +127,7 @@ impl<K: Keep + Drop> Site<K> {
     }
 
     /// Answers a message, after what the buffer holds. Where memory was refused or the keep fails,
-    /// the buffer has what it had, and the answer is a text that stands ready. Over a keep that has
+    /// the buffer has what it had, and the answer is a text that is ready. Over a keep that has
     /// failed each command and each read is answered so, never that memory was refused.
     pub fn answer_into(
         &mut self,
@@ -142,7 +142,7 @@ impl<K: Keep + Drop> Site<K> {
         match read_request(self.alloc, &self.routes, request, &mut self.scratch) {
             Ok(asked) => {
                 let acted = act(&mut self.keep, &mut self.writer, &asked, out);
-                told(acted, asked.closes)
+                or_fault_text(acted, asked.closes)
             }
             Err(refused) => Err(unread_text(&self.keep, refused.closes)),
         }
@@ -198,7 +198,7 @@ impl<K: Keep + Drop> Site<K> {
     /// Whether no command was accepted yet, but closes of an empty house at moment 0, which leave
     /// no trace.
     pub fn is_new(&mut self) -> Result<bool, KeepFault>
-        ensures told { K.is_honest self.new.keep → (settings : TheSettings) (h : History)
+        ensures report { K.is_honest self.new.keep → (settings : TheSettings) (h : History)
             → IsHistory settings h → K.content self.old.keep ≡ tables_of settings h
             → IfOk result (λ new.
             (new ≡ true) ↔ (K.content self.old.keep ≡ tables_of settings [])) }

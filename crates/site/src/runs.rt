@@ -19,7 +19,7 @@ use crate::engine::{Reply, Site};
 use house_rows::Keep;
 
 /// Why a run was not begun.
-#[derive(Clone, Copy, Debug, PartialEq, Eq)]
+#[derive(Clone, Copy)]
 pub enum RunFault {
     /// Memory was refused, before the first message was looked at.
     Memory,
@@ -88,8 +88,8 @@ impl<K: Keep + Drop> Site<K> {
             → IsAsked text other → Raises y b other
             → IsHidden settings (zone_of self.old) c place (map (λ m. m.items) messages.now) asked
             text other (map cow_slice_items v.items)) }
-        // Over any keep, whatever it holds: once the store has failed, no command and no read is told
-        // anything else.
+        // Over any keep, whatever it holds: once the store has failed, no command and no read has
+        // another answer.
         ensures down { K.is_failed self.old.keep ≡ true → (asked : List TheAsked)
             → AllZip IsAsked (map (λ m. m.items) messages.now) asked
             → IfOk result (λ v. AreDown asked (map cow_slice_items v.items)) }

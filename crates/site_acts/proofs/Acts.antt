@@ -15,7 +15,7 @@ use Rattle.house_rows.specs.declared.message.Message.TheVariants.{Order, Broken}
 use Rattle.house_rows.specs.declared.reply.Reply.{Reply}
 use Rattle.house_rows.specs.declared.reply.Reply.TheVariants.{Done, Faulty, Shows}
 use Rattle.house_rows.specs.declared.settings.Settings.{Settings}
-use Rattle.house_rows.specs.declared.told.Told.{Told}
+use Rattle.house_rows.specs.declared.command_result.CommandResult.{CommandResult}
 use Rattle.house_rows.specs.Asks.{ChangeFits}
 use Rattle.house_rows.specs.Changed.{changed}
 use Rattle.house_rows.specs.History.{History}
@@ -30,7 +30,7 @@ use Rattle.settle.specs.declared.zone.Zone.{Zone}
 use Rattle.site_request.specs.declared.fault.Fault.{Fault}
 use Rattle.site_replies.specs.Texts.{reply_text}
 use Rattle.site_acts.specs.Acted.{IfRead, IsActed, TellsDone, is_asking, is_entered}
-use Rattle.site_acts.specs.Entered.{IfTold, IsApplied}
+use Rattle.site_acts.specs.Entered.{IfReported, IsApplied}
 
 -- the tables of a history are sound
 held_is_sound : (t : Tables) (settings : Settings) (h : History) → IsHistory settings h
@@ -46,12 +46,12 @@ pub acted_by_reading : {K : Type 0} (content : K → Tables) (is_failed : K → 
     → (is_honest new → (settings : Settings)
     (h : History) → IsHistory settings h → content old ≡ tables_of settings h
     → OnOk result ((after ≡ before
-    ++ reply_text zone settings.rate closes (reply settings h message))
+    ++ reply_text zone closes (reply settings h message))
     × (next settings h message ≡ h) × (is_entered settings h message ≡ false)))
-    → OnOk result ((rate : ℕ) × (r : Reply Fault)
-    × (after ≡ before ++ reply_text zone rate closes r))
+    → OnOk result ((r : Reply Fault)
+    × (after ≡ before ++ reply_text zone closes r))
     → (is_honest new → IfRead message (λ caller query. OnOk result (after ≡ before
-    ++ reply_text zone (content old).settings.rate closes
+    ++ reply_text zone closes
     (Shows (page_by (content old) caller query)))))
     → OnErr result (after ≡ before)
     → Faults result (is_honest new) (is_failed new) (content old)
@@ -59,7 +59,7 @@ pub acted_by_reading : {K : Type 0} (content : K → Tables) (is_failed : K → 
     → IsActed content is_failed is_honest may_leave zone closes message result before after old new
 acted_by_reading content is_failed is_honest may_leave zone closes message (Ok u) before after old
     new asks value text shown same faults read = record {
-      told = λ honest settings h is e. (value honest settings h is e).0;
+      report = λ honest settings h is e. (value honest settings h is e).0;
       tables = λ honest settings h is e.
           still_there u content is_failed is_honest may_leave old new faults read honest ∙ e
           ∙ ap (tables_of settings) (sym (value honest settings h is e).1);
@@ -84,7 +84,7 @@ acted_by_reading content is_failed is_honest may_leave zone closes message (Ok u
     }
 acted_by_reading content is_failed is_honest may_leave zone closes message (Err f) before after old
     new asks value text shown same faults read = record {
-      told = λ honest settings h is e. tt;
+      report = λ honest settings h is e. tt;
       tables = λ honest settings h is e. tt;
       text = tt;
       shown = shown;
@@ -136,10 +136,10 @@ leads_on settings h moment caller command change t e is =
     ∙ ap (tables_of settings)
     (sym (next_accepted Fault settings h moment caller command is.accepted))
 
--- what tells of an accepted command is the text of a reply
+-- what reports an accepted command is the text of a reply
 some_reply : (zone : Zone) (closes : Bool) (before after : List ℕ) → TellsDone zone closes before after
-    → (rate : ℕ) × (r : Reply Fault) × (after ≡ before ++ reply_text zone rate closes r)
-some_reply zone closes before after (rate, told, e) = (rate, Done told, e)
+    → (r : Reply Fault) × (after ≡ before ++ reply_text zone closes r)
+some_reply zone closes before after (report, e) = (Done report, e)
 
 -- an accepted command
 pub acted_by_change : {K : Type 0} (content : K → Tables) (is_failed : K → Bool)
@@ -147,9 +147,8 @@ pub acted_by_change : {K : Type 0} (content : K → Tables) (is_failed : K → B
     (zone : Zone) (closes : Bool) (moment caller : ℕ) (command : Command) (change : Change)
     (result : Result (Unit {0}) KeepFault) (before after : List ℕ) (old mid new : K)
     → IsReady content is_failed is_honest may_leave moment caller command change old mid
-    → (is_honest new → (rate : ℕ)
-    → IfTold (content mid) change
-    (λ told. OnOk result (after ≡ before ++ reply_text zone rate closes (Done told))))
+    → (is_honest new → IfReported (content mid) change
+    (λ report. OnOk result (after ≡ before ++ reply_text zone closes (Done report))))
     → OnOk result (TellsDone zone closes before after)
     → OnErr result (after ≡ before)
     → IsApplied content is_failed is_honest may_leave change result mid new
@@ -157,12 +156,12 @@ pub acted_by_change : {K : Type 0} (content : K → Tables) (is_failed : K → B
     before after old new
 acted_by_change content is_failed is_honest may_leave zone closes moment caller command change
     (Ok u) before after old mid new ready value text same applied = record {
-      told = λ honest settings h is e.
+      report = λ honest settings h is e.
           let b = applied.honest honest in
           let accepted = ready.accepted b settings h is e in
-          value honest settings.rate settings h is (ready.same b ∙ e) moment caller command accepted
+          value honest settings h is (ready.same b ∙ e) moment caller command accepted
           (ready.own b)
-          ∙ ap (λ (r : Reply Fault). before ++ reply_text zone settings.rate closes r)
+          ∙ ap (λ (r : Reply Fault). before ++ reply_text zone closes r)
           (sym (reply_accepted settings h moment caller command accepted.accepted));
       tables = λ honest settings h is e.
           let b = applied.honest honest in
@@ -212,7 +211,7 @@ acted_by_change content is_failed is_honest may_leave zone closes moment caller 
     }
 acted_by_change content is_failed is_honest may_leave zone closes moment caller command change
     (Err f) before after old mid new ready value text same applied = record {
-      told = λ honest settings h is e. tt;
+      report = λ honest settings h is e. tt;
       tables = λ honest settings h is e. tt;
       text = tt;
       shown = λ honest. tt;
@@ -271,16 +270,16 @@ pub acted_by_nothing : {K : Type 0} (content : K → Tables) (is_failed : K → 
     (is_honest : K → Type 0) (may_leave : K → Tables → Type 0)
     (zone : Zone) (closes : Bool) (caller : Option ℕ) (fault : Fault)
     (result : Result (Unit {0}) KeepFault) (before after : List ℕ) (k : K)
-    → ((rate : ℕ) → OnOk result (after ≡ before ++ reply_text zone rate closes (Faulty fault)))
+    → OnOk result (after ≡ before ++ reply_text zone closes (Faulty fault))
     → OnErr result (after ≡ before) → IfErr result (λ f. f ≡ Memory)
     → IsActed content is_failed is_honest may_leave zone closes (Broken caller fault) result before
     after k k
 unfolding next reply
 acted_by_nothing content is_failed is_honest may_leave zone closes caller fault (Ok u) before after
     k value same memory = record {
-      told = λ honest settings h is e. value settings.rate;
+      report = λ honest settings h is e. value;
       tables = λ honest settings h is e. e;
-      text = (0, Faulty fault, value 0);
+      text = (Faulty fault, value);
       shown = λ honest. tt;
       accepted = λ honest going. inl refl;
       err = tt;
@@ -299,7 +298,7 @@ acted_by_nothing content is_failed is_honest may_leave zone closes caller fault 
     }
 acted_by_nothing content is_failed is_honest may_leave zone closes caller fault (Err f) before after
     k value same memory = record {
-      told = λ honest settings h is e. tt;
+      report = λ honest settings h is e. tt;
       tables = λ honest settings h is e. tt;
       text = tt;
       shown = λ honest. tt;
@@ -320,18 +319,18 @@ acted_by_nothing content is_failed is_honest may_leave zone closes caller fault 
     }
 
 -- the text of one reply is that of some reply
-pub some_text : (result : Result (Unit {0}) KeepFault) (zone : Zone) (rate : ℕ) (closes : Bool)
+pub some_text : (result : Result (Unit {0}) KeepFault) (zone : Zone) (closes : Bool)
     (r : Reply Fault) (before after : List ℕ)
-    → OnOk result (after ≡ before ++ reply_text zone rate closes r)
-    → OnOk result ((rate : ℕ) × (r : Reply Fault)
-    × (after ≡ before ++ reply_text zone rate closes r))
-some_text (Ok u) zone rate closes r before after e = (rate, r, e)
-some_text (Err f) zone rate closes r before after e = tt
+    → OnOk result (after ≡ before ++ reply_text zone closes r)
+    → OnOk result ((r : Reply Fault)
+    × (after ≡ before ++ reply_text zone closes r))
+some_text (Ok u) zone closes r before after e = (r, e)
+some_text (Err f) zone closes r before after e = tt
 
--- and where that is told it is so of an accepted command
-pub done_text : (result : Result (Unit {0}) KeepFault) (zone : Zone) (rate : ℕ) (closes : Bool)
-    (told : Told) (before after : List ℕ)
-    → OnOk result (after ≡ before ++ reply_text zone rate closes (Done told))
+-- and a text with the result of an accepted command says that it was accepted
+pub done_text : (result : Result (Unit {0}) KeepFault) (zone : Zone) (closes : Bool)
+    (report : CommandResult) (before after : List ℕ)
+    → OnOk result (after ≡ before ++ reply_text zone closes (Done report))
     → OnOk result (TellsDone zone closes before after)
-done_text (Ok u) zone rate closes told before after e = (rate, told, e)
-done_text (Err f) zone rate closes told before after e = tt
+done_text (Ok u) zone closes report before after e = (report, e)
+done_text (Err f) zone closes report before after e = tt

@@ -61,31 +61,19 @@ faults_err A B f is_honest is_failed content faults = record {
   damaged = λ honest sound wrong. faults.damaged honest sound (same_fault B A f Damaged wrong);
 }
 
--- a keep that is as it was
-pub left_alone : {K : Type 0} (content : K → Tables) (is_failed : K → Bool) (is_honest : K → Type 0)
-    (may_leave : K → Tables → Type 0) (k : K)
-    → IsRead content is_failed is_honest may_leave k k
-left_alone content is_failed is_honest may_leave k = record {
-  same = λ honest going. refl;
-  honest = λ honest. honest;
-  stays = λ e. e;
-  crash = λ honest t may. may;
-}
-
 -- a refused command
 pub refused_reads : (result : Result (Unit {0}) KeepFault) (zone : Zone) (closes : Bool)
     (settings : Settings) (h : History) (moment caller : ℕ) (command : Command) (refusal : Refusal)
     (before after : List ℕ)
     → verdict settings h moment caller command ≡ Some refusal
-    → ((rate : ℕ) → OnOk result (after ≡ before ++ reply_text zone rate closes (Denied refusal)))
+    → OnOk result (after ≡ before ++ reply_text zone closes (Denied refusal))
     → OnOk result ((after ≡ before
-    ++ reply_text zone settings.rate closes (reply settings h (Order moment caller command)))
+    ++ reply_text zone closes (reply settings h (Order moment caller command)))
     × (next {F = Fault} settings h (Order moment caller command) ≡ h)
     × (is_entered settings h (Order moment caller command) ≡ false))
 refused_reads (Ok u) zone closes settings h moment caller command refusal before after refused
     text = (
-      text settings.rate ∙ ap (λ (r : Reply Fault). before ++ reply_text zone settings.rate closes
-          r)
+      text ∙ ap (λ (r : Reply Fault). before ++ reply_text zone closes r)
           (sym (reply_refused settings h moment caller command refusal refused)),
       next_refused Fault settings h moment caller command refusal refused,
       rw refused refl,
@@ -93,32 +81,25 @@ refused_reads (Ok u) zone closes settings h moment caller command refusal before
 refused_reads (Err f) zone closes settings h moment caller command refusal before after refused
     text = tt
 
--- the rate that a keep has is that of the settings
-pub rate_is : (t : Tables) (kept settings : Settings) (h : History) → kept ≡ t.settings
-    → t ≡ tables_of settings h → kept.rate ≡ settings.rate
-unfolding tables_of
-rate_is t kept settings h is e = ap (λ (s : Settings). s.rate)
-    (is ∙ ap (λ (u : Tables). u.settings) e)
-
 -- a read
 pub shown_reads : (result : Result (Unit {0}) KeepFault) (zone : Zone) (closes : Bool)
-    (settings : Settings) (h : History) (caller : ℕ) (query : Query) (page : Page) (rate : ℕ)
+    (settings : Settings) (h : History) (caller : ℕ) (query : Query) (page : Page)
     (before after : List ℕ)
-    → page ≡ page_of settings h caller query → rate ≡ settings.rate
-    → OnOk result (after ≡ before ++ reply_text zone rate closes (Shows page))
+    → page ≡ page_of settings h caller query
+    → OnOk result (after ≡ before ++ reply_text zone closes (Shows page))
     → OnOk result ((after ≡ before
-    ++ reply_text zone settings.rate closes (reply settings h (Read caller query)))
+    ++ reply_text zone closes (reply settings h (Read caller query)))
     × (next {F = Fault} settings h (Read caller query) ≡ h)
     × (is_entered settings h (Read caller query) ≡ false))
 unfolding next reply
-shown_reads (Ok u) zone closes settings h caller query page rate before after is at text =
-    (rw (← is, ← at) text, refl, refl)
-shown_reads (Err f) zone closes settings h caller query page rate before after is at text = tt
+shown_reads (Ok u) zone closes settings h caller query page before after is text =
+    (rw (← is) text, refl, refl)
+shown_reads (Err f) zone closes settings h caller query page before after is text = tt
 
 -- a page, by the tables that are kept
 pub shown_page : (result : Result (Unit {0}) KeepFault) (zone : Zone) (closes : Bool)
-    (page other : Page) (rate own : ℕ) (before after : List ℕ) → page ≡ other → rate ≡ own
-    → OnOk result (after ≡ before ++ reply_text zone rate closes (Shows page))
-    → OnOk result (after ≡ before ++ reply_text zone own closes (Shows other))
-shown_page (Ok u) zone closes page other rate own before after is at text = rw (← is, ← at) text
-shown_page (Err f) zone closes page other rate own before after is at text = tt
+    (page other : Page) (before after : List ℕ) → page ≡ other
+    → OnOk result (after ≡ before ++ reply_text zone closes (Shows page))
+    → OnOk result (after ≡ before ++ reply_text zone closes (Shows other))
+shown_page (Ok u) zone closes page other before after is text = rw (← is) text
+shown_page (Err f) zone closes page other before after is text = tt

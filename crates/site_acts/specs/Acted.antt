@@ -10,7 +10,7 @@ use Rattle.house_rows.specs.declared.query.Query.{Query}
 use Rattle.house_rows.specs.declared.reply.Reply.{Reply}
 use Rattle.house_rows.specs.declared.reply.Reply.TheVariants.{Done, Shows}
 use Rattle.house_rows.specs.declared.settings.Settings.{Settings}
-use Rattle.house_rows.specs.declared.told.Told.{Told}
+use Rattle.house_rows.specs.declared.command_result.CommandResult.{CommandResult}
 use Rattle.house_rows.specs.Asks.{ChangeFits, IsFree}
 use Rattle.house_rows.specs.Changed.{changed}
 use Rattle.house_rows.specs.History.{History}
@@ -54,10 +54,10 @@ IfRead (Order moment caller command) P = Unit {0}
 IfRead (Read caller query) P = P caller query
 IfRead (Broken caller fault) P = Unit {0}
 
--- what is appended tells that a command was accepted
+-- what is appended says that a command was accepted
 abbrev pub TellsDone : Zone → Bool → List ℕ → List ℕ → Type 0
 TellsDone zone closes before after =
-    (rate : ℕ) × (told : Told) × (after ≡ before ++ reply_text zone rate closes (Done told))
+    (report : CommandResult) × (after ≡ before ++ reply_text zone closes (Done report))
 
 -- what a message does to a keep, and which bytes are appended for it; `old` and `new` are the keep,
 -- `before` and `after` the bytes
@@ -67,21 +67,21 @@ pub record IsActed {K : Type 0} (content : K → Tables) (is_failed : K → Bool
     (before after : List ℕ) (old new : K) : Type 0 where
   -- over every history whose tables the keep has: the reply of the definition, and the tables of
   -- the next history
-  pub told : is_honest new → (settings : Settings) (h : History) → IsHistory settings h
+  pub report : is_honest new → (settings : Settings) (h : History) → IsHistory settings h
       → content old ≡ tables_of settings h
       → OnOk result (after ≡ before
-      ++ reply_text zone settings.rate closes (reply settings h message))
+      ++ reply_text zone closes (reply settings h message))
   pub tables : is_honest new → (settings : Settings) (h : History) → IsHistory settings h
       → content old ≡ tables_of settings h
       → OnOk result (content new ≡ tables_of settings (next settings h message))
   -- over any tables what is appended is the text of a reply
-  pub text : OnOk result ((rate : ℕ) × (r : Reply Fault)
-      × (after ≡ before ++ reply_text zone rate closes r))
+  pub text : OnOk result ((r : Reply Fault)
+      × (after ≡ before ++ reply_text zone closes r))
   -- and that of a read shows the page of the kept tables
   pub shown : is_honest new → IfRead message (λ caller query. OnOk result (after ≡ before
-      ++ reply_text zone (content old).settings.rate closes
+      ++ reply_text zone closes
       (Shows (page_by (content old) caller query))))
-  -- nothing is changed but where a command is told that it was accepted
+  -- nothing is changed but where a command is answered that it was accepted
   pub accepted : is_honest new → is_failed new ≡ false → (content new ≡ content old)
       ⊎ TellsDone zone closes before after
   -- a call that fails appends nothing, and has not acted unless the store failed

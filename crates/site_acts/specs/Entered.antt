@@ -1,36 +1,29 @@
--- What is told of an accepted command, and what making its change does.
+-- The result of an accepted command, and what making its change does.
 use Rattle.std.specs.Prelude.{◌≡◌, ◌⊎◌, ◌∷◌, ℕ, Bool, true, false, Result, OnErr, OnOk}
 use Rattle.house.specs.Decided.{IsAccepted}
 use Rattle.house.specs.Own.{IsOf}
 use Rattle.house_rows.specs.declared.change.Change.{Change}
 use Rattle.house_rows.specs.declared.command.Command.{Command}
 use Rattle.house_rows.specs.declared.fault.KeepFault.{KeepFault}
-use Rattle.house_rows.specs.declared.reply.Reply.{Reply}
-use Rattle.house_rows.specs.declared.reply.Reply.TheVariants.{Shows}
 use Rattle.house_rows.specs.declared.settings.Settings.{Settings}
-use Rattle.house_rows.specs.declared.told.Told.{Told}
+use Rattle.house_rows.specs.declared.command_result.CommandResult.{CommandResult}
 use Rattle.house_rows.specs.Changed.{changed}
 use Rattle.house_rows.specs.History.{History}
 use Rattle.house_rows.specs.Keeping.{ChangeFaults}
 use Rattle.house_rows.specs.Runs.{entry}
 use Rattle.house_rows.specs.Tables.{Tables, tables_of}
-use Rattle.house_rows.specs.Told.{told}
+use Rattle.house_rows.specs.CommandResult.{result_of}
 use Rattle.house_rows.specs.Verdict.{IsHistory}
 use Rattle.site_request.specs.declared.fault.Fault.{Fault}
 
--- whether a reply shows a page
-abbrev pub is_page : Reply Fault → Bool
-is_page (Shows page) = true
-is_page _ = false
-
--- what is told of an accepted command whose change it is has the property, over every history whose
+-- the result of an accepted command whose change it is has the property, over every history whose
 -- tables these are
-abbrev pub IfTold : Tables → Change → (Told → Type 0) → Type 0
-IfTold t change P = (settings : Settings) (h : History) → IsHistory settings h
+abbrev pub IfReported : Tables → Change → (CommandResult → Type 0) → Type 0
+IfReported t change P = (settings : Settings) (h : History) → IsHistory settings h
     → t ≡ tables_of settings h
     → (moment caller : ℕ) (command : Command) → IsAccepted settings h moment caller command change
     → IsOf moment caller command change
-    → P (told settings (entry moment caller command ∷ h) moment caller command h)
+    → P (result_of settings (entry moment caller command ∷ h) moment caller command h)
 
 -- what a keep promises of making a change
 pub record IsApplied {K : Type 0} (content : K → Tables) (is_failed : K → Bool)

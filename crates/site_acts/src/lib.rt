@@ -2,12 +2,11 @@
 //!
 //! Promised of any keep and any history whose tables it has: the reply is the definition's, and the
 //! tables are then those of the next history; a call that fails has not acted, unless the store
-//! failed. Read `specs/Acted.antt` first, and then `acting`, whose `act` is the call that matters.
+//! failed. Read `specs/Acted.antt` first, and then `messages`, whose `act` is the call that matters.
 #![tactic(auto)]
 
-mod acting;
-mod ordering;
+mod commands;
+mod messages;
 mod reading;
-mod writing;
 
-pub use acting::act;
+pub use messages::act;

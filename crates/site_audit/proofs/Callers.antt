@@ -1,4 +1,4 @@
--- Whose a text is, and which texts may stand at one place.
+-- Whose a text is, and which texts may be at one place.
 use Rattle.std.proofs.Common.{◌≡◌, ◌⊎◌, ◌∙◌, ℕ, List, Bool, true, false, refl, sym, ap, inl, inr, Option, None, Ok, Err}
 use Rattle.std.specs.Prelude.{◌↔◌, not}
 use Rattle.house_rows.specs.declared.message.Message.{Message}
@@ -64,7 +64,7 @@ same_heard s t x y a b e =
 same_text : (s t : List ℕ) (x y : Heard) → IsHeard s x → IsHeard t y → x ≡ y → s ≡ t
 same_text s t x y a b e = sym a.same ∙ ap (λ (z : Heard). z.text) e ∙ b.same
 
--- texts may stand at one place where they are equal
+-- texts may be at one place where they are equal
 pub paired_same : (c : ℕ) (s t : List ℕ) (x y : Heard) → IsHeard s x → IsHeard t y → s ≡ t
     → ArePaired c x y
 paired_same c s t x y a b e = inl (same_heard s t x y a b e)
@@ -78,9 +78,9 @@ unpaired c s t x y a b apart (inr mine) (inl e) = apart (same_text s t x y a b e
 unpaired c s t x y a b apart (inr mine) (inr (l, r)) = cc
 
 -- where the left one isn't the caller's it depends on the right one
-pub others_told : (c : ℕ) (s t : List ℕ) (x y : Heard) → IsHeard s x → IsHeard t y → ¬ (s ≡ t)
+pub others_reported : (c : ℕ) (s t : List ℕ) (x y : Heard) → IsHeard s x → IsHeard t y → ¬ (s ≡ t)
     → is_from c x.asked ≡ false → (other : Bool) → other ≡ is_from c y.asked
     → (not other ≡ true) ↔ ArePaired c x y
-others_told c s t x y a b apart mine true e =
+others_reported c s t x y a b apart mine true e =
     (λ no. absurd cc, λ p. absurd (unpaired c s t x y a b apart (inr (sym e)) p))
-others_told c s t x y a b apart mine false e = (λ yes. inr (mine, sym e), λ p. refl)
+others_reported c s t x y a b apart mine false e = (λ yes. inr (mine, sym e), λ p. refl)

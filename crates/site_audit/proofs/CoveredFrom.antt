@@ -41,48 +41,48 @@ orders_make F settings (e ∷ h) is =
     ∙ next_accepted F settings h e.moment e.caller e.command is.0
 
 -- a command of the history, or an element of the run
-abbrev Stands : Type 0 → Type 0 → Type 0
-Stands A F = Message F ⊎ A
+abbrev IsConsistent : Type 0 → Type 0 → Type 0
+IsConsistent A F = Message F ⊎ A
 
-abbrev stands : {A F : Type 0} → (A → Message F) → Stands A F → Message F
-stands meant (inl m) = m
-stands meant (inr x) = meant x
+abbrev is_consistent : {A F : Type 0} → (A → Message F) → IsConsistent A F → Message F
+is_consistent meant (inl m) = m
+is_consistent meant (inr x) = meant x
 
 -- the history's commands, and then the run
-abbrev first_of : (A F : Type 0) → History → List (Stands A F)
+abbrev first_of : (A F : Type 0) → History → List (IsConsistent A F)
 first_of A F h = map inl (orders_of F h)
 
-abbrev run_of : {A : Type 0} (F : Type 0) → List A → List (Stands A F)
+abbrev run_of : {A : Type 0} (F : Type 0) → List A → List (IsConsistent A F)
 run_of F xs = map inr xs
 
-abbrev whole : {A : Type 0} (F : Type 0) → History → List A → List (Stands A F)
+abbrev whole : {A : Type 0} (F : Type 0) → History → List A → List (IsConsistent A F)
 whole {A} F h xs = first_of A F h ++ run_of F xs
 
 means_first : {A F : Type 0} (meant : A → Message F) (ms : List (Message F))
-    → map (stands meant) (map inl ms) ≡ ms
+    → map (is_consistent meant) (map inl ms) ≡ ms
 means_first meant [] = refl
 means_first meant (m ∷ ms) = ap (λ rest. m ∷ rest) (means_first meant ms)
 
 means_run : {A F : Type 0} (meant : A → Message F) (xs : List A)
-    → map (stands meant) (map inr xs) ≡ map meant xs
+    → map (is_consistent meant) (map inr xs) ≡ map meant xs
 means_run meant [] = refl
 means_run meant (x ∷ xs) = ap (λ rest. meant x ∷ rest) (means_run meant xs)
 
 -- what the history's commands make
 first_makes : {A F : Type 0} (meant : A → Message F) (settings : Settings) (h : History)
     → IsHistory settings h
-    → history_from settings [] (map (stands meant) (first_of A F h)) ≡ h
+    → history_from settings [] (map (is_consistent meant) (first_of A F h)) ≡ h
 first_makes {F = F} meant settings h is =
     ap (history_from settings []) (means_first meant (orders_of F h)) ∙ orders_make F settings h is
 
 -- what the whole makes is what the run makes of the history
 whole_makes : {A F : Type 0} (meant : A → Message F) (settings : Settings) (h : History)
     → IsHistory settings h → (xs : List A)
-    → history_of settings (map (stands meant) (whole F h xs)) ≡ history_from settings h (map meant xs)
+    → history_of settings (map (is_consistent meant) (whole F h xs)) ≡ history_from settings h (map meant xs)
 whole_makes {A} {F} meant settings h is xs =
-    ap (history_from settings []) (map-append (stands meant) (first_of A F h) (run_of F xs))
-    ∙ history_append settings [] (map (stands meant) (first_of A F h)) (map (stands meant) (run_of F xs))
-    ∙ ap (λ g. history_from settings g (map (stands meant) (run_of F xs))) (first_makes meant settings h is)
+    ap (history_from settings []) (map-append (is_consistent meant) (first_of A F h) (run_of F xs))
+    ∙ history_append settings [] (map (is_consistent meant) (first_of A F h)) (map (is_consistent meant) (run_of F xs))
+    ∙ ap (λ g. history_from settings g (map (is_consistent meant) (run_of F xs))) (first_makes meant settings h is)
     ∙ ap (history_from settings h) (means_run meant xs)
 
 -- twin runs after equal fronts, and with them
@@ -107,14 +107,14 @@ twins_with meant settings c h (m ∷ front) xs ys twins = (
 )
 
 same_element : {A F : Type 0} (c : ℕ) (meant : A → Message F) (x y : A)
-    → (◌≡◌ {A = Stands A F} (inr x) (inr y)) ⊎ ((is_of c (meant x) ≡ false) × (is_of c (meant y) ≡ false))
+    → (◌≡◌ {A = IsConsistent A F} (inr x) (inr y)) ⊎ ((is_of c (meant x) ≡ false) × (is_of c (meant y) ≡ false))
     → (x ≡ y) ⊎ ((is_of c (meant x) ≡ false) × (is_of c (meant y) ≡ false))
 same_element c meant x y (inl e) = inl cc
 same_element c meant x y (inr apart) = inr apart
 
 -- twin runs of elements that stand for themselves
 twins_alone : {A F : Type 0} (meant : A → Message F) (settings : Settings) (c : ℕ) (h k : History)
-    (xs ys : List A) → AreTwinsFrom (stands meant) settings c h k (run_of F xs) (run_of F ys)
+    (xs ys : List A) → AreTwinsFrom (is_consistent meant) settings c h k (run_of F xs) (run_of F ys)
     → AreTwinsFrom meant settings c h k xs ys
 twins_alone meant settings c h k [] [] twins = tt
 twins_alone meant settings c h k [] (y ∷ ys) twins = absurd twins
@@ -142,8 +142,8 @@ placed_whole {A} F h before place placed =
       arith,
       placed,
       length-append (first_of A F h) (run_of F before),
-      length-map {B = Stands A F} (orders_of F h) inl,
-      length-map {B = Stands A F} before inr,
+      length-map {B = IsConsistent A F} (orders_of F h) inl,
+      length-map {B = IsConsistent A F} before inr,
     )
 
 -- another element in a place of the run is another in a place of the whole
@@ -162,28 +162,28 @@ raised_whole {A} {F} h place xs before here other later parts placed =
 -- twin runs from a history on are ends of twin runs from a new house on
 twins_whole : {A F : Type 0} (meant : A → Message F) (settings : Settings) (c : ℕ) (h : History)
     → IsHistory settings h → (xs ys : List A) → AreTwinsFrom meant settings c h h xs ys
-    → AreTwins (stands meant) settings c (whole F h xs) (whole F h ys)
+    → AreTwins (is_consistent meant) settings c (whole F h xs) (whole F h ys)
 twins_whole {A} {F} meant settings c h is xs ys twins =
-    twins_with (stands meant) settings c [] (first_of A F h) (run_of F xs) (run_of F ys)
-    (subst (λ g. AreTwinsFrom (stands meant) settings c g g (run_of F xs) (run_of F ys))
+    twins_with (is_consistent meant) settings c [] (first_of A F h) (run_of F xs) (run_of F ys)
+    (subst (λ g. AreTwinsFrom (is_consistent meant) settings c g g (run_of F xs) (run_of F ys))
     (sym (first_makes meant settings h is))
-    (twins_read {B = Stands A F} inr (stands meant) settings c h h xs ys twins))
+    (twins_read {B = IsConsistent A F} inr (is_consistent meant) settings c h h xs ys twins))
 
 whole_twins : {A F : Type 0} (meant : A → Message F) (settings : Settings) (c : ℕ) (h : History)
     → IsHistory settings h → (xs ys : List A)
-    → AreTwins (stands meant) settings c (whole F h xs) (whole F h ys)
+    → AreTwins (is_consistent meant) settings c (whole F h xs) (whole F h ys)
     → AreTwinsFrom meant settings c h h xs ys
 whole_twins {A} {F} meant settings c h is xs ys twins =
     twins_alone meant settings c h h xs ys
-    (subst (λ g. AreTwinsFrom (stands meant) settings c g g (run_of F xs) (run_of F ys))
+    (subst (λ g. AreTwinsFrom (is_consistent meant) settings c g g (run_of F xs) (run_of F ys))
     (first_makes meant settings h is)
-    (twins_after (stands meant) settings c [] (first_of A F h) (run_of F xs) (run_of F ys) twins))
+    (twins_after (is_consistent meant) settings c [] (first_of A F h) (run_of F xs) (run_of F ys) twins))
 
 -- a covered bid of the run is one of the whole
 covered_whole : {A F : Type 0} (meant : A → Message F) (settings : Settings) (h : History)
     → IsHistory settings h → (c place y : ℕ) (b : Sealed) (xs : List A)
     → IsCoveredFrom meant settings h c place y b xs
-    → IsCovered (stands meant) settings c (length (orders_of F h) + place) y b (whole F h xs)
+    → IsCovered (is_consistent meant) settings c (length (orders_of F h) + place) y b (whole F h xs)
 covered_whole {A} {F} meant settings h is c place y b xs covered = record {
   before = whole F h covered.before;
   here = inr covered.here;
@@ -191,7 +191,7 @@ covered_whole {A} {F} meant settings h is c place y b xs covered = record {
   parts = parts_whole {F = F} h xs covered.before covered.here covered.later covered.parts;
   placed = placed_whole F h covered.before place covered.placed;
   means = covered.means;
-  covered = subst (λ g. IsCoveredBid settings y b g (history_of settings (map (stands meant) (whole F h xs))))
+  covered = subst (λ g. IsCoveredBid settings y b g (history_of settings (map (is_consistent meant) (whole F h xs))))
       (sym (whole_makes meant settings h is covered.before))
       (subst (λ g. IsCoveredBid settings y b (history_from settings h (map meant covered.before)) g)
       (sym (whole_makes meant settings h is xs)) covered.covered);
@@ -207,10 +207,10 @@ pub covered_twins_from : {A F : Type 0} (meant : A → Message F) (settings : Se
 covered_twins_from {A} {F} meant settings h c place y b xs other valid is covered raises =
     let n = length (orders_of F h) + place in
     whole_twins meant settings c h is xs (raised place other xs)
-    (subst (λ zs. AreTwins (stands meant) settings c (whole F h xs) zs)
+    (subst (λ zs. AreTwins (is_consistent meant) settings c (whole F h xs) zs)
     (raised_whole {F = F} h place xs covered.before covered.here other covered.later covered.parts
     covered.placed)
-    (covered_twins (stands meant) settings c n y b (whole F h xs) (inr other) valid
+    (covered_twins (is_consistent meant) settings c n y b (whole F h xs) (inr other) valid
     (covered_whole meant settings h is c place y b xs covered) raises))
 
 -- a covered bid shows in the end
@@ -220,7 +220,7 @@ pub covered_led_from : {A F : Type 0} (meant : A → Message F) (settings : Sett
     → IsCoveredFrom meant settings h c place y b xs → LeadsBoth meant settings h place y b xs other
 covered_led_from {A} {F} meant settings h c place y b xs other valid is raises covered =
     let n = length (orders_of F h) + place in
-    let shows = covered_led (stands meant) settings c n y b (whole F h xs) (inr other) valid raises
+    let shows = covered_led (is_consistent meant) settings c n y b (whole F h xs) (inr other) valid raises
     (covered_whole meant settings h is c place y b xs covered) in
     let same = raised_whole {F = F} h place xs covered.before covered.here other covered.later
     covered.parts covered.placed in
@@ -228,7 +228,7 @@ covered_led_from {A} {F} meant settings h c place y b xs other valid is raises c
       left = subst (λ g. LeadsBy settings g b.item b.member b.maximum)
           (whole_makes meant settings h is xs) shows.left;
       right = subst (λ g. LeadsBy settings g b.item b.member y)
-          (ap (λ zs. history_of settings (map (stands meant) zs)) same
+          (ap (λ zs. history_of settings (map (is_consistent meant) zs)) same
           ∙ whole_makes meant settings h is (raised place other xs)) shows.right;
     }
 
@@ -249,7 +249,7 @@ one_front (a ∷ before) later (b ∷ before') later' here here' e same =
 same_length : (n m place : ℕ) → place ≡ n + 1 → place ≡ m + 1 → n ≡ m
 same_length n m place e f = omega (arith, e, f)
 
--- and what shows in the end tells that the bid was covered
+-- and what shows in the end says that the bid was covered
 pub led_covered_from : {A F : Type 0} (meant : A → Message F) (settings : Settings) (h : History)
     (c place y : ℕ) (b : Sealed) (xs before : List A) (here : A) (later : List A) (other : A)
     → IsBandTable settings.bands → IsHistory settings h → xs ≡ before ++ here ∷ later
@@ -262,7 +262,7 @@ led_covered_from {A} {F} meant settings h c place y b xs before here later other
     let n = length (orders_of F h) + place in
     let same = raised_whole {F = F} h place xs before here other later parts placed in
     let parted = parts_whole {F = F} h xs before here later parts in
-    let shows : IsLedByBoth (stands meant) settings c n y b (whole F h xs) (inr other) = record {
+    let shows : IsLedByBoth (is_consistent meant) settings c n y b (whole F h xs) (inr other) = record {
       before = whole F h before;
       here = inr here;
       later = run_of F later;
@@ -272,15 +272,15 @@ led_covered_from {A} {F} meant settings h c place y b xs before here later other
       above = above;
       fits = fits;
       apart = apart;
-      twins = subst (λ zs. AreTwins (stands meant) settings c (whole F h xs) zs) (sym same)
+      twins = subst (λ zs. AreTwins (is_consistent meant) settings c (whole F h xs) zs) (sym same)
           (twins_whole meant settings c h is xs (raised place other xs) twins);
       left = subst (λ g. LeadsBy settings g b.item b.member b.maximum)
           (sym (whole_makes meant settings h is xs)) leads.left;
       right = subst (λ g. LeadsBy settings g b.item b.member y)
-          (sym (ap (λ zs. history_of settings (map (stands meant) zs)) same
+          (sym (ap (λ zs. history_of settings (map (is_consistent meant) zs)) same
           ∙ whole_makes meant settings h is (raised place other xs))) leads.right;
     } in
-    let found = led_covered (stands meant) settings c n y b (whole F h xs) (inr other) valid raises
+    let found = led_covered (is_consistent meant) settings c n y b (whole F h xs) (inr other) valid raises
     shows in
     let front : found.before ≡ whole F h before =
     one_front found.before found.later (whole F h before) (run_of F later) found.here (inr here)
@@ -295,10 +295,10 @@ led_covered_from {A} {F} meant settings h c place y b xs before here later other
       placed = placed;
       means = means;
       covered = subst (λ g. IsCoveredBid settings y b g (history_from settings h (map meant xs)))
-          (ap (λ zs. history_of settings (map (stands meant) zs)) front
+          (ap (λ zs. history_of settings (map (is_consistent meant) zs)) front
           ∙ whole_makes meant settings h is before)
           (subst (λ g. IsCoveredBid settings y b
-          (history_of settings (map (stands meant) found.before)) g)
+          (history_of settings (map (is_consistent meant) found.before)) g)
           (whole_makes meant settings h is xs) found.covered);
       apart = apart;
     }

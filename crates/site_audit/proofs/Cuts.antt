@@ -20,7 +20,7 @@ use Rattle.site_audit.specs.declared.messages.MessagesFault.{MessagesFault}
 use Rattle.site_audit.specs.declared.messages.MessagesFault.TheVariants.{Broken, Memory, Read}
 use Rattle.site_audit.specs.Messages.{IsCutInto, IsNoList, IsStopped, IsWhole}
 
--- a message and what stands after it
+-- a message and what comes after it
 abbrev found : Message → List ℕ → Message × List ℕ
 found m rest = (m, rest)
 
@@ -124,7 +124,7 @@ pub record Reading (left now : Option (List ℕ)) (texts : List (List ℕ)) (tex
     (cut : ℕ) : Type 0 where
   pub took : Consumes left now text
   pub into : IsCutInto text texts held
-  pub behind : held ≡ drop cut text
+  pub rest_after : held ≡ drop cut text
   pub within : cut ≤ length text
 
 pub reading_none : (left : Option (List ℕ)) (held : List ℕ) → held ≡ []
@@ -132,7 +132,7 @@ pub reading_none : (left : Option (List ℕ)) (held : List ℕ) → held ≡ []
 reading_none left held none = record {
   took = Consumes-nil left;
   into = record { parts = sym none; whole = tt };
-  behind = none;
+  rest_after = none;
   within = omega arith;
 }
 
@@ -144,7 +144,7 @@ pub reading_grown : (left now later : Option (List ℕ)) (texts : List (List ℕ
 reading_grown left now later texts text held bytes text' held' cut so took e d = rw (e, d) (record {
   took = Consumes-trans left now later text bytes so.took took;
   into = cut_grown text texts held bytes so.into;
-  behind = ap (λ l. l ++ bytes) so.behind ∙ sym (drop-append-le cut text bytes so.within);
+  rest_after = ap (λ l. l ++ bytes) so.rest_after ∙ sym (drop-append-le cut text bytes so.within);
   within = omega (arith, length-append text bytes, so.within);
 })
 
@@ -152,7 +152,7 @@ reading_grown left now later texts text held bytes text' held' cut so took e d =
 pub held_length : (left now : Option (List ℕ)) (texts : List (List ℕ)) (text held : List ℕ) (cut : ℕ)
     → Reading left now texts text held cut → cut + length held ≡ length text
 held_length left now texts text held cut so =
-    omega (arith, ap length so.behind, length-drop cut text, so.within)
+    omega (arith, ap length so.rest_after, length-drop cut text, so.within)
 
 -- a message was cut off
 pub reading_more : (left now : Option (List ℕ)) (texts texts' : List (List ℕ))
@@ -164,19 +164,19 @@ reading_more left now texts texts' text held held' one rest m cut n so here fits
     rw (all, is, d, e) (record {
       took = so.took;
       into = cut_push text texts held rest m so.into here;
-      behind = ap (drop m.length) so.behind ∙ drop_drop;
+      rest_after = ap (drop m.length) so.rest_after ∙ drop_drop;
       within = omega (arith, held_length left now texts text held cut so, fits);
     })
   where
     drop_drop : drop m.length (drop cut text) ≡ drop (cut + m.length) text
     drop_drop = drop-drop m.length cut text
 
--- the bytes of a message stand in the text where they are held
+-- the bytes of a message are in the text where they are held
 pub one_is : (left now : Option (List ℕ)) (texts : List (List ℕ)) (text held : List ℕ) (cut n : ℕ)
     → Reading left now texts text held cut → slice_range text cut (cut + n) ≡ take n held
 one_is left now texts text held cut n so =
     let size : (cut + n) - cut ≡ n = omega arith in
-    ap (λ k. take k (drop cut text)) size ∙ ap (take n) (sym so.behind)
+    ap (λ k. take k (drop cut text)) size ∙ ap (take n) (sym so.rest_after)
 
 -- what was read is a front of the stream, where that is known
 of_stream : (left now : Option (List ℕ)) (text : List ℕ) (P : List ℕ → Type 0)

@@ -33,7 +33,7 @@ led_top : (bids : List bid.Bid) (w : ℕ) → leader bids ≡ Some w → greates
 led_top [] w led = absurd (none_leader w led)
 led_top (b ∷ bids) w led = ap Some (sym (top_is (b ∷ bids) _ refl))
 
--- what is kept of an item's bids tells who leads
+-- what is kept of an item's bids says who leads
 kept_led : (settings : Settings) (h : History) (l : Listing) (i w x : ℕ) → listing_at (listings h) i ≡ Some l
     → IsLedKept (bands_by settings l) w x (standing_of (bands_by settings l) (listed_opening l) (bids_on h i)) → LeadsBy settings h i w x
 kept_led settings h l i w x listed is = record { listing = l; listed = listed; led = is.0; by = top_is (bids_on h i) x is.1; covers = is.2 }
@@ -49,11 +49,11 @@ standing_by : (settings : Settings) (h : History) (i : ℕ) → standing_at (tab
 standing_by settings h i = ap (option_map (λ (row : ItemRow). row.standing)) (row_found settings h i)
 
 -- where an item has a standing
-pub standing_leads : (settings : Settings) (h : History) (t : Tables) (bands : List (ℕ × ℕ)) (i w x : ℕ) (k : Kept) (told : Bool) → t ≡ tables_of settings h → bands ≡ bands_for t i
-    → standing_at t i ≡ Some k → (told ≡ true) ↔ IsLedKept bands w x k → (told ≡ true) ↔ LeadsBy settings h i w x
-standing_leads settings h t bands i w x k told e same found is =
+pub standing_leads : (settings : Settings) (h : History) (t : Tables) (bands : List (ℕ × ℕ)) (i w x : ℕ) (k : Kept) (report : Bool) → t ≡ tables_of settings h → bands ≡ bands_for t i
+    → standing_at t i ≡ Some k → (report ≡ true) ↔ IsLedKept bands w x k → (report ≡ true) ↔ LeadsBy settings h i w x
+standing_leads settings h t bands i w x k report e same found is =
     by_listing (listing_at (listings h) i) refl where
-      by_listing : (o : Option Listing) → listing_at (listings h) i ≡ o → (told ≡ true) ↔ LeadsBy settings h i w x
+      by_listing : (o : Option Listing) → listing_at (listings h) i ≡ o → (report ≡ true) ↔ LeadsBy settings h i w x
       by_listing None none =
           let f : None ≡ Some k = sym (ap (option_map (λ (row : ItemRow). row.standing)) (ap (option_map (row_now settings h)) none)) ∙ sym (standing_by settings h i) ∙ ap (λ (u : Tables). standing_at u i) (sym e) ∙ found in absurd cc
       by_listing (Some l) some =

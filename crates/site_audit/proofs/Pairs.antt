@@ -1,4 +1,4 @@
--- What a look at two keeps tells.
+-- The result of a look at two keeps.
 use Rattle.std.proofs.Common.{◌≡◌, ◌∙◌, [], Bool, true, false, refl, sym, ap, subst, inl, inr, Result, Ok, Err}
 use Rattle.std.specs.Prelude.{◌↔◌, IsErr, IsErrAnd}
 use Rattle.house_rows.specs.declared.fault.KeepFault.{KeepFault}
@@ -21,16 +21,16 @@ pub sound_if : (settings : Settings) (h : History) (t : Tables) → IsHistory se
     → t ≡ tables_of settings h → AreSound t
 sound_if settings h t is e = rw e (rows_are_sound settings h is)
 
--- two keeps told something of both
+-- a look at two keeps had a result of both
 pub seen_ok : {K : Type 0} (content : K → Tables) (is_failed : K → Bool) (is_honest : K → Type 0)
-    (may_leave : K → Tables → Type 0) (P : Type 0) (left right left_new right_new : K) (told : Bool)
-    → PairFaults {A = Bool} (Ok told) (is_honest left_new × is_honest right_new) (is_failed left_new)
+    (may_leave : K → Tables → Type 0) (P : Type 0) (left right left_new right_new : K) (report : Bool)
+    → PairFaults {A = Bool} (Ok report) (is_honest left_new × is_honest right_new) (is_failed left_new)
     (is_failed right_new) (content left) (content right)
     → IsRead content is_failed is_honest may_leave left left_new
     → IsRead content is_failed is_honest may_leave right right_new
-    → is_honest left_new → is_honest right_new → (told ≡ true) ↔ P
-    → IsSeen content is_failed P left right left_new right_new (Ok told)
-seen_ok content is_failed is_honest may_leave P left right left_new right_new told faults read read'
+    → is_honest left_new → is_honest right_new → (report ≡ true) ↔ P
+    → IsSeen content is_failed P left right left_new right_new (Ok report)
+seen_ok content is_failed is_honest may_leave P left right left_new right_new report faults read read'
     honest honest' is = (
       is,
       read.same honest faults.going.0,
@@ -54,11 +54,11 @@ seen_err content is_failed P are_honest left right left_new right_new keep_fault
 -- the error that a fault of a keep was made into
 pub seen_gave : {K : Type 0} (content : K → Tables) (is_failed : K → Bool) (P : Type 0)
     (left right left_new right_new : K) (f : KeepFault) (result : Result Bool AuditFault)
-    → IsErr result × IsErrAnd result (λ told. told ≡ fault_of_keep f)
+    → IsErr result × IsErrAnd result (λ report. report ≡ fault_of_keep f)
     → IsSeen content is_failed P left right left_new right_new (Err (fault_of_keep f))
     → IsSeen content is_failed P left right left_new right_new result
-seen_gave content is_failed P left right left_new right_new f (Ok told) gave seen = absurd gave.1
-seen_gave content is_failed P left right left_new right_new f (Err told) gave seen =
+seen_gave content is_failed P left right left_new right_new f (Ok report) gave seen = absurd gave.1
+seen_gave content is_failed P left right left_new right_new f (Err report) gave seen =
     subst (λ x. IsSeen content is_failed P left right left_new right_new (Err x)) (sym gave.1) seen
 
 -- keeps with the same tables before
@@ -67,7 +67,7 @@ pub seen_from : {K : Type 0} (content : K → Tables) (is_failed : K → Bool) (
     → content a ≡ content left → content b ≡ content right
     → IsSeen content is_failed P a b left_new right_new result
     → IsSeen content is_failed P left right left_new right_new result
-seen_from content is_failed P a b left right left_new right_new (Ok told) e d (is, same, same') =
+seen_from content is_failed P a b left right left_new right_new (Ok report) e d (is, same, same') =
     (is, same ∙ e, same' ∙ d)
 seen_from content is_failed P a b left right left_new right_new (Err Memory) e d seen = seen
 seen_from content is_failed P a b left right left_new right_new (Err Store) e d seen = seen
@@ -108,10 +108,10 @@ pub settings_if : (settings : Settings) (h : History) (t : Tables) → t ≡ tab
 settings_if settings h t e = ap (λ (u : Tables). u.settings) e ∙ its_settings settings h
 
 -- keeps of the same settings were set up alike
-pub alike_told : (settings others : Settings) (h k : History) (t u : Tables) (told : Bool)
+pub alike_reported : (settings others : Settings) (h k : History) (t u : Tables) (report : Bool)
     → t ≡ tables_of settings h → u ≡ tables_of others k
-    → (told ≡ true) ↔ (t.settings ≡ u.settings) → (told ≡ true) ↔ (settings ≡ others)
-alike_told settings others h k t u told e d is =
+    → (report ≡ true) ↔ (t.settings ≡ u.settings) → (report ≡ true) ↔ (settings ≡ others)
+alike_reported settings others h k t u report e d is =
     rw (settings_if settings h t e, settings_if others k u d) at is
 
 -- an audit can begin where both are new and alike
@@ -159,7 +159,7 @@ pub begun : {K : Type 0} (content : K → Tables) (is_failed : K → Bool)
     → IsSeen content is_failed (MayBegin (content left) (content right)) left right left_end
     right_end result
 begun content is_failed settings others h k left right left_mid right_mid left_end right_end
-    (Ok told) e d new new' same same' (is, stays, stays') = (
+    (Ok report) e d new new' same same' (is, stays, stays') = (
       (
         λ yes. begins settings others h k (content left) (content right) e d (is.0 yes) new new',
         λ may. is.1 (same_settings settings others h k (content left) (content right) e d may),

@@ -1,4 +1,4 @@
--- What is told of one place.
+-- The result for one place.
 use Rattle.std.proofs.Common.{if◌then◌else◌, ◌≡◌, ◌∙◌, ◌++◌, ◌∷◌, [], ℕ, List, Bool, true, false, refl, sym, ap, subst, inl, inr, Result, Ok, Err}
 use Rattle.std.specs.Prelude.{IsErr, IsErrAnd}
 use Rattle.house_rows.specs.declared.fault.KeepFault.TheVariants as keep_fault
@@ -17,57 +17,57 @@ use Rattle.site_request.specs.declared.asked.Asked.{Asked}
 use Rattle.wire.proofs.OneFrame.{one_frame}
 use Rattle.site_audit.specs.declared.fault.AuditFault.{AuditFault}
 use Rattle.site_audit.specs.declared.fault.AuditFault.TheVariants.{Memory, Store, NotNew}
-use Rattle.site_audit.specs.Places.{ArePaired, Heard, IsAnswerTold, IsJudged, IsPlaceTold, IsSeen, reply_at}
+use Rattle.site_audit.specs.Places.{ArePaired, Heard, IsAnswerReported, IsJudged, IsPlaceReported, IsSeen, reply_at}
 use Rattle.site_replies.specs.Texts.{digits_in, fault_text, is_failure}
-use Rattle.site_replies.proofs.StatusLemmas.{memory_told, reply_served, store_told}
+use Rattle.site_replies.proofs.StatusLemmas.{memory_reported, reply_served, store_reported}
 
 pub not_both : (b : Bool) → b ≡ true → b ≡ false → ⊥
 not_both true is other = cc
 not_both false is other = cc
 
--- want of memory isn't told as a failure
+-- want of memory isn't reported as a failure
 memory_goes : (closes : Bool) → is_failure (fault_text keep_fault.Memory closes) ≡ false
 unfolding fault_text digits_in answer_bytes head_start status_line
 memory_goes closes = refl
 
 -- an answer of a step that was looked at
-pub answer_told : {K R : Type 0} (content : K → Tables) (is_failed : K → Bool)
+pub answer_reported : {K R : Type 0} (content : K → Tables) (is_failed : K → Bool)
     (may_leave : K → Tables → Type 0) (items : R → List ℕ)
     (settings : Settings) (zone : Zone) (h : History) (asked : Asked) (given : R) (old new : K)
     (result : Result R AuditFault)
     → Answers content is_failed may_leave settings zone h asked (items given) old new
     → IsJudged items given result
-    → IsAnswerTold content is_failed items settings zone h asked new result
+    → IsAnswerReported content is_failed items settings zone h asked new result
 unfolding answer_of
-answer_told content is_failed may_leave items settings zone h asked given old new (Ok same) answers
+answer_reported content is_failed may_leave items settings zone h asked given old new (Ok same) answers
     (e, served) =
     elim answers.outcome [
-      | inl done ↦ (ap items e ∙ done.told, done.tables)
+      | inl done ↦ (ap items e ∙ done.report, done.tables)
       | inr other ↦ elim other [
-        | inl wanting ↦ absurd (not_both _ (memory_told asked.closes)
-            (rw wanting.told at served.not_wanting))
-        | inr failed ↦ absurd (not_both _ (store_told asked.closes)
-            (rw failed.told at served.not_failed))
+        | inl wanting ↦ absurd (not_both _ (memory_reported asked.closes)
+            (rw wanting.report at served.not_wanting))
+        | inr failed ↦ absurd (not_both _ (store_reported asked.closes)
+            (rw failed.report at served.not_failed))
       ]
     ]
-answer_told content is_failed may_leave items settings zone h asked given old new (Err Memory)
+answer_reported content is_failed may_leave items settings zone h asked given old new (Err Memory)
     answers wanting = tt
-answer_told content is_failed may_leave items settings zone h asked given old new (Err Store)
+answer_reported content is_failed may_leave items settings zone h asked given old new (Err Store)
     answers failing =
     elim answers.outcome [
-      | inl done ↦ absurd (not_both _ (rw done.told at failing)
-          (reply_served zone settings.rate asked.closes (reply settings h asked.message)).not_failed)
+      | inl done ↦ absurd (not_both _ (rw done.report at failing)
+          (reply_served zone asked.closes (reply settings h asked.message)).not_failed)
       | inr other ↦ elim other [
-        | inl wanting ↦ absurd (not_both _ (rw wanting.told at failing)
+        | inl wanting ↦ absurd (not_both _ (rw wanting.report at failing)
             (memory_goes asked.closes))
         | inr failed ↦ failed.failed
       ]
     ]
-answer_told content is_failed may_leave items settings zone h asked given old new (Err NotNew)
+answer_reported content is_failed may_leave items settings zone h asked given old new (Err NotNew)
     answers judged = absurd judged
 
 -- the same of a text, whatever it was found to ask
-pub step_told : {K R : Type 0} (content : K → Tables) (is_failed : K → Bool)
+pub step_reported : {K R : Type 0} (content : K → Tables) (is_failed : K → Bool)
     (is_honest : K → Type 0) (may_leave : K → Tables → Type 0) (items : R → List ℕ)
     (settings : Settings) (zone : Zone) (h : History) (text : List ℕ) (found asked : Asked)
     (given : R) (old new : K) (result : Result R AuditFault) → IsAsked text found
@@ -75,11 +75,11 @@ pub step_told : {K R : Type 0} (content : K → Tables) (is_failed : K → Bool)
     → IsStep content is_failed is_honest may_leave zone found (items given) old new
     → IsJudged items given result → is_honest new → IsHistory settings h
     → content old ≡ tables_of settings h
-    → IsAnswerTold content is_failed items settings zone h asked new result
-step_told content is_failed is_honest may_leave items settings zone h text found asked given old
+    → IsAnswerReported content is_failed items settings zone h asked new result
+step_reported content is_failed is_honest may_leave items settings zone h text found asked given old
     new result (f, is, e) (g, also, d) step judged honest history tables =
     let same : found ≡ asked = e ∙ ap asked_of (one_frame text f g is also) ∙ sym d in
-    answer_told content is_failed may_leave items settings zone h asked given old new result
+    answer_reported content is_failed may_leave items settings zone h asked given old new result
     (subst (λ a. Answers content is_failed may_leave settings zone h a (items given) old new) same
     (step.answer honest settings h history tables)) judged
 
@@ -87,40 +87,40 @@ step_told content is_failed is_honest may_leave items settings zone h text found
 pub place_gave : {K : Type 0} (content : K → Tables) (is_failed : K → Bool)
     (settings : Settings) (zone : Zone) (c : ℕ) (h k : History) (x y : Heard)
     (before after : List (List ℕ)) (left right : K) (fault : AuditFault)
-    (result : Result Bool AuditFault) → IsErr result × IsErrAnd result (λ told. told ≡ fault)
-    → IsPlaceTold content is_failed settings zone c h k x y before after left right (Err fault)
-    → IsPlaceTold content is_failed settings zone c h k x y before after left right result
-place_gave content is_failed settings zone c h k x y before after left right fault (Ok told) gave
+    (result : Result Bool AuditFault) → IsErr result × IsErrAnd result (λ report. report ≡ fault)
+    → IsPlaceReported content is_failed settings zone c h k x y before after left right (Err fault)
+    → IsPlaceReported content is_failed settings zone c h k x y before after left right result
+place_gave content is_failed settings zone c h k x y before after left right fault (Ok report) gave
     place = absurd gave.1
-place_gave content is_failed settings zone c h k x y before after left right fault (Err told) gave
+place_gave content is_failed settings zone c h k x y before after left right fault (Err report) gave
     place =
-    subst (λ f. IsPlaceTold content is_failed settings zone c h k x y before after left right
+    subst (λ f. IsPlaceReported content is_failed settings zone c h k x y before after left right
     (Err f)) (sym gave.1) place
 
 -- a left answer that isn't given
 pub place_left : {K R : Type 0} (content : K → Tables) (is_failed : K → Bool) (items : R → List ℕ)
     (settings : Settings) (zone : Zone) (c : ℕ) (h k : History) (x y : Heard)
     (before after : List (List ℕ)) (left right : K) (fault : AuditFault)
-    → IsAnswerTold content is_failed items settings zone h x.asked left (Err fault)
-    → IsPlaceTold content is_failed settings zone c h k x y before after left right (Err fault)
-place_left content is_failed items settings zone c h k x y before after left right Memory told = tt
-place_left content is_failed items settings zone c h k x y before after left right Store told =
-    inl told
-place_left content is_failed items settings zone c h k x y before after left right NotNew told =
-    told
+    → IsAnswerReported content is_failed items settings zone h x.asked left (Err fault)
+    → IsPlaceReported content is_failed settings zone c h k x y before after left right (Err fault)
+place_left content is_failed items settings zone c h k x y before after left right Memory report = tt
+place_left content is_failed items settings zone c h k x y before after left right Store report =
+    inl report
+place_left content is_failed items settings zone c h k x y before after left right NotNew report =
+    report
 
 -- a right answer that isn't given
 pub place_right : {K R : Type 0} (content : K → Tables) (is_failed : K → Bool) (items : R → List ℕ)
     (settings : Settings) (zone zone' : Zone) (c : ℕ) (h k : History) (x y : Heard)
     (before after : List (List ℕ)) (left right : K) (fault : AuditFault)
-    → IsAnswerTold content is_failed items settings zone' k y.asked right (Err fault)
-    → IsPlaceTold content is_failed settings zone c h k x y before after left right (Err fault)
+    → IsAnswerReported content is_failed items settings zone' k y.asked right (Err fault)
+    → IsPlaceReported content is_failed settings zone c h k x y before after left right (Err fault)
 place_right content is_failed items settings zone zone' c h k x y before after left right Memory
-    told = tt
+    report = tt
 place_right content is_failed items settings zone zone' c h k x y before after left right Store
-    told = inr told
+    report = inr report
 place_right content is_failed items settings zone zone' c h k x y before after left right NotNew
-    told = told
+    report = report
 
 -- both were answered, and the keeps looked at
 pub place_seen : {K : Type 0} (content : K → Tables) (is_failed : K → Bool)
@@ -132,16 +132,16 @@ pub place_seen : {K : Type 0} (content : K → Tables) (is_failed : K → Bool)
     → after ≡ before ++ reply_at settings zone c h x.asked
     → IsSeen content is_failed (Agrees settings c (next_of settings h x.asked)
     (next_of settings k y.asked)) left right left_new right_new result
-    → IsPlaceTold content is_failed settings zone c h k x y before after left_new right_new result
+    → IsPlaceReported content is_failed settings zone c h k x y before after left_new right_new result
 place_seen content is_failed settings zone c h k x y before after left right left_new right_new
-    (Ok true) paired e d replies (told, same, same') = record {
-      twin = record { paired = paired; agree = told.0 refl };
+    (Ok true) paired e d replies (report, same, same') = record {
+      twin = record { paired = paired; agree = report.0 refl };
       have = record { left_has = same ∙ e; right_has = same' ∙ d };
       kept = replies;
     }
 place_seen content is_failed settings zone c h k x y before after left right left_new right_new
-    (Ok false) paired e d replies (told, same, same') =
-    λ place. not_both false (told.1 place.agree) refl
+    (Ok false) paired e d replies (report, same, same') =
+    λ place. not_both false (report.1 place.agree) refl
 place_seen content is_failed settings zone c h k x y before after left right left_new right_new
     (Err Memory) paired e d replies seen = tt
 place_seen content is_failed settings zone c h k x y before after left right left_new right_new

@@ -21,8 +21,8 @@ use Rattle.settle.specs.declared.zone.Zone.{Zone}
 use Rattle.site_bids.specs.Spelt.{IsSent}
 use Rattle.site_audit.specs.declared.fault.AuditFault.{AuditFault}
 use Rattle.site_audit.specs.declared.fault.AuditFault.TheVariants.{Memory, Store, NotNew}
-use Rattle.site_audit.specs.declared.finding.Surplus.{Surplus}
-use Rattle.site_audit.specs.declared.finding.Surplus.TheVariants.{Same, NotCovered}
+use Rattle.site_audit.specs.declared.outcome.Surplus.{Surplus}
+use Rattle.site_audit.specs.declared.outcome.Surplus.TheVariants.{Same, NotCovered}
 use Rattle.site_audit.specs.Audits.{MayBegin}
 use Rattle.site_audit.specs.AuditsFrom.{AreEqualFrom, IsFoundFrom, heard_history}
 use Rattle.site_audit.specs.Places.{Heard, IsSeen, heard_message}
@@ -42,7 +42,7 @@ BothLead settings h place y b heards text =
     LeadsBy settings (heard_history settings h heards) b.item b.member b.maximum
     × LeadsBy settings (heard_history settings h (raised place text heards)) b.item b.member y
 
--- a covered bid stands at its place
+-- a covered bid is at its place
 covered_at : (settings : Settings) (h : History) (c place y : ℕ) (b : Sealed) (heards : List Heard)
     → IsCoveredTextFrom settings h c place y b heards → IsBidAt place b heards
 covered_at settings h c place y b heards is = record {
@@ -54,7 +54,7 @@ covered_at settings h c place y b heards is = record {
   means = is.means;
 }
 
--- a covered bid in the place is the one that stands there
+-- a covered bid in the place is the one that is there
 the_bid : (settings : Settings) (h : History) (c place y : ℕ) (b d : Sealed) (heards : List Heard)
     → IsBidAt place b heards → IsCoveredTextFrom settings h c place y d heards
     → IsCoveredTextFrom settings h c place y b heards
@@ -145,7 +145,7 @@ not_raised settings h c place y b heards is there not = λ d covered.
       apart = mine.apart;
     })
 
--- and where no bid stands, none is
+-- and where no bid is in the place, none is covered
 pub no_bid : (settings : Settings) (h : History) (c place y : ℕ) (heards : List Heard)
     → IsBidFound place heards (Ok None) → IsNoSurplusFrom settings h c place y heards
 no_bid settings h c place y heards none = λ d covered.
@@ -153,10 +153,10 @@ no_bid settings h c place y heards none = λ d covered.
 
 -- the result that a fault was made into
 pub fault_gave : {A : Type 0} (P : Result A AuditFault → Type 0) (f : AuditFault)
-    (result : Result A AuditFault) → IsErr result × IsErrAnd result (λ told. told ≡ f) → P (Err f)
+    (result : Result A AuditFault) → IsErr result × IsErrAnd result (λ report. report ≡ f) → P (Err f)
     → P result
 fault_gave P f (Ok a) gave is = absurd gave.1
-fault_gave P f (Err told) gave is = subst (λ e. P (Err e)) (sym gave.1) is
+fault_gave P f (Err report) gave is = subst (λ e. P (Err e)) (sym gave.1) is
 
 -- a fault of the comparison
 pub found_gives : {K : Type 0} (content : K → Tables) (is_failed : K → Bool) (settings : Settings)

@@ -24,7 +24,7 @@ use Rattle.site_audit.specs.declared.verdict.Verdict.{Verdict}
 use Rattle.site_audit.specs.declared.verdict.Verdict.TheVariants.{Equal, Apart}
 use Rattle.site_audit.specs.Audits.{IsFound, IsVerdict, MayBegin, what_is_asked}
 use Rattle.site_audit.specs.AuditsFrom.{AreEqualFrom, ArePartFrom, AreTwinTextsFrom, IsFoundFrom, heard_history}
-use Rattle.site_audit.specs.Places.{GoesOn, Have, Heard, IsHeard, IsPlaceTold, IsTwinPlace, IsUsed, heard_message, reply_at}
+use Rattle.site_audit.specs.Places.{GoesOn, Have, Heard, IsHeard, IsPlaceReported, IsTwinPlace, IsUsed, heard_message, reply_at}
 use Rattle.site_audit.proofs.Places.{next_is}
 use Rattle.site_audit.proofs.Lists.{zip_last, zip_length, zip_take}
 use Rattle.site_audit.proofs.Twins.{TwinAt, history_more, replies_more, twins_last, twins_length, twins_more, twins_read, twins_take}
@@ -56,7 +56,7 @@ isolated : (settings : Settings) (zone : Zone) (c : ℕ) (h k : History) (left r
     → AreAlike settings c h k → TwinRunsFrom settings c h k left right
     → answers_to_from settings zone c h left ≡ answers_to_from settings zone c k right
 isolated settings zone c h k left right alike twin =
-    laws.rendered_same meant (rendered settings zone) settings c h k left right alike twin
+    laws.rendered_same meant (rendered zone) settings c h k left right alike twin
 
 -- the history after one more text
 heard_more : (settings : Settings) (h : History) (heards : List Heard) (x : Heard)
@@ -95,7 +95,7 @@ answers_more : (settings : Settings) (zone : Zone) (c : ℕ) (h : History) (hear
 unfolding answer_of
 answers_more settings zone c h heards x =
     ap (answers_to_from settings zone c h) (asked_more heards x)
-    ∙ replies_more meant (rendered settings zone) settings c h (what_is_asked heards) x.asked
+    ∙ replies_more meant (rendered zone) settings c h (what_is_asked heards) x.asked
     ∙ ap (λ (ms : List (Message Fault)). answers_to_from settings zone c h (what_is_asked heards)
     ++ reply_at settings zone c (history_from settings h ms) x.asked) (asked_means heards)
 
@@ -222,14 +222,14 @@ Compared content is_honest zone c first first' texts others n replies left right
     → AllZip IsHeard (take n texts) lefts → AllZip IsHeard (take n others) rights
     → SoFar content settings zone c h k lefts rights replies left right
 
--- what is told of the next place
-abbrev pub Told : {K : Type 0} → (K → Tables) → (K → Bool) → (K → Type 0) → Zone → ℕ → List ℕ
+-- the result for the next place
+abbrev pub CommandResult : {K : Type 0} → (K → Tables) → (K → Bool) → (K → Type 0) → Zone → ℕ → List ℕ
     → List ℕ → List (List ℕ) → List (List ℕ) → K → K → K → K → Result Bool AuditFault → Type 0
-Told content is_failed is_honest zone c t o before after left right left_new right_new result =
+CommandResult content is_failed is_honest zone c t o before after left right left_new right_new result =
     is_honest left_new → is_honest right_new → (settings : Settings) (h k : History)
     → IsHistory settings h → IsHistory settings k → content left ≡ tables_of settings h
     → content right ≡ tables_of settings k → (x y : Heard) → IsHeard t x → IsHeard o y
-    → IsPlaceTold content is_failed settings zone c h k x y before after left_new right_new result
+    → IsPlaceReported content is_failed settings zone c h k x y before after left_new right_new result
 
 pub compared_none : {K : Type 0} (content : K → Tables) (is_honest : K → Type 0) (zone : Zone)
     (c : ℕ) (left right : K) (texts others : List (List ℕ))
@@ -251,11 +251,11 @@ pub compared_more : {K : Type 0} (content : K → Tables) (is_failed : K → Boo
     → Compared content is_honest zone c first first' texts others n before left right
     → (is_honest left_new → is_honest left) → (is_honest right_new → is_honest right)
     → take (n + 1) texts ≡ take n texts ++ t ∷ [] → take (n + 1) others ≡ take n others ++ o ∷ []
-    → Told content is_failed is_honest zone c t o before after left right left_new right_new
+    → CommandResult content is_failed is_honest zone c t o before after left right left_new right_new
     (Ok true)
     → Compared content is_honest zone c first first' texts others (n + 1) after left_new right_new
 compared_more content is_failed is_honest zone c first first' texts others n t o before after left
-    right left_new right_new so was was' more more' told honest honest' settings h k begin lefts
+    right left_new right_new so was was' more more' report honest honest' settings h k begin lefts
     rights are others_are =
     let (fs, x, p, fs_are, is) = zip_last IsHeard (take n texts) t lefts
     (subst (λ l. AllZip IsHeard l lefts) more are) in
@@ -264,7 +264,7 @@ compared_more content is_failed is_honest zone c first first' texts others n t o
     let run = so (was honest) (was' honest') settings h k begin fs gs fs_are gs_are in
     rw (p, q) (so_far_more content settings zone c h k fs gs x y before after left right left_new
     right_new run
-    (told honest honest' settings (heard_history settings h fs) (heard_history settings k gs)
+    (report honest honest' settings (heard_history settings h fs) (heard_history settings k gs)
     run.left_is run.right_is run.have.left_has run.have.right_has x y is is'))
 
 -- the next place is none of twin runs
@@ -274,20 +274,20 @@ pub found_apart : {K : Type 0} (content : K → Tables) (is_failed : K → Bool)
     → Compared content is_honest zone c first first' texts others n before left right
     → (is_honest left_new → is_honest left) → (is_honest right_new → is_honest right)
     → take (n + 1) texts ≡ take n texts ++ t ∷ [] → take (n + 1) others ≡ take n others ++ o ∷ []
-    → Told content is_failed is_honest zone c t o before after left right left_new right_new
+    → CommandResult content is_failed is_honest zone c t o before after left right left_new right_new
     (Ok false)
     → is_honest left_new → is_honest right_new → (settings : Settings) (h k : History)
     → BeginWith content settings h k first first'
     → (lefts rights : List Heard) → AllZip IsHeard texts lefts → AllZip IsHeard others rights
     → ArePartFrom settings c h k lefts rights (n + 1)
 found_apart content is_failed is_honest zone c first first' texts others n t o before after left
-    right left_new right_new so was was' more more' told honest honest' settings h k begin lefts
+    right left_new right_new so was was' more more' report honest honest' settings h k begin lefts
     rights are others_are =
     let run = so (was honest) (was' honest') settings h k begin in
     part_place settings c n h k texts others t o lefts rights are others_are more more'
     (λ fs gs fs_are gs_are. (run fs gs fs_are gs_are).twins)
     (λ fs gs fs_are gs_are x y is is'.
-    told honest honest' settings (heard_history settings h fs) (heard_history settings k gs)
+    report honest honest' settings (heard_history settings h fs) (heard_history settings k gs)
     (run fs gs fs_are gs_are).left_is (run fs gs fs_are gs_are).right_is
     (run fs gs fs_are gs_are).have.left_has (run fs gs fs_are gs_are).have.right_has x y is is')
 
@@ -299,30 +299,30 @@ pub found_fault : {K : Type 0} (content : K → Tables) (is_failed : K → Bool)
     → Compared content is_honest zone c first first' texts others n before left right
     → (is_honest left_new → is_honest left) → (is_honest right_new → is_honest right)
     → take (n + 1) texts ≡ take n texts ++ t ∷ [] → take (n + 1) others ≡ take n others ++ o ∷ []
-    → Told content is_failed is_honest zone c t o before after left right left_new right_new
+    → CommandResult content is_failed is_honest zone c t o before after left right left_new right_new
     (Err fault)
     → is_honest left_new → is_honest right_new → (settings : Settings) (h k : History)
     → BeginWith content settings h k first first'
     → (lefts rights : List Heard) → AllZip IsHeard texts lefts → AllZip IsHeard others rights
     → IsFoundFrom content is_failed settings zone c h k lefts rights left_new right_new (Err fault)
 found_fault content is_failed is_honest zone c first first' texts others n t o before after left
-    right left_new right_new fault so was was' more more' told honest honest' settings h k begin
+    right left_new right_new fault so was was' more more' report honest honest' settings h k begin
     lefts rights are others_are =
     let (fs, x, p, fs_are, is) = next_heard n texts t lefts are more in
     let (gs, y, q, gs_are, is') = next_heard n others o rights others_are more' in
     let run = so (was honest) (was' honest') settings h k begin fs gs fs_are gs_are in
     by_fault fault (heard_history settings h fs) (heard_history settings k gs) x y
-    (told honest honest' settings (heard_history settings h fs) (heard_history settings k gs)
+    (report honest honest' settings (heard_history settings h fs) (heard_history settings k gs)
     run.left_is run.right_is run.have.left_has run.have.right_has x y is is')
   where
     by_fault : (fault : AuditFault) (g j : History) (x y : Heard)
-        → IsPlaceTold content is_failed settings zone c g j x y before after left_new right_new
+        → IsPlaceReported content is_failed settings zone c g j x y before after left_new right_new
         (Err fault)
         → IsFoundFrom content is_failed settings zone c h k lefts rights left_new right_new
         (Err fault)
-    by_fault Memory g j x y told = tt
-    by_fault Store g j x y told = told
-    by_fault NotNew g j x y told = told
+    by_fault Memory g j x y report = tt
+    by_fault Store g j x y report = report
+    by_fault NotNew g j x y report = report
 
 -- one list has ended
 pub found_end : {K : Type 0} (content : K → Tables) (is_honest : K → Type 0) (zone : Zone) (c : ℕ)
@@ -357,29 +357,29 @@ found_equal content is_honest zone c first first' texts others n replies left ri
     (subst (λ l. AllZip IsHeard l rights) (sym (take_all n others few')) others_are))
 
 -- the same, by an equal zone and an equal result
-pub told_by : {K : Type 0} (content : K → Tables) (is_failed : K → Bool) (is_honest : K → Type 0)
+pub report_by : {K : Type 0} (content : K → Tables) (is_failed : K → Bool) (is_honest : K → Type 0)
     (zone zone' : Zone) (c : ℕ) (t o : List ℕ) (before after : List (List ℕ))
     (left right left_new right_new : K) (result result' : Result Bool AuditFault) → zone ≡ zone'
     → result ≡ result'
-    → Told content is_failed is_honest zone c t o before after left right left_new right_new result
-    → Told content is_failed is_honest zone' c t o before after left right left_new right_new result'
-told_by content is_failed is_honest zone zone' c t o before after left right left_new right_new
-    result result' e d told =
-    subst (λ r. Told content is_failed is_honest zone' c t o before after left right left_new
+    → CommandResult content is_failed is_honest zone c t o before after left right left_new right_new result
+    → CommandResult content is_failed is_honest zone' c t o before after left right left_new right_new result'
+report_by content is_failed is_honest zone zone' c t o before after left right left_new right_new
+    result result' e d report =
+    subst (λ r. CommandResult content is_failed is_honest zone' c t o before after left right left_new
     right_new r) d
-    (subst (λ z. Told content is_failed is_honest z c t o before after left right left_new
-    right_new result) e told)
+    (subst (λ z. CommandResult content is_failed is_honest z c t o before after left right left_new
+    right_new result) e report)
 
 -- the fault that a fault was made into
 pub found_gave : {K : Type 0} (content : K → Tables) (is_failed : K → Bool) (settings : Settings)
     (zone : Zone) (c : ℕ) (h k : History) (lefts rights : List Heard) (left right : K)
     (fault : AuditFault) (result : Result Verdict AuditFault)
-    → IsErr result × IsErrAnd result (λ told. told ≡ fault)
+    → IsErr result × IsErrAnd result (λ report. report ≡ fault)
     → IsFoundFrom content is_failed settings zone c h k lefts rights left right (Err fault)
     → IsFoundFrom content is_failed settings zone c h k lefts rights left right result
 found_gave content is_failed settings zone c h k lefts rights left right fault (Ok verdict) gave
     found = absurd gave.1
-found_gave content is_failed settings zone c h k lefts rights left right fault (Err told) gave
+found_gave content is_failed settings zone c h k lefts rights left right fault (Err report) gave
     found =
     subst (λ f. IsFoundFrom content is_failed settings zone c h k lefts rights left right (Err f))
     (sym gave.1) found

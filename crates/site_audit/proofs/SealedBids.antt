@@ -50,7 +50,7 @@ split_same (a ∷ before) later (b ∷ before') later' here here' e same =
 place_same : (n m place : ℕ) → place ≡ n + 1 → place ≡ m + 1 → n ≡ m
 place_same n m place e f = omega (arith, e, f)
 
--- at one place stands one bid
+-- at one place is one bid
 pub one_bid_at : (place : ℕ) (b d : Sealed) (heards : List Heard) → IsBidAt place b heards → IsBidAt place d heards → b ≡ d
 one_bid_at place b d heards is also =
     let same : is.here ≡ also.here = split_same is.before is.later also.before also.later is.here also.here (sym is.parts ∙ also.parts)
@@ -71,7 +71,7 @@ found_at place before here later heards (Err Memory) parts placed read = tt
 found_at place before here later heards (Err Store) parts placed read = absurd read
 found_at place before here later heards (Err NotNew) parts placed read = absurd read
 
--- after the end of the list stands none, and in no place 0
+-- after the end of the list is none, and in place 0 is none
 pub none_at : (place : ℕ) (heards : List Heard) → length heards < place → IsBidFound place heards (Ok None)
 none_at place heards past = λ b at'.
     let long : length heards ≡ length at'.before + length (at'.here ∷ at'.later) = ap length at'.parts ∙ length-append at'.before (at'.here ∷ at'.later) in

@@ -1,4 +1,4 @@
--- What an audit tells. Start here.
+-- The result of an audit. Start here.
 use Rattle.std.specs.Prelude.{◌≡◌, ◌⊎◌, ◌-◌, ℕ, List, [], Bool, true, map, take, Result, Ok, Err}
 use Rattle.std.specs.Cow.{cow_slice_items}
 use Rattle.house_rows.specs.declared.settings.Settings.{Settings}
@@ -57,7 +57,7 @@ IsFound content is_failed settings zone c lefts rights left right (Err Memory) =
 IsFound content is_failed settings zone c lefts rights left right (Err Store) =
     (is_failed left ≡ true) ⊎ (is_failed right ≡ true)
 
--- what is told of two lists over any houses: NotNew exactly where an audit can't begin
+-- the result for two lists over any houses: NotNew exactly where an audit can't begin
 abbrev pub IsVerdict : {K : Type 0} → (K → Tables) → (K → Bool) → Settings → Zone → ℕ → List Heard
     → List Heard → K → K → K → K → Result Verdict AuditFault → Type 0
 IsVerdict content is_failed settings zone c lefts rights left right left_new right_new (Err NotNew) =

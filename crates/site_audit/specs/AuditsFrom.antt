@@ -1,4 +1,4 @@
--- What an audit tells of two houses that live on.
+-- The result of an audit of two houses that live on.
 use Rattle.std.specs.Prelude.{◌≡◌, ◌⊎◌, ◌-◌, ℕ, List, Bool, true, map, take, Result, Ok, Err}
 use Rattle.std.specs.Cow.{cow_slice_items}
 use Rattle.house_laws.specs.Alike.{AreAlike}
@@ -44,7 +44,8 @@ pub record ArePartFrom (settings : Settings) (c : ℕ) (h k : History) (lefts ri
   pub here : ¬ (AreTwinTextsFrom settings c h k (take step lefts) (take step rights))
   pub whole : ¬ (AreTwinTextsFrom settings c h k lefts rights)
 
--- what is found of two lists over houses that have the tables of two histories. NotNew is not told
+-- what is found of two lists over houses that have the tables of two histories. NotNew is never the
+-- result
 abbrev pub IsFoundFrom : {K : Type 0} → (K → Tables) → (K → Bool) → Settings → Zone → ℕ → History
     → History → List Heard → List Heard → K → K → Result Verdict AuditFault → Type 0
 IsFoundFrom content is_failed settings zone c h k lefts rights left right (Ok (Equal replies)) =

@@ -21,7 +21,7 @@ IsStopped failed Memory = Unit {0}
 IsStopped failed Read = failed ≡ true
 IsStopped failed (Broken f) = ⊥
 
--- why a stream is no list: its first messages stand before a rest that begins with that fault; or
+-- why a stream is no list: its first messages come before a rest that begins with that fault; or
 -- reading stopped
 abbrev pub IsNoList : List ℕ → Bool → MessagesFault → Type 0
 IsNoList stream failed (Broken f) =

@@ -70,31 +70,31 @@ pub record GoesOn {K : Type 0} (content : K → Tables) (settings : Settings) (z
       left right
   pub kept : after ≡ before ++ reply_at settings zone c h x.asked
 
--- what is told of a place: whether it is one of twin runs; or memory was refused, or a store failed
-abbrev pub IsPlaceTold : {K : Type 0} → (K → Tables) → (K → Bool) → Settings → Zone → ℕ → History
+-- the result for a place: whether it is one of twin runs; or memory was refused, or a store failed
+abbrev pub IsPlaceReported : {K : Type 0} → (K → Tables) → (K → Bool) → Settings → Zone → ℕ → History
     → History → Heard → Heard → List (List ℕ) → List (List ℕ) → K → K → Result Bool AuditFault
     → Type 0
-IsPlaceTold content is_failed settings zone c h k x y before after left right (Ok true) =
+IsPlaceReported content is_failed settings zone c h k x y before after left right (Ok true) =
     GoesOn content settings zone c h k x y before after left right
-IsPlaceTold content is_failed settings zone c h k x y before after left right (Ok false) =
+IsPlaceReported content is_failed settings zone c h k x y before after left right (Ok false) =
     ¬ (IsTwinPlace settings c h k x y)
-IsPlaceTold content is_failed settings zone c h k x y before after left right (Err Memory) = Unit {0}
-IsPlaceTold content is_failed settings zone c h k x y before after left right (Err Store) =
+IsPlaceReported content is_failed settings zone c h k x y before after left right (Err Memory) = Unit {0}
+IsPlaceReported content is_failed settings zone c h k x y before after left right (Err Store) =
     (is_failed left ≡ true) ⊎ (is_failed right ≡ true)
-IsPlaceTold content is_failed settings zone c h k x y before after left right (Err NotNew) = ⊥
+IsPlaceReported content is_failed settings zone c h k x y before after left right (Err NotNew) = ⊥
 
--- what a look at two keeps tells: whether P holds, and the tables stay; or memory was refused, or a
--- store has failed
+-- the result of a look at two keeps: whether P holds, and the tables stay; or memory was refused,
+-- or a store has failed
 abbrev pub IsSeen : {K : Type 0} → (K → Tables) → (K → Bool) → Type 0 → K → K → K → K
     → Result Bool AuditFault → Type 0
-IsSeen content is_failed P left right left_new right_new (Ok told) = ((told ≡ true) ↔ P)
+IsSeen content is_failed P left right left_new right_new (Ok report) = ((report ≡ true) ↔ P)
     × (content left_new ≡ content left) × (content right_new ≡ content right)
 IsSeen content is_failed P left right left_new right_new (Err Memory) = Unit {0}
 IsSeen content is_failed P left right left_new right_new (Err Store) =
     (is_failed left_new ≡ true) ⊎ (is_failed right_new ≡ true)
 IsSeen content is_failed P left right left_new right_new (Err NotNew) = ⊥
 
--- an answer that was looked at is given on, or tells that memory was refused, or of a failure
+-- an answer that was looked at is given on, or says that memory was refused, or reports a failure
 abbrev pub IsJudged : {R : Type 0} → (R → List ℕ) → R → Result R AuditFault → Type 0
 IsJudged items reply (Ok same) = (same ≡ reply) × IsServed (items reply)
 IsJudged items reply (Err Memory) = is_refusal_of_memory (items reply) ≡ true
@@ -103,11 +103,11 @@ IsJudged items reply (Err NotNew) = ⊥
 
 -- a message is answered by the definitions, and the keep has the tables after it; or memory was
 -- refused, or the store has failed
-abbrev pub IsAnswerTold : {K R : Type 0} → (K → Tables) → (K → Bool) → (R → List ℕ) → Settings → Zone
+abbrev pub IsAnswerReported : {K R : Type 0} → (K → Tables) → (K → Bool) → (R → List ℕ) → Settings → Zone
     → History → Asked → K → Result R AuditFault → Type 0
-IsAnswerTold content is_failed items settings zone h asked new (Ok reply) =
+IsAnswerReported content is_failed items settings zone h asked new (Ok reply) =
     (items reply ≡ answer_of settings zone h asked)
     × (content new ≡ tables_of settings (next_of settings h asked))
-IsAnswerTold content is_failed items settings zone h asked new (Err Memory) = Unit {0}
-IsAnswerTold content is_failed items settings zone h asked new (Err Store) = is_failed new ≡ true
-IsAnswerTold content is_failed items settings zone h asked new (Err NotNew) = ⊥
+IsAnswerReported content is_failed items settings zone h asked new (Err Memory) = Unit {0}
+IsAnswerReported content is_failed items settings zone h asked new (Err Store) = is_failed new ≡ true
+IsAnswerReported content is_failed items settings zone h asked new (Err NotNew) = ⊥

@@ -9,8 +9,8 @@ use Rattle.settle.specs.declared.zone.Zone.{Zone}
 use Rattle.site.specs.Runs.{answers_to}
 use Rattle.site_audit.specs.declared.fault.AuditFault.{AuditFault}
 use Rattle.site_audit.specs.declared.fault.AuditFault.TheVariants.{Memory, Store, NotNew}
-use Rattle.site_audit.specs.declared.finding.Surplus.{Surplus}
-use Rattle.site_audit.specs.declared.finding.Surplus.TheVariants.{Same, NotCovered}
+use Rattle.site_audit.specs.declared.outcome.Surplus.{Surplus}
+use Rattle.site_audit.specs.declared.outcome.Surplus.TheVariants.{Same, NotCovered}
 use Rattle.site_audit.specs.Audits.{MayBegin, what_is_asked}
 use Rattle.site_audit.specs.Places.{Heard, heard_message}
 use Rattle.site_audit.specs.SealedBids.{IsRaise}

@@ -11,8 +11,8 @@ use Rattle.settle.specs.declared.zone.Zone.{Zone}
 use Rattle.site.specs.Lives.{answers_to_from}
 use Rattle.site_audit.specs.declared.fault.AuditFault.{AuditFault}
 use Rattle.site_audit.specs.declared.fault.AuditFault.TheVariants.{Memory, Store, NotNew}
-use Rattle.site_audit.specs.declared.finding.Surplus.{Surplus}
-use Rattle.site_audit.specs.declared.finding.Surplus.TheVariants.{Same, NotCovered}
+use Rattle.site_audit.specs.declared.outcome.Surplus.{Surplus}
+use Rattle.site_audit.specs.declared.outcome.Surplus.TheVariants.{Same, NotCovered}
 use Rattle.site_audit.specs.Audits.{what_is_asked}
 use Rattle.site_audit.specs.AuditsFrom.{heard_history}
 use Rattle.site_audit.specs.Places.{Heard, heard_message}
@@ -58,7 +58,7 @@ abbrev pub IsNoSurplusFrom : Settings → History → ℕ → ℕ → ℕ → Li
 IsNoSurplusFrom settings h c place y heards =
     (b : Sealed) → ¬ (IsCoveredTextFrom settings h c place y b heards)
 
--- the result over two houses that have the tables of one history. NotNew is not told
+-- the result over two houses that have the tables of one history. It is never NotNew
 abbrev pub IsSurplusFoundFrom : {K : Type 0} → (K → Tables) → (K → Bool) → Settings → Zone → ℕ
     → History → ℕ → ℕ → List Heard → K → K → Result Surplus AuditFault → Type 0
 IsSurplusFoundFrom content is_failed settings zone c h place y heards left right

@@ -9,27 +9,27 @@ ghost use Rattle.house_rows.specs.Verdict.{IsHistory};
 ghost use Rattle.site.specs.Answers.{zone_of};
 ghost use Rattle.site_request.specs.Asked.{IsAsked};
 ghost use Rattle.site_request.specs.declared.asked.Asked.{Asked as TheAsked};
-ghost use Rattle.site_audit.specs.Places.{IsAnswerTold, IsJudged, IsUsed, keep_of};
+ghost use Rattle.site_audit.specs.Places.{IsAnswerReported, IsJudged, IsUsed, keep_of};
 ghost use Rattle.site_replies.specs.Texts.{digits_in};
 
 use crate::fault::AuditFault;
 use house_rows::Keep;
 use site::{Reply, Site};
 
-// Whether an answer has a status. Its digits stand after `HTTP/1.1 `.
+// Whether an answer has a status. Its digits come after `HTTP/1.1 `.
 #[tactic(auto, unfolding(site_replies::specs::Texts::digits_in))]
 fn has_status(reply: &[u8], digits: &[u8]) -> bool
     requires { length digits.now ≡ 3 }
     ensures { result ≡ bytes_eq (digits_in reply.now) digits.now }
 {
     match reply.get(9..12) {
-        Some(told) => told == digits,
+        Some(report) => report == digits,
         None => false,
     }
 }
 
 // An answer that is neither 500 nor 503.
-fn served(reply: Reply) -> Result<Reply, AuditFault>
+fn check_status(reply: Reply) -> Result<Reply, AuditFault>
     ensures { IsJudged cow_slice_items reply.entry result }
 {
     if has_status(&reply, b"503") {
@@ -43,12 +43,12 @@ fn served(reply: Reply) -> Result<Reply, AuditFault>
 
 /// Answers a message, where memory and store serve.
 pub(crate) fn answer<K: Keep + Drop>(site: &mut Site<K>, text: &[u8]) -> Result<Reply, AuditFault>
-    ensures told { K.is_honest (keep_of site.new) → (settings : TheSettings) (h : History)
+    ensures report { K.is_honest (keep_of site.new) → (settings : TheSettings) (h : History)
         → IsHistory settings h → K.content (keep_of site.old) ≡ tables_of settings h
         → (asked : TheAsked) → IsAsked text.now asked
-        → IsAnswerTold K.content K.is_failed cow_slice_items settings (zone_of site.old) h asked
+        → IsAnswerReported K.content K.is_failed cow_slice_items settings (zone_of site.old) h asked
         (keep_of site.new) result }
     ensures used { IsUsed K.is_failed K.is_honest site.old site.new }
 {
-    served(site.answer(text))
+    check_status(site.answer(text))
 }

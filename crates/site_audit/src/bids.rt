@@ -17,7 +17,7 @@ use std::alloc::{AllocError, Global};
 use std::marker::Model;
 
 /// A bid, as its message says it. Clauses see it as a `Sealed`.
-#[derive(Clone, Copy, Debug, PartialEq, Eq)]
+#[derive(Clone, Copy)]
 pub(crate) struct SealedBid {
     /// When, in whole seconds since 1970-01-01T00:00:00Z.
     pub(crate) moment: u64,
@@ -73,7 +73,7 @@ fn read_bid(alloc: Global, text: &[u8]) -> Result<Option<SealedBid>, AuditFault>
     }
 }
 
-/// The bid in a place of a list, which is counted from 1, if one stands there.
+/// The bid in a place of a list, which is counted from 1, if one is there.
 pub(crate) fn bid_at(
     alloc: Global,
     messages: &[Vec<u8>],

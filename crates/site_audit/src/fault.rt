@@ -6,7 +6,7 @@ use house_rows::KeepFault;
 use thiserror::Error;
 
 /// Why an audit finds nothing.
-#[derive(Clone, Copy, Debug, PartialEq, Eq, Hash, Error)]
+#[derive(Clone, Copy, Debug, Error)]
 pub enum AuditFault {
     /// Memory was refused, or a message was answered 503.
     #[error("memory is wanted")]
@@ -20,7 +20,7 @@ pub enum AuditFault {
 }
 
 impl From<KeepFault> for AuditFault {
-    ghost from_gives = { λ fault told. told ≡ fault_of_keep fault };
+    ghost from_gives = { λ fault report. report ≡ fault_of_keep fault };
 
     fn from(fault: KeepFault) -> AuditFault {
         match fault {

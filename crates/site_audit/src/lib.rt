@@ -1,28 +1,28 @@
 //! The audit: whether two lists of messages, answered over two new houses, look alike to a caller;
 //! and whether it shows to others how far a bid lies above what leading takes.
 //!
-//! Promised: two lists are told equal exactly where they are twin runs for the caller, and then one
-//! list of replies is the answers to it along both; else the first place is told at which they are
-//! none. A bid's surplus is told hidden exactly where the bid is covered, with the replies to
-//! another, the same whether it is raised or not. `audit_from` and `surplus_from` tell it of houses
-//! that live on. And a stream of messages is read into a list. Read `specs/Audits.antt` first, and
-//! then `audit`, `specs/Surplus.antt` and `surplus`.
+//! Promised: two lists are found equal exactly where they are twin runs for the caller, and then
+//! one list of replies is the answers to it along both; else the result is the first place at which
+//! they are none. A bid's surplus is found hidden exactly where the bid is covered, with the
+//! replies to another, the same whether it is raised or not. `audit_from` and `surplus_from` say it
+//! of houses that live on. And a stream of messages is read into a list. Read `specs/Audits.antt`
+//! first, and then `audit`, `specs/Surplus.antt` and `surplus`.
 #![tactic(auto)]
 
 mod answers;
 mod bids;
 mod fault;
-mod finding;
-mod leading;
+mod leadership;
 mod messages;
+mod outcome;
 mod pair;
 mod place;
-mod raising;
+mod raised_bid;
 mod texts;
 mod verdict;
 
 pub use fault::AuditFault;
-pub use finding::Surplus;
 pub use messages::{MessagesFault, read_messages};
-pub use raising::{surplus, surplus_from};
+pub use outcome::Surplus;
+pub use raised_bid::{surplus, surplus_from};
 pub use verdict::{Verdict, audit, audit_from};

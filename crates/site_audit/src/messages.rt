@@ -10,7 +10,7 @@ use thiserror::Error;
 use wire::{Inbox, Look, WireFault};
 
 /// Why a stream is no list of messages.
-#[derive(Clone, Copy, Debug, PartialEq, Eq, Error)]
+#[derive(Clone, Copy, Debug, Error)]
 pub enum MessagesFault {
     /// The source failed.
     #[error("reading failed")]
@@ -18,13 +18,13 @@ pub enum MessagesFault {
     /// Memory was refused.
     #[error("memory is wanted")]
     Memory,
-    /// What stands after the messages before it is no message, for this fault.
+    /// What comes after the messages before it is no message, for this fault.
     #[error("a message is broken")]
     Broken(WireFault),
 }
 
 impl From<AllocError> for MessagesFault {
-    ghost from_gives = { λ _ told. told ≡ Memory };
+    ghost from_gives = { λ _ report. report ≡ Memory };
 
     fn from(_fault: AllocError) -> MessagesFault {
         MessagesFault::Memory
@@ -32,7 +32,7 @@ impl From<AllocError> for MessagesFault {
 }
 
 impl From<Failure> for MessagesFault {
-    ghost from_gives = { λ _ told. told ≡ Read };
+    ghost from_gives = { λ _ report. report ≡ Read };
 
     fn from(_fault: Failure) -> MessagesFault {
         MessagesFault::Read
@@ -96,7 +96,7 @@ fn keep_message(
 }
 
 /// Reads a stream of messages to its end. A message that asks to close ends nothing here: what
-/// stands after it is read on.
+/// comes after it is read on.
 pub fn read_messages<R: Source>(
     alloc: Global,
     source: &mut R,

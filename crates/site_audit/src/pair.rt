@@ -20,7 +20,7 @@ pub(crate) fn sites_agree<K: Keep + Drop>(
     right: &mut Site<K>,
     caller: u64,
 ) -> Result<bool, AuditFault>
-    ensures told { K.is_honest (keep_of left.new) → K.is_honest (keep_of right.new)
+    ensures report { K.is_honest (keep_of left.new) → K.is_honest (keep_of right.new)
         → (settings : TheSettings) (h k : History) → IsHistory settings h → IsHistory settings k
         → K.content (keep_of left.old) ≡ tables_of settings h
         → K.content (keep_of right.old) ≡ tables_of settings k
@@ -34,7 +34,7 @@ pub(crate) fn sites_agree<K: Keep + Drop>(
 
 // Whether both were set up alike.
 fn are_alike<K: Keep + Drop>(left: &mut Site<K>, right: &mut Site<K>) -> Result<bool, AuditFault>
-    ensures told { K.is_honest (keep_of left.new) → K.is_honest (keep_of right.new)
+    ensures report { K.is_honest (keep_of left.new) → K.is_honest (keep_of right.new)
         → (settings others : TheSettings) (h k : History)
         → IsHistory settings h → IsHistory others k
         → K.content (keep_of left.old) ≡ tables_of settings h
@@ -54,7 +54,7 @@ pub(crate) fn may_begin<K: Keep + Drop>(
     left: &mut Site<K>,
     right: &mut Site<K>,
 ) -> Result<bool, AuditFault>
-    ensures told { K.is_honest (keep_of left.new) → K.is_honest (keep_of right.new)
+    ensures report { K.is_honest (keep_of left.new) → K.is_honest (keep_of right.new)
         → (settings others : TheSettings) (h k : History)
         → IsHistory settings h → IsHistory others k
         → K.content (keep_of left.old) ≡ tables_of settings h

@@ -6,7 +6,7 @@ ghost use Rattle.house_rows.specs.History.{History};
 ghost use Rattle.house_rows.specs.Tables.{tables_of};
 ghost use Rattle.house_rows.specs.Verdict.{IsHistory};
 ghost use Rattle.site.specs.Answers.{zone_of};
-ghost use Rattle.site_audit.specs.Places.{Heard, IsHeard, IsPlaceTold, IsUsed, keep_of};
+ghost use Rattle.site_audit.specs.Places.{Heard, IsHeard, IsPlaceReported, IsUsed, keep_of};
 
 use crate::answers::answer;
 use crate::fault::AuditFault;
@@ -31,8 +31,8 @@ fn keep_reply(replies: &mut Vec<Reply>, reply: Reply, is_callers: bool) -> Resul
     }
 }
 
-/// Answers two texts, keeps the left reply where it is the caller's, and tells whether the place is
-/// one of twin runs for it. Where the texts may not stand at one place, neither is answered.
+/// Answers two texts, keeps the left reply where it is the caller's, and says whether the place is
+/// one of twin runs for it. Where the texts may not be at one place, neither is answered.
 pub(crate) fn take_place<K: Keep + Drop>(
     left: &mut Site<K>,
     right: &mut Site<K>,
@@ -41,12 +41,12 @@ pub(crate) fn take_place<K: Keep + Drop>(
     caller: u64,
     replies: &mut Vec<Reply>,
 ) -> Result<bool, AuditFault>
-    ensures told { K.is_honest (keep_of left.new) → K.is_honest (keep_of right.new)
+    ensures report { K.is_honest (keep_of left.new) → K.is_honest (keep_of right.new)
         → (settings : TheSettings) (h k : History) → IsHistory settings h → IsHistory settings k
         → K.content (keep_of left.old) ≡ tables_of settings h
         → K.content (keep_of right.old) ≡ tables_of settings k
         → (x y : Heard) → IsHeard text.now x → IsHeard other.now y
-        → IsPlaceTold K.content K.is_failed settings (zone_of left.old) caller h k x y
+        → IsPlaceReported K.content K.is_failed settings (zone_of left.old) caller h k x y
         (map cow_slice_items replies.old.items) (map cow_slice_items replies.new.items)
         (keep_of left.new) (keep_of right.new) result }
     ensures left { IsUsed K.is_failed K.is_honest left.old left.new }

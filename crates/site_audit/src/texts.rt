@@ -1,4 +1,4 @@
-//! Whose a text is, and which texts may stand at one place.
+//! Whose a text is, and which texts may be at one place.
 ghost use Rattle.std.specs.Prelude.{◌≡◌, ◌↔◌, true};
 ghost use Rattle.site.specs.Runs.{is_from};
 ghost use Rattle.site_request.specs.Asked.{IsAsked, caller_of};
@@ -9,7 +9,7 @@ ghost use Rattle.site_audit.specs.Places.{ArePaired, Heard, IsHeard};
 use site_digits::count;
 use wire::{Request, whole};
 
-// The number of the field `x-member`, where it stands exactly once.
+// The number of the field `x-member`, where it occurs exactly once.
 #[tactic(auto, unfolding(site_request::specs::Heads::caller_in, site_request::specs::Heads::numbered))]
 fn number_in(request: &Request<'_>) -> Option<u64>
     ensures { result ≡ caller_in request.now }
@@ -47,7 +47,7 @@ fn are_equal(left: &[u8], right: &[u8]) -> bool
     left == right
 }
 
-/// Whether two texts may stand at one place of twin runs: where either is the caller's, both are
+/// Whether two texts may be at one place of twin runs: where either is the caller's, both are
 /// equal, byte for byte.
 pub(crate) fn may_pair(left: &[u8], right: &[u8], caller: u64) -> bool
     ensures { (x y : Heard) → IsHeard left.now x → IsHeard right.now y

@@ -19,7 +19,7 @@ use site::{Reply, Site};
 use std::alloc::Global;
 
 /// What an audit finds.
-#[derive(Debug, Drop)]
+#[derive(Drop)]
 pub enum Verdict {
     /// The two lists are twin runs for the caller.
     Equal {
@@ -43,9 +43,9 @@ fn apart_at(place: usize) -> Verdict
     }
 }
 
-/// Answers two lists of messages over two houses that live on, place by place, and tells whether they
-/// are twin runs for a caller from there on, with the replies to it, or the first place at which they
-/// are none.
+/// Answers two lists of messages over two houses that live on, place by place, and says whether
+/// they are twin runs for a caller from there on, with the replies to it, or the first place at
+/// which they are none.
 ///
 /// The houses may have any two histories that are alike for the caller: two of equal tables have one.
 /// Where the lists are twin runs, the histories after them are alike again, so that it can be asked
@@ -86,7 +86,7 @@ pub fn audit_from<K: Keep + Drop>(
     Ok(Verdict::Equal { replies })
 }
 
-/// Answers two lists of messages over two new houses, place by place, and tells whether they are
+/// Answers two lists of messages over two new houses, place by place, and says whether they are
 /// twin runs for a caller, with the replies to it, or the first place at which they are none.
 ///
 /// Twin runs are of equal length; at each place the messages are equal, byte for byte, or neither is

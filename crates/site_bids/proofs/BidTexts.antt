@@ -128,9 +128,9 @@ head_fits item member moment long ascii items members moments longs = record {
 }
 
 -- what it announces
-host_stands : (item member moment long : List ℕ) → has_host 1 (fields_of (head_of item member moment long)) ≡ true
+host_is_consistent : (item member moment long : List ℕ) → has_host 1 (fields_of (head_of item member moment long)) ≡ true
 unfolding has_host values_of
-host_stands item member moment long = refl
+host_is_consistent item member moment long = refl
 
 no_transfer : (item member moment long : List ℕ) → has_transfer (fields_of (head_of item member moment long)) ≡ false
 unfolding has_transfer
@@ -152,7 +152,7 @@ announces : (item member moment : List ℕ) (n : ℕ) → n ≤ 16384 → announ
 unfolding announced
 announces item member moment n few =
     let small : n < 2 ^ 64 = omega arith in
-    rw (host_stands item member moment (decimal n), no_transfer item member moment (decimal n), lengths item member moment (decimal n), trim_digits (decimal n) (are_digits n small))
+    rw (host_is_consistent item member moment (decimal n), no_transfer item member moment (decimal n), lengths item member moment (decimal n), trim_digits (decimal n) (are_digits n small))
     (length_back n few)
 
 -- a body after a head that announces it
@@ -190,10 +190,10 @@ commands i y some few =
 
 -- its route, by the digits of the item
 routes : (item : List ℕ) (i : ℕ) → all_ascii_digits item ≡ true → 0 < length item → IsAscii item → number_in item ≡ Some i → route_of (codes "POST") (bid_target item) ≡ Ok (route.Order (order.Bid i))
-routes [] i all some ascii told = absurd (omega (arith, some))
-routes (d ∷ ds) i all some ascii told =
+routes [] i all some ascii report = absurd (omega (arith, some))
+routes (d ∷ ds) i all some ascii report =
     let first = both (is_ascii_digit d) (all_ascii_digits ds) all in
-    target_route d ds i (no_slashes (d ∷ ds) all) (digit_no_token d first.0) (is_utf8-from_IsUtf8 _ (IsUtf8-from_ascii _ (ascii_target (d ∷ ds) ascii))) told
+    target_route d ds i (no_slashes (d ∷ ds) all) (digit_no_token d first.0) (is_utf8-from_IsUtf8 _ (IsUtf8-from_ascii _ (ascii_target (d ∷ ds) ascii))) report
 
 -- whose it is, and when
 callers : (b : Sealed) → b.member < 10 ^ 10 → caller_in (message b) ≡ Some b.member

@@ -15,7 +15,7 @@ use Rattle.std.proofs.lemmas.Str.{digit_value_digit}
 use Rattle.std.proofs.lemmas.Str.Parse.{IsNumeralModel, numerals_by_value, tells_all_ascii_digits}
 use Rattle.httparse.specs.Grammar.{AllPass, is_ows, is_uri_byte, is_value_byte, skip_ows, trim_ows}
 use Rattle.httparse.proofs.TrimLemmas.{AllPass-reverse, trim_ows_space}
-use Rattle.site_digits.specs.Digits.{count_in, digits_behind, number_in}
+use Rattle.site_digits.specs.Digits.{count_in, digits_after, number_in}
 use Rattle.wire.specs.Fields.{body_length, most_body}
 use Rattle.site_bids.proofs.BidRoutes.{no_slash}
 
@@ -66,7 +66,7 @@ no_slashes [] all = tt
 no_slashes (d ∷ ds) all =
     let parts = both (is_ascii_digit d) (all_ascii_digits ds) all in (digit_no_slash d parts.0, no_slashes ds parts.1)
 
--- no white space stands at their ends
+-- no white space is at their ends
 skip_none : (xs : List ℕ) → AllPass (λ b. not (is_ows b)) xs → skip_ows xs ≡ xs
 skip_none [] all = refl
 skip_none (b ∷ xs) all = by_test (is_ows b) refl (All-head (λ b. IsTrue (not (is_ows b))) b xs all) where
@@ -80,7 +80,7 @@ trim_digits ds all =
     trim_ows_space ds (skip_none ds none) (skip_none (reverse ds) (AllPass-reverse (λ b. not (is_ows b)) ds none))
 
 -- what digits write after those of n
-all_digits_after : (n : ℕ) (s : List ℕ) → all_ascii_digits s ≡ true → digits_behind n s ≡ Some (digits_value_after 10 n s)
+all_digits_after : (n : ℕ) (s : List ℕ) → all_ascii_digits s ≡ true → digits_after n s ≡ Some (digits_value_after 10 n s)
 all_digits_after n [] all = refl
 all_digits_after n (b ∷ bs) all =
     let parts = both (is_ascii_digit b) (all_ascii_digits bs) all in

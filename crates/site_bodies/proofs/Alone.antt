@@ -31,10 +31,10 @@ alone : {bytes inside named rest value : List ℕ} (slot : Slot) → escape slot
     → IsAscii slot.name.now → bytes ≡ (123 ∷ 34 ∷ []) ++ inside → inside ≡ slot.name.now ++ named
     → named ≡ (34 ∷ 58 ∷ []) ++ rest → Passes rest [] value → IsValue value slot.value (125 ∷ [])
     → body_of bytes ≡ Some (put slot.name.now (data_of slot.value) no_members)
-alone {bytes} {inside} {named} {rest} {value} slot own ascii front is behind gap read =
+alone {bytes} {inside} {named} {rest} {value} slot own ascii front is rest_after gap read =
     let name = text_passed slot.name.now (58 ∷ rest) own (IsUtf8-from_ascii _ ascii) in
     let whole : bytes ≡ 123 ∷ 34 ∷ (slot.name.now ++ 34 ∷ 58 ∷ rest) =
-    front ∙ ap (λ l. 123 ∷ 34 ∷ l) (is ∙ ap (λ l. slot.name.now ++ l) behind) in
+    front ∙ ap (λ l. 123 ∷ 34 ∷ l) (is ∙ ap (λ l. slot.name.now ++ l) rest_after) in
     let begun = subst (λ l. Passes l (token begin_object ∷ []) (34 ∷ (slot.name.now ++ 34 ∷ 58 ∷ rest))) (sym whole)
     (open_passed _) in
     walk_ends [] slot (walk_begins begun) (member_read slot name (nothing_passed (58 ∷ rest)) refl gap read)
@@ -44,10 +44,10 @@ pub whole_alone : {bytes inside named rest value : List ℕ} (name : Bor (List �
     → escape name.now ≡ name.now → IsAscii name.now → bytes ≡ (123 ∷ 34 ∷ []) ++ inside → inside ≡ name.now ++ named
     → named ≡ (34 ∷ 58 ∷ []) ++ rest → Passes rest [] value → value ≡ digits ++ 125 ∷ [] → o ≡ number_in digits
     → IfSome o (IsLone bytes name.now)
-whole_alone name digits None own ascii front is behind gap ends told = tt
-whole_alone name digits (Some n) own ascii front is behind gap ends told =
-    let written = number_is digits n told in
-    alone (record { name = name; value = plain.Whole n }) own ascii front is behind gap (whole_value n (record {
+whole_alone name digits None own ascii front is rest_after gap ends report = tt
+whole_alone name digits (Some n) own ascii front is rest_after gap ends report =
+    let written = number_is digits n report in
+    alone (record { name = name; value = plain.Whole n }) own ascii front is rest_after gap (whole_value n (record {
       same = ends ∙ ap (λ l. l ++ 125 ∷ []) (sym written.0);
       small = written.1;
       ended = refl;
@@ -58,19 +58,19 @@ pub text_alone : {bytes inside named rest quoted value : List ℕ} (name : Bor (
     → escape name.now ≡ name.now → IsAscii name.now → bytes ≡ (123 ∷ 34 ∷ []) ++ inside → inside ≡ name.now ++ named
     → named ≡ (34 ∷ 58 ∷ []) ++ rest → Passes rest [] quoted → quoted ≡ 34 ∷ value → value ≡ text ++ 34 ∷ 125 ∷ []
     → IfSome o (λ s. IsPlain text s.now) → IfSome o (λ s. IsLoneText bytes name.now s.now)
-text_alone name text None own ascii front is behind gap quote ends told = tt
-text_alone {quoted = quoted} name text (Some s) own ascii front is behind gap quote ends told =
+text_alone name text None own ascii front is rest_after gap quote ends report = tt
+text_alone {quoted = quoted} name text (Some s) own ascii front is rest_after gap quote ends report =
     let passed : Passes quoted (token (t.string text) ∷ []) (125 ∷ []) =
     subst (λ l. Passes l (token (t.string text) ∷ []) (125 ∷ [])) (sym (quote ∙ ap (λ l. 34 ∷ l) ends))
-    (text_passed text (125 ∷ []) told.plain told.utf8) in
-    alone (record { name = name; value = plain.Text s }) own ascii front is behind gap
-    (text_value s (subst (λ l. Passes quoted (token (t.string l) ∷ []) (125 ∷ [])) (sym told.same) passed))
+    (text_passed text (125 ∷ []) report.plain report.utf8) in
+    alone (record { name = name; value = plain.Text s }) own ascii front is rest_after gap
+    (text_value s (subst (λ l. Passes quoted (token (t.string l) ∷ []) (125 ∷ [])) (sym report.same) passed))
 
 -- a text of bytes that stand for themselves
 pub plain_is : {bytes : List ℕ} (o : Option (Bor (List ℕ))) → escape bytes ≡ bytes
     → IfSome o (λ s. (s.now ≡ bytes) × IsUtf8 bytes) → IfSome o (λ s. IsPlain bytes s.now)
-plain_is None own told = tt
-plain_is (Some s) own told = record { same = told.0; plain = own; utf8 = told.1 }
+plain_is None own report = tt
+plain_is (Some s) own report = record { same = report.0; plain = own; utf8 = report.1 }
 
 -- ---- what is alone is the field
 

@@ -28,9 +28,9 @@ pub pair_step : (first second : List ℕ) (vs : List Value) (i : ℕ) (v : Value
     → i < length vs → v ≡ get_or vs i v → Some p ≡ pair_in first second (view v)
     → joined before (pairs_in first second (items_view (drop i vs))) ≡ pairs_in first second (items_view vs)
     → joined (before ++ p ∷ []) (pairs_in first second (items_view (drop (i + 1) vs))) ≡ pairs_in first second (items_view vs)
-pair_step first second vs i v p before lt at' told so_far =
+pair_step first second vs i v p before lt at' report so_far =
     let is : pair_in first second (view (get_or vs i v)) ≡ Some p =
-    ap (λ (w : Value). pair_in first second (view w)) (sym at') ∙ sym told in
+    ap (λ (w : Value). pair_in first second (view w)) (sym at') ∙ sym report in
     let here = at_drop_more (λ (ws : List Value). joined before (pairs_in first second (items_view ws))) vs i v lt in
     let one : joined before (pairs_in first second (items_view (get_or vs i v ∷ drop (i + 1) vs)))
     ≡ joined before (option_map (λ ps. p ∷ ps) (pairs_in first second (items_view (drop (i + 1) vs)))) = rw is refl in
@@ -40,9 +40,9 @@ pub no_pair : (first second : List ℕ) (vs : List Value) (i : ℕ) (v : Value) 
     → i < length vs → v ≡ get_or vs i v → None ≡ pair_in first second (view v)
     → joined before (pairs_in first second (items_view (drop i vs))) ≡ pairs_in first second (items_view vs)
     → None ≡ pairs_in first second (items_view vs)
-no_pair first second vs i v before lt at' told so_far =
+no_pair first second vs i v before lt at' report so_far =
     let is : pair_in first second (view (get_or vs i v)) ≡ None =
-    ap (λ (w : Value). pair_in first second (view w)) (sym at') ∙ sym told in
+    ap (λ (w : Value). pair_in first second (view w)) (sym at') ∙ sym report in
     let here = at_drop_more (λ (ws : List Value). joined before (pairs_in first second (items_view ws))) vs i v lt in
     let one : joined before (pairs_in first second (items_view (get_or vs i v ∷ drop (i + 1) vs))) ≡ None = rw is refl in
     sym one ∙ sym here ∙ so_far
@@ -59,13 +59,13 @@ field_in : (name : List ℕ) (d : Data) (ms : Members) → as_object d ≡ Some 
 field_in name (object found) ms is = let same : found ≡ ms = cc in ap (get_member name) same
 field_in name d ms is = cc
 
--- what is told of an array under that name
-array_told : (first second name : List ℕ) (d : Data) (ms : Members) (told : Option (List (ℕ × ℕ)))
+-- the result for an array under that name
+array_reported : (first second name : List ℕ) (d : Data) (ms : Members) (report : Option (List (ℕ × ℕ)))
     → as_object d ≡ Some ms
-    → told ≡ option_and_then (pairs_in first second) (option_and_then as_array (get name d))
-    → told ≡ pairs_at first second name ms
+    → report ≡ option_and_then (pairs_in first second) (option_and_then as_array (get name d))
+    → report ≡ pairs_at first second name ms
 unfolding pairs_at
-array_told first second name d ms told is same =
+array_reported first second name d ms report is same =
     same ∙ ap (λ (o : Option Data). option_and_then (pairs_in first second) (option_and_then as_array o)) (field_in name d ms is)
 
 some_is : (o : Option Members) → is_some o ≡ true → (ms : Members) × (o ≡ Some ms)
@@ -82,20 +82,20 @@ pub no_body : (bytes : List ℕ) (d : Data) (b : Bool) → IsUtf8 bytes → read
 no_body bytes d b utf8 is not_so tested =
     body_read bytes (Some d) utf8 is ∙ none_is (as_object d) (sym tested ∙ not_so)
 
--- what was read is an object, and this is told of its field
-pub told_at : (bytes first second name : List ℕ) (d : Data) (b : Bool) (told : Option (List (ℕ × ℕ)))
+-- what was read is an object, and this is the result for its field
+pub report_at : (bytes first second name : List ℕ) (d : Data) (b : Bool) (report : Option (List (ℕ × ℕ)))
     → IsUtf8 bytes → read bytes ≡ Some d → b ≡ true → b ≡ is_some (as_object d)
-    → told ≡ option_and_then (pairs_in first second) (option_and_then as_array (get name d))
-    → (ms : Members) × (body_of bytes ≡ Some ms) × (told ≡ pairs_at first second name ms)
-told_at bytes first second name d b told utf8 is so tested same =
+    → report ≡ option_and_then (pairs_in first second) (option_and_then as_array (get name d))
+    → (ms : Members) × (body_of bytes ≡ Some ms) × (report ≡ pairs_at first second name ms)
+report_at bytes first second name d b report utf8 is so tested same =
     let (ms, here) = some_is (as_object d) (sym tested ∙ so) in
-    (ms, body_read bytes (Some d) utf8 is ∙ here, array_told first second name d ms told here same)
+    (ms, body_read bytes (Some d) utf8 is ∙ here, array_reported first second name d ms report here same)
 
--- the pairs of an array that stands there
-pub array_pairs : (first second name : List ℕ) (d : Data) (vs ws : List Value) (told : Option (List (ℕ × ℕ)))
-    → told ≡ pairs_in first second (items_view vs) → vs ≡ ws
+-- the pairs of an array that is there
+pub array_pairs : (first second name : List ℕ) (d : Data) (vs ws : List Value) (report : Option (List (ℕ × ℕ)))
+    → report ≡ pairs_in first second (items_view vs) → vs ≡ ws
     → Some (items_view ws) ≡ option_and_then as_array (get name d)
-    → told ≡ option_and_then (pairs_in first second) (option_and_then as_array (get name d))
-array_pairs first second name d vs ws told pairs same here =
+    → report ≡ option_and_then (pairs_in first second) (option_and_then as_array (get name d))
+array_pairs first second name d vs ws report pairs same here =
     pairs ∙ ap (λ (us : List Value). pairs_in first second (items_view us)) same
     ∙ ap (option_and_then (pairs_in first second)) here

@@ -63,7 +63,7 @@ by_value : (k l : List ℕ) (j : json.Json) (ms : json.Members) (found ds : Memb
 by_value k l j ms found ds rest None is read = absurd (nothing ds read)
 by_value k l j ms found ds rest (Some d) is read = rest d read ∙ one_put k l j found d is (jfind.get_member k ms)
 
--- what is found in members that were read is what stands last in the text
+-- what is found in members that were read is what comes last in the text
 found_last : (k : List ℕ) (ms : json.Members) (found ds : Members) → of_members ms found ≡ Some ds
     → get_member k ds ≡ picked (jfind.get_member k ms) (get_member k found)
 found_last k json.no_members found ds e = let same : ds ≡ found = cc in ap (get_member k) same

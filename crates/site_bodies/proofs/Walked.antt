@@ -91,9 +91,9 @@ text_passed s rest own utf8 = record {
 pub quoted_passed : {bytes inside after : List ℕ} (end : ℕ) (s : List ℕ) → bytes ≡ 34 ∷ inside
     → escape (take end inside) ≡ take end inside → take (length inside - end) (drop end inside) ≡ 34 ∷ after
     → s ≡ take end inside → IsUtf8 (take end inside) → Passes bytes (token (t.string s) ∷ []) after
-quoted_passed {bytes} {inside} {after} end s front own behind same utf8 =
+quoted_passed {bytes} {inside} {after} end s front own rest_after same utf8 =
     let left : drop end inside ≡ 34 ∷ after =
-    sym (take_all _ (drop end inside) (omega (arith, length-drop end inside))) ∙ behind in
+    sym (take_all _ (drop end inside) (omega (arith, length-drop end inside))) ∙ rest_after in
     let whole : bytes ≡ 34 ∷ (take end inside ++ 34 ∷ after) = front
     ∙ ap (λ l. 34 ∷ l) (sym (take-append-drop end inside) ∙ ap (λ l. take end inside ++ l) left) in
     subst (λ l. Passes l (token (t.string s) ∷ []) after) (sym whole)
@@ -133,8 +133,8 @@ digits_are (b ∷ []) n e = go (b == 48) refl e where
 
 pub size_is : {bytes : List ℕ} (end n : ℕ) → Some n ≡ count_in (take end bytes) → ends_word (drop end bytes) ≡ true
     → IsSize bytes n (drop end bytes)
-size_is {bytes} end n told ended =
-    let are = digits_are (take end bytes) n told in
+size_is {bytes} end n report ended =
+    let are = digits_are (take end bytes) n report in
     record {
       same = sym (take-append-drop end bytes) ∙ ap (λ l. l ++ drop end bytes) (sym are.0);
       small = are.1;
@@ -164,9 +164,9 @@ text_value s p = record { passes = p; meant = refl }
 pub size_at : {bytes : List ℕ} (end n : ℕ) → Some n ≡ count_in (take end bytes)
     → ends_word (take (length bytes - end) (drop end bytes)) ≡ true
     → IsSize bytes n (take (length bytes - end) (drop end bytes))
-size_at {bytes} end n told ended =
+size_at {bytes} end n report ended =
     let all = take_all (length bytes - end) (drop end bytes) (omega (arith, length-drop end bytes)) in
-    subst (IsSize bytes n) (sym all) (size_is end n told (subst (λ l. ends_word l ≡ true) all ended))
+    subst (IsSize bytes n) (sym all) (size_is end n report (subst (λ l. ends_word l ≡ true) all ended))
 
 pub null_value : {bytes rest : List ℕ} → bytes ≡ null_text ++ rest → ends_word rest ≡ true
     → IsValue bytes plain.Null rest
@@ -190,8 +190,8 @@ below_value {bytes} {digits} {rest} (suc n) z is size minus =
 -- a lexeme of one byte, with spaces before and after it
 pub around : {a b c d : List ℕ} (x : ℕ) (l : Lexeme) → ((r : List ℕ) → Passes (x ∷ r) (l ∷ []) r)
     → Passes a [] b → b ≡ x ∷ c → Passes c [] d → Passes a (l ∷ []) d
-around {a} {b} {c} {d} x l one before is behind =
-    passes_then before (passes_then (subst (λ z. Passes z (l ∷ []) c) (sym is) (one c)) behind)
+around {a} {b} {c} {d} x l one before is rest_after =
+    passes_then before (passes_then (subst (λ z. Passes z (l ∷ []) c) (sym is) (one c)) rest_after)
 
 pub spaces_passed : {bytes : List ℕ} (end : ℕ) → Passes bytes [] (drop end bytes)
     → Passes bytes [] (take (length bytes - end) (drop end bytes))
@@ -204,15 +204,15 @@ nil_is (x ∷ d) e = absurd (omega (arith, e))
 
 pub closed : {a b c d : List ℕ} {r : Bool} → Passes a [] b → b ≡ 125 ∷ c → Passes c [] d → r ≡ (length d == 0)
     → r ≡ true → Passes a (token end_object ∷ []) []
-closed {a} {b} {c} {d} {r} before is behind told so =
-    subst (Passes a (token end_object ∷ [])) (nil_is d (eqb-true (length d) 0 (sym told ∙ so)))
-    (around 125 (token end_object) close_passed before is behind)
+closed {a} {b} {c} {d} {r} before is rest_after report so =
+    subst (Passes a (token end_object ∷ [])) (nil_is d (eqb-true (length d) 0 (sym report ∙ so)))
+    (around 125 (token end_object) close_passed before is rest_after)
 
-pub member_read : {bytes named spaced behind_colon start after : List ℕ} (slot : Slot)
-    → Passes bytes (token (t.string slot.name.now) ∷ []) named → Passes named [] spaced → spaced ≡ 58 ∷ behind_colon
-    → Passes behind_colon [] start → IsValue start slot.value after → IsMember bytes slot after
-member_read slot name before is behind value = record {
-  passes = passes_then name (passes_then (around 58 colon colon_passed before is behind) value.passes);
+pub member_read : {bytes named spaced after_colon start after : List ℕ} (slot : Slot)
+    → Passes bytes (token (t.string slot.name.now) ∷ []) named → Passes named [] spaced → spaced ≡ 58 ∷ after_colon
+    → Passes after_colon [] start → IsValue start slot.value after → IsMember bytes slot after
+member_read slot name before is rest_after value = record {
+  passes = passes_then name (passes_then (around 58 colon colon_passed before is rest_after) value.passes);
   meant = value.meant;
 }
 
@@ -303,8 +303,8 @@ meant_read (s ∷ ss) found all =
 
 walk_goes_on : {bytes rest after next : List ℕ} (ss : List Slot) (s : Slot) → Walked bytes ss rest
     → IsMember rest s after → Passes after (comma ∷ []) next → Walked bytes (ss ++ s ∷ []) next
-walk_goes_on {bytes} {rest} {after} {next} ss s w is behind =
-    let p = passes_then is.passes behind in
+walk_goes_on {bytes} {rest} {after} {next} ss s w is rest_after =
+    let p = passes_then is.passes rest_after in
     record {
       lexed =
           w.lexed ∙ ap (λ l. token begin_object ∷ lexemes_of ss l) p.lexed
@@ -323,8 +323,8 @@ pub walk_ends : {bytes rest after : List ℕ} (ss : List Slot) (s : Slot) → Wa
     → IsMember rest s after → Passes after (token end_object ∷ []) []
     → body_of bytes ≡ Some (put_all (ss ++ s ∷ []) no_members)
 unfolding lex
-walk_ends {bytes} {rest} {after} ss s w is behind =
-    let p = passes_then is.passes behind in
+walk_ends {bytes} {rest} {after} ss s w is rest_after =
+    let p = passes_then is.passes rest_after in
     let lexed = w.lexed ∙ ap (λ l. token begin_object ∷ lexemes_of ss l) p.lexed in
     let read_as : read bytes ≡ of_json (json.object (members_of (ss ++ s ∷ []))) =
     ap (λ ls. of_value (json.value 127 (punctuate fresh ls))) lexed
@@ -333,19 +333,19 @@ walk_ends {bytes} {rest} {after} ss s w is behind =
     let meant = ap (option_map object) (meant_read (ss ++ s ∷ []) no_members (meant_push ss s w.meant is.meant)) in
     body_read bytes _ (w.utf8 (p.utf8 nil_utf8)) (read_as ∙ meant)
 
--- the same in a table, where a member stands at its place
+-- the same in a table, where a member is at its place
 pub walk_more : {bytes rest after next : List ℕ} (slots : List Slot) (place : ℕ) (s : Slot) → place < length slots
     → Walked bytes (take place slots) rest → IsMember rest s after → Passes after (comma ∷ []) next
     → Walked bytes (take (place + 1) (set slots place s)) next
-walk_more {bytes} {rest} {after} {next} slots place s inside w is behind =
+walk_more {bytes} {rest} {after} {next} slots place s inside w is rest_after =
     subst (λ ss. Walked bytes ss next) (sym (take_more_set slots place s inside))
-    (walk_goes_on (take place slots) s w is behind)
+    (walk_goes_on (take place slots) s w is rest_after)
 
 pub walk_done : {bytes rest after : List ℕ} (slots : List Slot) (place : ℕ) (s : Slot) → place < length slots
     → Walked bytes (take place slots) rest → IsMember rest s after → Passes after (token end_object ∷ []) []
     → body_of bytes ≡ Some (put_all (take (place + 1) (set slots place s)) no_members)
-walk_done {bytes} {rest} {after} slots place s inside w is behind =
-    walk_ends (take place slots) s w is behind
+walk_done {bytes} {rest} {after} slots place s inside w is rest_after =
+    walk_ends (take place slots) s w is rest_after
     ∙ ap (λ ss. Some (put_all ss no_members)) (sym (take_more_set slots place s inside))
 
 -- ---- the last value of a name

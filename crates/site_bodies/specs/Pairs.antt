@@ -1,4 +1,4 @@
--- Pairs of whole numbers, as an array of objects tells them.
+-- Pairs of whole numbers, as an array of objects gives them.
 use Rattle.std.specs.Prelude.{ℕ, List, [], ◌∷◌, Option, Some, None, option_and_then, option_map}
 use Rattle.serde_json.specs.Data.{Data, Items, no_items, item, Members}
 use Rattle.serde_json.specs.Find.{as_array, get, get_member}

@@ -1,7 +1,7 @@
 //! Why a body isn't read.
 
 /// Why a body isn't read.
-#[derive(Clone, Copy, Debug, PartialEq, Eq)]
+#[derive(Clone, Copy)]
 pub enum BodyFault {
     /// It is no object of JSON.
     NoObject,

@@ -13,8 +13,8 @@ ghost use Rattle.site_bodies.specs.Passes.{IsMember, IsSize, IsValue, Passes};
 ghost use Rattle.site_bodies.specs.Slots.{data_of, put_all};
 ghost use Rattle.site_bodies.specs.Values.{integer_in, maybe_whole_in, text_in, whole_in};
 
-use crate::lone::{behind, text_of};
-use crate::numeral::signed;
+use crate::lone::{rest_after, text_of};
+use crate::numeral::to_signed;
 use crate::slots::{EMPTY, Flat, MOST, Plain, Slot};
 use json_plain::plain_length;
 
@@ -24,8 +24,8 @@ fn is_space(byte: u8) -> bool
     byte == b' '
 }
 
-// What stands after the spaces in front.
-fn behind_spaces(bytes: &[u8]) -> &[u8]
+// What comes after the spaces in front.
+fn after_spaces(bytes: &[u8]) -> &[u8]
     ensures { Passes bytes.now [] result.now }
 {
     let mut end = 0;
@@ -35,18 +35,18 @@ fn behind_spaces(bytes: &[u8]) -> &[u8]
     &bytes[end..]
 }
 
-// The text between quotes in front, if it is written without escapes, and what stands after.
+// The text between quotes in front, if it is written without escapes, and what comes after.
 fn text(bytes: &[u8]) -> Option<(&str, &[u8])>
     ensures { IfSome result (λ p. Passes bytes.now (token (string p.0.now) ∷ []) p.1.now) }
 {
-    let inside = behind(bytes, b"\"")?;
+    let inside = rest_after(bytes, b"\"")?;
     let end = plain_length(inside);
-    let after = behind(&inside[end..], b"\"")?;
+    let after = rest_after(&inside[end..], b"\"")?;
     let text = text_of(&inside[..end])?;
     Some((text, after))
 }
 
-// How many digits stand in front.
+// How many digits are in front.
 fn digits_length(bytes: &[u8]) -> usize
     ensures { result ≤ length bytes.now }
 {
@@ -57,14 +57,14 @@ fn digits_length(bytes: &[u8]) -> usize
     end
 }
 
-// Whether a number that stands before these bytes ends there.
+// Whether a number that comes before these bytes ends there.
 fn ends_word(bytes: &[u8]) -> bool
     ensures { IsTrue result → ends_word bytes.now ≡ true }
 {
     matches!(bytes, [b',' | b'}' | b' ', ..])
 }
 
-// The number that digits in front write, and what stands after.
+// The number that digits in front write, and what comes after.
 fn whole(bytes: &[u8]) -> Option<(u64, &[u8])>
     ensures { IfSome result (λ p. IsSize bytes.now p.0 p.1.now) }
 {
@@ -77,7 +77,7 @@ fn whole(bytes: &[u8]) -> Option<(u64, &[u8])>
     Some((number, after))
 }
 
-// The whole number in front, and what stands after.
+// The whole number in front, and what comes after.
 fn number(bytes: &[u8]) -> Option<(Plain<'_>, &[u8])>
     ensures { IfSome result (λ p. IsValue bytes.now p.0 p.1.now) }
 {
@@ -85,7 +85,7 @@ fn number(bytes: &[u8]) -> Option<(Plain<'_>, &[u8])>
     Some((Plain::Whole(number), after))
 }
 
-// The text in front, as a value, and what stands after.
+// The text in front, as a value, and what comes after.
 fn string(bytes: &[u8]) -> Option<(Plain<'_>, &[u8])>
     ensures { IfSome result (λ p. IsValue bytes.now p.0 p.1.now) }
 {
@@ -97,25 +97,25 @@ fn string(bytes: &[u8]) -> Option<(Plain<'_>, &[u8])>
 fn minus(size: u64) -> Option<i64>
     ensures { IfSome result (IsMinus size) }
 {
-    match signed(size) {
+    match to_signed(size) {
         Some(size) if size > 0 => Some(-size),
         _ => None,
     }
 }
 
-// The whole number below zero in front, and what stands after.
+// The whole number below zero in front, and what comes after.
 fn negative(bytes: &[u8]) -> Option<(Plain<'_>, &[u8])>
     ensures { IfSome result (λ p. IsValue bytes.now p.0 p.1.now) }
 {
-    let (size, after) = whole(behind(bytes, b"-")?)?;
+    let (size, after) = whole(rest_after(bytes, b"-")?)?;
     Some((Plain::Below(minus(size)?), after))
 }
 
-// The null in front, and what stands after.
+// The null in front, and what comes after.
 fn null(bytes: &[u8]) -> Option<(Plain<'_>, &[u8])>
     ensures { IfSome result (λ p. IsValue bytes.now p.0 p.1.now) }
 {
-    let after = behind(bytes, b"null")?;
+    let after = rest_after(bytes, b"null")?;
     if ends_word(after) {
         Some((Plain::Null, after))
     } else {
@@ -123,7 +123,7 @@ fn null(bytes: &[u8]) -> Option<(Plain<'_>, &[u8])>
     }
 }
 
-// The value in front, if it is no text and no number without a sign, and what stands after.
+// The value in front, if it is no text and no number without a sign, and what comes after.
 fn other(bytes: &[u8]) -> Option<(Plain<'_>, &[u8])>
     ensures { IfSome result (λ p. IsValue bytes.now p.0 p.1.now) }
 {
@@ -133,7 +133,8 @@ fn other(bytes: &[u8]) -> Option<(Plain<'_>, &[u8])>
     }
 }
 
-// The value in front, and what stands after. Texts and numbers without a sign, as most are, come first.
+// The value in front, and what comes after. Texts and numbers without a sign, as most are, come
+// first.
 fn value(bytes: &[u8]) -> Option<(Plain<'_>, &[u8])>
     ensures { IfSome result (λ p. IsValue bytes.now p.0 p.1.now) }
 {
@@ -146,49 +147,49 @@ fn value(bytes: &[u8]) -> Option<(Plain<'_>, &[u8])>
     }
 }
 
-// The member in front, and what stands after.
+// The member in front, and what comes after.
 fn member(bytes: &[u8]) -> Option<(Slot<'_>, &[u8])>
     ensures { IfSome result (λ p. IsMember bytes.now p.0 p.1.now) }
 {
-    let (name, behind_name) = text(bytes)?;
-    let colon = behind(behind_spaces(behind_name), b":")?;
-    let (value, after) = value(behind_spaces(colon))?;
+    let (name, after_name) = text(bytes)?;
+    let colon = rest_after(after_spaces(after_name), b":")?;
+    let (value, after) = value(after_spaces(colon))?;
     Some((Slot { name, value }, after))
 }
 
-// What stands after the brace in front.
-fn begun(bytes: &[u8]) -> Option<&[u8]>
+// What comes after the brace in front.
+fn after_brace(bytes: &[u8]) -> Option<&[u8]>
     ensures { IfSome result (λ rest. Passes bytes.now (token begin_object ∷ []) rest.now) }
 {
-    let inside = behind(behind_spaces(bytes), b"{")?;
-    Some(behind_spaces(inside))
+    let inside = rest_after(after_spaces(bytes), b"{")?;
+    Some(after_spaces(inside))
 }
 
-// What stands after the comma in front.
+// What comes after the comma in front.
 fn next(bytes: &[u8]) -> Option<&[u8]>
     ensures { IfSome result (λ rest. Passes bytes.now (comma ∷ []) rest.now) }
 {
-    let more = behind(behind_spaces(bytes), b",")?;
-    Some(behind_spaces(more))
+    let more = rest_after(after_spaces(bytes), b",")?;
+    Some(after_spaces(more))
 }
 
-// Whether nothing stands here but the brace at the end.
+// Whether nothing is here but the brace at the end.
 fn ends(bytes: &[u8]) -> bool
     ensures { IsTrue result → Passes bytes.now (token end_object ∷ []) [] }
 {
-    match behind(behind_spaces(bytes), b"}") {
-        Some(end) => behind_spaces(end).is_empty(),
+    match rest_after(after_spaces(bytes), b"}") {
+        Some(end) => after_spaces(end).is_empty(),
         None => false,
     }
 }
 
-/// The members of an object that the bytes are. Where there are none, the bytes may yet be any. It stands
-/// apart, so that others clear no room for its table.
+/// The members of an object that the bytes are. Where there are none, the bytes may yet be any. It
+/// is a function of its own, so that others clear no room for its table.
 #[inline(never)]
 pub(crate) fn flat_object(bytes: &[u8]) -> Option<Flat<'_>>
     ensures { IfSome result (IsFlat bytes.now) }
 {
-    let mut rest = begun(bytes)?;
+    let mut rest = after_brace(bytes)?;
     let mut slots = [EMPTY; MOST];
     for place in 0..MOST {
         let (slot, after) = member(rest)?;
@@ -221,7 +222,7 @@ impl<'a> Plain<'a> {
         ensures { result ≡ integer_in (Some (data_of self.entry)) }
     {
         match self {
-            Plain::Whole(number) => signed(number),
+            Plain::Whole(number) => to_signed(number),
             Plain::Below(number) => Some(number),
             Plain::Text(_) | Plain::Null => None,
         }

@@ -4,7 +4,7 @@ ghost use Rattle.json.specs.Value.{members_view, value_view};
 ghost use Rattle.site_bodies.specs.Members.{AreJudged, IsJudged, IsTree, IsValueJudged};
 
 use crate::fault::BodyFault;
-use crate::numeral::judged as numeral;
+use crate::numeral::make_numeric as numeral;
 use json::{Error, Reader, Scratch, Value};
 use std::alloc::Global;
 

@@ -1,10 +1,10 @@
 //! Bodies that are objects of JSON, and their fields.
 //!
 //! Promised: a body is read exactly as `serde_json` reads it, with no tree of owned texts, and a
-//! field is told exactly, or that it is absent or of another kind. An object of up to eight texts
-//! without escapes, nulls and whole numbers, also below zero, as most bodies are, is read in one walk
-//! over its bytes; every other as a tree. Read `specs/Members.antt` and `specs/Fields.antt` first, and
-//! then `body`.
+//! field is reported exactly, or as absent or of another kind. An object of up to eight texts
+//! without escapes, nulls and whole numbers, also below zero, as most bodies are, is read in one
+//! walk over its bytes; every other as a tree. Read `specs/Members.antt` and `specs/Fields.antt`
+//! first, and then `body`.
 #![tactic(auto)]
 
 mod body;

@@ -11,9 +11,9 @@ use json_plain::is_plain;
 // A text of fewer bytes `simdutf8` hands on to std.
 const SHORT: usize = 64;
 
-// What stands after the front.
+// What comes after the front.
 #[inline(always)]
-pub(crate) fn behind<'b>(bytes: &'b [u8], front: &[u8]) -> Option<&'b [u8]>
+pub(crate) fn rest_after<'b>(bytes: &'b [u8], front: &[u8]) -> Option<&'b [u8]>
     ensures { IfSome result (λ rest. bytes.now ≡ front.now ++ rest.now) }
 {
     if bytes.starts_with(front) {
@@ -23,7 +23,7 @@ pub(crate) fn behind<'b>(bytes: &'b [u8], front: &[u8]) -> Option<&'b [u8]>
     }
 }
 
-// What stands before the brace at the end.
+// What comes before the brace at the end.
 #[inline(always)]
 fn before_brace(bytes: &[u8]) -> Option<&[u8]>
     ensures { IfSome result (λ rest. bytes.now ≡ rest.now ++ 125 ∷ []) }
@@ -34,18 +34,18 @@ fn before_brace(bytes: &[u8]) -> Option<&[u8]>
     }
 }
 
-// What stands after a space, if one is there.
+// What comes after a space, if one is there.
 #[inline(always)]
-fn behind_space(bytes: &[u8]) -> &[u8]
+fn after_space(bytes: &[u8]) -> &[u8]
     ensures { Passes bytes.now [] result.now }
 {
-    match behind(bytes, b" ") {
+    match rest_after(bytes, b" ") {
         Some(rest) => rest,
         None => bytes,
     }
 }
 
-// What stands before the quote and the brace at the end.
+// What comes before the quote and the brace at the end.
 #[inline(always)]
 fn before_quote(bytes: &[u8]) -> Option<&[u8]>
     ensures { IfSome result (λ rest. bytes.now ≡ rest.now ++ 34 ∷ 125 ∷ []) }
@@ -92,8 +92,8 @@ pub fn lone_whole(bytes: &[u8], name: &str) -> Option<u64>
     requires ascii { IsAscii name.now }
     ensures { IfSome result (IsLone bytes.now name.now) }
 {
-    let named = behind(behind(bytes, b"{\"")?, name.as_bytes())?;
-    let value = behind_space(behind(named, b"\":")?);
+    let named = rest_after(rest_after(bytes, b"{\"")?, name.as_bytes())?;
+    let value = after_space(rest_after(named, b"\":")?);
     site_digits::number(before_brace(value)?)
 }
 
@@ -104,7 +104,7 @@ pub fn lone_text<'b>(bytes: &'b [u8], name: &str) -> Option<&'b str>
     requires ascii { IsAscii name.now }
     ensures { IfSome result (λ text. IsLoneText bytes.now name.now text.now) }
 {
-    let named = behind(behind(bytes, b"{\"")?, name.as_bytes())?;
-    let value = behind(behind_space(behind(named, b"\":")?), b"\"")?;
+    let named = rest_after(rest_after(bytes, b"{\"")?, name.as_bytes())?;
+    let value = rest_after(after_space(rest_after(named, b"\":")?), b"\"")?;
     plain_text(before_quote(value)?)
 }

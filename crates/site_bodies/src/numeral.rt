@@ -58,7 +58,7 @@ fn has_minus(bytes: &[u8]) -> bool
 }
 
 /// What the number is that a token of JSON writes; none where it is too large.
-pub(crate) fn judged(text: &str) -> Option<Numeric>
+pub(crate) fn make_numeric(text: &str) -> Option<Numeric>
     ensures { option_map kind_of (number_of text.now) ≡ result }
 {
     let bytes = text.as_bytes();
@@ -77,14 +77,14 @@ pub(crate) fn judged(text: &str) -> Option<Numeric>
 pub(crate) fn whole(text: &str) -> Option<u64>
     ensures { result ≡ option_and_then as_u64 (number_of text.now) }
 {
-    match judged(text) {
+    match make_numeric(text) {
         Some(Numeric::Whole(n)) => Some(n),
         _ => None,
     }
 }
 
 /// A number from 0 on with a sign, if it fits.
-pub(crate) fn signed(n: u64) -> Option<i64>
+pub(crate) fn to_signed(n: u64) -> Option<i64>
     ensures { result ≡ signed n }
 {
     if n <= i64::MAX as u64 {
@@ -99,8 +99,8 @@ pub(crate) fn signed(n: u64) -> Option<i64>
 pub(crate) fn integer(text: &str) -> Option<i64>
     ensures { result ≡ option_and_then as_i64 (number_of text.now) }
 {
-    match judged(text) {
-        Some(Numeric::Whole(n)) => signed(n),
+    match make_numeric(text) {
+        Some(Numeric::Whole(n)) => to_signed(n),
         Some(Numeric::Below(n)) => Some(n),
         _ => None,
     }

@@ -1,4 +1,4 @@
-//! Pairs of whole numbers, as an array of objects tells them.
+//! Pairs of whole numbers, as an array of objects gives them.
 ghost use Rattle.std.specs.Prelude.{◌≡◌, IfOk, IsErrOf, Some, None, option_and_then, option_map};
 ghost use Rattle.serde_json.specs.Data.{Members};
 ghost use Rattle.serde_json.specs.Find.{as_array, get};

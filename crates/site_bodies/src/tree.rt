@@ -37,7 +37,7 @@ fn reads(alloc: Global, bytes: &[u8]) -> Result<(), BodyFault>
 }
 
 // The whole number that a value is.
-#[tactic(auto, using(crate::proofs::Told::array_no_number, crate::proofs::Told::object_no_number, crate::proofs::Told::number_back))]
+#[tactic(auto, using(crate::proofs::Report::array_no_number, crate::proofs::Report::object_no_number, crate::proofs::Report::number_back))]
 fn whole_of(value: &Value<'_>) -> Option<u64>
     ensures { result ≡ whole_in (of_json (value_view value.now)) }
 {
@@ -48,7 +48,7 @@ fn whole_of(value: &Value<'_>) -> Option<u64>
 }
 
 // The whole number with a sign that a value is.
-#[tactic(auto, using(crate::proofs::Told::array_no_number, crate::proofs::Told::object_no_number, crate::proofs::Told::number_back))]
+#[tactic(auto, using(crate::proofs::Report::array_no_number, crate::proofs::Report::object_no_number, crate::proofs::Report::number_back))]
 fn integer_of(value: &Value<'_>) -> Option<i64>
     ensures { result ≡ integer_in (of_json (value_view value.now)) }
 {
@@ -60,7 +60,7 @@ fn integer_of(value: &Value<'_>) -> Option<i64>
 
 // The whole number that a value is, or none where it is null. A number that is too large isn't in
 // an object that was read.
-#[tactic(auto, using(crate::proofs::Told::maybe_array, crate::proofs::Told::maybe_object, crate::proofs::Told::maybe_number))]
+#[tactic(auto, using(crate::proofs::Report::maybe_array, crate::proofs::Report::maybe_object, crate::proofs::Report::maybe_number))]
 fn maybe_whole_of(value: &Value<'_>) -> Option<Option<u64>>
     requires { is_some (of_json (value_view value.now)) ≡ true }
     ensures { result ≡ maybe_whole_in (of_json (value_view value.now)) }

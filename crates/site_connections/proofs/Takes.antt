@@ -4,22 +4,22 @@ use Rattle.std.specs.Prelude.{IfErr}
 use Rattle.device.specs.declared.failure.Failure.{Failure}
 use Rattle.house_rows.specs.Tables.{Tables}
 use Rattle.settle.specs.declared.zone.Zone.{Zone}
-use Rattle.site_serve.specs.declared.serving.ServeFault.{ServeFault}
-use Rattle.site_serve.specs.declared.serving.Served.{Served}
+use Rattle.site_serve.specs.declared.server.ServeFault.{ServeFault}
+use Rattle.site_serve.specs.declared.server.Served.{Served}
 use Rattle.site_connections.specs.Turns.{HasStopped, ServesOne, TakesEach, TakesOne}
 use Rattle.site_connections.specs.declared.connection.Connection.{Connection}
 
-behind : {S : Type 0} (Takes : S → S → Type 0) (n : ℕ) (old mid new : S)
+rest_after : {S : Type 0} (Takes : S → S → Type 0) (n : ℕ) (old mid new : S)
     → TakesEach Takes n old mid → Takes mid new → TakesEach Takes (suc n) old new
-behind Takes zero old mid new same one = (new, subst (λ s. Takes s new) same one, refl)
-behind Takes (suc n) old mid new (next, first, rest) one =
-    (next, first, behind Takes n next mid new rest one)
+rest_after Takes zero old mid new same one = (new, subst (λ s. Takes s new) same one, refl)
+rest_after Takes (suc n) old mid new (next, first, rest) one =
+    (next, first, rest_after Takes n next mid new rest one)
 
 -- after so many one more is taken
 pub one_more : {S : Type 0} (Takes : S → S → Type 0) (n : ℕ) (old mid new : S)
     → TakesEach Takes n old mid → Takes mid new → TakesEach Takes (n + 1) old new
 one_more Takes n old mid new each one =
-    subst (λ m. TakesEach Takes m old new) (sym (add-one n)) (behind Takes n old mid new each one)
+    subst (λ m. TakesEach Takes m old new) (sym (add-one n)) (rest_after Takes n old mid new each one)
 
 -- a connection is taken by the zone that a site began with
 pub taken_in_zone : {C K R W : Type 0} (content : K → Tables) (is_failed : K → Bool)

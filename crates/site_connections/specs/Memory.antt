@@ -3,8 +3,8 @@ use Rattle.std.specs.Prelude.{◌≡◌, ◌⊎◌, List, [], ◌∷◌, ◌++�
 use Rattle.device.specs.declared.failure.Failure.{Failure}
 use Rattle.device.specs.declared.memory_sink.MemorySink.{MemorySink}
 use Rattle.device.specs.declared.memory_source.MemorySource.{MemorySource}
-use Rattle.site_serve.specs.declared.serving.ServeFault.{ServeFault}
-use Rattle.site_serve.specs.declared.serving.Served.{Served}
+use Rattle.site_serve.specs.declared.server.ServeFault.{ServeFault}
+use Rattle.site_serve.specs.declared.server.Served.{Served}
 use Rattle.site_connections.specs.declared.connection.Connection.{Connection}
 use Rattle.site_connections.specs.declared.connection.Ended.{Ended}
 use Rattle.site_connections.specs.declared.memory.MemoryConnections.{MemoryConnections}
@@ -31,9 +31,9 @@ GivesNext old result new = MatchResult result
     (λ _. (waiting_of old ≡ []) × (waiting_of new ≡ [])
     × (ended_of new ≡ ended_of old) × (is_whole new ≡ is_whole old))
 
--- one more was served; where memory was refused for it that is told
+-- one more was served; where memory was refused for it that is reported
 abbrev pub KeepsEnded : MemoryConnections → Connection MemorySource MemorySink
     → Result Served ServeFault → MemoryConnections → Type 0
-KeepsEnded old connection told new = (waiting_of new ≡ waiting_of old)
+KeepsEnded old connection report new = (waiting_of new ≡ waiting_of old)
     × ((is_whole new ≡ false) ⊎ ((is_whole new ≡ is_whole old)
-    × (ended_of new ≡ ended_of old ++ record { connection = connection; told = told } ∷ [])))
+    × (ended_of new ≡ ended_of old ++ record { connection = connection; report = report } ∷ [])))

@@ -7,40 +7,40 @@ use Rattle.site.specs.Answers.{IsStep}
 use Rattle.site_serve.specs.Ends.{HasEnded}
 use Rattle.site_serve.specs.Lives.{HasLived, LeavesLives}
 use Rattle.site_serve.specs.Serving.{HasRead, HasServed, HasWritten, IsFlushed}
-use Rattle.site_serve.specs.declared.serving.ServeFault.{ServeFault}
-use Rattle.site_serve.specs.declared.serving.ServeFault.TheVariants.{Memory, Read, Write}
-use Rattle.site_serve.specs.declared.serving.Served.{Served}
+use Rattle.site_serve.specs.declared.server.ServeFault.{ServeFault}
+use Rattle.site_serve.specs.declared.server.ServeFault.TheVariants.{Memory, Read, Write}
+use Rattle.site_serve.specs.declared.server.Served.{Served}
 use Rattle.site_connections.specs.declared.connection.Connection.{Connection}
 
--- what `serve` says of one connection: as it came and as it ended, what was told of it, and the keep
--- before and after
+-- what `serve` says of one connection: as it came and as it ended, the result, and the keep before
+-- and after
 pub record ServesOne {K R W : Type 0} (content : K → Tables) (is_failed : K → Bool)
     (is_honest : K → Type 0) (may_leave : K → Tables → Type 0) (zone : Zone)
     (left : R → Option (List ℕ)) (source_has_failed : R → Bool)
     (taken handed_on : W → Option (List ℕ)) (sink_has_failed : W → Bool) (most : ℕ)
-    (came ended : Connection R W) (told : Result Served ServeFault) (old new : K) : Type 0 where
-  pub served : IfOk told (λ served. IfSome (left came.source) (λ stream.
+    (came ended : Connection R W) (report : Result Served ServeFault) (old new : K) : Type 0 where
+  pub served : IfOk report (λ served. IfSome (left came.source) (λ stream.
       HasServed (IsStep content is_failed is_honest may_leave zone) stream most
       (taken came.sink) (taken ended.sink) old new served))
-  pub read : told ≡ Err Read → (source_has_failed ended.source ≡ true)
+  pub read : report ≡ Err Read → (source_has_failed ended.source ≡ true)
       × HasRead (IsStep content is_failed is_honest may_leave zone)
       (left came.source) (left ended.source) most (taken came.sink) (taken ended.sink) old new
-  pub write : told ≡ Err Write → (sink_has_failed ended.sink ≡ true)
+  pub write : report ≡ Err Write → (sink_has_failed ended.sink ≡ true)
       × IfSome (left came.source) (λ stream.
       HasWritten (IsStep content is_failed is_honest may_leave zone) stream most
       (taken came.sink) (taken ended.sink) old new)
-  pub memory : told ≡ Err Memory
+  pub memory : report ≡ Err Memory
       → (ended.source ≡ came.source) × (ended.sink ≡ came.sink) × (new ≡ old)
   pub crash : HasEnded content is_failed is_honest may_leave zone
       (left came.source) (left ended.source) most (taken came.sink) (taken ended.sink) old new
   pub isolation_from : HasLived content is_failed is_honest may_leave zone
-      (left came.source) (left ended.source) most (taken came.sink) (taken ended.sink) told old new
+      (left came.source) (left ended.source) most (taken came.sink) (taken ended.sink) report old new
   pub life : LeavesLives content is_failed is_honest may_leave zone
-      (left came.source) (left ended.source) most (taken came.sink) (taken ended.sink) told old new
-  pub flushed : OnOk told (IsFlushed handed_on taken came.sink ended.sink)
-  pub waits : told ≡ Err Read → IsFlushed handed_on taken came.sink ended.sink
+      (left came.source) (left ended.source) most (taken came.sink) (taken ended.sink) report old new
+  pub flushed : OnOk report (IsFlushed handed_on taken came.sink ended.sink)
+  pub waits : report ≡ Err Read → IsFlushed handed_on taken came.sink ended.sink
   pub source : source_has_failed ended.source ≡ true
-      → (source_has_failed came.source ≡ true) ⊎ (told ≡ Err Read)
+      → (source_has_failed came.source ≡ true) ⊎ (report ≡ Err Read)
 
 -- a connection came, was served, and ended
 pub record HasAnswered {C K R W : Type 0}
@@ -52,9 +52,9 @@ pub record HasAnswered {C K R W : Type 0}
   pub between : C
   pub accepted : accepts old.0 (Ok (Some came)) between
   pub ended : Connection R W
-  pub told : Result Served ServeFault
-  pub served : Serves came ended told old.1 new.1
-  pub left : ends between ended told new.0
+  pub report : Result Served ServeFault
+  pub served : Serves came ended report old.1 new.1
+  pub left : ends between ended report new.0
 
 -- one that came was given up: nothing of it was answered, and the keep is as it was
 pub record HasGivenUp {C K R W : Type 0}

@@ -15,6 +15,6 @@ pub struct Connection<R, W> {
 pub struct Ended<R, W> {
     /// What is left of it.
     pub connection: Connection<R, W>,
-    /// What was told of serving it.
-    pub told: Result<Served, ServeFault>,
+    /// The result of serving it.
+    pub report: Result<Served, ServeFault>,
 }

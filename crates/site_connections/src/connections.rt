@@ -1,8 +1,8 @@
 //! Where connections come from.
 ghost use Rattle.std.specs.Prelude.{Option, Result};
 ghost use Rattle.device.specs.declared.failure.Failure.{Failure};
-ghost use Rattle.site_serve.specs.declared.serving.ServeFault.{ServeFault};
-ghost use Rattle.site_serve.specs.declared.serving.Served.{Served};
+ghost use Rattle.site_serve.specs.declared.server.ServeFault.{ServeFault};
+ghost use Rattle.site_serve.specs.declared.server.Served.{Served};
 ghost use Rattle.site_connections.specs.declared.connection.Connection.{Connection};
 
 use crate::connection::Connection;
@@ -21,7 +21,7 @@ pub trait Connections {
     ghost accepts: { Self → Result (Option (Connection Self.Input Self.Output)) Failure
         → Self → Type 0 };
 
-    /// What an end leaves of a connection that was served, and of which this was told.
+    /// What an end leaves of a connection that was served with this result.
     ghost ends: { Self → Connection Self.Input Self.Output → Result Served ServeFault
         → Self → Type 0 };
 
@@ -33,7 +33,7 @@ pub trait Connections {
     fn end(
         &mut self,
         connection: Connection<Self::Input, Self::Output>,
-        told: Result<Served, ServeFault>,
+        report: Result<Served, ServeFault>,
     )
-        ensures { ends self.old connection told self.new };
+        ensures { ends self.old connection report self.new };
 }

@@ -49,7 +49,7 @@ impl<'b> MemoryConnections<'b> {
     }
 
     /// Those that were served, in turn.
-    pub fn ended(&self) -> &[Ended<MemorySource<'b>, MemorySink>]
+    pub fn endings(&self) -> &[Ended<MemorySource<'b>, MemorySink>]
         ensures { result.now ≡ ended_of self.now }
     {
         self.ended.as_slice()
@@ -84,11 +84,11 @@ impl<'b> Connections for MemoryConnections<'b> {
     fn end(
         &mut self,
         connection: Connection<MemorySource<'b>, MemorySink>,
-        told: Result<Served, ServeFault>,
+        report: Result<Served, ServeFault>,
     )
-        ensures { KeepsEnded self.old connection.entry told self.new }
+        ensures { KeepsEnded self.old connection.entry report self.new }
     {
-        if self.ended.push(Ended { connection, told }).is_err() {
+        if self.ended.push(Ended { connection, report }).is_err() {
             self.is_whole = false;
         }
     }

@@ -51,15 +51,15 @@ fn serve_next<C: Connections, K: Keep + Drop>(
     let Some(mut connection) = connections.accept()? else {
         return Ok(());
     };
-    let told = serve_one(alloc, &mut connection, site, most);
-    connections.end(connection, told);
+    let report = serve_one(alloc, &mut connection, site, most);
+    connections.end(connection, report);
     Ok(())
 }
 
 /// Serves so many connections, one after the other, at most `most` messages of each.
 ///
-/// Each is served as `serve` says, whatever that tells of it, or given up as it came. Nothing changes
-/// the keep between them. Where accepting fails, fewer came.
+/// Each is served as `serve` says, whatever the result, or given up as it came. Nothing changes the
+/// keep between them. Where accepting fails, fewer came.
 pub fn serve_each<C: Connections, K: Keep + Drop>(
     alloc: Global,
     connections: &mut C,

@@ -1,4 +1,4 @@
--- The status that a text tells, and that no reply is told with 500 or 503.
+-- The status that a text says, and that no reply has 500 or 503.
 use Rattle.std.proofs.Common.{◌≡◌, ℕ, List, Bool, Option, None, refl}
 use Rattle.std.specs.Prelude.{codes, false, true}
 use Rattle.std.specs.Str.{bytes_eq}
@@ -9,14 +9,14 @@ use Rattle.house_rows.specs.declared.refusal.Refusal.{Refusal}
 use Rattle.house_rows.specs.declared.refusal.Refusal.TheVariants as refusal
 use Rattle.house_rows.specs.declared.reply.Reply.{Reply}
 use Rattle.house_rows.specs.declared.reply.Reply.TheVariants.{Done, Denied, Shows, Faulty}
-use Rattle.house_rows.specs.declared.told.Told.{Told}
-use Rattle.house_rows.specs.declared.told.Told.TheVariants as told
+use Rattle.house_rows.specs.declared.command_result.CommandResult.{CommandResult}
+use Rattle.house_rows.specs.declared.command_result.CommandResult.TheVariants as report
 use Rattle.house_rows.specs.Names.{refusal_status}
 use Rattle.settle.specs.declared.zone.Zone.{Zone}
 use Rattle.site_request.specs.Faults.{status_of}
 use Rattle.site_request.specs.declared.fault.Fault.{Fault}
 use Rattle.site_request.specs.declared.fault.Fault.TheVariants as fault
-use Rattle.site_replies.specs.Texts.{IsServed, digits_in, fault_text, is_failure, is_refusal_of_memory, page_status, reply_status, reply_text, told_status}
+use Rattle.site_replies.specs.Texts.{IsServed, digits_in, fault_text, is_failure, is_refusal_of_memory, page_status, reply_status, reply_text, result_status}
 use Rattle.status.specs.declared.Status.{Status}
 use Rattle.status.specs.declared.Status.TheVariants.{Success, Created, BadRequest, Forbidden, NotFound, MethodNotAllowed, Conflict, ContentTooLarge, InternalServerError, NotImplemented, ServiceUnavailable}
 use Rattle.wire.specs.Answer.{answer_bytes, head_start, status_line}
@@ -109,19 +109,19 @@ faults (fault.Field f) = (refl, refl)
 faults fault.Date = (refl, refl)
 faults fault.Order = (refl, refl)
 
-tolds : (t : Told) → Serves (told_status t)
-tolds (told.Registered member) = (refl, refl)
-tolds (told.Added category) = (refl, refl)
-tolds (told.Listing item) = (refl, refl)
-tolds (told.Placed count floor leader price) = (refl, refl)
-tolds (told.Bought item price) = (refl, refl)
-tolds (told.Closed sold unsold) = (refl, refl)
-tolds (told.Settlement fee item net price) = (refl, refl)
-tolds (told.Watched item watched) = (refl, refl)
-tolds (told.Question asker item number) = (refl, refl)
-tolds (told.Rated item rating to) = (refl, refl)
-tolds (told.Edition edition) = (refl, refl)
-tolds told.Nothing = (refl, refl)
+reports : (t : CommandResult) → Serves (result_status t)
+reports (report.Registered member) = (refl, refl)
+reports (report.Added category) = (refl, refl)
+reports (report.Listing item) = (refl, refl)
+reports (report.Placed count floor leader price) = (refl, refl)
+reports (report.Bought item price) = (refl, refl)
+reports (report.Closed sold unsold) = (refl, refl)
+reports (report.Settlement fee item net price) = (refl, refl)
+reports (report.Watched item watched) = (refl, refl)
+reports (report.Question asker item number) = (refl, refl)
+reports (report.Rated item rating to) = (refl, refl)
+reports (report.Edition edition) = (refl, refl)
+reports report.Nothing = (refl, refl)
 
 pages : (p : Page) → Serves (page_status p)
 pages (page.Refused r) = refusals r
@@ -135,32 +135,32 @@ pages (page.OneMember m ratings) = (refl, refl)
 pages (page.Feedbacks rows) = (refl, refl)
 pages (page.Bids rows) = (refl, refl)
 pages (page.Reserves rows) = (refl, refl)
-pages (page.Statement member from to sales) = (refl, refl)
+pages (page.Statement member from to rate sales) = (refl, refl)
 
 replies : (r : Reply Fault) → Serves (reply_status r)
-replies (Done t) = tolds t
+replies (Done t) = reports t
 replies (Denied r) = refusals r
 replies (Shows p) = pages p
 replies (Faulty f) = faults f
 
--- no reply is told with 500 or 503
-pub reply_served : (zone : Zone) (rate : ℕ) (closes : Bool) (r : Reply Fault)
-    → IsServed (reply_text zone rate closes r)
+-- no reply has the status 500 or 503
+pub reply_served : (zone : Zone) (closes : Bool) (r : Reply Fault)
+    → IsServed (reply_text zone closes r)
 unfolding reply_text
-reply_served zone rate closes r = by_status (reply_status r) _ closes _ (replies r)
+reply_served zone closes r = by_status (reply_status r) _ closes _ (replies r)
 
--- want of memory is told with 503
-pub memory_told : (closes : Bool)
+-- want of memory has the status 503
+pub memory_reported : (closes : Bool)
     → is_refusal_of_memory (fault_text keep_fault.Memory closes) ≡ true
 unfolding fault_text
-memory_told closes = rw (digits ServiceUnavailable None closes _) refl
+memory_reported closes = rw (digits ServiceUnavailable None closes _) refl
 
--- a store that failed is told with 500
-pub store_told : (closes : Bool) → is_failure (fault_text keep_fault.Store closes) ≡ true
+-- a store that failed has the status 500
+pub store_reported : (closes : Bool) → is_failure (fault_text keep_fault.Store closes) ≡ true
 unfolding fault_text
-store_told closes = rw (digits InternalServerError None closes _) refl
+store_reported closes = rw (digits InternalServerError None closes _) refl
 
 -- and so is one with a row that doesn't fit
-pub damage_told : (closes : Bool) → is_failure (fault_text keep_fault.Damaged closes) ≡ true
+pub damage_reported : (closes : Bool) → is_failure (fault_text keep_fault.Damaged closes) ≡ true
 unfolding fault_text
-damage_told closes = rw (digits InternalServerError None closes _) refl
+damage_reported closes = rw (digits InternalServerError None closes _) refl

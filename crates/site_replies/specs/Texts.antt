@@ -7,33 +7,42 @@ use Rattle.house_rows.specs.declared.page.Page.{Page}
 use Rattle.house_rows.specs.declared.page.Page.TheVariants.{Refused}
 use Rattle.house_rows.specs.declared.reply.Reply.{Reply}
 use Rattle.house_rows.specs.declared.reply.Reply.TheVariants.{Done, Denied, Shows, Faulty}
-use Rattle.house_rows.specs.declared.told.Told.{Told}
-use Rattle.house_rows.specs.declared.told.Told.TheVariants.{Closed, Settlement, Watched}
+use Rattle.house_rows.specs.declared.command_result.CommandResult.{CommandResult}
+use Rattle.house_rows.specs.declared.command_result.CommandResult.TheVariants.{Closed, Settlement, Watched}
 use Rattle.house_rows.specs.Names.{refusal_status}
 use Rattle.pages_json.specs.Words.{text_of}
 use Rattle.pages_text.specs.Fits.{PageFits}
-use Rattle.pages_text.specs.Trees.{page_tree, refusal_tree, told_tree}
+use Rattle.pages_text.specs.Trees.{page_tree, refusal_tree, result_tree}
 use Rattle.settle.specs.declared.zone.Zone.{Zone}
 use Rattle.site_request.specs.Faults.{allow_of, body_of, status_of}
 use Rattle.site_request.specs.declared.fault.Fault.{Fault}
+use Rattle.site_replies.specs.declared.reply_ref.ReplyRef.{ReplyRef}
+use Rattle.site_replies.specs.declared.reply_ref.ReplyRef.TheVariants as ref
 use Rattle.status.specs.declared.Status.{Status}
 use Rattle.status.specs.declared.Status.TheVariants.{Created, InternalServerError, ServiceUnavailable, Success}
 use Rattle.wire.specs.Answer.{answer_bytes, error_body}
 use Rattle.wire.specs.declared.methods.Methods.{Methods}
 
+-- what a reply that is to be written says
+abbrev pub reply_of : ReplyRef → Reply Fault
+reply_of (ref.Done report) = Done report.now
+reply_of (ref.Denied refusal) = Denied refusal
+reply_of (ref.Shows page) = Shows page.now
+reply_of (ref.Faulty fault) = Faulty fault
+
 -- a command that makes a row is answered 201, one that only changes rows 200
-abbrev pub told_status : Told → Status
-told_status (Closed sold unsold) = Success
-told_status (Settlement fee item net price) = Success
-told_status (Watched item watched) = Success
-told_status _ = Created
+abbrev pub result_status : CommandResult → Status
+result_status (Closed sold unsold) = Success
+result_status (Settlement fee item net price) = Success
+result_status (Watched item watched) = Success
+result_status _ = Created
 
 abbrev pub page_status : Page → Status
 page_status (Refused refusal) = refusal_status refusal
 page_status _ = Success
 
 abbrev pub reply_status : Reply Fault → Status
-reply_status (Done told) = told_status told
+reply_status (Done report) = result_status report
 reply_status (Denied refusal) = refusal_status refusal
 reply_status (Shows page) = page_status page
 reply_status (Faulty fault) = status_of fault
@@ -43,17 +52,17 @@ abbrev pub reply_allow : Reply Fault → Option Methods
 reply_allow (Faulty fault) = allow_of fault
 reply_allow _ = None
 
--- the body: days are those of the zone, and fees are by the rate
-abbrev pub reply_body : Zone → ℕ → Reply Fault → List ℕ
-reply_body zone rate (Done told) = text_of (told_tree told)
-reply_body zone rate (Denied refusal) = text_of (refusal_tree refusal)
-reply_body zone rate (Shows page) = text_of (page_tree zone rate page)
-reply_body zone rate (Faulty fault) = body_of fault
+-- the body: days are those of the zone
+abbrev pub reply_body : Zone → Reply Fault → List ℕ
+reply_body zone (Done report) = text_of (result_tree report)
+reply_body zone (Denied refusal) = text_of (refusal_tree refusal)
+reply_body zone (Shows page) = text_of (page_tree zone page)
+reply_body zone (Faulty fault) = body_of fault
 
 -- the one text of a reply; the connection ends after it or not
-unfoldable pub reply_text : Zone → ℕ → Bool → Reply Fault → List ℕ
-reply_text zone rate closes reply =
-    answer_bytes (reply_status reply) (reply_allow reply) closes (reply_body zone rate reply)
+unfoldable pub reply_text : Zone → Bool → Reply Fault → List ℕ
+reply_text zone closes reply =
+    answer_bytes (reply_status reply) (reply_allow reply) closes (reply_body zone reply)
 
 -- a reply that can be written: its page can
 abbrev pub ReplyFits : Reply Fault → Type 0

@@ -1,15 +1,16 @@
 //! The bytes of every answer: status, fields, and a body of JSON.
 //!
 //! Promised: a reply of the house has one text, which follows from the reply alone, and from the
-//! zone and the rate where it is a statement; and the text tells its status. Read
-//! `specs/Texts.antt` first, and then `replies`, whose `append` is the call that matters.
+//! zone where it is a statement; and the text says its status. Read `specs/Texts.antt` first, and
+//! then `replies`, whose `write` is the call that matters.
 #![tactic(auto)]
 
 mod faults;
 mod laws;
 mod replies;
-mod statuses;
+mod reply_ref;
 
 pub use faults::fault_text;
 pub use laws::texts_tell_their_status;
 pub use replies::ReplyWriter;
+pub use reply_ref::ReplyRef;

@@ -40,27 +40,27 @@ answer_is item asker number text = ap (λ o. or_wrong field.Text o >>= (λ t. Ok
 
 -- ---- a text that may be there
 
-told : (o : Order) (body key : List ℕ) → has_fields o ≡ true
+report : (o : Order) (body key : List ℕ) → has_fields o ≡ true
     → ((text : List ℕ) → Some (fields_in o (put key (string text) no_members)) ≡ option_map Ok (text_in o text))
     → (found : Option (Bor (List ℕ))) → IfSome found (λ text. IsLoneText body key text.now)
     → IfSome found (λ text. IsText o body text.now)
-told o body key has is None lone = tt
-told o body key has is (Some text) lone = sym (is text.now) ∙ ap Some (sym (by_fields o body key text.now has lone))
+report o body key has is None lone = tt
+report o body key has is (Some text) lone = sym (is text.now) ∙ ap Some (sym (by_fields o body key text.now has lone))
 
-pub register_told : (body : List ℕ) (found : Option (Bor (List ℕ))) → IfSome found (λ text. IsLoneText body (codes "name") text.now)
+pub register_reported : (body : List ℕ) (found : Option (Bor (List ℕ))) → IfSome found (λ text. IsLoneText body (codes "name") text.now)
     → IfSome found (λ text. IsText order.Register body text.now)
-register_told body = told order.Register body (codes "name") refl (λ text. ap Some (register_is text))
+register_reported body = report order.Register body (codes "name") refl (λ text. ap Some (register_is text))
 
-pub category_told : (body : List ℕ) (found : Option (Bor (List ℕ))) → IfSome found (λ text. IsLoneText body (codes "name") text.now)
+pub category_reported : (body : List ℕ) (found : Option (Bor (List ℕ))) → IfSome found (λ text. IsLoneText body (codes "name") text.now)
     → IfSome found (λ text. IsText order.AddCategory body text.now)
-category_told body = told order.AddCategory body (codes "name") refl (λ text. ap Some (category_is text))
+category_reported body = report order.AddCategory body (codes "name") refl (λ text. ap Some (category_is text))
 
-pub question_told : (item : ℕ) (body : List ℕ) (found : Option (Bor (List ℕ))) → IfSome found (λ text. IsLoneText body (codes "text") text.now)
+pub question_reported : (item : ℕ) (body : List ℕ) (found : Option (Bor (List ℕ))) → IfSome found (λ text. IsLoneText body (codes "text") text.now)
     → IfSome found (λ text. IsText (order.Ask item) body text.now)
-question_told item body = told (order.Ask item) body (codes "text") refl (λ text. ap Some (question_is item text))
+question_reported item body = report (order.Ask item) body (codes "text") refl (λ text. ap Some (question_is item text))
 
-pub answer_told : (item asker number : ℕ) (body : List ℕ) (found : Option (Bor (List ℕ)))
+pub answer_reported : (item asker number : ℕ) (body : List ℕ) (found : Option (Bor (List ℕ)))
     → IfSome found (λ text. IsLoneText body (codes "text") text.now)
     → IfSome found (λ text. IsText (order.Answer item asker number) body text.now)
-answer_told item asker number body = told (order.Answer item asker number) body (codes "text") refl
+answer_reported item asker number body = report (order.Answer item asker number) body (codes "text") refl
     (λ text. ap Some (answer_is item asker number text))

@@ -14,19 +14,19 @@ by_rows : (bytes : List ℕ) (ms : Members) (rows : Option (List (ℕ × ℕ))) 
     → rows ≡ pairs_at (codes "at") (codes "step") (codes "bands") ms
     → command_of order.SetBands bytes ≡ (or_wrong field.Bands rows >>= (λ bands. Ok (command.SetBands bands)))
 unfolding command_of object_at fields_in table_in rows_at
-by_rows bytes ms rows is told =
+by_rows bytes ms rows is report =
     ap (λ o. or_no_object o >>= fields_in order.SetBands) is
-    ∙ ap (λ o. or_wrong field.Bands o >>= (λ bands. Ok (command.SetBands bands))) (sym told)
+    ∙ ap (λ o. or_wrong field.Bands o >>= (λ bands. Ok (command.SetBands bands))) (sym report)
 
 pub rows_given : (bytes : List ℕ) (ms : Members) (rows : List (ℕ × ℕ)) → body_of bytes ≡ Some ms
     → Some rows ≡ pairs_at (codes "at") (codes "step") (codes "bands") ms
     → command_of order.SetBands bytes ≡ Ok (command.SetBands rows)
-rows_given bytes ms rows is told = by_rows bytes ms (Some rows) is told
+rows_given bytes ms rows is report = by_rows bytes ms (Some rows) is report
 
 pub no_rows : (bytes : List ℕ) (ms : Members) → body_of bytes ≡ Some ms
     → None ≡ pairs_at (codes "at") (codes "step") (codes "bands") ms
     → command_of order.SetBands bytes ≡ Err (wrong.Field field.Bands)
-no_rows bytes ms is told = by_rows bytes ms None is told
+no_rows bytes ms is report = by_rows bytes ms None is report
 
 pub no_object : (bytes : List ℕ) → body_of bytes ≡ None → command_of order.SetBands bytes ≡ Err wrong.NoObject
 unfolding command_of object_at

@@ -1,4 +1,4 @@
--- What a message asks. Start here. Faults are judged in the order in which the lines below stand.
+-- What a message asks. Start here. Faults are judged in the order of the lines below.
 use Rattle.std.specs.Prelude.{◌≡◌, ℕ, List, Bool, true, Option, Some, None, Result, Ok, Err}
 use Rattle.house_rows.specs.declared.command.Command.{Command}
 use Rattle.house_rows.specs.declared.message.Message.{Message}
@@ -67,7 +67,7 @@ abbrev pub or_broken : Option ℕ → Result (Message Fault) Fault → Message F
 or_broken caller (Ok message) = message
 or_broken caller (Err f) = Broken caller f
 
--- whether a message may ask for something, as far as can be told without its body
+-- whether a message may ask for something, as far as can be said without its body
 abbrev pub may_ask : Message Fault → Bool
 may_ask (Order moment caller command) = true
 may_ask (Read caller query) = true

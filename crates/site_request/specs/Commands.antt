@@ -1,4 +1,5 @@
--- The command that an order means with a body. Start here: its fields are judged in the order in which they stand.
+-- The command that an order means with a body. Start here: its fields are judged in the order in
+-- which they are written.
 use Rattle.std.specs.Prelude.{ℕ, List, Bool, true, false, if◌then◌else◌, Option, Some, None, Result, Ok, Err}
 use Rattle.serde_json.specs.Data.{Members, no_members}
 use Rattle.house_rows.specs.declared.command.Command.{Command}
@@ -48,7 +49,7 @@ answer_in item asker number ms = do
   text ← text_at field.Text ms
   Ok (command.Answer item asker number text)
 
--- a number that is no rating reaches the command, whose verdict tells it
+-- a number that is no rating reaches the command, whose verdict says so
 unfoldable pub feedback_in : ℕ → Members → Result Command Wrong
 feedback_in item ms = do
   rating ← integer_at field.Rating ms

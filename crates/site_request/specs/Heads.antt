@@ -5,7 +5,7 @@ use Rattle.site_digits.specs.Digits.{count_in}
 use Rattle.wire.specs.Fields.{only, values_of}
 use Rattle.wire.specs.Message.{Message}
 
--- the number of the field of that name, where it stands exactly once
+-- the number of the field of that name, where it occurs exactly once
 unfoldable pub numbered : List ℕ → Message → Option ℕ
 numbered name m = option_and_then count_in (only (values_of name m.fields))
 

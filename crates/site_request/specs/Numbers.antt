@@ -1,4 +1,4 @@
--- The route of each path, with the numbers that stand in the segments of a target.
+-- The route of each path, with the numbers that are in the segments of a target.
 use Rattle.std.specs.Prelude.{ℕ, List, Option, Some, None}
 use Rattle.house_rows.specs.declared.query.Query.TheVariants as query
 use Rattle.site_request.specs.Segments.{number_at, segment_at}
@@ -14,7 +14,7 @@ abbrev pub ◌>>=◌ : {A B : Type 0} → Option A → (A → Option B) → Opti
 None >>= f = None
 (Some x) >>= f = f x
 
--- the route of a command's path; none where no number stands in the place of one
+-- the route of a command's path; none where no number is in the place of one
 unfoldable pub order_in : TheOrder → List ℕ → Option Route
 order_in order.Register target = Some (Order order.Register)
 order_in order.AddCategory target = Some (Order order.AddCategory)
@@ -48,7 +48,7 @@ order_in (order.Feedback _) target = do
   Some (Order (order.Feedback item))
 order_in order.SetBands target = Some (Order order.SetBands)
 
--- the route of a read's path; none where no number stands in the place of one
+-- the route of a read's path; none where no number is in the place of one
 unfoldable pub read_in : TheRead → List ℕ → Option Route
 read_in read.House target = Some (Read query.House)
 read_in read.BandsOf target = do

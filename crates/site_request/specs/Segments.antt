@@ -3,7 +3,7 @@ use Rattle.std.specs.Prelude.{ℕ, List, ◌==◌, Option, option_and_then, slic
 use Rattle.std.specs.List.{slice_split}
 use Rattle.site_digits.specs.Digits.{number_in}
 
--- the segments, which slashes part; the first stands before the first slash
+-- the segments, which slashes part; the first is before the first slash
 abbrev pub segments : List ℕ → List (List ℕ)
 segments target = slice_split (λ b. b == 47) target
 

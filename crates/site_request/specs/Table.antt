@@ -11,7 +11,8 @@ use Rattle.site_request.specs.declared.path.Path.{Path}
 use Rattle.site_request.specs.declared.path.Path.TheVariants.{Get, Post, Categories, Bands}
 use Rattle.site_request.specs.declared.path.Read.TheVariants as read
 
--- the patterns, and for what each path is, with 0 for each number of an order; what stands in braces fits any segment
+-- the patterns, and for what each path is, with 0 for each number of an order; what is in braces
+-- fits any segment
 unfoldable pub table : List (List ℕ × Path)
 table =
     (codes "/members", Post order.Register)

@@ -12,7 +12,7 @@ pub struct Asked {
 }
 
 /// Memory was refused while a message was read.
-#[derive(Clone, Copy, Debug)]
+#[derive(Clone, Copy)]
 pub struct NoMemory {
     /// Whether the connection ends after the answer.
     pub closes: bool,

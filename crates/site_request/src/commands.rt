@@ -1,5 +1,5 @@
 //! Commands, field by field in the order in which they are judged.
-ghost use Rattle.std.specs.Prelude.{◌≡◌, ◌≢◌, false, true, Ok, Some, IfOk, IfErr, IfSome, option_map};
+ghost use Rattle.std.specs.Prelude.{◌≡◌, ◌≢◌, false, true, Ok, Some, IfOk, IfErr, IfSome, MatchOption, option_map};
 ghost use Rattle.serde_json.specs.Data.{no_members};
 ghost use Rattle.site_bodies.specs.Body.{fields_of};
 ghost use Rattle.site_request.specs.Fields.{Gives};
@@ -141,33 +141,19 @@ fn with_fields(alloc: Global, order: Order, body: &Body<'_>) -> Result<Command, 
     }
 }
 
-// Whether an order has fields.
-fn has_fields(order: Order) -> bool
-    ensures { result ≡ has_fields order }
-{
-    !matches!(
-        order,
-        Order::Buy { .. }
-            | Order::Close
-            | Order::Settle { .. }
-            | Order::Watch { .. }
-            | Order::Unwatch { .. }
-    )
-}
-
-// The command of an order without fields.
+// The command of an order without fields; none where the order has some.
 #[tactic(auto, unfolding(crate::specs::Commands::fields_in))]
-fn without_fields(order: Order) -> Command
-    requires { has_fields order ≡ false }
-    ensures { Ok result ≡ fields_in order no_members }
+fn without_fields(order: Order) -> Option<Command>
+    ensures { MatchOption result (has_fields order ≡ true)
+        (λ command. (has_fields order ≡ false) × (Ok command ≡ fields_in order no_members)) }
 {
     match order {
-        Order::Buy { item } => Command::Buy { item },
-        Order::Close => Command::Close,
-        Order::Settle { item } => Command::Settle { item },
-        Order::Watch { item } => Command::Watch { item },
-        Order::Unwatch { item } => Command::Unwatch { item },
-        _ => unreachable!(),
+        Order::Buy { item } => Some(Command::Buy { item }),
+        Order::Close => Some(Command::Close),
+        Order::Settle { item } => Some(Command::Settle { item }),
+        Order::Watch { item } => Some(Command::Watch { item }),
+        Order::Unwatch { item } => Some(Command::Unwatch { item }),
+        _ => None,
     }
 }
 
@@ -222,7 +208,7 @@ fn of_text(order: Order, text: Text) -> Option<Command>
 
 // The command of a body that is its one field alone. Where there is none, the body is read in full.
 fn plain(alloc: Global, order: Order, bytes: &[u8]) -> Result<Option<Command>, Unread>
-    ensures told { IfOk result (λ found. IfSome found (λ command. command_of order bytes.now ≡ Ok command)) }
+    ensures report { IfOk result (λ found. IfSome found (λ command. command_of order bytes.now ≡ Ok command)) }
     ensures memory { IfErr result (λ unread. unread ≡ Unread.Memory) }
 {
     match lone_field(order, bytes) {
@@ -241,8 +227,8 @@ pub fn command(
 ) -> Result<Command, Unread>
     ensures { Gives result (command_of order bytes.now) }
 {
-    if !has_fields(order) {
-        return Ok(without_fields(order));
+    if let Some(command) = without_fields(order) {
+        return Ok(command);
     }
     if matches!(order, Order::SetBands) {
         return set_bands(alloc, bytes);

@@ -6,7 +6,7 @@ use crate::field::Field;
 use wire::{Answer, Methods, Status, WireFault};
 
 /// Why a message asks for nothing: the first that holds, in this order.
-#[derive(Clone, Copy, Debug)]
+#[derive(Clone, Copy)]
 pub enum Fault {
     /// It is no whole message. It ends the connection, and is nobody's.
     Frame(WireFault),
@@ -14,9 +14,9 @@ pub enum Fault {
     Path,
     /// The path has other methods, which are these.
     Method(Methods),
-    /// The field `x-member` doesn't stand exactly once as a number. The message is nobody's.
+    /// The field `x-member` doesn't occur exactly once as a number. The message is nobody's.
     Member,
-    /// The field `x-moment` of a command doesn't stand exactly once as a moment.
+    /// The field `x-moment` of a command doesn't occur exactly once as a moment.
     Moment,
     /// The body is no object of JSON.
     Json,

@@ -1,11 +1,11 @@
 //! What one message asks of the house: the first step of every answer.
 //!
-//! Promised: a text asks for one thing, which follows from its bytes alone: a command or a read with
-//! its caller, or nothing, for the first fault in the order in which faults are judged; and a whole
-//! message is its caller's whatever is wrong after that. A target has the route of the one pattern
-//! that it fits, with the numbers that stand in its own segments. Read `specs/Asked.antt` first, then
-//! `specs/Table.antt`, which has the patterns, `specs/Commands.antt`, which has the fields of each
-//! command, and then `reading`.
+//! Promised: a text asks for one thing, which follows from its bytes alone: a command or a read
+//! with its caller, or nothing, for the first fault in the order in which faults are judged; and a
+//! whole message is its caller's whatever is wrong after that. A target has the route of the one
+//! pattern that it fits, with the numbers that are in its own segments. Read `specs/Asked.antt`
+//! first, then `specs/Table.antt`, which has the patterns, `specs/Commands.antt`, which has the
+//! fields of each command, and then `reading`.
 #![tactic(auto)]
 
 mod asked;
@@ -14,9 +14,7 @@ mod days;
 mod fault;
 mod field;
 mod fields;
-mod heads;
 mod laws;
-mod numbers;
 mod order;
 mod path;
 mod reading;

@@ -1,6 +1,6 @@
 //! What a command's path orders.
 
-/// What a command's path orders, with the numbers of the path. The rest of a command stands in its
+/// What a command's path orders, with the numbers of the path. The rest of a command is in its
 /// body.
 #[derive(Clone, Copy, Debug)]
 pub enum Order {

@@ -1,15 +1,15 @@
 //! Reading a message.
-ghost use Rattle.std.specs.Prelude.{◌≡◌, IfOk, IsErr, IsErrOf, Some, true};
+ghost use Rattle.std.specs.Prelude.{◌≡◌, IfOk, IsErrOf, Some, true};
 ghost use Rattle.house_rows.specs.declared.message.Message.TheVariants as message;
 ghost use Rattle.site_request.specs.Asked.{MayAsk, asked_of, asks_of, called, may_ask, message_of, ordered};
 ghost use Rattle.site_request.specs.Faults.{Gives};
 ghost use Rattle.site_request.specs.Reading.{IsRead, IsRequestRead};
+ghost use Rattle.site_request.specs.Heads.{caller_in, moment_in, numbered};
 
 use crate::asked::{Asked, NoMemory};
 use crate::commands::command;
 use crate::days::period;
 use crate::fault::Fault;
-use crate::heads::{caller, moment};
 use crate::order::Order;
 use crate::route::Route;
 use crate::routes::Routes;
@@ -17,7 +17,9 @@ use crate::unread::{Unread, Wrong};
 use crate::unrouted::RouteFault;
 use house_rows::Message;
 use json::Scratch;
-use std::alloc::{AllocError, Global};
+use settle::LAST_MOMENT;
+use site_digits::count;
+use std::alloc::Global;
 use wire::{Request, whole};
 
 /// Why nothing was read.
@@ -31,7 +33,7 @@ pub(crate) enum Unasked {
 
 // The command that a caller gives.
 #[tactic(auto, unfolding(crate::specs::Asked::ordered))]
-fn ordered(
+fn read_order(
     alloc: Global,
     caller: u64,
     order: Order,
@@ -56,31 +58,8 @@ fn ordered(
     }
 }
 
-// What a caller asks by a route.
-#[tactic(auto, unfolding(crate::specs::Asked::called))]
-fn called(
-    alloc: Global,
-    caller: u64,
-    route: Route<'_>,
-    request: &Request<'_>,
-    scratch: &mut Scratch,
-) -> Result<Message<Fault>, Unasked>
-    ensures gives { Gives result (called caller route.entry request.now) }
-    ensures unread { IsErrOf result Unasked.Memory
-        → MayAsk (called caller route.entry request.now) }
-{
-    match route {
-        Route::Order(order) => ordered(alloc, caller, order, request, scratch),
-        Route::Read(query) => Ok(Message::Read { caller, query }),
-        Route::Statement { from, to } => {
-            let query = period(from.bytes(), to.bytes())?;
-            Ok(Message::Read { caller, query })
-        }
-    }
-}
-
 // What a whole message asks, once its caller is known, or that it has none.
-#[tactic(auto, unfolding(crate::specs::Asked::asks_of))]
+#[tactic(auto, unfolding(crate::specs::Asked::asks_of, crate::specs::Asked::called))]
 fn asks(
     alloc: Global,
     routes: &Routes,
@@ -99,30 +78,18 @@ fn asks(
     let Some(caller) = caller else {
         return Err(Unasked::Fault(Fault::Member));
     };
-    called(alloc, caller, route, request, scratch)
-}
-
-// What a whole message asks.
-#[tactic(auto, unfolding(crate::specs::Asked::message_of))]
-fn message(
-    alloc: Global,
-    routes: &Routes,
-    request: &Request<'_>,
-    scratch: &mut Scratch,
-) -> Result<Message<Fault>, AllocError>
-    ensures ok { IfOk result (λ m. m ≡ message_of request.now) }
-    ensures unread { IsErr result → may_ask (message_of request.now) ≡ true }
-{
-    let caller = caller(request);
-    match asks(alloc, routes, caller, request, scratch) {
-        Ok(message) => Ok(message),
-        Err(Unasked::Fault(fault)) => Ok(Message::Broken { caller, fault }),
-        Err(Unasked::Memory) => Err(AllocError),
+    match route {
+        Route::Order(order) => read_order(alloc, caller, order, request, scratch),
+        Route::Read(query) => Ok(Message::Read { caller, query }),
+        Route::Statement { from, to } => {
+            let query = period(from.bytes(), to.bytes())?;
+            Ok(Message::Read { caller, query })
+        }
     }
 }
 
 /// What a whole message asks.
-#[tactic(auto, unfolding(crate::specs::Asked::asked_of))]
+#[tactic(auto, unfolding(crate::specs::Asked::asked_of, crate::specs::Asked::message_of))]
 pub fn read_request(
     alloc: Global,
     routes: &Routes,
@@ -132,9 +99,14 @@ pub fn read_request(
     ensures { IsRequestRead request.now result }
 {
     let closes = request.closes();
-    match message(alloc, routes, request, scratch) {
+    let caller = caller(request);
+    match asks(alloc, routes, caller, request, scratch) {
         Ok(message) => Ok(Asked { closes, message }),
-        Err(_) => Err(NoMemory { closes }),
+        Err(Unasked::Fault(fault)) => Ok(Asked {
+            closes,
+            message: Message::Broken { caller, fault },
+        }),
+        Err(Unasked::Memory) => Err(NoMemory { closes }),
     }
 }
 
@@ -156,5 +128,37 @@ pub fn read(
                 fault: Fault::Frame(fault),
             },
         }),
+    }
+}
+
+// The number of a field that occurs exactly once.
+#[tactic(auto, unfolding(crate::specs::Heads::numbered))]
+fn number_of(request: &Request<'_>, name: &[u8]) -> Option<u64>
+    ensures { result ≡ numbered name.now request.now }
+{
+    match request.one(name) {
+        Some(text) => count(text),
+        None => None,
+    }
+}
+
+/// Whose the message is.
+#[tactic(auto, unfolding(crate::specs::Heads::caller_in))]
+pub(crate) fn caller(request: &Request<'_>) -> Option<u64>
+    ensures { result ≡ caller_in request.now }
+{
+    number_of(request, b"x-member")
+}
+
+/// The moment of a command, in seconds since 1970.
+#[tactic(auto, unfolding(crate::specs::Heads::moment_in))]
+pub(crate) fn moment(request: &Request<'_>) -> Option<u64>
+    ensures { result ≡ moment_in request.now }
+{
+    let moment = number_of(request, b"x-moment")?;
+    if moment <= LAST_MOMENT {
+        Some(moment)
+    } else {
+        None
     }
 }

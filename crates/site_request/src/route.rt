@@ -1,21 +1,21 @@
-//! What a message asks for, as far as its method and its target tell.
+//! What a message asks for, as far as its method and its target say.
 use crate::order::Order;
 use crate::segment::Segment;
 use house_rows::Query;
 
-/// What a message asks for, as far as its method and its target tell, with the numbers that stand in
+/// What a message asks for, as far as its method and its target say, with the numbers that are in
 /// the target.
 #[derive(Drop)]
 pub enum Route<'t> {
-    /// A command, whose fields stand in the body.
+    /// A command, whose fields are in the body.
     Order(Order),
     /// A read.
     Read(Query),
     /// The statement of the caller's sales and purchases in a period, whose days aren't judged yet.
     Statement {
-        /// What stands in the place of the first day: at least one byte, a date or not.
+        /// What is in the place of the first day: at least one byte, a date or not.
         from: Segment<'t>,
-        /// What stands in the place of the last day.
+        /// What is in the place of the last day.
         to: Segment<'t>,
     },
 }

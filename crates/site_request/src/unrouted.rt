@@ -2,7 +2,7 @@
 use wire::Methods;
 
 /// Why a method and a target have no route.
-#[derive(Clone, Copy, Debug)]
+#[derive(Clone, Copy)]
 pub enum RouteFault {
     /// The target fits no pattern, or has no number where its pattern has one.
     Path,

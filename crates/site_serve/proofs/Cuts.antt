@@ -89,11 +89,11 @@ concat_push (t ∷ texts) text = ap (λ l. t ++ l) (concat_push texts text) ∙ 
 -- the last of some
 pub last_of : (texts : List (List ℕ)) → 0 < length texts → (whole : List (List ℕ)) × (last : List ℕ) × (texts ≡ whole ++ last ∷ [])
 last_of [] some = absurd (omega arith)
-last_of (t ∷ texts) some = behind texts t
+last_of (t ∷ texts) some = rest_after texts t
   where
-    behind : (texts : List (List ℕ)) (t : List ℕ) → (whole : List (List ℕ)) × (last : List ℕ) × (t ∷ texts ≡ whole ++ last ∷ [])
-    behind [] t = ([], t, refl)
-    behind (u ∷ texts) t = let (whole, last, e) = behind texts u in (t ∷ whole, last, ap (λ l. t ∷ l) e)
+    rest_after : (texts : List (List ℕ)) (t : List ℕ) → (whole : List (List ℕ)) × (last : List ℕ) × (t ∷ texts ≡ whole ++ last ∷ [])
+    rest_after [] t = ([], t, refl)
+    rest_after (u ∷ texts) t = let (whole, last, e) = rest_after texts u in (t ∷ whole, last, ap (λ l. t ∷ l) e)
 
 -- the cut after a last message, whether it ends the connection or not
 pub cut_last : (messages : List Message) (bytes held after : List ℕ) (m : Message) → TakenOff bytes messages held → IsMessageAt held m after

@@ -35,9 +35,9 @@ use Rattle.wire.specs.declared.fault.WireFault.{WireFault}
 use Rattle.site_serve.specs.Ends.{HasEnded, HasFailed, IsKept}
 use Rattle.site_serve.specs.Lives.{HasLived, LeavesLives}
 use Rattle.site_serve.specs.Serving.{fault_bytes, heard, rest_bytes}
-use Rattle.site_serve.specs.declared.serving.ServeFault.{ServeFault}
-use Rattle.site_serve.specs.declared.serving.ServeFault.TheVariants.{Write}
-use Rattle.site_serve.specs.declared.serving.Served.{Served}
+use Rattle.site_serve.specs.declared.server.ServeFault.{ServeFault}
+use Rattle.site_serve.specs.declared.server.ServeFault.TheVariants.{Write}
+use Rattle.site_serve.specs.declared.server.Served.{Served}
 use Rattle.site_serve.proofs.Cuts.{concat_push, cut_closed, cut_last, cut_of, ends, turn_push}
 use Rattle.site_serve.proofs.Runs.{Serving, whole_begins}
 
@@ -70,7 +70,7 @@ honest_before content is_failed is_honest may_leave zone (m ∷ ms) (r ∷ rs) o
     honest =
     step.honest (honest_before content is_failed is_honest may_leave zone ms rs mid new turn honest)
 
--- after a store that has failed: it stays so, what asks it for anything is told so, and a crash
+-- after a store that has failed: it stays so, what asks it for anything is answered so, and a crash
 -- leaves nothing that it could not have left before
 pub record Failing {K : Type 0} (is_failed : K → Bool) (is_honest : K → Type 0)
     (may_leave : K → Tables → Type 0) (ms : List Asked) (rs : List (List ℕ)) (old new : K)
@@ -134,7 +134,7 @@ unfolding next_of
 not_entered settings h m not = stays settings h m.message not
 
 -- one more message before those that were kept
-kept_behind_answer : {K : Type 0} (content : K → Tables) (is_failed : K → Bool)
+kept_after_answer : {K : Type 0} (content : K → Tables) (is_failed : K → Bool)
     (may_leave : K → Tables → Type 0) (settings : Settings) (zone : Zone) (h after : History)
     (m : Asked) (r : List ℕ) (ms : List Asked) (rs : List (List ℕ)) (old mid new : K)
     → IsAnswered content is_failed may_leave settings zone h m r old mid
@@ -142,10 +142,10 @@ kept_behind_answer : {K : Type 0} (content : K → Tables) (is_failed : K → Bo
     ⊎ ((is_failed old ≡ false) × (t ≡ tables_of settings (next_of settings h m))))
     → IsKept content is_failed may_leave settings zone (next_of settings h m) ms rs after mid new
     → IsKept content is_failed may_leave settings zone h (m ∷ ms) (r ∷ rs) after old new
-kept_behind_answer content is_failed may_leave settings zone h after m r ms rs old mid new done
+kept_after_answer content is_failed may_leave settings zone h after m r ms rs old mid new done
     crash kept =
     record {
-      run = inl (done.told, kept.run);
+      run = inl (done.report, kept.run);
       history = kept.history;
       tables = kept.tables;
       same = kept.same ∙ done.same;
@@ -162,16 +162,16 @@ kept_behind_answer content is_failed may_leave settings zone h after m r ms rs o
       ];
     }
 
-kept_behind_refusal : {K : Type 0} (content : K → Tables) (is_failed : K → Bool)
+kept_after_refusal : {K : Type 0} (content : K → Tables) (is_failed : K → Bool)
     (may_leave : K → Tables → Type 0) (settings : Settings) (zone : Zone) (h after : History)
     (m : Asked) (r : List ℕ) (ms : List Asked) (rs : List (List ℕ)) (old mid new : K)
     → IsWanting content is_failed may_leave m r old mid
     → IsKept content is_failed may_leave settings zone h ms rs after mid new
     → IsKept content is_failed may_leave settings zone h (m ∷ ms) (r ∷ rs) after old new
-kept_behind_refusal content is_failed may_leave settings zone h after m r ms rs old mid new wanting
+kept_after_refusal content is_failed may_leave settings zone h after m r ms rs old mid new wanting
     kept =
     record {
-      run = inr (wanting.told, kept.run);
+      run = inr (wanting.report, kept.run);
       history = kept.history;
       tables = kept.tables;
       same = kept.same ∙ wanting.same;
@@ -188,7 +188,7 @@ LeavesOf content is_failed may_leave settings zone h ms rs old new =
     ((after : History) × IsKept content is_failed may_leave settings zone h ms rs after old new)
     ⊎ HasFailed content is_failed may_leave settings zone h ms rs old new
 
-left_behind : {K : Type 0} (content : K → Tables) (is_failed : K → Bool)
+left_after : {K : Type 0} (content : K → Tables) (is_failed : K → Bool)
     (may_leave : K → Tables → Type 0) (settings : Settings) (zone : Zone) (h k : History)
     (m : Asked) (r : List ℕ) (ms : List Asked) (rs : List (List ℕ)) (old mid new : K)
     → ((first : List Asked) (firsts : List (List ℕ)) (after : History) (between : K)
@@ -196,9 +196,9 @@ left_behind : {K : Type 0} (content : K → Tables) (is_failed : K → Bool)
     → IsKept content is_failed may_leave settings zone h (m ∷ first) (r ∷ firsts) after old between)
     → LeavesOf content is_failed may_leave settings zone k ms rs mid new
     → LeavesOf content is_failed may_leave settings zone h (m ∷ ms) (r ∷ rs) old new
-left_behind content is_failed may_leave settings zone h k m r ms rs old mid new more
+left_after content is_failed may_leave settings zone h k m r ms rs old mid new more
     (inl (after, kept)) = inl (after, more ms rs after new kept)
-left_behind content is_failed may_leave settings zone h k m r ms rs old mid new more
+left_after content is_failed may_leave settings zone h k m r ms rs old mid new more
     (inr failed) = inr (record {
       first = m ∷ failed.first;
       last = failed.last;
@@ -246,7 +246,7 @@ failed_first content is_failed is_honest may_leave settings zone h m r ms rs old
       parts = refl;
       first_replies = [];
       later_replies = rs;
-      replied = ap (λ x. x ∷ rs) failed.told;
+      replied = ap (λ x. x ∷ rs) failed.report;
       after = h;
       between = old;
       kept = kept_none content is_failed may_leave settings zone h old is e;
@@ -275,16 +275,16 @@ left_of content is_failed is_honest may_leave settings zone h (m ∷ ms) (r ∷ 
     let answers = step.answer (honest_before content is_failed is_honest may_leave zone ms rs mid
     new turn honest) settings h is e in
     elim answers.outcome [
-      | inl done ↦ left_behind content is_failed may_leave settings zone h (next_of settings h m) m
+      | inl done ↦ left_after content is_failed may_leave settings zone h (next_of settings h m) m
           r ms rs old mid new
-          (λ first firsts after between kept. kept_behind_answer content is_failed may_leave
+          (λ first firsts after between kept. kept_after_answer content is_failed may_leave
           settings zone h after m r first firsts old mid between done answers.crash kept)
           (left_of content is_failed is_honest may_leave settings zone (next_of settings h m) ms rs
           mid new turn honest (next_is settings h m is) done.tables)
       | inr other ↦ elim other [
-        | inl wanting ↦ left_behind content is_failed may_leave settings zone h h m r ms rs old mid
+        | inl wanting ↦ left_after content is_failed may_leave settings zone h h m r ms rs old mid
             new
-            (λ first firsts after between kept. kept_behind_refusal content is_failed may_leave
+            (λ first firsts after between kept. kept_after_refusal content is_failed may_leave
             settings zone h after m r first firsts old mid between wanting kept)
             (left_of content is_failed is_honest may_leave settings zone h ms rs mid new turn honest
             is (wanting.tables ∙ e))
@@ -295,10 +295,10 @@ left_of content is_failed is_honest may_leave settings zone h (m ∷ ms) (r ∷ 
     ]
 
 -- a beginning of what follows, or of more
-begins_behind : (before after last : Option (List ℕ)) (done text : List ℕ)
+begins_after : (before after last : Option (List ℕ)) (done text : List ℕ)
     → Appends before after done → AppendsBeginning after last text
     → AppendsBeginning before last (done ++ text)
-begins_behind before after last done text wrote (n, within, part) = (
+begins_after before after last done text wrote (n, within, part) = (
   length done + n,
   omega (arith, within, length-append done text),
   rw (take-append-add done text n) (Appends-trans before after last done (take n text) wrote part),
@@ -315,15 +315,15 @@ begins_more before last text more (n, within, part) = (
 -- what was answered by the end, over whatever history there was
 lived : {K : Type 0} (content : K → Tables) (is_failed : K → Bool) (is_honest : K → Type 0)
     (may_leave : K → Tables → Type 0) (zone : Zone) (left now before after : Option (List ℕ))
-    (most count : ℕ) (told : Result Served ServeFault) (old new : K) (read rest : List ℕ)
+    (most count : ℕ) (report : Result Served ServeFault) (old new : K) (read rest : List ℕ)
     (messages : List Message) (replies : List (List ℕ)) (stop : Stop)
     → Consumes left now read → count ≤ most → Cut read count messages rest stop
     → InTurn (IsStep content is_failed is_honest may_leave zone) (map heard messages) replies
     old new
     → AppendsBeginning before after (concat replies ++ rest_bytes stop)
-    → (IsOk told → Appends before after (concat replies ++ rest_bytes stop))
-    → HasLived content is_failed is_honest may_leave zone left now most before after told old new
-lived content is_failed is_honest may_leave zone left now before after most count told old new read
+    → (IsOk report → Appends before after (concat replies ++ rest_bytes stop))
+    → HasLived content is_failed is_honest may_leave zone left now most before after report old new
+lived content is_failed is_honest may_leave zone left now before after most count report old new read
     rest messages replies stop took few cut answered written whole = record {
       read = read;
       took = took;
@@ -345,10 +345,10 @@ lived content is_failed is_honest may_leave zone left now before after most coun
 pub has_ended : {K : Type 0} (content : K → Tables) (is_failed : K → Bool)
     (is_honest : K → Type 0) (may_leave : K → Tables → Type 0) (zone : Zone)
     (left now : Option (List ℕ)) (most : ℕ) (before after : Option (List ℕ))
-    (told : Result Served ServeFault) (old new : K)
-    → HasLived content is_failed is_honest may_leave zone left now most before after told old new
+    (report : Result Served ServeFault) (old new : K)
+    → HasLived content is_failed is_honest may_leave zone left now most before after report old new
     → HasEnded content is_failed is_honest may_leave zone left now most before after old new
-has_ended content is_failed is_honest may_leave zone left now most before after told old new life =
+has_ended content is_failed is_honest may_leave zone left now most before after report old new life =
     record {
       read = life.read;
       took = life.took;
@@ -385,10 +385,10 @@ has_ended content is_failed is_honest may_leave zone left now most before after 
 pub leaves_lives : {K : Type 0} (content : K → Tables) (is_failed : K → Bool)
     (is_honest : K → Type 0) (may_leave : K → Tables → Type 0) (zone : Zone)
     (left now : Option (List ℕ)) (most : ℕ) (before after : Option (List ℕ))
-    (told : Result Served ServeFault) (old new : K)
-    → HasLived content is_failed is_honest may_leave zone left now most before after told old new
-    → LeavesLives content is_failed is_honest may_leave zone left now most before after told old new
-leaves_lives content is_failed is_honest may_leave zone left now most before after told old new
+    (report : Result Served ServeFault) (old new : K)
+    → HasLived content is_failed is_honest may_leave zone left now most before after report old new
+    → LeavesLives content is_failed is_honest may_leave zone left now most before after report old new
+leaves_lives content is_failed is_honest may_leave zone left now most before after report old new
     life =
     record {
       lived = life;
@@ -411,15 +411,15 @@ leaves_lives content is_failed is_honest may_leave zone left now most before aft
 -- it ended after the messages so far
 pub ended_so_far : {K : Type 0} (content : K → Tables) (is_failed : K → Bool)
     (is_honest : K → Type 0) (may_leave : K → Tables → Type 0) (zone : Zone)
-    (left now later before after last : Option (List ℕ)) (told : Result Served ServeFault)
+    (left now later before after last : Option (List ℕ)) (report : Result Served ServeFault)
     (old new : K) (held : List ℕ) (count most : ℕ)
     → Serving (IsStep content is_failed is_honest may_leave zone) left now before after old new held
     count → count ≤ most → Keeps now later → Keeps after last
-    → HasLived content is_failed is_honest may_leave zone left later most before last told old new
-ended_so_far content is_failed is_honest may_leave zone left now later before after last told old
+    → HasLived content is_failed is_honest may_leave zone left later most before last report old new
+ended_so_far content is_failed is_honest may_leave zone left now later before after last report old
     new held count most run few kept flushed =
     lived content is_failed is_honest may_leave zone left later before last most
-    (length run.messages) told old new run.read held run.messages run.replies limit
+    (length run.messages) report old new run.read held run.messages run.replies limit
     (Consumes-kept left now later run.read run.took kept) (omega (arith, few, run.counted))
     (cut_of run.messages run.read held (length run.messages) limit run.off (omega arith)
     (omega arith)) run.answered
@@ -448,27 +448,27 @@ ended_in_answer content is_failed is_honest may_leave zone left now before after
     (turn_push (IsStep content is_failed is_honest may_leave zone) run.messages run.replies m r old
     new next run.answered step)
     (begins_more before last (concat (run.replies ++ r ∷ [])) (rest_bytes stop)
-    (rw (concat_push run.replies r) (begins_behind before after last (concat run.replies) r
+    (rw (concat_push run.replies r) (begins_after before after last (concat run.replies) r
     run.written part)))
     (λ well. absurd cc)
 
 -- it ended after the answer to a message that ends the connection
 pub ended_closed : {K : Type 0} (content : K → Tables) (is_failed : K → Bool)
     (is_honest : K → Type 0) (may_leave : K → Tables → Type 0) (zone : Zone)
-    (left now before after given last : Option (List ℕ)) (told : Result Served ServeFault)
+    (left now before after given last : Option (List ℕ)) (report : Result Served ServeFault)
     (old new next : K) (held rest r : List ℕ) (m : Message) (count most : ℕ)
     → Serving (IsStep content is_failed is_honest may_leave zone) left now before after old new held
     count → count < most → IsMessageAt held m rest → ends m ≡ true
     → IsStep content is_failed is_honest may_leave zone (heard m) r new next
     → Appends after given r → Keeps given last
-    → HasLived content is_failed is_honest may_leave zone left now most before last told old next
-ended_closed content is_failed is_honest may_leave zone left now before after given last told old
+    → HasLived content is_failed is_honest may_leave zone left now most before last report old next
+ended_closed content is_failed is_honest may_leave zone left now before after given last report old
     new next held rest r m count most run fewer here out step wrote kept =
     let whole : Appends before last (concat (run.replies ++ r ∷ [])) =
     rw (concat_push run.replies r) (Appends-kept before given last _
     (Appends-trans before after given (concat run.replies) r run.written wrote) kept) in
     lived content is_failed is_honest may_leave zone left now before last most
-    (length run.messages + 1) told old next run.read rest (run.messages ++ m ∷ [])
+    (length run.messages + 1) report old next run.read rest (run.messages ++ m ∷ [])
     (run.replies ++ r ∷ []) closed run.took (omega (arith, fewer, run.counted))
     (cut_closed run.messages run.read held rest (length run.messages + 1) m run.off here out
     (omega arith))
@@ -487,19 +487,19 @@ fault_held held false f here = subst (λ l. IsFront l (Err f)) (append-nil held)
 -- it ended in the answer to a broken rest, or after it
 pub ended_in_fault : {K : Type 0} (content : K → Tables) (is_failed : K → Bool)
     (is_honest : K → Type 0) (may_leave : K → Tables → Type 0) (zone : Zone)
-    (left now before after last : Option (List ℕ)) (told : Result Served ServeFault)
+    (left now before after last : Option (List ℕ)) (report : Result Served ServeFault)
     (old new : K) (held : List ℕ) (count most : ℕ) (has_ended : Bool) (f : WireFault)
     → Serving (IsStep content is_failed is_honest may_leave zone) left now before after old new held
     count → count < most → held ≢ [] → IsFaultOf held has_ended f
     → AppendsBeginning after last (fault_bytes f)
-    → (IsOk told → Appends after last (fault_bytes f))
-    → HasLived content is_failed is_honest may_leave zone left now most before last told old new
-ended_in_fault content is_failed is_honest may_leave zone left now before after last told old new
+    → (IsOk report → Appends after last (fault_bytes f))
+    → HasLived content is_failed is_honest may_leave zone left now most before last report old new
+ended_in_fault content is_failed is_honest may_leave zone left now before after last report old new
     held count most has_ended f run fewer some here part whole =
-    lived content is_failed is_honest may_leave zone left now before last most most told old new
+    lived content is_failed is_honest may_leave zone left now before last most most report old new
     run.read held run.messages run.replies (broken f) run.took (omega arith)
     (cut_of run.messages run.read held most (broken f) run.off (omega (arith, fewer, run.counted))
     (omega (arith, fewer, run.counted), some, fault_held held has_ended f here)) run.answered
-    (begins_behind before after last (concat run.replies) (fault_bytes f) run.written part)
+    (begins_after before after last (concat run.replies) (fault_bytes f) run.written part)
     (λ well. Appends-trans before after last (concat run.replies) (fault_bytes f) run.written
     (whole well))

@@ -18,8 +18,8 @@ use Rattle.site.specs.Answers.{IsStep}
 use Rattle.site.specs.Runs.{InTurn}
 use Rattle.site_request.specs.declared.asked.Asked.{Asked}
 use Rattle.wire.proofs.Fronts.{message_stays}
-use Rattle.site_serve.specs.declared.serving.Ending.TheVariants as ending
-use Rattle.site_serve.specs.declared.serving.Served.{Served}
+use Rattle.site_serve.specs.declared.server.Ending.TheVariants as ending
+use Rattle.site_serve.specs.declared.server.Served.{Served}
 use Rattle.site_serve.specs.Serving.{HasRead, HasServed, HasWritten, IsFlushed, fault_bytes, heard}
 use Rattle.site_serve.proofs.Cuts.{TakenOff, by_end, concat_push, cut_closed, cut_last, cut_of, ends, last_of, off_more, off_push, turn_length, turn_push}
 
@@ -161,13 +161,13 @@ cut_broken messages stream held tail most now ended f off fewer is end some here
     (omega (arith, fewer), some_rest held tail some, broken_rest held ended f now tail is end here)
 
 -- the stream goes on with what is no message
-pub served_broken : {K : Type 0} (Step : Asked → List ℕ → K → K → Type 0) (left now before after told last : Option (List ℕ)) (old new : K)
+pub served_broken : {K : Type 0} (Step : Asked → List ℕ → K → K → Type 0) (left now before after report last : Option (List ℕ)) (old new : K)
     (held : List ℕ) (count most : ℕ) (served : Served) (ended : Bool) (f : WireFault)
     → Serving Step left now before after old new held count → count < most → (ended ≡ true → IsAtEnd now) → held ≢ []
     → IsFaultOf held ended f
-    → Appends after told (fault_bytes f) → Keeps told last → served.messages ≡ count → served.ending ≡ ending.Broken
+    → Appends after report (fault_bytes f) → Keeps report last → served.messages ≡ count → served.ending ≡ ending.Broken
     → IfSome left (λ stream. HasServed Step stream most before last old new served)
-served_broken Step left now before after told last old new held count most served ended f run fewer end some here wrote kept n e =
+served_broken Step left now before after report last old new held count most served ended f run fewer end some here wrote kept n e =
     of_stream left now run.read held run.messages _ run.took run.off (λ stream tail is off. record {
       messages = run.messages;
       rest = held ++ tail;
@@ -175,19 +175,19 @@ served_broken Step left now before after told last old new held count most serve
       cut = cut_broken run.messages stream held tail most now ended f off (omega (arith, fewer, run.counted)) is end some here;
       replies = run.replies;
       answered = run.answered;
-      written = Appends-kept before told last _ (Appends-trans before after told (concat run.replies) (fault_bytes f) run.written wrote) kept;
+      written = Appends-kept before report last _ (Appends-trans before after report (concat run.replies) (fault_bytes f) run.written wrote) kept;
       counted = n ∙ run.counted;
       ending = e;
     })
 
 -- the last message ended the connection
-pub served_closed : {K : Type 0} (Step : Asked → List ℕ → K → K → Type 0) (left now before after told last : Option (List ℕ))
+pub served_closed : {K : Type 0} (Step : Asked → List ℕ → K → K → Type 0) (left now before after report last : Option (List ℕ))
     (old new next : K) (held rest r : List ℕ) (m : Message) (count most : ℕ) (served : Served)
     → Serving Step left now before after old new held count → count < most → IsMessageAt held m rest → ends m ≡ true → Step
-    (heard m) r new next → Appends after told r
-    → Keeps told last → served.messages ≡ count + 1 → served.ending ≡ ending.Closed
+    (heard m) r new next → Appends after report r
+    → Keeps report last → served.messages ≡ count + 1 → served.ending ≡ ending.Closed
     → IfSome left (λ stream. HasServed Step stream most before last old next served)
-served_closed Step left now before after told last old new next held rest r m count most served run fewer here out step wrote kept n e =
+served_closed Step left now before after report last old new next held rest r m count most served run fewer here out step wrote kept n e =
     of_stream left now run.read held run.messages _ run.took run.off (λ stream tail is off. record {
       messages = run.messages ++ m ∷ [];
       rest = rest ++ tail;
@@ -195,7 +195,7 @@ served_closed Step left now before after told last old new next held rest r m co
       cut = cut_closed run.messages stream (held ++ tail) (rest ++ tail) most m off (message_stays held tail m rest here) out (omega (arith, fewer, run.counted));
       replies = run.replies ++ r ∷ [];
       answered = turn_push Step run.messages run.replies m r old new next run.answered step;
-      written = rw (append-nil (concat (run.replies ++ r ∷ []))) (Appends-kept before told last _ (pushed Step left now before after told old new next held r count run wrote) kept);
+      written = rw (append-nil (concat (run.replies ++ r ∷ []))) (Appends-kept before report last _ (pushed Step left now before after report old new next held r count run wrote) kept);
       counted = n ∙ ap (λ n. n + 1) run.counted ∙ sym (length-append run.messages (m ∷ []));
       ending = e;
     })
@@ -252,11 +252,11 @@ failed_in_answer Step left now before after last old new next held rest r m coun
     }))
 
 -- the writer failed after an answer
-pub failed_behind : {K : Type 0} (Step : Asked → List ℕ → K → K → Type 0) (left now before after last : Option (List ℕ)) (old new : K)
+pub failed_after : {K : Type 0} (Step : Asked → List ℕ → K → K → Type 0) (left now before after last : Option (List ℕ)) (old new : K)
     (held : List ℕ) (count most : ℕ)
     → Serving Step left now before after old new held count → 0 < count → count ≤ most → Keeps after last
     → IfSome left (λ stream. HasWritten Step stream most before last old new)
-failed_behind Step left now before after last old new held count most run some few kept =
+failed_after Step left now before after last old new held count most run some few kept =
     of_stream left now run.read held run.messages _ run.took run.off (λ stream tail is off.
     let same = turn_length Step run.messages run.replies old new run.answered in
     let (whole, final, e) = last_of run.replies (omega (arith, some, run.counted, same)) in
@@ -304,7 +304,7 @@ pub in_zone : {K : Type 0} (content : K → Tables) (is_failed : K → Bool) (is
 in_zone content is_failed is_honest may_leave zone first asked reply old new e step =
     subst (λ z. IsStep content is_failed is_honest may_leave z asked reply old new) e step
 
--- what a result tells
+-- what a result says
 pub if_ok : {T E : Type 0} {P Q : T → Type 0} (r : Result T E) → IfOk r P → ((x : T) → P x → Q x) → IfOk r Q
 if_ok (Ok x) p goes = goes x p
 if_ok (Err e) p goes = tt

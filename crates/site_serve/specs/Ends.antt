@@ -81,7 +81,7 @@ pub record HasEnded {K : Type 0} (content : K → Tables) (is_failed : K → Boo
   pub answered : InTurn (IsStep content is_failed is_honest may_leave zone) (map heard messages)
       replies old new
   pub written : AppendsBeginning before after (concat replies ++ rest_bytes stop)
-  -- over any keep: once the store has failed, each command and each read is told so
+  -- over any keep: once the store has failed, each command and each read is answered so
   pub down : is_failed old ≡ true → AreDown (map heard messages) replies
   pub stays_down : StaysDown (map heard messages) replies
   -- what is left as it ended

@@ -1,4 +1,4 @@
--- A stream over whatever history a house has: what it tells a member, and what it leaves.
+-- A stream over whatever history a house has: its replies to a member, and what it leaves.
 use Rattle.std.specs.Prelude.{◌≡◌, ℕ, ◌≤◌, List, ◌++◌, map, take, drop, Bool, Option, Result, IsOk}
 use Rattle.std.specs.Io.KnownBytes.{Appends, Consumes}
 use Rattle.std.specs.List.{AllByRecursion, concat}
@@ -15,8 +15,8 @@ use Rattle.site_replies.specs.Texts.{IsServed}
 use Rattle.wire.specs.Cut.{Cut, Stop}
 use Rattle.wire.specs.Message.{Message}
 use Rattle.site_serve.specs.Serving.{heard, rest_bytes}
-use Rattle.site_serve.specs.declared.serving.ServeFault.{ServeFault}
-use Rattle.site_serve.specs.declared.serving.Served.{Served}
+use Rattle.site_serve.specs.declared.server.ServeFault.{ServeFault}
+use Rattle.site_serve.specs.declared.server.Served.{Served}
 
 -- however serving ended: these messages of what was read were answered in turn. What was written is
 -- a beginning of their answers and that to a broken rest, and all of it where serving ended well.
@@ -25,7 +25,7 @@ use Rattle.site_serve.specs.declared.serving.Served.{Served}
 pub record HasLived {K : Type 0} (content : K → Tables) (is_failed : K → Bool)
     (is_honest : K → Type 0) (may_leave : K → Tables → Type 0) (zone : Zone)
     (left now : Option (List ℕ)) (most : ℕ) (before after : Option (List ℕ))
-    (told : Result Served ServeFault) (old new : K) : Type 0 where
+    (report : Result Served ServeFault) (old new : K) : Type 0 where
   pub read : List ℕ
   pub took : Consumes left now read
   pub count : ℕ
@@ -38,7 +38,7 @@ pub record HasLived {K : Type 0} (content : K → Tables) (is_failed : K → Boo
   pub answered : InTurn (IsStep content is_failed is_honest may_leave zone) (map heard messages)
       replies old new
   pub written : AppendsBeginning before after (concat replies ++ rest_bytes stop)
-  pub whole : IsOk told → Appends before after (concat replies ++ rest_bytes stop)
+  pub whole : IsOk report → Appends before after (concat replies ++ rest_bytes stop)
   pub lives_on : is_honest new → (settings : Settings) (h : History) → IsHistory settings h
       → content old ≡ tables_of settings h → AllByRecursion IsServed replies
       → LivesOn content settings zone h (map heard messages) replies new
@@ -48,8 +48,8 @@ pub record HasLived {K : Type 0} (content : K → Tables) (is_failed : K → Boo
 pub record LeavesLives {K : Type 0} (content : K → Tables) (is_failed : K → Bool)
     (is_honest : K → Type 0) (may_leave : K → Tables → Type 0) (zone : Zone)
     (left now : Option (List ℕ)) (most : ℕ) (before after : Option (List ℕ))
-    (told : Result Served ServeFault) (old new : K) : Type 0 where
-  pub lived : HasLived content is_failed is_honest may_leave zone left now most before after told
+    (report : Result Served ServeFault) (old new : K) : Type 0 where
+  pub lived : HasLived content is_failed is_honest may_leave zone left now most before after report
       old new
   pub at_end : is_honest new → (settings : Settings) (h : History) → IsHistory settings h
       → content old ≡ tables_of settings h

@@ -12,9 +12,9 @@ use Rattle.wire.specs.Fault.{status_of, word_of}
 use Rattle.wire.specs.Front.{EndsInBody, EndsInHead}
 use Rattle.wire.specs.Message.{Message}
 use Rattle.wire.specs.declared.fault.WireFault.{WireFault}
-use Rattle.site_serve.specs.declared.serving.Ending.{Ending}
-use Rattle.site_serve.specs.declared.serving.Ending.TheVariants as ending
-use Rattle.site_serve.specs.declared.serving.Served.{Served}
+use Rattle.site_serve.specs.declared.server.Ending.{Ending}
+use Rattle.site_serve.specs.declared.server.Ending.TheVariants as ending
+use Rattle.site_serve.specs.declared.server.Served.{Served}
 
 -- the keep of a site
 abbrev pub keep_of : {K : Type 0} → Site K → K
@@ -42,7 +42,7 @@ ending_of limit = ending.Limit
 ending_of clean = ending.Clean
 ending_of (broken f) = ending.Broken
 
--- what is written and done for a whole stream, and what is told of it
+-- what is written and done for a whole stream, and the result
 pub record HasServed {K : Type 0}
     (Step : Asked → List ℕ → K → K → Type 0) (stream : List ℕ) (most : ℕ)
     (before after : Option (List ℕ)) (old new : K) (served : Served) : Type 0 where

@@ -8,7 +8,7 @@ ghost use Rattle.site_request.specs.Asked.{asked_of};
 ghost use Rattle.site_serve.specs.Serving.{fault_bytes};
 ghost use Rattle.wire.specs.declared.fault.WireFault.{WireFault};
 
-/// A broken rest is told what a text is told whose frame has that fault.
+/// A broken rest is answered as a text is answered whose frame has that fault.
 pub fn broken_rests_are_answered()
     ensures { (settings : Settings) (zone : Zone) (h : History) (f : WireFault)
         → answer_of settings zone h (asked_of (Err f)) ≡ fault_bytes f }

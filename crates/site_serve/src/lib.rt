@@ -6,7 +6,7 @@
 #![tactic(auto)]
 
 mod laws;
-mod serving;
+mod server;
 
 pub use laws::broken_rests_are_answered;
-pub use serving::{Ending, ServeFault, Served, serve};
+pub use server::{Ending, ServeFault, Served, serve};

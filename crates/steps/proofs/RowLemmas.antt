@@ -79,7 +79,7 @@ table_judged rows valid = record {
 -- and rows with a fault as that fault
 pub fault_judged : (rows : List (ℕ × ℕ)) (fault : BandsFault) → HaveFault rows fault → AreJudged rows (Err fault)
 fault_judged rows fault has = record {
-  ok = λ other. ((λ e. cc e), (λ is. let told : judge [] rows ≡ Ok rows = table_judge rows is.1 in let e : Err fault ≡ Ok rows = sym (fault_judge rows fault has) ∙ told in cc));
+  ok = λ other. ((λ e. cc e), (λ is. let report : judge [] rows ≡ Ok rows = table_judge rows is.1 in let e : Err fault ≡ Ok rows = sym (fault_judge rows fault has) ∙ report in cc));
   fault = λ other. ((λ e. let same : fault ≡ other = cc e in subst (HaveFault rows) same has), (λ also. sym (fault_judge rows fault has) ∙ fault_judge rows other also));
 }
 

@@ -71,7 +71,7 @@ pub ok_through : {T E : Type 0} {P Q : T → Type 0} (r : Result T E) → ((x : 
 ok_through (Ok x) weaker h = weaker x h
 ok_through (Err e) weaker h = tt
 
--- what holds of each text that a reader may tell
+-- what holds of each text that a reader may report
 pub if_known : (known : Option (List ℕ)) (P : List ℕ → Type 0) → ((text : List ℕ) → known ≡ Some text → P text) → IfSome known P
 if_known None P each = tt
 if_known (Some text) P each = each text refl

@@ -1,4 +1,4 @@
--- The test of rows tells exactly the band tables.
+-- Exactly the band tables pass the test of rows.
 use Rattle.std.proofs.Common.{◌≡◌, ℕ, ◌≤◌, ◌<◌, List, [], ◌∷◌, length, refl, ◌∙◌, sym, arith, inl, inr, ◌⊎◌, ◌↔◌, Bool, true, false, Result, Ok, Err}
 use Rattle.std.specs.Prelude.{◌&&◌, ◌==◌, nat_le, nat_lt}
 use Rattle.std.specs.List.{AllByRecursion, list_all}

@@ -1,4 +1,4 @@
--- The numbers and names of the faults of a band table, and the rows that they tell.
+-- The numbers and names of the faults of a band table, and the rows that they name.
 use Rattle.std.specs.Prelude.{ℕ, List, Option, Some, None, codes}
 use Rattle.steps.specs.declared.fault.BandsFault.{BandsFault}
 use Rattle.steps.specs.declared.fault.BandsFault.TheVariants.{Csv, Head, Row, First, Order, Falls, TooMany, Device, Memory}
@@ -27,7 +27,7 @@ name_of TooMany = codes "TooMany"
 name_of Device = codes "Device"
 name_of Memory = codes "Memory"
 
--- the row that a fault tells
+-- the row that a fault names
 abbrev pub row_of : BandsFault → Option ℕ
 row_of Csv = None
 row_of Head = None

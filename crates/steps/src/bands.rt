@@ -29,7 +29,7 @@ const EXAMPLE: [(u64, u64); 10] = [
 ];
 
 /// A valid band table. Clauses see its bands in order, each as (at, step) in cents.
-#[derive(Debug, Drop)]
+#[derive(Drop)]
 pub struct Bands {
     rows: Vec<(u64, u64)>,
 }

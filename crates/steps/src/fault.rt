@@ -6,7 +6,7 @@ use thiserror::Error;
 
 /// Why a band table was not made. Rows are counted from 1 for the first band; nothing half made is
 /// left after.
-#[derive(Clone, Copy, Debug, PartialEq, Eq, Hash, Error)]
+#[derive(Clone, Copy, Debug, PartialEq, Eq, Error)]
 pub enum BandsFault {
     /// A record has another number of fields than the first.
     #[error("a record has another number of fields than the first")]

@@ -15,8 +15,8 @@ pub fn valid_tables_rise()
         over bands low < over bands high }
 {}
 
-/// The test of rows tells exactly the valid tables.
+/// Exactly the valid tables pass the test of rows.
 #[tactic(auto, using(crate::proofs::Tested::tested))]
-pub fn valid_tables_are_told()
+pub fn valid_tables_are_reported()
     ensures { (bands : List (ℕ × ℕ)) → (is_band_table bands ≡ true) ↔ IsBandTable bands }
 {}

@@ -19,7 +19,7 @@ fn fault_of(error: &Error) -> BandsFault
     match error.kind() {
         ErrorKind::Io(_) => BandsFault::Device,
         ErrorKind::OutOfMemory => BandsFault::Memory,
-        // A flexible reader of bytes tells nothing else.
+        // A flexible reader of bytes reports nothing else.
         _ => BandsFault::Csv,
     }
 }

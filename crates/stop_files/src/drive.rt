@@ -44,14 +44,14 @@ pub(crate) fn files<'p>(log: &'p RefCell<Plate>, db: &'p RefCell<Plate>) -> File
 }
 
 // Nobody else holds a plate while it is asked.
-fn held() -> io::Error {
+fn held_error() -> io::Error {
     io::Error::other("the file is held")
 }
 
 fn measure(plate: &RefCell<Plate>) -> io::Result<usize> {
     match plate.try_borrow_mut() {
         Ok(mut plate) => plate.measure(),
-        Err(_) => Err(held()),
+        Err(_) => Err(held_error()),
     }
 }
 
@@ -60,7 +60,7 @@ fn read(plate: &RefCell<Plate>, at: usize, buf: &mut [u8]) -> io::Result<usize>
 {
     match plate.try_borrow_mut() {
         Ok(mut plate) => plate.read(at, buf),
-        Err(_) => Err(held()),
+        Err(_) => Err(held_error()),
     }
 }
 
@@ -69,21 +69,21 @@ fn write(plate: &RefCell<Plate>, at: usize, bytes: &[u8]) -> io::Result<usize>
 {
     match plate.try_borrow_mut() {
         Ok(mut plate) => plate.write(at, bytes),
-        Err(_) => Err(held()),
+        Err(_) => Err(held_error()),
     }
 }
 
 fn resize(plate: &RefCell<Plate>, len: usize) -> io::Result<()> {
     match plate.try_borrow_mut() {
         Ok(mut plate) => plate.resize(len),
-        Err(_) => Err(held()),
+        Err(_) => Err(held_error()),
     }
 }
 
 fn sync(plate: &RefCell<Plate>) -> io::Result<()> {
     match plate.try_borrow_mut() {
         Ok(mut plate) => plate.sync(),
-        Err(_) => Err(held()),
+        Err(_) => Err(held_error()),
     }
 }
 

@@ -10,13 +10,13 @@ use std::io;
 // SQLite's sector: a device that finishes what it begins finishes so many bytes.
 const SECTOR: usize = 512;
 
-// What may stand where nothing was written before.
+// What may be where nothing was written before.
 const JUNK: u8 = 0xA5;
 
 const MAX_OFFSET: usize = (1 << 63) - 1;
 
 /// What a stop may lose of what was written and not synced.
-#[derive(Clone, Copy, Debug, PartialEq, Eq)]
+#[derive(Clone, Copy)]
 pub enum Loss {
     /// Nothing, as where the process alone is killed.
     Nothing,

@@ -8,7 +8,7 @@ use Rattle.settle.specs.Statement.{is_party}
 use Rattle.proxy.specs.Bids.{is_leader}
 use Rattle.house_rows.specs.Changed.{is_item}
 use Rattle.house_rows.specs.Found.{feedback_to, first_waiting, is_watched, items_in, items_watched, own_bid, own_bids, own_reserves, published_on, questions_of, reserves_in, sales_in, sales_to, sells, waiting_for}
-use Rattle.house_rows.specs.Keeping.{AllStand, StandsIn}
+use Rattle.house_rows.specs.Keeping.{AllConsistent, IsConsistentIn}
 use Rattle.house_rows.specs.Limits.{most_shown}
 use Rattle.house_rows.specs.Pages.{sale_of}
 use Rattle.house_rows.specs.Tables.{ItemRow}
@@ -39,12 +39,12 @@ buyer_other None n high other = grind arith
 buyer_other (Some l) n high other = other
 
 no_sale : (terms : Terms) (n : ℕ) → 2 ^ 32 ≤ n → (terms.seller == n) ≡ false → is_leader terms.leader n ≡ false → filter (is_party n) (sale_of terms) ≡ []
-no_sale terms n high seller leader = told (was_sold terms.state)
+no_sale terms n high seller leader = report (was_sold terms.state)
   where
-    told : (b : Bool)
+    report : (b : Bool)
         → filter (is_party n) (cond b (record { item = terms.item; seller = terms.seller; buyer = unwrap_or terms.leader 0; closed = unwrap_or terms.closed 0; price = terms.price } ∷ []) []) ≡ []
-    told true = rw (seller, buyer_other terms.leader n high leader) refl
-    told false = refl
+    report true = rw (seller, buyer_other terms.leader n high leader) refl
+    report false = refl
 
 none_sold : (rows : List ItemRow) (n : ℕ) → 2 ^ 32 ≤ n → AllByRecursion (λ (row : ItemRow). (row.item.terms.seller == n) ≡ false) rows
     → AllByRecursion (λ (row : ItemRow). is_leader row.item.terms.leader n ≡ false) rows → filter (is_party n) (sales_in (map (λ (row : ItemRow). row.item) rows)) ≡ []
@@ -54,12 +54,12 @@ none_sold (row ∷ rows) n high sellers leaders =
     ∙ (rw (no_sale row.item.terms n high sellers.0 leaders.0, none_sold rows n high sellers.1 leaders.1) refl)
 
 no_party : (terms : Terms) (n : ℕ) → 2 ^ 32 ≤ n → (terms.seller == n) ≡ false → is_leader terms.leader n ≡ false → list_any (is_party n) (sale_of terms) ≡ false
-no_party terms n high seller leader = told (was_sold terms.state)
+no_party terms n high seller leader = report (was_sold terms.state)
   where
-    told : (b : Bool)
+    report : (b : Bool)
         → list_any (is_party n) (cond b (record { item = terms.item; seller = terms.seller; buyer = unwrap_or terms.leader 0; closed = unwrap_or terms.closed 0; price = terms.price } ∷ []) []) ≡ false
-    told true = rw (seller, buyer_other terms.leader n high leader) refl
-    told false = refl
+    report true = rw (seller, buyer_other terms.leader n high leader) refl
+    report false = refl
 
 -- and no row is one of such a sale
 none_party : (P : ItemRow → Type 0) (rows : List ItemRow) (n : ℕ) → 2 ^ 32 ≤ n → AllByRecursion (λ (row : ItemRow). (row.item.terms.seller == n) ≡ false) rows
@@ -140,8 +140,8 @@ module _ (db : Trees) (n : ℕ) (high : 2 ^ 32 ≤ n) (low : n < 2 ^ 64) where
       none_sold (stored.items_in db) n high sellers_other
       (each_fails (λ (row : ItemRow). is_leader row.item.terms.leader n) (stored.items_in db) (no_items_led db n high low))
 
-  pub no_rows_sold : AllStand (λ (row : ItemRow). list_any (is_party n) (sale_of row.item.terms)) (tables_in db)
+  pub no_rows_sold : AllConsistent (λ (row : ItemRow). list_any (is_party n) (sale_of row.item.terms)) (tables_in db)
   unfolding tables_in
   no_rows_sold =
-      none_party (λ (row : ItemRow). StandsIn (tables_in db) row.item.terms) (stored.items_in db) n high sellers_other
+      none_party (λ (row : ItemRow). IsConsistentIn (tables_in db) row.item.terms) (stored.items_in db) n high sellers_other
       (each_fails (λ (row : ItemRow). is_leader row.item.terms.leader n) (stored.items_in db) (no_items_led db n high low))

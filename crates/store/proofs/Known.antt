@@ -1,15 +1,16 @@
--- What a keep knows of its house: its band tables are those of the tables. And what it tells of a call that failed.
+-- What a keep knows of its house: its band tables are those of the tables. And what it reports of a
+-- call that failed.
 use Rattle.std.proofs.Common.{◌≡◌, ◌∙◌, ℕ, List, Bool, true, false, ap, refl, subst, sym, arith, Option, Some, None, option_map}
 use Rattle.std.specs.Prelude.{◌==◌, ◌&&◌, ◌↔◌, Err, IfSome, IsErrOf, option_and_then}
 use Rattle.std.proofs.lemmas.Bool.Decides.{nat_tests}
 use Rattle.std.specs.List.{AllByRecursion}
 use Rattle.sqlite_trees.specs.Tree.{Trees}
-use Rattle.house_rows.specs.Keeping.{AllStand, AreSound, AreSoundBy, Faults, FitsBy, RowFits, StandsAt, StandsBy, StandsIn}
+use Rattle.house_rows.specs.Keeping.{AllConsistent, AreSound, AreSoundBy, Faults, FitsBy, RowFits, IsConsistentAt, IsConsistentBy, IsConsistentIn}
 use Rattle.house_rows.specs.Taken.{FitWhere}
 use Rattle.house_rows.specs.Editions.{BandTables}
 use Rattle.proxy.specs.Kept.{Kept}
 use Rattle.house_rows.specs.Bids.{BidRow}
-use Rattle.house_rows.specs.Found.{reserve_at, row_at, standing_at}
+use Rattle.house_rows.specs.Found.{auction_at, auction_of, reserve_at, row_at, standing_at}
 use Rattle.house_rows.specs.Changed.{is_item}
 use Rattle.house_rows.specs.Fits.{BidRowFits}
 use Rattle.house_rows.specs.Reached.{FitsSoFar}
@@ -17,12 +18,13 @@ use Rattle.house_rows.specs.Tables.{ItemRow, Tables, band_tables}
 use Rattle.house_rows.proofs.Every.{every_as}
 use Rattle.house_rows.specs.declared.fault.KeepFault.{KeepFault}
 use Rattle.house_rows.specs.declared.fault.KeepFault.TheVariants.{Store, Damaged}
+use Rattle.house_rows.specs.declared.auction.Auction.{Auction}
 use Rattle.house_rows.specs.declared.item.Item.{Item}
 use Rattle.house_rows.specs.declared.item.Terms.{Terms}
 use Rattle.house_rows.specs.declared.people.Counts.{Counts}
 use Rattle.store_rows.specs.ItemRows.{items_in}
 use Rattle.store_rows.specs.Tables.{tables_in}
-use Rattle.store_items.specs.RowsStanding.{ItemStands, RowFitsAt, RowsStand}
+use Rattle.store_items.specs.ConsistentRows.{ItemIsConsistent, RowFitsAt, RowsAreConsistent}
 use Rattle.store_rows.proofs.Sound.{rows_fit}
 use Rattle.sqlite_trees.specs.declared.store.Store.{Ghosts}
 use Rattle.sqlite.specs.Held.{state}
@@ -53,39 +55,42 @@ module _ (db : Trees) (editions : BandTables) (reserves : List ReserveRow) (coun
   pub known_so_far : (member from : ℕ) → FitsSoFar (band_tables (tables_in db)) (tables_in db) member from → FitsSoFar editions (tables_in db) member from
   known_so_far member from = subst (λ (b : BandTables). FitsSoFar b (tables_in db) member from) known.editions_are
 
-  -- what stands by the band tables that are known stands in the tables
-  pub one_stands : (item : Option Item) → IfSome item (λ it. StandsBy editions it.terms) → IfSome item (λ it. StandsIn (tables_in db) it.terms)
-  one_stands item = subst (λ (b : BandTables). IfSome item (λ it. StandsBy b it.terms)) (sym known.editions_are)
+  -- what is consistent with the band tables that are known is consistent in the tables
+  pub one_is_consistent : (item : Option Item) → IfSome item (λ it. IsConsistentBy editions it.terms) → IfSome item (λ it. IsConsistentIn (tables_in db) it.terms)
+  one_is_consistent item = subst (λ (b : BandTables). IfSome item (λ it. IsConsistentBy b it.terms)) (sym known.editions_are)
 
-  pub terms_stand : (terms : Option Terms) → IfSome terms (λ t. StandsBy editions t) → IfSome terms (λ t. StandsIn (tables_in db) t)
-  terms_stand terms = subst (λ (b : BandTables). IfSome terms (λ t. StandsBy b t)) (sym known.editions_are)
+  pub terms_are_consistent : (terms : Option Terms) → IfSome terms (λ t. IsConsistentBy editions t) → IfSome terms (λ t. IsConsistentIn (tables_in db) t)
+  terms_are_consistent terms = subst (λ (b : BandTables). IfSome terms (λ t. IsConsistentBy b t)) (sym known.editions_are)
 
-  pub items_stand : (items : List Item) → AllByRecursion (λ it. StandsBy editions it.terms) items → AllByRecursion (λ it. StandsIn (tables_in db) it.terms) items
-  items_stand items = subst (λ (b : BandTables). AllByRecursion (λ (it : Item). StandsBy b it.terms) items) (sym known.editions_are)
+  pub auction_is_consistent : (found : Option Auction) → IfSome found (λ a. IsConsistentBy editions a.terms) → IfSome found (λ a. IsConsistentIn (tables_in db) a.terms)
+  auction_is_consistent found = subst (λ (b : BandTables). IfSome found (λ a. IsConsistentBy b a.terms)) (sym known.editions_are)
 
-  pub all_stand : (test : ItemRow → Bool) → RowsStand editions test db → AllStand test (tables_in db)
+  pub items_are_consistent : (items : List Item) → AllByRecursion (λ it. IsConsistentBy editions it.terms) items → AllByRecursion (λ it. IsConsistentIn (tables_in db) it.terms) items
+  items_are_consistent items = subst (λ (b : BandTables). AllByRecursion (λ (it : Item). IsConsistentBy b it.terms) items) (sym known.editions_are)
+
+  pub all_are_consistent : (test : ItemRow → Bool) → RowsAreConsistent editions test db → AllConsistent test (tables_in db)
   unfolding tables_in
-  all_stand test = subst (λ (b : BandTables). RowsStand b test db) (sym known.editions_are)
+  all_are_consistent test = subst (λ (b : BandTables). RowsAreConsistent b test db) (sym known.editions_are)
 
   -- so of what names an item
-  pub each_stands : {A : Type 0} (item : A → ℕ) (xs : List A) → AllByRecursion (λ x. ItemStands editions db (item x)) xs → AllByRecursion (λ x. StandsAt (tables_in db) (item x)) xs
-  each_stands {A} item xs = subst (λ (b : BandTables). AllByRecursion (λ (x : A). ItemStands b db (item x)) xs) (sym known.editions_are)
+  pub each_is_consistent : {A : Type 0} (item : A → ℕ) (xs : List A) → AllByRecursion (λ x. ItemIsConsistent editions db (item x)) xs → AllByRecursion (λ x. IsConsistentAt (tables_in db) (item x)) xs
+  each_is_consistent {A} item xs = subst (λ (b : BandTables). AllByRecursion (λ (x : A). ItemIsConsistent b db (item x)) xs) (sym known.editions_are)
 
--- a fault that is no damage is told as none
-no_damage : (fault told : KeepFault) (failed : Bool) → (failed ≡ false → told ≡ fault) → ((told ≡ Store) ↔ (failed ≡ true))
-    → ¬ (fault ≡ Damaged) → ¬ (told ≡ Damaged)
-no_damage fault told true same store none is = let e : Store ≡ Damaged = sym (store.1 refl) ∙ is in cc
-no_damage fault told false same store none is = none (sym (same refl) ∙ is)
+-- a fault that is no damage is reported as none
+no_damage : (fault report : KeepFault) (failed : Bool) → (failed ≡ false → report ≡ fault) → ((report ≡ Store) ↔ (failed ≡ true))
+    → ¬ (fault ≡ Damaged) → ¬ (report ≡ Damaged)
+no_damage fault report true same store none is = let e : Store ≡ Damaged = sym (store.1 refl) ∙ is in cc
+no_damage fault report false same store none is = none (sym (same refl) ∙ is)
 
 pub the_fault : {A : Type 0} {a b : KeepFault} → IsErrOf {T = A} {E = KeepFault} (Err a) b → a ≡ b
 the_fault is = cc
 
-pub told_sound : {A : Type 0} (fault told : KeepFault) (failed : Bool) (honest : Type 0) (t : Tables)
-    → (failed ≡ false → told ≡ fault) → ((told ≡ Store) ↔ (failed ≡ true))
-    → (honest → AreSound t → ¬ (fault ≡ Damaged)) → Faults {A = A} (Err told) honest failed t
-told_sound fault told failed honest t same store none = record {
+pub report_sound : {A : Type 0} (fault report : KeepFault) (failed : Bool) (honest : Type 0) (t : Tables)
+    → (failed ≡ false → report ≡ fault) → ((report ≡ Store) ↔ (failed ≡ true))
+    → (honest → AreSound t → ¬ (fault ≡ Damaged)) → Faults {A = A} (Err report) honest failed t
+report_sound fault report failed honest t same store none = record {
   store = (λ is. store.0 (the_fault is), λ down. ap Err (store.1 down));
-  damaged = λ h sound is. no_damage fault told failed same store (none h sound) (the_fault is);
+  damaged = λ h sound is. no_damage fault report failed same store (none h sound) (the_fault is);
 }
 
 -- a keep that has not failed serves by the reserves that it knows
@@ -96,9 +101,9 @@ known_serves g k kept going clean = let rest = kept.rests going clean in (rest.i
 pub works : {S : Type 0} (inside seen : House S) → inside ≡ seen → is_failed seen ≡ false → inside.failed ≡ false
 works inside seen same going = ap is_failed same ∙ going
 
--- a fault that is no damage is told as none, in a result
-pub not_told : {A : Type 0} (fault told : KeepFault) (failed : Bool) → (failed ≡ false → told ≡ fault) → ((told ≡ Store) ↔ (failed ≡ true)) → ¬ (fault ≡ Damaged) → ¬ (IsErrOf {T = A} {E = KeepFault} (Err told) Damaged)
-not_told fault told failed same store none is = no_damage fault told failed same store none (the_fault is)
+-- a fault that is no damage is reported as none, in a result
+pub not_reported : {A : Type 0} (fault report : KeepFault) (failed : Bool) → (failed ≡ false → report ≡ fault) → ((report ≡ Store) ↔ (failed ≡ true)) → ¬ (fault ≡ Damaged) → ¬ (IsErrOf {T = A} {E = KeepFault} (Err report) Damaged)
+not_reported fault report failed same store none is = no_damage fault report failed same store none (the_fault is)
 
 -- a member's bids on an item fit
 pub own_fit : (t : Tables) (member item : ℕ) → FitWhere (λ b. (b.bid.member == member) && (b.item == item)) BidRowFits t.bids → AllByRecursion (λ b. b.bid.member ≡ member → b.item ≡ item → BidRowFits b) t.bids
@@ -106,17 +111,28 @@ own_fit t member item fits =
     every_as (λ (b : BidRow). ((b.bid.member == member) && (b.item == item)) ≡ true → BidRowFits b) (λ (b : BidRow). b.bid.member ≡ member → b.item ≡ item → BidRowFits b) t.bids
     (λ b fit mine on. fit (grind (arith, nat_tests, mine, on))) fits
 
+-- the standing of an item is that of its auction
+standing_same : (row : Option ItemRow) (found : Option Auction) → found ≡ option_map auction_of row → option_map (λ (a : Auction). a.standing) found ≡ option_map (λ (r : ItemRow). r.standing) row
+standing_same None found report = ap (option_map (λ (a : Auction). a.standing)) report
+standing_same (Some row) found report = ap (option_map (λ (a : Auction). a.standing)) report
+
+pub standing_some : (t : Tables) (item : ℕ) (a : Auction) → Some a ≡ auction_at t item → Some a.standing ≡ standing_at t item
+standing_some t item a report = standing_same (row_at t item) (Some a) report
+
+pub standing_none : (t : Tables) (item : ℕ) → None ≡ auction_at t item → None ≡ standing_at t item
+standing_none t item report = standing_same (row_at t item) None report
+
 -- the reserve of an item is that of its standing
 pub reserve_some : (t : Tables) (item : ℕ) (s : Kept) → Some s ≡ standing_at t item → s.reserve ≡ reserve_at t item
-reserve_some t item s told = one (row_at t item) told
+reserve_some t item s report = one (row_at t item) report
   where
     one : (row : Option ItemRow) → Some s ≡ option_map (λ (r : ItemRow). r.standing) row → s.reserve ≡ option_and_then (λ (r : ItemRow). r.standing.reserve) row
-    one None told = absurd cc
-    one (Some row) told = (let same : s ≡ row.standing = cc in ap (λ (k : Kept). k.reserve) same)
+    one None report = absurd cc
+    one (Some row) report = (let same : s ≡ row.standing = cc in ap (λ (k : Kept). k.reserve) same)
 
 pub reserve_none : (t : Tables) (item : ℕ) → None ≡ standing_at t item → None ≡ reserve_at t item
-reserve_none t item told = none (row_at t item) told
+reserve_none t item report = none (row_at t item) report
   where
     none : (row : Option ItemRow) → None ≡ option_map (λ (r : ItemRow). r.standing) row → None ≡ option_and_then (λ (r : ItemRow). r.standing.reserve) row
-    none None told = refl
-    none (Some row) told = absurd cc
+    none None report = refl
+    none (Some row) report = absurd cc

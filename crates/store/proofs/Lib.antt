@@ -8,3 +8,4 @@ pub mod Known
 pub mod Moves
 pub mod Reopened
 pub mod Sound
+mod Images

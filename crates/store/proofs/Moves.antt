@@ -75,7 +75,7 @@ so_many : (db : Trees) → (counts_of (tables_in db)).items ≡ length (items_in
 unfolding tables_in
 so_many db = refl
 
--- a listing has the number that the counts after it tell
+-- a listing has the number that the counts after it give
 next_number : (change : Change) (reserves : List ReserveRow) (counts : Counts) (many : ℕ) → counts.items ≡ many
     → reserves_after reserves (counts_after counts change).items change ≡ reserves_after reserves (many + 1) change
 next_number (Register moment name) reserves counts many same = refl
@@ -145,10 +145,10 @@ room_of (Some bands) n can = can.1
 pub left_after : (old mid : State) (change : Change) (failed : Bool) (db : Trees) → old.may_leave old.committed.trees → (IsTrue mid.is_open → db ≡ mid.committed.trees)
     → (failed ≡ false → IsTrue mid.is_open × (mid.committed ≡ old.committed)) → old.may_leave db ⊎ ((after : Database) × Changes change old.now after × (db ≡ after.trees))
     → old.may_leave db ⊎ ((failed ≡ true) × (tables_in db ≡ changed (tables_in old.now.trees) change))
-left_after old mid change failed db stays settled told (inl may) = inl may
-left_after old mid change true db stays settled told (inr made) = inr (refl, ap tables_in made.2 ∙ made.1.tables)
-left_after old mid change false db stays settled told (inr made) =
-    let is_open = told refl in inl (subst old.may_leave (sym (settled is_open.0 ∙ ap (λ (d : Database). d.trees) is_open.1)) stays)
+left_after old mid change failed db stays settled report (inl may) = inl may
+left_after old mid change true db stays settled report (inr made) = inr (refl, ap tables_in made.2 ∙ made.1.tables)
+left_after old mid change false db stays settled report (inr made) =
+    let is_open = report refl in inl (subst old.may_leave (sym (settled is_open.0 ∙ ap (λ (d : Database). d.trees) is_open.1)) stays)
 
 -- what is so after Ok
 pub not_err : {A E : Type 0} {P : Type 0} (r : Result A E) → is_err r ≡ false → OnOk r P → P

@@ -24,8 +24,8 @@ use Rattle.sqlite.specs.declared.file.Leftover.TheVariants.{Store}
 use Rattle.sqlite_schema.specs.declared.schema.Schema.{Schema}
 use Rattle.sqlite_trees.specs.Tree.{Trees}
 use Rattle.sqlite_trees.specs.View.{IsClean, IsQuiet}
-use Rattle.store_open.specs.Opening.{Follows, IsSoundHouse}
-use Rattle.store_open.proofs.OpenLemmas.{one_schema}
+use Rattle.store_house.specs.Opening.{Follows, IsSoundHouse}
+use Rattle.store_house.proofs.OpenLemmas.{one_schema}
 use Rattle.store_rows.specs.Tables.{IsAtRest, tables_in}
 use Rattle.store.specs.Kept.{House, MayLeave, content}
 use Rattle.store.specs.Opening.{FindsLeft, HoldsSoundHouse, IsCrashed}

@@ -2,3 +2,4 @@ pub mod After
 pub mod Kept
 pub mod Closing
 pub mod Opening
+pub mod Copies

@@ -14,7 +14,7 @@ use Rattle.house_rows.specs.declared.fault.KeepFault.{KeepFault}
 use Rattle.house_rows.specs.declared.fault.KeepFault.TheVariants.{Store}
 use Rattle.house_rows.specs.declared.settings.Settings.{Settings}
 use Rattle.store_rows.specs.Tables.{IsAtRest}
-use Rattle.store_open.specs.Opening.{Follows, FollowsOrGrows, IsBackOrNew, IsSoundHouse}
+use Rattle.store_house.specs.Opening.{Follows, FollowsOrGrows, IsBackOrNew, IsSoundHouse}
 use Rattle.store.specs.Kept.{House, IsHonest, MayLeave, content}
 
 -- ---- a call that takes a connection and gives none back: there is such a connection or store, and which it is isn't said

@@ -16,7 +16,7 @@ use settle::LAST_MOMENT;
 use std::alloc::Global;
 use steps::Bands;
 use store_open::table_of;
-use store_reserves::{Reserves, Rules};
+use store_rows::{Reserves, Rules};
 
 // One more, if there is room.
 fn one_more(count: u32, most: u32) -> Option<u32>
@@ -31,11 +31,14 @@ fn one_more(count: u32, most: u32) -> Option<u32>
     }
 }
 
-// The clock after a change, in seconds since 1970-01-01T00:00:00Z.
-fn moment_after(clock: u64, change: &Change<'_>) -> u64
-    ensures { result ≡ clock_after clock change.now }
+/// The clock after a change, in seconds since 1970-01-01T00:00:00Z; none over the last moment.
+#[tactic(auto, using(crate::proofs::Moves::fits_moment))]
+pub(crate) fn clock_after(clock: u64, change: &Change<'_>) -> Option<u64>
+    ensures value { IfSome result (λ moment. moment ≡ clock_after clock change.now) }
+    ensures fits { IfSome result IsMoment }
+    ensures late { IsMoment clock → (t : Tables) → ChangeFits t change.now → is_some result ≡ true }
 {
-    match *change {
+    let moment = match *change {
         Change::Register { moment, .. } => moment,
         Change::AddCategory { moment, .. } => moment,
         Change::List { moment, .. } => moment,
@@ -49,17 +52,7 @@ fn moment_after(clock: u64, change: &Change<'_>) -> u64
         Change::Watch { .. } => clock,
         Change::Unwatch { .. } => clock,
         Change::Ask { .. } => clock,
-    }
-}
-
-/// The clock after a change, in seconds since 1970-01-01T00:00:00Z; none over the last moment.
-#[tactic(auto, using(crate::proofs::Moves::fits_moment))]
-pub(crate) fn clock_after(clock: u64, change: &Change<'_>) -> Option<u64>
-    ensures value { IfSome result (λ moment. moment ≡ clock_after clock change.now) }
-    ensures fits { IfSome result IsMoment }
-    ensures late { IsMoment clock → (t : Tables) → ChangeFits t change.now → is_some result ≡ true }
-{
-    let moment = moment_after(clock, change);
+    };
     if moment <= LAST_MOMENT {
         Some(moment)
     } else {

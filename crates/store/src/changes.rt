@@ -7,9 +7,9 @@ ghost use Rattle.house_rows.specs.Tables.{Tables};
 ghost use Rattle.store.specs.Kept.{IsHonest, MayLeave, content, is_failed};
 
 use crate::after::{add_rules, clock_after, counts_after, make_room, table_set};
+use crate::change_rows::make_change;
 use crate::keep::SqlKeep;
-use crate::making::make_change;
-use crate::settled::told_fault;
+use crate::settled::reported_fault;
 use house_rows::{Change, KeepFault};
 use sqlite::Alter;
 
@@ -62,7 +62,7 @@ impl<S: Alter> SqlKeep<S> {
                 }
                 Ok(())
             }
-            Err(fault) => Err(told_fault(&mut self.conn, &mut self.failed, fault)),
+            Err(fault) => Err(reported_fault(&mut self.conn, &mut self.failed, fault)),
         }
     }
 }

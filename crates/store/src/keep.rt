@@ -1,18 +1,18 @@
 //! The keep in SQLite, and its calls.
 //!
-//! Every call looks first whether the keep has failed, and what failed below it is told by
-//! `told_fault`, which looks whether the connection still serves. A number of more than 32 bits finds
-//! nothing, so the connection isn't asked for it: no stored row tells such a number.
+//! Every call looks first whether the keep has failed, and what failed below it is reported by
+//! `reported_fault`, which looks whether the connection still serves. A number of more than 32 bits
+//! finds nothing, so the connection isn't asked for it: no stored row has such a number.
 ghost use Rattle.std.specs.Prelude.{◌≡◌, false, true, IfErr, OnOk};
 ghost use Rattle.house_rows.specs.declared.fault.KeepFault.TheVariants.{Store};
 ghost use Rattle.store.specs.Kept.{IsHonest, MayLeave, content, is_failed};
 
 use crate::numbers::is_item_number;
-use crate::settled::told_fault;
+use crate::settled::reported_fault;
 use cents::Cents;
 use house_rows::{
-    Category, Change, Counts, Due, Editions, Feedback, Item, Keep, KeepFault, Member, OwnBest,
-    OwnBid, OwnReserve, Question, Ratings, Settings, Terms,
+    Auction, Category, Change, Counts, Due, Editions, Feedback, Item, Keep, KeepFault, Member,
+    OwnBest, OwnBid, OwnReserve, Question, Ratings, Settings, Terms,
 };
 use proxy::Standing;
 use settle::Sold;
@@ -21,26 +21,26 @@ use std::alloc::Global;
 use std::marker::Model;
 use steps::Bands;
 use store_bids::{own_best, own_bids};
-use store_items::{
-    all_items, due, item_at, item_with_lot, items_in, reserves_of, sales_to, standing_at, terms_at,
-};
-use store_people::{
+use store_house::{
     all_categories, all_members, category_at, category_named, has_category, has_member, member_at,
     member_named,
 };
-use store_reserves::Rules;
+use store_items::{
+    all_items, auction_at, due, item_at, item_with_lot, items_in, reserves_of, sales_to, terms_at,
+};
+use store_rows::Rules;
 use store_talk::{
     all_feedback, all_published, ask_count, feedback_to, first_waiting, is_given, published_on,
     question_at, questions_of, ratings, waiting_for,
 };
 use store_watches::{is_watched, items_watched, watch_count};
 
-// What a look-up answered, or which fault the keep tells where it failed.
-macro_rules! told {
+// What a look-up answered, or which fault the keep reports where it failed.
+macro_rules! report {
     ($keep:ident, $found:expr) => {
         match $found {
             Ok(found) => Ok(found),
-            Err(fault) => Err(told_fault(&mut $keep.conn, &mut $keep.failed, fault)),
+            Err(fault) => Err(reported_fault(&mut $keep.conn, &mut $keep.failed, fault)),
         }
     };
 }
@@ -148,7 +148,7 @@ impl<S: Alter> Keep for SqlKeep<S> {
         let Ok(member) = u32::try_from(member) else {
             return Ok(None);
         };
-        told!(self, member_at(&mut self.conn, member))
+        report!(self, member_at(&mut self.conn, member))
     }
 
     #[tactic(auto, using(store_rows::proofs::Small::no_member), unfolding(store_rows::specs::Tables::tables_in))]
@@ -157,13 +157,13 @@ impl<S: Alter> Keep for SqlKeep<S> {
         let Ok(member) = u32::try_from(member) else {
             return Ok(false);
         };
-        told!(self, has_member(&mut self.conn, member))
+        report!(self, has_member(&mut self.conn, member))
     }
 
     #[tactic(auto, unfolding(store_rows::specs::Tables::tables_in))]
     fn member_named(&mut self, name: &str) -> Result<Option<Member>, KeepFault> {
         self.serves()?;
-        told!(self, member_named(&mut self.conn, name))
+        report!(self, member_named(&mut self.conn, name))
     }
 
     #[tactic(auto, using(store_rows::proofs::Small::no_category), unfolding(store_rows::specs::Tables::tables_in))]
@@ -172,7 +172,7 @@ impl<S: Alter> Keep for SqlKeep<S> {
         let Ok(category) = u32::try_from(category) else {
             return Ok(None);
         };
-        told!(self, category_at(&mut self.conn, category))
+        report!(self, category_at(&mut self.conn, category))
     }
 
     #[tactic(auto, using(store_rows::proofs::Small::no_category), unfolding(store_rows::specs::Tables::tables_in))]
@@ -181,13 +181,13 @@ impl<S: Alter> Keep for SqlKeep<S> {
         let Ok(category) = u32::try_from(category) else {
             return Ok(false);
         };
-        told!(self, has_category(&mut self.conn, category))
+        report!(self, has_category(&mut self.conn, category))
     }
 
     #[tactic(auto, unfolding(store_rows::specs::Tables::tables_in))]
     fn category_named(&mut self, name: &str) -> Result<Option<Category>, KeepFault> {
         self.serves()?;
-        told!(self, category_named(&mut self.conn, name))
+        report!(self, category_named(&mut self.conn, name))
     }
 
     #[tactic(auto, using(store_items::proofs::Small::no_item), unfolding(store_rows::specs::Tables::tables_in))]
@@ -196,7 +196,7 @@ impl<S: Alter> Keep for SqlKeep<S> {
         let Ok(item) = u32::try_from(item) else {
             return Ok(None);
         };
-        told!(self, item_at(&mut self.conn, &self.rules, item))
+        report!(self, item_at(&mut self.conn, &self.rules, item))
     }
 
     #[tactic(auto, using(store_items::proofs::Small::no_item), unfolding(store_rows::specs::Tables::tables_in))]
@@ -205,7 +205,7 @@ impl<S: Alter> Keep for SqlKeep<S> {
         let Ok(item) = u32::try_from(item) else {
             return Ok(None);
         };
-        told!(self, terms_at(&mut self.conn, &self.rules, item))
+        report!(self, terms_at(&mut self.conn, &self.rules, item))
     }
 
     #[tactic(auto, using(crate::proofs::Sound::sound_number, store_rows::proofs::Sound::items_fit, crate::proofs::Absent::no_lot), unfolding(store_rows::specs::Tables::tables_in))]
@@ -221,17 +221,25 @@ impl<S: Alter> Keep for SqlKeep<S> {
                 }
                 Ok(found)
             }
-            Err(fault) => Err(told_fault(&mut self.conn, &mut self.failed, fault)),
+            Err(fault) => Err(reported_fault(&mut self.conn, &mut self.failed, fault)),
+        }
+    }
+
+    #[tactic(auto, using(crate::proofs::Known::standing_some, crate::proofs::Known::standing_none))]
+    fn standing(&mut self, item: u64) -> Result<Option<Standing>, KeepFault> {
+        match self.auction(item)? {
+            Some(auction) => Ok(Some(auction.standing)),
+            None => Ok(None),
         }
     }
 
     #[tactic(auto, using(store_items::proofs::Small::no_item), unfolding(store_rows::specs::Tables::tables_in))]
-    fn standing(&mut self, item: u64) -> Result<Option<Standing>, KeepFault> {
+    fn auction(&mut self, item: u64) -> Result<Option<Auction>, KeepFault> {
         self.serves()?;
         let Ok(item) = u32::try_from(item) else {
             return Ok(None);
         };
-        told!(self, standing_at(&mut self.conn, &self.rules, item))
+        report!(self, auction_at(&mut self.conn, &self.rules, item))
     }
 
     #[tactic(auto, using(crate::proofs::Absent::no_best_of, crate::proofs::Absent::no_best_at))]
@@ -243,7 +251,7 @@ impl<S: Alter> Keep for SqlKeep<S> {
                 mine: 0,
             });
         };
-        told!(self, own_best(self.alloc, &mut self.conn, item, member))
+        report!(self, own_best(self.alloc, &mut self.conn, item, member))
     }
 
     #[tactic(auto, using(crate::proofs::Absent::no_watcher, crate::proofs::Absent::no_watched), unfolding(store_rows::specs::Tables::tables_in))]
@@ -255,7 +263,7 @@ impl<S: Alter> Keep for SqlKeep<S> {
         let Ok(item) = u32::try_from(item) else {
             return Ok(false);
         };
-        told!(self, is_watched(&mut self.conn, member, item))
+        report!(self, is_watched(&mut self.conn, member, item))
     }
 
     #[tactic(auto, using(crate::proofs::Absent::no_watches))]
@@ -264,7 +272,7 @@ impl<S: Alter> Keep for SqlKeep<S> {
         let Ok(member) = u32::try_from(member) else {
             return Ok(0);
         };
-        told!(self, watch_count(self.alloc, &mut self.conn, member))
+        report!(self, watch_count(self.alloc, &mut self.conn, member))
     }
 
     #[tactic(auto, using(crate::proofs::Absent::no_asked_on, crate::proofs::Absent::no_asked_by), unfolding(store_rows::specs::Tables::tables_in))]
@@ -276,7 +284,7 @@ impl<S: Alter> Keep for SqlKeep<S> {
         let Ok(asker) = u32::try_from(asker) else {
             return Ok(0);
         };
-        told!(self, ask_count(&mut self.conn, item, asker))
+        report!(self, ask_count(&mut self.conn, item, asker))
     }
 
     #[tactic(auto, using(store_rows::proofs::Sound::questions_fit, crate::proofs::Absent::no_question_on, crate::proofs::Absent::no_question_by, crate::proofs::Absent::no_question_numbered), unfolding(store_rows::specs::Tables::tables_in))]
@@ -296,7 +304,7 @@ impl<S: Alter> Keep for SqlKeep<S> {
         let Ok(number) = u32::try_from(number) else {
             return Ok(None);
         };
-        told!(self, question_at(&mut self.conn, item, asker, number))
+        report!(self, question_at(&mut self.conn, item, asker, number))
     }
 
     #[tactic(auto, using(store_rows::proofs::Sound::feedback_fits, crate::proofs::Absent::no_giver, crate::proofs::Absent::no_given), unfolding(store_rows::specs::Tables::tables_in))]
@@ -308,7 +316,7 @@ impl<S: Alter> Keep for SqlKeep<S> {
         let Ok(giver) = u32::try_from(giver) else {
             return Ok(false);
         };
-        told!(self, is_given(&mut self.conn, item, giver))
+        report!(self, is_given(&mut self.conn, item, giver))
     }
 
     #[tactic(auto, using(crate::proofs::Absent::no_ratings))]
@@ -321,12 +329,12 @@ impl<S: Alter> Keep for SqlKeep<S> {
                 minus: 0,
             });
         };
-        told!(self, ratings(self.alloc, &mut self.conn, member))
+        report!(self, ratings(self.alloc, &mut self.conn, member))
     }
 
     fn due(&mut self, moment: u64) -> Result<Due, KeepFault> {
         self.serves()?;
-        told!(self, due(self.alloc, &mut self.conn, &self.rules, moment))
+        report!(self, due(self.alloc, &mut self.conn, &self.rules, moment))
     }
 
     #[tactic(auto, using(crate::proofs::AbsentLists::no_items))]
@@ -336,7 +344,7 @@ impl<S: Alter> Keep for SqlKeep<S> {
             return Ok(Vec::new(self.alloc));
         };
         let rules = &self.rules;
-        told!(
+        report!(
             self,
             items_in(self.alloc, &mut self.conn, rules, category, from)
         )
@@ -349,7 +357,7 @@ impl<S: Alter> Keep for SqlKeep<S> {
             return Ok(Vec::new(self.alloc));
         };
         let rules = &self.rules;
-        told!(
+        report!(
             self,
             own_bids(self.alloc, &mut self.conn, rules, member, from)
         )
@@ -370,7 +378,7 @@ impl<S: Alter> Keep for SqlKeep<S> {
             return Ok(Vec::new(self.alloc));
         };
         let rules = &self.rules;
-        told!(
+        report!(
             self,
             reserves_of(self.alloc, &mut self.conn, rules, member, from)
         )
@@ -382,7 +390,7 @@ impl<S: Alter> Keep for SqlKeep<S> {
         let Ok(item) = u32::try_from(item) else {
             return Ok(Vec::new(self.alloc));
         };
-        told!(self, published_on(self.alloc, &mut self.conn, item, from))
+        report!(self, published_on(self.alloc, &mut self.conn, item, from))
     }
 
     #[tactic(auto, using(crate::proofs::AbsentLists::no_own_questions, store_rows::proofs::Sound::questions_fit))]
@@ -391,7 +399,7 @@ impl<S: Alter> Keep for SqlKeep<S> {
         let Ok(member) = u32::try_from(member) else {
             return Ok(Vec::new(self.alloc));
         };
-        told!(self, questions_of(self.alloc, &mut self.conn, member, from))
+        report!(self, questions_of(self.alloc, &mut self.conn, member, from))
     }
 
     #[tactic(auto, using(crate::proofs::AbsentLists::no_feedback, store_rows::proofs::Sound::feedback_fits))]
@@ -400,37 +408,37 @@ impl<S: Alter> Keep for SqlKeep<S> {
         let Ok(member) = u32::try_from(member) else {
             return Ok(Vec::new(self.alloc));
         };
-        told!(self, feedback_to(self.alloc, &mut self.conn, member, from))
+        report!(self, feedback_to(self.alloc, &mut self.conn, member, from))
     }
 
     #[tactic(auto, unfolding(store_rows::specs::Tables::tables_in))]
     fn categories(&mut self) -> Result<Vec<Category>, KeepFault> {
         self.serves()?;
-        told!(self, all_categories(self.alloc, &mut self.conn))
+        report!(self, all_categories(self.alloc, &mut self.conn))
     }
 
     #[tactic(auto, unfolding(store_rows::specs::Tables::tables_in))]
     fn members(&mut self) -> Result<Vec<Member>, KeepFault> {
         self.serves()?;
-        told!(self, all_members(self.alloc, &mut self.conn))
+        report!(self, all_members(self.alloc, &mut self.conn))
     }
 
     #[tactic(auto, unfolding(store_rows::specs::Tables::tables_in))]
     fn items(&mut self) -> Result<Vec<Item>, KeepFault> {
         self.serves()?;
-        told!(self, all_items(self.alloc, &mut self.conn, &self.rules))
+        report!(self, all_items(self.alloc, &mut self.conn, &self.rules))
     }
 
     #[tactic(auto, using(store_rows::proofs::Sound::questions_fit), unfolding(store_rows::specs::Tables::tables_in))]
     fn all_published(&mut self) -> Result<Vec<Question>, KeepFault> {
         self.serves()?;
-        told!(self, all_published(self.alloc, &mut self.conn))
+        report!(self, all_published(self.alloc, &mut self.conn))
     }
 
     #[tactic(auto, using(store_rows::proofs::Sound::feedback_fits), unfolding(store_rows::specs::Tables::tables_in))]
     fn all_feedback(&mut self) -> Result<Vec<Feedback>, KeepFault> {
         self.serves()?;
-        told!(self, all_feedback(self.alloc, &mut self.conn))
+        report!(self, all_feedback(self.alloc, &mut self.conn))
     }
 
     #[tactic(auto, using(crate::proofs::AbsentLists::no_items_watched))]
@@ -440,7 +448,7 @@ impl<S: Alter> Keep for SqlKeep<S> {
             return Ok(Vec::new(self.alloc));
         };
         let rules = &self.rules;
-        told!(
+        report!(
             self,
             items_watched(self.alloc, &mut self.conn, rules, member)
         )
@@ -453,7 +461,7 @@ impl<S: Alter> Keep for SqlKeep<S> {
             return Ok(Vec::new(self.alloc));
         };
         let rules = &self.rules;
-        told!(self, waiting_for(self.alloc, &mut self.conn, rules, member))
+        report!(self, waiting_for(self.alloc, &mut self.conn, rules, member))
     }
 
     #[tactic(auto, using(crate::proofs::AbsentLists::no_first_waiting))]
@@ -463,7 +471,7 @@ impl<S: Alter> Keep for SqlKeep<S> {
             return Ok(Vec::new(self.alloc));
         };
         let rules = &self.rules;
-        told!(
+        report!(
             self,
             first_waiting(self.alloc, &mut self.conn, rules, member)
         )
@@ -476,7 +484,7 @@ impl<S: Alter> Keep for SqlKeep<S> {
             return Ok(Vec::new(self.alloc));
         };
         let rules = &self.rules;
-        told!(self, sales_to(self.alloc, &mut self.conn, rules, member))
+        report!(self, sales_to(self.alloc, &mut self.conn, rules, member))
     }
 
     fn apply(&mut self, change: &Change<'_>) -> Result<(), KeepFault> {

@@ -1,27 +1,16 @@
 //! How a call of the keep ends.
-ghost use Rattle.std.specs.Prelude.{◌≡◌, ◌↔◌, true, false, IsTrue};
+ghost use Rattle.std.specs.Prelude.{◌≡◌, ◌↔◌, true, false};
 ghost use Rattle.sqlite.specs.State.{HasCleanDisk, IsUnchanged, Survives};
 ghost use Rattle.sqlite.specs.Held.{state};
 ghost use Rattle.house_rows.specs.declared.fault.KeepFault.TheVariants.{Store};
 
 use house_rows::KeepFault;
 use sqlite::{Alter, Connection};
+use store_rows::is_still_open;
 
-// Whether the connection still serves: a failure of the disk shuts it, and after want of memory
-// nothing else says that it is open.
-fn is_still_open<S: Alter>(conn: &mut Connection<S>) -> bool
-    ensures same { HasCleanDisk (state S.Store conn.new)
-        → IsTrue result
-        → IsUnchanged (state S.Store conn.old) (state S.Store conn.new) }
-    ensures mode { conn.old.in_transaction ≡ false → conn.new.in_transaction ≡ false }
-    ensures crash { Survives (state S.Store conn.old) (state S.Store conn.new) (λ _. ⊥) }
-{
-    conn.prepare("SELECT 1").is_ok()
-}
-
-/// Which fault a call tells, where a statement on the tables failed. It is Store where the
+/// Which fault a call reports, where a statement on the tables failed. It is Store where the
 /// connection serves no more, and the keep has then failed.
-pub(crate) fn told_fault<S: Alter>(
+pub(crate) fn reported_fault<S: Alter>(
     conn: &mut Connection<S>,
     failed: &mut bool,
     fault: KeepFault,

@@ -1,4 +1,4 @@
--- What look-ups tell of an item that is bid on.
+-- What look-ups say of an item that is bid on.
 use Rattle.proxy.specs.Opening.{Opening}
 use Rattle.std.proofs.Common.{◌≡◌, ◌≤◌, ◌+◌, ℕ, true, ◌&&◌, List, [], find, length, option_map, Option, Some, refl, sym, ap, ◌∙◌, arith}
 use Rattle.std.specs.Prelude.{◌==◌}
@@ -23,15 +23,15 @@ use Rattle.store_rows.specs.Tables.{tables_in}
 use Rattle.store_items.proofs.Rows.{item_there, reserved}
 
 -- a standing after an accepted bid is one, from the start on
-pub bid_stands : (db : Trees) (editions : BandTables) (moment item : ℕ) (placed : Bid) (kept : Kept) → editions ≡ band_tables (tables_in db) → BidFits (tables_in db) moment item placed kept
+pub bid_is_consistent : (db : Trees) (editions : BandTables) (moment item : ℕ) (placed : Bid) (kept : Kept) → editions ≡ band_tables (tables_in db) → BidFits (tables_in db) moment item placed kept
     → is_standing (bands_in editions item) kept ≡ true
-bid_stands db editions moment item placed kept same b =
+bid_is_consistent db editions moment item placed kept same b =
     let bands : List (ℕ × ℕ) = bands_for (tables_in db) item in
     let opening : Opening = row_opening b.row in
     let last = b.accepted b.bids (record { member = placed.member; maximum = placed.maximum; no = length b.bids + 1 }) [] refl in
     let room = room_for bands opening b.bids placed.member placed.maximum last.accepted in
     let few : length (one_more b.bids placed.member placed.maximum) ≤ 10000 = simp length-append (omega (arith, room)) in
-    rw (same, b.stands_after) (accepted_shape bands opening (one_more b.bids placed.member placed.maximum) b.accepted few)
+    rw (same, b.is_consistent_after) (accepted_shape bands opening (one_more b.bids placed.member placed.maximum) b.accepted few)
 
 pub bid_begins : (db : Trees) (moment item : ℕ) (placed : Bid) (kept : Kept) (t : Terms) → BidFits (tables_in db) moment item placed kept → option_map (λ (row : ItemRow). row.item.terms) (find (is_item item) (items_in db)) ≡ Some t
     → opening_of kept ≡ record { start = t.start; reserve = amount_of (reserves_in db) t.item }
@@ -40,7 +40,7 @@ bid_begins db moment item placed kept t b found =
     let terms : Some b.row.item.terms ≡ Some t = ap (option_map (λ (row : ItemRow). row.item.terms)) (sym there) ∙ found in
     let same : b.row.item.terms ≡ t = cc in
     let sealed : b.row.standing.reserve ≡ amount_of (reserves_in db) b.row.item.terms.item = reserved db item b.row there in
-    ap opening_of b.stands_after ∙ ap (λ (r : Option ℕ). record { start = b.row.item.terms.start; reserve = r }) sealed ∙ ap (λ (x : Terms). record { start = x.start; reserve = amount_of (reserves_in db) x.item }) same
+    ap opening_of b.is_consistent_after ∙ ap (λ (r : Option ℕ). record { start = b.row.item.terms.start; reserve = r }) sealed ∙ ap (λ (x : Terms). record { start = x.start; reserve = amount_of (reserves_in db) x.item }) same
 
 pub bids_sorted : (db : Trees) (item number : ℕ) → list_any (λ b. (b.item == item) && (b.bid.no == number)) (sorted_bids db) ≡ list_any (λ b. (b.item == item) && (b.bid.no == number)) (tables_in db).bids
 unfolding tables_in

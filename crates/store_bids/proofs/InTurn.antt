@@ -58,14 +58,14 @@ module _ (editions : BandTables) (t : Tables) (member : ℕ) where
   pub next_in_turn : (old new : List OwnBid) (numbers rest all : List ℕ) → new ≡ take most_shown (old ++ flat_map (own_found t member) numbers) → all ≡ numbers ++ rest
       → FitInTurn editions t member (length old) all → FitInTurn editions t member (length new) rest
   next_in_turn old new numbers rest all are split fit =
-      let behind = (split_in_turn (length old) numbers rest (subst (FitInTurn editions t member (length old)) split fit)).1 in
+      let rest_after = (split_in_turn (length old) numbers rest (subst (FitInTurn editions t member (length old)) split fit)).1 in
       let joined = length-append old (flat_map (own_found t member) numbers) in
       let front = length-take most_shown (old ++ flat_map (own_found t member) numbers) in
       let long = ap length are in
       elim (by_test (nat_lt (length new) most_shown)) [
         | inl few ↦ (let less : length new < most_shown = grind (arith, nat_tests, few) in
             let e : length old + length (flat_map (own_found t member) numbers) ≡ length new = omega (arith, joined, front, long, less) in
-            subst (λ k. FitInTurn editions t member k rest) e behind)
+            subst (λ k. FitInTurn editions t member k rest) e rest_after)
         | inr full ↦ full_in_turn (length new) rest (grind (arith, nat_tests, full))
       ]
 

@@ -106,8 +106,8 @@ at_most m = grind (arith, ints, common_steps, nat_tests)
 over : (m : ℕ) → is_gt (int_cmp (pos m) (pos 4294967295)) ≡ not (nat_lt m (2 ^ 32))
 over m = grind (arith, ints, common_steps, nat_tests)
 
-told_low : (m : ℕ) → nat_lt (number_in (Int (pos m))) (2 ^ 32) ≡ nat_lt m (2 ^ 32)
-told_low m = go (nat_lt m (2 ^ 32)) refl
+report_low : (m : ℕ) → nat_lt (number_in (Int (pos m))) (2 ^ 32) ≡ nat_lt m (2 ^ 32)
+report_low m = go (nat_lt m (2 ^ 32)) refl
   where
     go : (b : Bool) → nat_lt m (2 ^ 32) ≡ b → nat_lt (cond b m (2 ^ 64)) (2 ^ 32) ≡ b
     go true e = e
@@ -117,7 +117,7 @@ told_low m = go (nat_lt m (2 ^ 32)) refl
 up_to_last : (v : Value) → is_int v ≡ true → is_true (binary (Compare Le Binary) v (Int (pos 4294967295))) ≡ (is_negative v || nat_lt (number_in v) (2 ^ 32))
 unfolding binary
 up_to_last Null is = absurd (true≢false (sym is))
-up_to_last (Int (pos m)) is = truth_back _ ∙ ap is_le (value_cmp-Int (pos m) (pos 4294967295)) ∙ at_most m ∙ sym (told_low m)
+up_to_last (Int (pos m)) is = truth_back _ ∙ ap is_le (value_cmp-Int (pos m) (pos 4294967295)) ∙ at_most m ∙ sym (report_low m)
 up_to_last (Int (negsuc m)) is = truth_back _ ∙ ap is_le (value_cmp-Int (negsuc m) (pos 4294967295)) ∙ grind (arith, ints, common_steps)
 up_to_last (Real x) is = absurd (true≢false (sym is))
 up_to_last (Text t) is = absurd (true≢false (sym is))
@@ -127,7 +127,7 @@ up_to_last (Blob b) is = absurd (true≢false (sym is))
 past_last : (v : Value) → is_int v ≡ true → is_true (binary (Compare Gt Binary) v (Int (pos 4294967295))) ≡ (not (is_negative v) && not (nat_lt (number_in v) (2 ^ 32)))
 unfolding binary
 past_last Null is = absurd (true≢false (sym is))
-past_last (Int (pos m)) is = truth_back _ ∙ ap is_gt (value_cmp-Int (pos m) (pos 4294967295)) ∙ over m ∙ ap not (sym (told_low m))
+past_last (Int (pos m)) is = truth_back _ ∙ ap is_gt (value_cmp-Int (pos m) (pos 4294967295)) ∙ over m ∙ ap not (sym (report_low m))
 past_last (Int (negsuc m)) is = truth_back _ ∙ ap is_gt (value_cmp-Int (negsuc m) (pos 4294967295)) ∙ grind (arith, ints, common_steps)
 past_last (Real x) is = absurd (true≢false (sym is))
 past_last (Text t) is = absurd (true≢false (sym is))
@@ -154,8 +154,8 @@ bid_bits false negative from low far = refl
 not_over : (m n : ℕ) → is_lt (int_cmp (pos n) (pos m)) ≡ false → m ≤ n
 not_over m n not_less = grind (arith, ints, common_steps)
 
-told_rise : (m n : ℕ) → m ≤ n → number_in (Int (pos m)) ≤ number_in (Int (pos n))
-told_rise m n le = go (nat_lt m (2 ^ 32)) (nat_lt n (2 ^ 32)) refl refl
+report_rise : (m n : ℕ) → m ≤ n → number_in (Int (pos m)) ≤ number_in (Int (pos n))
+report_rise m n le = go (nat_lt m (2 ^ 32)) (nat_lt n (2 ^ 32)) refl refl
   where
     go : (b d : Bool) → nat_lt m (2 ^ 32) ≡ b → nat_lt n (2 ^ 32) ≡ d → cond b m (2 ^ 64) ≤ cond d n (2 ^ 64)
     go true true p q = le
@@ -167,7 +167,7 @@ abbrev IsCounted : Value → Type 0
 IsCounted v = (is_int v ≡ true) × (is_negative v ≡ false)
 
 numbers_rise : (v w : Value) → IsCounted v → IsCounted w → is_lt (value_cmp w v) ≡ false → number_in v ≤ number_in w
-numbers_rise (Int (pos m)) (Int (pos n)) p q less = told_rise m n (not_over m n (sym (ap is_lt (value_cmp-Int (pos n) (pos m))) ∙ less))
+numbers_rise (Int (pos m)) (Int (pos n)) p q less = report_rise m n (not_over m n (sym (ap is_lt (value_cmp-Int (pos n) (pos m))) ∙ less))
 numbers_rise (Int (pos m)) (Int (negsuc n)) p q less = absurd (true≢false q.1)
 numbers_rise (Int (pos m)) Null p q less = absurd (true≢false (sym q.0))
 numbers_rise (Int (pos m)) (Real x) p q less = absurd (true≢false (sym q.0))
@@ -213,8 +213,8 @@ module _ (params : Row) where
 
 -- ---- what is shown
 
-abbrev pub told : Row → ℕ
-told r = number_in (column r 0)
+abbrev pub report : Row → ℕ
+report r = number_in (column r 0)
 
 abbrev item_of : BidRow → ℕ
 item_of b = b.item
@@ -261,12 +261,12 @@ module _ (member from : ℕ) (low : member < 2 ^ 32) (small : from < 2 ^ 32) (ol
   kept_counted = all_both IsBid (λ r. passes bid_test params r ≡ true) (λ r. IsCounted (column r 1)) counted kept (all-filter IsBid (passes bid_test params) table (are_bids old.now house)) (numbered_passes (passes bid_test params) table)
 
   -- the items of all rows that are shown
-  all_shown : (all : List Row) → IsListOf table bid_test item_alone by_item params all → map told all ≡ filter (nat_le from) (items_bid_on (sorted_bids old.now.trees) member)
+  all_shown : (all : List Row) → IsListOf table bid_test item_alone by_item params all → map report all ≡ filter (nat_le from) (items_bid_on (sorted_bids old.now.trees) member)
   all_shown all a =
       let sorted = sorted_bids old.now.trees in
       let wanted = filter (nat_le from) (items_bid_on sorted member) in
       let shown = map (show params) kept in
-      let are : map told all ≡ map shown_number a.ordered = ap (map told) a.shown ∙ map-map told (λ (o : Output). o.1) a.ordered in
+      let are : map report all ≡ map shown_number a.ordered = ap (map report) a.shown ∙ map-map report (λ (o : Output). o.1) a.ordered in
       let there = moved (IsShown params) shown a.ordered a.same (all_map (IsShown params) (show params) kept (all_weaker (λ r. IsCounted (column r 1)) (λ r. IsShown params (show params r)) (λ r is. (r, is, refl)) kept kept_counted)) in
       let up = ascending-map (λ m n. m ≤ n) shown_number a.ordered (rising params a.ordered there a.sorted) in
       let typed : wanted ≡ map item_of (filter keeps sorted) = filter-map (nat_le from) item_of (filter of_member sorted) ∙ ap (map item_of) (filter_both of_member (λ b. nat_le from b.item) sorted) in
@@ -281,9 +281,9 @@ module _ (member from : ℕ) (low : member < 2 ^ 32) (small : from < 2 ^ 32) (ol
       (λ n. length_permutation (filter (λ m. m == n) (map item_of (filter keeps sorted))) (filter (λ m. m == n) (map shown_number a.ordered)) (IsPermutation-filter (λ m. m == n) (map item_of (filter keeps sorted)) (map shown_number a.ordered) same))
       ∙ sym typed
 
-  pub items_shown : (rows : List Row) → ShowsFirst 50 items_bid_text params old new rows → map told rows ≡ take 50 (filter (nat_le from) (items_bid_on (sorted_bids old.now.trees) member))
+  pub items_shown : (rows : List Row) → ShowsFirst 50 items_bid_text params old new rows → map report rows ≡ take 50 (filter (nat_le from) (items_bid_on (sorted_bids old.now.trees) member))
   items_shown rows first =
-      ap (map told) first.are ∙ sym (take-map told 50 first.all)
+      ap (map report) first.are ∙ sym (take-map report 50 first.all)
       ∙ ap (take 50) (all_shown first.all (lists items_bid_text 8 bid_test item_alone by_item _ items_bid_is (λ db. refl) old new params first.all house first.shown))
 
 -- ---- items with no number of ours

@@ -1,8 +1,10 @@
+pub mod Placing
 pub mod SortedBids
 pub mod Added
 pub mod Begins
 pub mod Best
 pub mod FindMeaning
+pub mod Free
 pub mod BidFinds
 pub mod BidMeaning
 pub mod BidLemmas

@@ -9,7 +9,7 @@ use Rattle.sqlite_keyed.proofs.ListLemmas.{all_weaker}
 use Rattle.house_rows.proofs.Put.{by_test}
 use Rattle.store_rows.proofs.Tested.{all-take}
 use Rattle.store_rows.proofs.Update.{numbered_passes}
-use Rattle.store_bids.specs.OwnBids.{behind, numbers_from}
+use Rattle.store_bids.specs.OwnBids.{rest_after, numbers_from}
 
 -- ---- which are taken
 
@@ -82,27 +82,27 @@ numbers_have n least (k ∷ ns) up =
 
 -- ---- in two parts
 
-pub behind_up : (least : ℕ) (ns : List ℕ) → least ≤ behind least (numbers_from least ns)
-behind_up least [] = omega arith
-behind_up least (n ∷ ns) =
+pub after_up : (least : ℕ) (ns : List ℕ) → least ≤ rest_after least (numbers_from least ns)
+after_up least [] = omega arith
+after_up least (n ∷ ns) =
     elim (by_test (nat_le least n)) [
-      | inl is ↦ (let low : least ≤ n = grind (arith, nat_tests, is) in let more = behind_up (n + 1) ns in rw is (omega (arith, low, more)))
-      | inr not ↦ rw not (behind_up least ns)
+      | inl is ↦ (let low : least ≤ n = grind (arith, nat_tests, is) in let more = after_up (n + 1) ns in rw is (omega (arith, low, more)))
+      | inr not ↦ rw not (after_up least ns)
     ]
 
 -- those of a front, and then those from after them on
-pub numbers_cut : (least many : ℕ) (ns : List ℕ) → numbers_from least ns ≡ numbers_from least (take many ns) ++ numbers_from (behind least (numbers_from least (take many ns))) ns
+pub numbers_cut : (least many : ℕ) (ns : List ℕ) → numbers_from least ns ≡ numbers_from least (take many ns) ++ numbers_from (rest_after least (numbers_from least (take many ns))) ns
 numbers_cut least zero ns = refl
 numbers_cut least (suc many) [] = refl
 numbers_cut least (suc many) (n ∷ ns) =
     elim (by_test (nat_le least n)) [
       | inl is ↦ (let more = numbers_cut (n + 1) many ns in
-          let far = behind_up (n + 1) (take many ns) in
-          let under : nat_le (behind (n + 1) (numbers_from (n + 1) (take many ns))) n ≡ false = grind (arith, nat_tests, far) in
+          let far = after_up (n + 1) (take many ns) in
+          let under : nat_le (rest_after (n + 1) (numbers_from (n + 1) (take many ns))) n ≡ false = grind (arith, nat_tests, far) in
           rw (is, under) (ap (λ l. n ∷ l) more))
       | inr not ↦ (let more = numbers_cut least many ns in
-          let far = behind_up least (take many ns) in
-          let under : nat_le (behind least (numbers_from least (take many ns))) n ≡ false = grind (arith, nat_tests, far, not) in
+          let far = after_up least (take many ns) in
+          let under : nat_le (rest_after least (numbers_from least (take many ns))) n ≡ false = grind (arith, nat_tests, far, not) in
           rw (not, under) more)
     ]
 
@@ -118,20 +118,20 @@ numbers_there from least (n ∷ ns) low =
       | inr under ↦ (let also : nat_le least n ≡ false = grind (arith, nat_tests, under, low) in rw (under, also) (numbers_there from least ns low))
     ]
 
-pub none_behind : (least : ℕ) (ns : List ℕ) → AllByRecursion (λ n. n < least) ns → numbers_from least ns ≡ []
-none_behind least [] all = refl
-none_behind least (n ∷ ns) all = let under : nat_le least n ≡ false = grind (arith, nat_tests, all.0) in rw under (none_behind least ns all.1)
+pub none_after : (least : ℕ) (ns : List ℕ) → AllByRecursion (λ n. n < least) ns → numbers_from least ns ≡ []
+none_after least [] all = refl
+none_after least (n ∷ ns) all = let under : nat_le least n ≡ false = grind (arith, nat_tests, all.0) in rw under (none_after least ns all.1)
 
-pub behind_last : (least i x : ℕ) (ns : List ℕ) → i + 1 ≡ length ns → slice_get ns i ≡ Some x → behind least ns ≡ x + 1
-behind_last least i x [] is found = absurd (omega (arith, is))
-behind_last least zero x (n ∷ []) is found = (let e : n ≡ x = cc in ap (λ m. m + 1) e)
-behind_last least (suc i) x (n ∷ []) is found = absurd (omega (arith, is))
-behind_last least zero x (n ∷ m ∷ ns) is found = absurd (omega (arith, is))
-behind_last least (suc i) x (n ∷ m ∷ ns) is found = behind_last (n + 1) i x (m ∷ ns) (omega (arith, is)) found
+pub after_last : (least i x : ℕ) (ns : List ℕ) → i + 1 ≡ length ns → slice_get ns i ≡ Some x → rest_after least ns ≡ x + 1
+after_last least i x [] is found = absurd (omega (arith, is))
+after_last least zero x (n ∷ []) is found = (let e : n ≡ x = cc in ap (λ m. m + 1) e)
+after_last least (suc i) x (n ∷ []) is found = absurd (omega (arith, is))
+after_last least zero x (n ∷ m ∷ ns) is found = absurd (omega (arith, is))
+after_last least (suc i) x (n ∷ m ∷ ns) is found = after_last (n + 1) i x (m ∷ ns) (omega (arith, is)) found
 
-behind_any : (a b : ℕ) (ns : List ℕ) → 0 < length ns → behind a ns ≡ behind b ns
-behind_any a b [] some = absurd (omega (arith, some))
-behind_any a b (n ∷ ns) some = refl
+after_any : (a b : ℕ) (ns : List ℕ) → 0 < length ns → rest_after a ns ≡ rest_after b ns
+after_any a b [] some = absurd (omega (arith, some))
+after_any a b (n ∷ ns) some = refl
 
 some_taken : (from : ℕ) (ns : List ℕ) → AllByRecursion (λ n. nat_le from n ≡ true) ns → 0 < length ns → 0 < length (numbers_from from ns)
 some_taken from [] all some = absurd (omega (arith, some))
@@ -143,7 +143,7 @@ front_whole many ns few = take_all many ns (let l = length-take many ns in omega
 -- fifty at a time
 pub numbers_go_on : (from next : ℕ) (ns : List ℕ) → AllByRecursion (λ n. n < 2 ^ 32) ns
     → (length (take 50 (filter (nat_le from) ns)) < 50 → next ≡ 2 ^ 32)
-    → (50 ≤ length (take 50 (filter (nat_le from) ns)) → 0 < length (numbers_from from (take 50 (filter (nat_le from) ns))) → next ≡ behind 0 (numbers_from from (take 50 (filter (nat_le from) ns))))
+    → (50 ≤ length (take 50 (filter (nat_le from) ns)) → 0 < length (numbers_from from (take 50 (filter (nat_le from) ns))) → next ≡ rest_after 0 (numbers_from from (take 50 (filter (nat_le from) ns))))
     → numbers_from from ns ≡ numbers_from from (take 50 (filter (nat_le from) ns)) ++ numbers_from next ns
 numbers_go_on from next ns low at_end going =
     let all = filter (nat_le from) ns in
@@ -152,29 +152,29 @@ numbers_go_on from next ns low at_end going =
     let there = numbers_there from from ns (omega arith) in
     elim (by_test (nat_lt (length items) 50)) [
       | inl is ↦ (let few : length items < 50 = grind (arith, nat_tests, is) in
-          let none : numbers_from next ns ≡ [] = ap (λ m. numbers_from m ns) (at_end few) ∙ none_behind (2 ^ 32) ns low in
+          let none : numbers_from next ns ≡ [] = ap (λ m. numbers_from m ns) (at_end few) ∙ none_after (2 ^ 32) ns low in
           sym there ∙ ap (numbers_from from) (sym (front_whole 50 all few)) ∙ sym (append-nil numbers) ∙ ap (λ l. numbers ++ l) (sym none))
       | inr not ↦ (let many : 50 ≤ length items = grind (arith, nat_tests, not) in
           let passed = all-take (λ n. nat_le from n ≡ true) 50 all (numbered_passes (nat_le from) ns) in
           let some = some_taken from items passed (omega (arith, many)) in
-          let same : behind from numbers ≡ next = behind_any from 0 numbers some ∙ sym (going many some) in
-          sym there ∙ numbers_cut from 50 all ∙ ap (λ l. numbers ++ l) (numbers_there from (behind from numbers) ns (behind_up from items) ∙ ap (λ m. numbers_from m ns) same))
+          let same : rest_after from numbers ≡ next = after_any from 0 numbers some ∙ sym (going many some) in
+          sym there ∙ numbers_cut from 50 all ∙ ap (λ l. numbers ++ l) (numbers_there from (rest_after from numbers) ns (after_up from items) ∙ ap (λ m. numbers_from m ns) same))
     ]
 
 pub go_on : (from next : ℕ) (all items numbers : List ℕ) → AllByRecursion (λ n. n < 2 ^ 32) all → items ≡ take 50 (filter (nat_le from) all) → numbers ≡ numbers_from from items
-    → (length items < 50 → next ≡ 2 ^ 32) → (50 ≤ length items → 0 < length numbers → next ≡ behind 0 numbers) → numbers_from from all ≡ numbers ++ numbers_from next all
+    → (length items < 50 → next ≡ 2 ^ 32) → (50 ≤ length items → 0 < length numbers → next ≡ rest_after 0 numbers) → numbers_from from all ≡ numbers ++ numbers_from next all
 go_on from next all items numbers low are listed at_end going =
     let same : numbers_from from (take 50 (filter (nat_le from) all)) ≡ numbers = ap (numbers_from from) (sym are) ∙ sym listed in
     numbers_go_on from next all low (λ few. at_end (subst (λ l. length l < 50) (sym are) few))
-    (λ many some. going (subst (λ l. 50 ≤ length l) (sym are) many) (subst (λ l. 0 < length l) same some) ∙ ap (behind 0) (sym same))
+    (λ many some. going (subst (λ l. 50 ≤ length l) (sym are) many) (subst (λ l. 0 < length l) same some) ∙ ap (rest_after 0) (sym same))
     ∙ ap (λ l. l ++ numbers_from next all) same
 
-pub first_part : (from : ℕ) (all items numbers : List ℕ) → items ≡ take 50 (filter (nat_le from) all) → numbers ≡ numbers_from from items → numbers_from from all ≡ numbers ++ numbers_from (behind from numbers) all
+pub first_part : (from : ℕ) (all items numbers : List ℕ) → items ≡ take 50 (filter (nat_le from) all) → numbers ≡ numbers_from from items → numbers_from from all ≡ numbers ++ numbers_from (rest_after from numbers) all
 first_part from all items numbers are listed =
     let some = filter (nat_le from) all in
     let same : numbers_from from (take 50 some) ≡ numbers = ap (numbers_from from) (sym are) ∙ sym listed in
-    let up : from ≤ behind from numbers = subst (λ l. from ≤ behind from l) same (behind_up from (take 50 some)) in
-    sym (numbers_there from from all (omega arith)) ∙ numbers_cut from 50 some ∙ ap (λ l. l ++ numbers_from (behind from l) some) same ∙ ap (λ l. numbers ++ l) (numbers_there from (behind from numbers) all up)
+    let up : from ≤ rest_after from numbers = subst (λ l. from ≤ rest_after from l) same (after_up from (take 50 some)) in
+    sym (numbers_there from from all (omega arith)) ∙ numbers_cut from 50 some ∙ ap (λ l. l ++ numbers_from (rest_after from l) some) same ∙ ap (λ l. numbers ++ l) (numbers_there from (rest_after from numbers) all up)
 
 -- ---- rising lists
 

@@ -26,9 +26,9 @@ use Rattle.store_rows.specs.Tables.{tables_in}
 use Rattle.store_rows.proofs.Tested.{filter_both}
 use Rattle.store_rows.specs.Joined.{found_of}
 use Rattle.store_rows.proofs.Joined.{IsRisingBy, among, found_part, joined}
-use Rattle.store_items.proofs.Behind.{parts}
+use Rattle.store_items.proofs.After.{parts}
 use Rattle.store_items.proofs.ItemRising.{number_of}
-use Rattle.store_bids.specs.OwnBids.{bid_told, items_bid_on, numbers_from, own_found}
+use Rattle.store_bids.specs.OwnBids.{bid_reported, items_bid_on, numbers_from, own_found}
 use Rattle.house_rows.specs.Reached.{FitsSoFar, IsReached}
 use Rattle.store_bids.specs.Reached.{FitInTurn}
 use Rattle.store_bids.proofs.ItemsBid.{low_items}
@@ -227,23 +227,23 @@ module _ (t : Tables) (member from : ℕ) (rising : IsRisingBy number_of t.items
 -- ---- one item
 
 -- the terms of an item with a number and the member's best bid on that number
-told : (t : Tables) (member n : ℕ) (found : Option ItemRow) → find (is_item n) t.items ≡ found
-    → option_map (bid_told member (best_of t member n)) (option_map (λ (row : ItemRow). row.item.terms) found) ≡ option_map (λ (row : ItemRow). own_bid t member row.item) found
-told t member n None is = refl
-told t member n (Some row) is =
+report : (t : Tables) (member n : ℕ) (found : Option ItemRow) → find (is_item n) t.items ≡ found
+    → option_map (bid_reported member (best_of t member n)) (option_map (λ (row : ItemRow). row.item.terms) found) ≡ option_map (λ (row : ItemRow). own_bid t member row.item) found
+report t member n None is = refl
+report t member n (Some row) is =
     let passes = found_is (is_item n) t.items row is in
     let same : row.item.terms.item ≡ n = grind (arith, nat_tests, passes) in
-    ap (λ (k : ℕ). Some (bid_told member (best_of t member k) row.item.terms)) (sym same)
+    ap (λ (k : ℕ). Some (bid_reported member (best_of t member k) row.item.terms)) (sym same)
 
-pub bid_is : (t : Tables) (member n : ℕ) → option_map (bid_told member (best_of t member n)) (option_map (λ (row : ItemRow). row.item.terms) (find (is_item n) t.items)) ≡ option_map (λ (row : ItemRow). own_bid t member row.item) (find (is_item n) t.items)
-bid_is t member n = told t member n (find (is_item n) t.items) refl
+pub bid_is : (t : Tables) (member n : ℕ) → option_map (bid_reported member (best_of t member n)) (option_map (λ (row : ItemRow). row.item.terms) (find (is_item n) t.items)) ≡ option_map (λ (row : ItemRow). own_bid t member row.item) (find (is_item n) t.items)
+bid_is t member n = report t member n (find (is_item n) t.items) refl
 
 pub bid_found : (db : Trees) (member item : ℕ) (terms : Option Terms) (best : OwnBest) → terms ≡ option_map (λ (row : ItemRow). row.item.terms) (find (is_item item) (items_in db)) → best ≡ best_of (tables_in db) member item
-    → filter (λ b. nat_lt 0 b.mine) (found_of (option_map (bid_told member best) terms)) ≡ own_found (tables_in db) member item
+    → filter (λ b. nat_lt 0 b.mine) (found_of (option_map (bid_reported member best) terms)) ≡ own_found (tables_in db) member item
 unfolding tables_in
 bid_found db member item terms best terms_are best_is =
     let t = tables_in db in
     let shown = λ (o : Option OwnBid). filter (λ (b : OwnBid). nat_lt 0 b.mine) (found_of o) in
-    ap (λ b. shown (option_map (bid_told member b) terms)) best_is
-    ∙ ap (λ o. shown (option_map (bid_told member (best_of t member item)) o)) terms_are
+    ap (λ b. shown (option_map (bid_reported member b) terms)) best_is
+    ∙ ap (λ o. shown (option_map (bid_reported member (best_of t member item)) o)) terms_are
     ∙ ap shown (bid_is t member item)

@@ -22,13 +22,13 @@ numbers_from least [] = []
 numbers_from least (n ∷ ns) = if nat_le least n then n ∷ numbers_from (n + 1) ns else numbers_from least ns
 
 -- the number after the last of some
-abbrev pub behind : ℕ → List ℕ → ℕ
-behind least [] = least
-behind least (n ∷ ns) = behind (n + 1) ns
+abbrev pub rest_after : ℕ → List ℕ → ℕ
+rest_after least [] = least
+rest_after least (n ∷ ns) = rest_after (n + 1) ns
 
--- what the terms of an item and a member's best bid there tell
-abbrev pub bid_told : ℕ → OwnBest → Terms → OwnBid
-bid_told member best t = record {
+-- what the terms of an item and a member's best bid there say
+abbrev pub bid_reported : ℕ → OwnBest → Terms → OwnBid
+bid_reported member best t = record {
   item = t.item;
   leading = is_leader t.leader member;
   maximum = best.maximum;

@@ -9,10 +9,10 @@ ghost use Rattle.house_rows.specs.declared.fault.KeepFault.TheVariants.{Damaged}
 ghost use Rattle.store_rows.specs.House.{ServesBy};
 ghost use Rattle.store_rows.specs.Tables.{tables_in};
 ghost use Rattle.store_rows.specs.Joined.{found_of};
-ghost use Rattle.store_bids.specs.OwnBids.{bid_told, own_found};
+ghost use Rattle.store_bids.specs.OwnBids.{bid_reported, own_found};
 ghost use Rattle.house_rows.specs.Reached.{FitsAt};
 ghost use Rattle.store_bids.specs.Reached.{FitInTurn};
-ghost use Rattle.store_items.specs.RowsStanding.{ItemStands};
+ghost use Rattle.store_items.specs.ConsistentRows.{ItemIsConsistent};
 ghost use Rattle.store_rows.specs.Frames.{OnlyReads};
 
 use crate::own::own_best;
@@ -21,12 +21,12 @@ use list_rows::push;
 use sqlite::{Alter, Connection};
 use std::alloc::Global;
 use store_items::terms_at;
-use store_reserves::Rules;
+use store_rows::Rules;
 
 // What a member has bid on the item of these terms, if it is there and the member has bid on it.
 fn own_bid(terms: Option<Terms>, best: OwnBest, member: u32) -> Option<OwnBid>
     ensures value { found_of result ≡ filter (λ b. nat_lt 0 b.mine)
-        (found_of (option_map (bid_told member best) terms)) }
+        (found_of (option_map (bid_reported member best) terms)) }
     ensures fits { IfSome terms TermsFit → IfSome result OwnBidFits }
 {
     let terms = terms?;
@@ -56,9 +56,9 @@ fn own_bid_at<S: Alter>(
         → IfOk result (λ bid. found_of bid ≡ own_found
         (tables_in (state S.Store conn.old).now.trees) member item) }
     ensures fits { IfOk result (λ bid. IfSome bid OwnBidFits) }
-    ensures stands { HasCleanDisk (state S.Store conn.new)
+    ensures is_consistent { HasCleanDisk (state S.Store conn.new)
         → IfOk result (λ bid. IfSome bid
-        (λ b. ItemStands rules.now.editions (state S.Store conn.old).now.trees b.item)) }
+        (λ b. ItemIsConsistent rules.now.editions (state S.Store conn.old).now.trees b.item)) }
     ensures here { HasCleanDisk (state S.Store conn.new)
         → FitsAt rules.now.editions (tables_in (state S.Store conn.old).now.trees) member item
         → ¬ (IsErrOf result Damaged) }
@@ -85,12 +85,12 @@ fn add_own_bid<S: Alter>(
     ensures few { OnOk result (length found.new.items ≤ length found.old.items + 1) }
     ensures fits { AllByRecursion OwnBidFits found.old.items
         → OnOk result (AllByRecursion OwnBidFits found.new.items) }
-    ensures stands { HasCleanDisk (state S.Store conn.new)
-        → AllByRecursion (λ b. ItemStands rules.now.editions
+    ensures is_consistent { HasCleanDisk (state S.Store conn.new)
+        → AllByRecursion (λ b. ItemIsConsistent rules.now.editions
         (state S.Store conn.old).now.trees b.item)
         found.old.items
         → OnOk result (AllByRecursion
-        (λ b. ItemStands rules.now.editions (state S.Store conn.old).now.trees b.item)
+        (λ b. ItemIsConsistent rules.now.editions (state S.Store conn.old).now.trees b.item)
         found.new.items) }
     ensures here { HasCleanDisk (state S.Store conn.new)
         → FitsAt rules.now.editions (tables_in (state S.Store conn.old).now.trees) member item
@@ -120,12 +120,12 @@ pub(crate) fn add_own_bids<S: Alter>(
     ensures few { OnOk result (length found.new.items ≤ most_shown) }
     ensures fits { AllByRecursion OwnBidFits found.old.items
         → OnOk result (AllByRecursion OwnBidFits found.new.items) }
-    ensures stands { HasCleanDisk (state S.Store conn.new)
-        → AllByRecursion (λ b. ItemStands rules.now.editions
+    ensures is_consistent { HasCleanDisk (state S.Store conn.new)
+        → AllByRecursion (λ b. ItemIsConsistent rules.now.editions
         (state S.Store conn.old).now.trees b.item)
         found.old.items
         → OnOk result (AllByRecursion
-        (λ b. ItemStands rules.now.editions (state S.Store conn.old).now.trees b.item)
+        (λ b. ItemIsConsistent rules.now.editions (state S.Store conn.old).now.trees b.item)
         found.new.items) }
     ensures reached { HasCleanDisk (state S.Store conn.new)
         → FitInTurn rules.now.editions (tables_in (state S.Store conn.old).now.trees) member

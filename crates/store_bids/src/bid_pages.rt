@@ -11,10 +11,10 @@ ghost use Rattle.house_rows.specs.Limits.{most_shown};
 ghost use Rattle.house_rows.specs.declared.fault.KeepFault.TheVariants.{Damaged};
 ghost use Rattle.store_rows.specs.House.{ServesBy};
 ghost use Rattle.store_rows.specs.Tables.{tables_in};
-ghost use Rattle.store_bids.specs.OwnBids.{behind, found_from, numbers_from};
+ghost use Rattle.store_bids.specs.OwnBids.{rest_after, found_from, numbers_from};
 ghost use Rattle.house_rows.specs.Reached.{FitsSoFar};
 ghost use Rattle.store_bids.specs.Reached.{FitFrom};
-ghost use Rattle.store_items.specs.RowsStanding.{ItemStands};
+ghost use Rattle.store_items.specs.ConsistentRows.{ItemIsConsistent};
 ghost use Rattle.store_rows.specs.Frames.{OnlyReads};
 
 use crate::bid_lists::add_own_bids;
@@ -23,7 +23,7 @@ use house_rows::{KeepFault, MOST_SHOWN, OwnBid};
 use list_rows::push;
 use sqlite::{Alter, Connection};
 use std::alloc::Global;
-use store_reserves::Rules;
+use store_rows::Rules;
 
 // One more than the last number of 32 bits.
 const BEHIND_ALL: u64 = 4_294_967_296;
@@ -45,11 +45,11 @@ fn numbers_from(alloc: Global, items: &[u32], from: u64) -> Result<Vec<u32>, Kee
     Ok(numbers)
 }
 
-// Where to go on: after the last of some items, which so many bids were on. Behind fewer than fifty
+// Where to go on: after the last of some items, which so many bids were on. After fewer than fifty
 // there is no further one.
-fn next_behind(numbers: &[u32], bids: usize) -> u64
+fn next_after(numbers: &[u32], bids: usize) -> u64
     ensures last { bids < most_shown → result ≡ 2 ^ 32 }
-    ensures next { most_shown ≤ bids → 0 < length numbers.now → result ≡ behind 0 numbers.now }
+    ensures next { most_shown ≤ bids → 0 < length numbers.now → result ≡ rest_after 0 numbers.now }
     ensures rises { (from : ℕ) → from < 2 ^ 32 → AllByRecursion (λ n. from ≤ n) numbers.now
         → from < result }
     ensures top { result ≤ 2 ^ 32 }
@@ -82,12 +82,12 @@ fn add_next_bids<S: Alter>(
     ensures top { IfOk result (λ next. next ≤ 2 ^ 32) }
     ensures fits { AllByRecursion OwnBidFits found.old.items
         → OnOk result (AllByRecursion OwnBidFits found.new.items) }
-    ensures stands { HasCleanDisk (state S.Store conn.new)
-        → AllByRecursion (λ b. ItemStands rules.now.editions
+    ensures is_consistent { HasCleanDisk (state S.Store conn.new)
+        → AllByRecursion (λ b. ItemIsConsistent rules.now.editions
         (state S.Store conn.old).now.trees b.item)
         found.old.items
         → OnOk result (AllByRecursion
-        (λ b. ItemStands rules.now.editions (state S.Store conn.old).now.trees b.item)
+        (λ b. ItemIsConsistent rules.now.editions (state S.Store conn.old).now.trees b.item)
         found.new.items) }
     ensures reached { HasCleanDisk (state S.Store conn.new)
         → FitFrom rules.now.editions (state S.Store conn.old).now.trees member
@@ -103,7 +103,7 @@ fn add_next_bids<S: Alter>(
     let items = items_bid_on(alloc, conn, member, from)?;
     let numbers = numbers_from(alloc, &items, u64::from(from))?;
     add_own_bids(alloc, conn, rules, &numbers, member, found)?;
-    Ok(next_behind(&numbers, items.len()))
+    Ok(next_after(&numbers, items.len()))
 }
 
 // What a member has bid, by the items of its bids from a number on; at most fifty.
@@ -119,9 +119,9 @@ fn own_bids_from<S: Alter>(
         → IfOk result (λ found. found.items ≡ take most_shown
         (found_from (state S.Store conn.old).now.trees member from)) }
     ensures fits { IfOk result (λ found. AllByRecursion OwnBidFits found.items) }
-    ensures stands { HasCleanDisk (state S.Store conn.new)
+    ensures is_consistent { HasCleanDisk (state S.Store conn.new)
         → IfOk result (λ found. AllByRecursion
-        (λ b. ItemStands rules.now.editions (state S.Store conn.old).now.trees b.item) found.items) }
+        (λ b. ItemIsConsistent rules.now.editions (state S.Store conn.old).now.trees b.item) found.items) }
     ensures reached { HasCleanDisk (state S.Store conn.new)
         → FitFrom rules.now.editions (state S.Store conn.old).now.trees member 0 from
         → ¬ (IsErrOf result Damaged) }
@@ -150,9 +150,9 @@ pub fn own_bids<S: Alter>(
         → IfOk result (λ found. found.items ≡ own_bids
         (tables_in (state S.Store conn.old).now.trees) member from) }
     ensures fits { IfOk result (λ found. AllByRecursion OwnBidFits found.items) }
-    ensures stands { HasCleanDisk (state S.Store conn.new)
+    ensures is_consistent { HasCleanDisk (state S.Store conn.new)
         → IfOk result (λ found. AllByRecursion
-        (λ b. ItemStands rules.now.editions (state S.Store conn.old).now.trees b.item) found.items) }
+        (λ b. ItemIsConsistent rules.now.editions (state S.Store conn.old).now.trees b.item) found.items) }
     ensures damaged { HasCleanDisk (state S.Store conn.new)
         → AreSoundBy rules.now.editions (tables_in (state S.Store conn.old).now.trees)
         → ¬ (IsErrOf result Damaged) }

@@ -1,7 +1,7 @@
 //! A bid.
-ghost use Rattle.std.specs.Prelude.{◌≡◌, ◌<◌, ◌^◌, ◌==◌, ◌&&◌, ℕ, true, false, is_some, OnOk, IsErrOf, IsTrue};
+ghost use Rattle.std.specs.Prelude.{◌≡◌, ◌≢◌, ◌<◌, ◌^◌, ◌==◌, ◌&&◌, ℕ, true, false, is_some, OnOk, IsErrOf, IsTrue};
 ghost use Rattle.std.specs.List.{list_any};
-ghost use Rattle.sqlite.specs.State.{HasCleanDisk};
+ghost use Rattle.sqlite.specs.State.{HasCleanDisk, Survives};
 ghost use Rattle.sqlite.specs.Held.{state};
 ghost use Rattle.proxy.specs.Kept.{opening_of};
 ghost use Rattle.proxy.specs.Rows.{is_standing};
@@ -12,37 +12,35 @@ ghost use Rattle.house_rows.specs.Asks.{BidFits, ChangeFits, IsFree};
 ghost use Rattle.house_rows.specs.Keeping.{AreSound};
 ghost use Rattle.house_rows.specs.declared.change.Change.TheVariants as change;
 ghost use Rattle.house_rows.specs.declared.fault.KeepFault.TheVariants.{Damaged};
-ghost use Rattle.store_rows.specs.House.{IsBegun, Serves, ServesBy};
+ghost use Rattle.store_rows.specs.House.{IsBegun, IsHouse, KeepsCommitted, ServesBy, AddsBid};
 ghost use Rattle.store_items.specs.Items.{OfItem};
 ghost use Rattle.store_rows.specs.Rows.{reserves_in};
 ghost use Rattle.store_rows.specs.Tables.{Changes, IsNumbered, Rests, tables_in};
-ghost use Rattle.store_items.specs.RowsStanding.{HasStandingItem};
+ghost use Rattle.store_items.specs.ConsistentRows.{HasStandingItem};
 ghost use Rattle.store_items.specs.Sales.{StartsAt};
-ghost use Rattle.store_rows.specs.Frames.{OnlyReads, WritesMany};
+ghost use Rattle.store_rows.specs.Frames.{OnlyReads, WritesMany, WritesOnce};
 ghost use Rattle.store_rows.specs.Commits.{Commits};
 
 use crate::look_ups::has_bid;
-use crate::rows::put_bid;
 use cents::Cents;
 use house_rows::KeepFault;
 use proxy::{Bid, Standing};
-use sqlite::{Alter, Connection, Transaction};
+use sqlite::{Alter, Connection, Transaction, params};
 use steps::Bands;
 use store_items::{set_standing, terms_there};
-use store_reserves::Rules;
-use store_rows::{commit, set_clock, stored_moment};
+use store_rows::{Rules, commit, is_still_open, run, set_clock, stored_moment};
 
 // Whether a standing's values fit together, from that start and that reserve on.
 fn begins_at(standing: &Standing, bands: &Bands, start: Cents, reserve: Option<Cents>) -> bool
     ensures begins { IsTrue result
         → opening_of standing.now ≡ record { start = start; reserve = reserve } }
     ensures led { IsTrue result → is_some standing.now.top ≡ is_some standing.now.leader }
-    ensures stands { IsTrue result → is_standing bands.now standing.now ≡ true }
+    ensures is_consistent { IsTrue result → is_standing bands.now standing.now ≡ true }
     ensures all { opening_of standing.now ≡ record { start = start; reserve = reserve }
         → is_standing bands.now standing.now ≡ true
         → IsTrue result }
 {
-    let told = Standing::of_row(
+    let report = Standing::of_row(
         start,
         reserve,
         bands,
@@ -52,8 +50,8 @@ fn begins_at(standing: &Standing, bands: &Bands, start: Cents, reserve: Option<C
         standing.second(),
         standing.count(),
     );
-    // Only of_row tells the start and the reserve that a standing has.
-    told == Some(*standing)
+    // Only of_row gives the start and the reserve that a standing has.
+    report == Some(*standing)
 }
 
 // Whether a standing begins where the item's bids do; Damaged where it doesn't.
@@ -70,7 +68,7 @@ fn check_standing<S: Alter>(
         → OnOk result (OfItem item (StartsAt (opening_of standing.now))
         (state S.Store conn.old).now) }
     ensures led { OnOk result (is_some standing.now.top ≡ is_some standing.now.leader) }
-    ensures stands { OnOk result (is_standing (bands_in rules.now.editions item) standing.now
+    ensures is_consistent { OnOk result (is_standing (bands_in rules.now.editions item) standing.now
         ≡ true) }
     ensures damaged { HasCleanDisk (state S.Store conn.new)
         → AreSound (tables_in (state S.Store conn.old).now.trees)
@@ -88,59 +86,6 @@ fn check_standing<S: Alter>(
     } else {
         Err(KeepFault::Damaged)
     }
-}
-
-// Whether an item's next number is free; Damaged where it is taken.
-fn check_free<S: Alter>(conn: &mut Connection<S>, item: u32, number: u32) -> Result<(), KeepFault>
-    requires { Serves (state S.Store conn.old) }
-    ensures free { HasCleanDisk (state S.Store conn.new)
-        → OnOk result (list_any (λ b. (b.item == item) && (b.bid.no == number))
-        (tables_in (state S.Store conn.old).now.trees).bids ≡ false) }
-    ensures damaged { HasCleanDisk (state S.Store conn.new)
-        → list_any (λ b. (b.item == item) && (b.bid.no == number))
-        (tables_in (state S.Store conn.old).now.trees).bids ≡ false
-        → ¬ (IsErrOf result Damaged) }
-    ensures read { OnlyReads (state S.Store conn.old) (state S.Store conn.new) result }
-{
-    if has_bid(conn, item, number)? {
-        Err(KeepFault::Damaged)
-    } else {
-        Ok(())
-    }
-}
-
-// Whether a bid's number is free and its standing begins where the item's bids do.
-fn check_bid<S: Alter>(
-    conn: &mut Connection<S>,
-    rules: &Rules,
-    item: u32,
-    number: u32,
-    standing: &Standing,
-) -> Result<(), KeepFault>
-    requires { ServesBy rules.now.reserves (state S.Store conn.old) }
-    ensures there { HasCleanDisk (state S.Store conn.new)
-        → OnOk result (HasStandingItem rules.now.editions (state S.Store conn.old).now.trees item) }
-    ensures start { HasCleanDisk (state S.Store conn.new)
-        → OnOk result (OfItem item (StartsAt (opening_of standing.now))
-        (state S.Store conn.old).now) }
-    ensures led { OnOk result (is_some standing.now.top ≡ is_some standing.now.leader) }
-    ensures stands { OnOk result (is_standing (bands_in rules.now.editions item) standing.now
-        ≡ true) }
-    ensures free { HasCleanDisk (state S.Store conn.new)
-        → OnOk result (list_any (λ b. (b.item == item) && (b.bid.no == number))
-        (tables_in (state S.Store conn.old).now.trees).bids ≡ false) }
-    ensures damaged { HasCleanDisk (state S.Store conn.new)
-        → AreSound (tables_in (state S.Store conn.old).now.trees)
-        → rules.now.editions ≡ band_tables (tables_in (state S.Store conn.old).now.trees)
-        → (moment : ℕ) (placed : TheBid)
-        → BidFits (tables_in (state S.Store conn.old).now.trees) moment item placed standing.now
-        → list_any (λ b. (b.item == item) && (b.bid.no == number))
-        (tables_in (state S.Store conn.old).now.trees).bids ≡ false
-        → ¬ (IsErrOf result Damaged) }
-    ensures read { OnlyReads (state S.Store conn.old) (state S.Store conn.new) result }
-{
-    check_standing(conn, rules, item, standing)?;
-    check_free(conn, item, number)
 }
 
 // Adds the bid, sets the item's standing and the clock, within a transaction.
@@ -161,6 +106,9 @@ fn write_bid<S: Alter>(
     ensures ok { HasCleanDisk (state S.Store tx.new.conn.now)
         → OnOk result (Changes (change.Bid moment item placed standing.now)
         (state S.Store tx.old.conn.now).now (state S.Store tx.new.conn.now).now) }
+    ensures free { HasCleanDisk (state S.Store tx.new.conn.now)
+        → OnOk result (list_any (λ b. (b.item == item) && (b.bid.no == placed.no))
+        (tables_in (state S.Store tx.old.conn.now).now.trees).bids ≡ false) }
     ensures sound { ¬ (IsErrOf result Damaged) }
     ensures write { WritesMany (state S.Store tx.old.conn.now)
         (state S.Store tx.new.conn.now) result }
@@ -170,7 +118,62 @@ fn write_bid<S: Alter>(
     set_clock(tx, moment)
 }
 
-/// Places a bid on an item, which then stands as told. The moment is in seconds since
+// Places the bid in a transaction of its own. A number that is taken breaks UNIQUE, which is
+// reported as a failure of the store.
+fn place_bid<S: Alter>(
+    conn: &mut Connection<S>,
+    moment: u32,
+    item: u32,
+    placed: Bid,
+    standing: &Standing,
+) -> Result<(), KeepFault>
+    requires rests { Rests (state S.Store conn.old) }
+    requires mode { conn.old.in_transaction ≡ false }
+    requires fits { HasCleanDisk (state S.Store conn.old)
+        → OfItem item (StartsAt (opening_of standing.now)) (state S.Store conn.old).now }
+    requires led { is_some standing.now.top ≡ is_some standing.now.leader }
+    ensures commit { Commits (change.Bid moment item placed standing.now) (state S.Store conn.old)
+        (state S.Store conn.new) result }
+    ensures free { HasCleanDisk (state S.Store conn.new)
+        → OnOk result (list_any (λ b. (b.item == item) && (b.bid.no == placed.no))
+        (tables_in (state S.Store conn.old).now.trees).bids ≡ false) }
+    ensures sound { ¬ (IsErrOf result Damaged) }
+{
+    let mut tx = conn.transaction();
+    write_bid(&mut tx, moment, item, placed, standing)?;
+    commit(tx)
+}
+
+// Why a bid was not placed: its number is taken, or else what failed.
+fn placing_fault<S: Alter>(
+    conn: &mut Connection<S>,
+    item: u32,
+    number: u32,
+    fault: KeepFault,
+) -> KeepFault
+    requires { HasCleanDisk (state S.Store conn.old)
+        → IsTrue (state S.Store conn.old).is_open → IsHouse (state S.Store conn.old).now }
+    ensures taken { HasCleanDisk (state S.Store conn.new)
+        → fault ≢ Damaged
+        → result ≡ Damaged
+        → IsTrue (state S.Store conn.old).is_open
+        × (list_any (λ b. (b.item == item) && (b.bid.no == number))
+        (tables_in (state S.Store conn.old).now.trees).bids ≡ true) }
+    ensures kept { HasCleanDisk (state S.Store conn.new)
+        → KeepsCommitted (state S.Store conn.old) (state S.Store conn.new) }
+    ensures mode { conn.old.in_transaction ≡ false → conn.new.in_transaction ≡ false }
+    ensures crash { Survives (state S.Store conn.old) (state S.Store conn.new) (λ _. ⊥) }
+{
+    if !is_still_open(conn) {
+        return fault;
+    }
+    match has_bid(conn, item, number) {
+        Ok(is_taken) => { if is_taken { KeepFault::Damaged } else { fault } }
+        Err(_) => fault,
+    }
+}
+
+/// Places a bid on an item, which then has the given standing. The moment is in seconds since
 /// 1970-01-01T00:00:00Z, the band tables are those of the house. Damaged where the bid's number is
 /// taken, where there is no such item, where its row or the standing doesn't fit, or where the
 /// moment has more than 32 bits.
@@ -195,7 +198,7 @@ pub fn bid<S: Alter>(
     ensures start { HasCleanDisk (state S.Store conn.new)
         → OnOk result (OfItem item (StartsAt (opening_of standing.now))
         (state S.Store conn.old).now) }
-    ensures stands { OnOk result (is_standing (bands_in rules.now.editions item) standing.now
+    ensures is_consistent { OnOk result (is_standing (bands_in rules.now.editions item) standing.now
         ≡ true) }
     ensures moment { OnOk result (moment < 2 ^ 32) }
     ensures taken { HasCleanDisk (state S.Store conn.new)
@@ -210,8 +213,36 @@ pub fn bid<S: Alter>(
         → ¬ (IsErrOf result Damaged) }
 {
     let moment = stored_moment(moment)?;
-    check_bid(conn, rules, item, placed.no, standing)?;
-    let mut tx = conn.transaction();
-    write_bid(&mut tx, moment, item, placed, standing)?;
-    commit(tx)
+    check_standing(conn, rules, item, standing)?;
+    let number = placed.no;
+    match place_bid(conn, moment, item, placed, standing) {
+        Ok(()) => Ok(()),
+        Err(fault) => Err(placing_fault(conn, item, number, fault)),
+    }
+}
+
+/// Adds a bid on an item within a transaction. A number that is taken breaks UNIQUE, so it fails.
+pub(crate) fn put_bid<S: Alter>(
+    tx: &mut Transaction<'_, S>,
+    item: u32,
+    bid: Bid,
+) -> Result<(), KeepFault>
+    requires { IsBegun (state S.Store tx.old.conn.now) }
+    ensures same_reference { tx.new.conn.ghost_name ≡ tx.old.conn.ghost_name }
+    ensures ok { HasCleanDisk (state S.Store tx.new.conn.now)
+        → OnOk result (AddsBid (record { item = item; bid = bid })
+        (state S.Store tx.old.conn.now).now (state S.Store tx.new.conn.now).now) }
+    ensures free { HasCleanDisk (state S.Store tx.new.conn.now)
+        → OnOk result (list_any (λ b. (b.item == item) && (b.bid.no == bid.no))
+        (tables_in (state S.Store tx.old.conn.now).now.trees).bids ≡ false) }
+    ensures sound { ¬ (IsErrOf result Damaged) }
+    ensures write { WritesOnce (state S.Store tx.old.conn.now)
+        (state S.Store tx.new.conn.now) result }
+{
+    let maximum = bid.maximum.value() as u32;
+    run(
+        tx,
+        "INSERT INTO bid (item, no, member, maximum) VALUES (?1, ?2, ?3, ?4)",
+        params![item, bid.no, bid.member, maximum],
+    )
 }

@@ -14,7 +14,6 @@ mod bidding;
 mod look_ups;
 mod member_bids;
 mod own;
-mod rows;
 
 pub use bid_pages::own_bids;
 pub use bidding::bid;

@@ -64,7 +64,7 @@ pub(crate) fn items_bid_on<S: Alter>(
     all_of(alloc, &rows)
 }
 
-/// Tells that a query shows no item. Where it shows one the answer is `Damaged`.
+/// Reports that a query shows no item. Where it shows one the answer is `Damaged`.
 pub(crate) fn no_item<S: Alter>(
     alloc: Global,
     conn: &mut Connection<S>,

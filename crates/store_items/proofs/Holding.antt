@@ -1,4 +1,4 @@
--- What a query shows of items whose rows fit holds items that stand.
+-- What a query shows of items whose rows fit holds items that are consistent.
 use Rattle.std.proofs.Common.{◌≡◌, ◌≤◌, ◌<◌, ◌^◌, ◌∙◌, ℕ, pos, Bool, true, false, ◌&&◌, ◌||◌, List, [], ◌∷◌, map, filter, slice_get, Option, Some, None, IfSome, refl, sym, ap, subst, arith, ◌⊎◌, inl, inr, true≢false}
 use Rattle.std.specs.Prelude.{is_none, is_some, nat_lt}
 use Rattle.std.specs.List.{AllByRecursion}
@@ -19,19 +19,18 @@ use Rattle.house_rows.specs.Keeping.{FitsBy, IsPurchase, ItemRowFits}
 use Rattle.house_rows.specs.Tables.{ItemRow}
 use Rattle.store_rows.specs.House.{IsHouse}
 use Rattle.store_rows.specs.declared.reserve.ReserveRow.{ReserveRow}
-use Rattle.store_rows.specs.ItemRows.{amount_of, item_columns, item_of, item_row_in, items_in, kept_columns, kept_from, terms_of}
+use Rattle.store_rows.specs.ItemRows.{amount_of, item_columns, item_of, item_row_in, items_in, kept_from, terms_of}
 use Rattle.store_rows.specs.Plain.{passes, shown_by}
 use Rattle.store_rows.specs.Rows.{maybe_number_in, number_in, reserves_in}
 use Rattle.store_rows.specs.Schema.{house_schema}
 use Rattle.store_rows.proofs.Select.{by_rowid, equals, in_order, listed}
 use Rattle.store_rows.proofs.Update.{numbered_passes}
-use Rattle.store_items.specs.Columns.{AreStanding}
-use Rattle.store_items.specs.Standing.{ItemHolds, TermsHold, is_at_most, is_bought, is_price, is_reserve, is_told, stands}
-use Rattle.store_items.proofs.Behind.{kept_number}
+use Rattle.store_items.specs.Standing.{ItemHolds, TermsHold, is_at_most, is_bought, is_price, is_reserve, is_reported, is_consistent}
+use Rattle.store_items.proofs.After.{kept_number}
 use Rattle.store_items.proofs.ItemLemmas.{IsRow, are_rows, kept_opening, kept_start}
-use Rattle.store_items.proofs.ItemMeaning.{all_items_is, all_items_text, item_at_is, item_at_text, item_shown, standing_at_is, standing_at_text, standing_shown, terms_at_is, terms_at_text, terms_shown}
-use Rattle.store_items.proofs.StandingLemmas.{are_standing, counts, first}
-use Rattle.store_items.proofs.Stands.{item_out, met_out}
+use Rattle.store_items.proofs.ItemMeaning.{all_items_is, all_items_text, auction_at_is, auction_at_text, item_at_is, item_at_text, item_shown, terms_shown}
+use Rattle.store_items.proofs.StandingLemmas.{counts, first, is_sealed}
+use Rattle.store_items.proofs.IsConsistent.{item_out, met_out}
 
 or_right : (a b : Bool) → b ≡ true → (a || b) ≡ true
 or_right true b e = refl
@@ -40,17 +39,17 @@ or_right false b e = e
 same_price : (price : ℕ) → is_price (Some price) price ≡ true
 same_price price = grind (arith, nat_tests)
 
-bought : (bands : List (ℕ × ℕ)) (t : Terms) (reserve : Option ℕ) → is_some t.leader ≡ true → IsPurchase t → is_told bands t reserve None None ≡ true
+bought : (bands : List (ℕ × ℕ)) (t : Terms) (reserve : Option ℕ) → is_some t.leader ≡ true → IsPurchase t → is_reported bands t reserve None None ≡ true
 bought bands t reserve led is = let price : is_price t.buy_now t.price ≡ true = rw is.price (same_price t.price) in rw (is.sold, led, is.no_bid, price) refl
 
--- what is told of a standing or of a purchase stands
-told : (bands : List (ℕ × ℕ)) (t : Terms) (start : ℕ) (reserve led top next : Option ℕ) → start ≡ t.start → led ≡ t.leader → is_standing bands (kept_from start reserve t.price led top next t.count) ≡ true
-    → (t.leader ≡ (kept_from start reserve t.price led top next t.count).leader) ⊎ IsPurchase t → is_told bands t reserve top next ≡ true
-told bands t start reserve None top next begins same shape by = or_right (is_none top && is_none next && is_bought t) _ (rw (← begins, ← same) shape)
-told bands t start reserve (Some l) (Some u) next begins same shape by = or_right false _ (rw (← begins, ← same) shape)
-told bands t start reserve (Some l) None None begins same shape (inl by) = absurd (let e : Some l ≡ None = same ∙ by in cc)
-told bands t start reserve (Some l) None None begins same shape (inr by) = bought bands t reserve (ap is_some (sym same)) by
-told bands t start reserve (Some l) None (Some s) begins same shape by = absurd (true≢false (sym shape))
+-- what is reported of a standing or of a purchase is consistent
+report : (bands : List (ℕ × ℕ)) (t : Terms) (start : ℕ) (reserve led top next : Option ℕ) → start ≡ t.start → led ≡ t.leader → is_standing bands (kept_from start reserve t.price led top next t.count) ≡ true
+    → (t.leader ≡ (kept_from start reserve t.price led top next t.count).leader) ⊎ IsPurchase t → is_reported bands t reserve top next ≡ true
+report bands t start reserve None top next begins same shape by = or_right (is_none top && is_none next && is_bought t) _ (rw (← begins, ← same) shape)
+report bands t start reserve (Some l) (Some u) next begins same shape by = or_right false _ (rw (← begins, ← same) shape)
+report bands t start reserve (Some l) None None begins same shape (inl by) = absurd (let e : Some l ≡ None = same ∙ by in cc)
+report bands t start reserve (Some l) None None begins same shape (inr by) = bought bands t reserve (ap is_some (sym same)) by
+report bands t start reserve (Some l) None (Some s) begins same shape by = absurd (true≢false (sym shape))
 
 -- a reserve that fits passes its test
 under : (most : Option ℕ) (amount : ℕ) → IfSome most (λ m. amount ≤ m) → is_at_most most amount ≡ true
@@ -66,7 +65,7 @@ abbrev bare : Row → Terms
 bare r = terms_of (item_columns r)
 
 row_sealed : (bands : List (ℕ × ℕ)) (reserves : List ReserveRow) (r : Row) → ItemRowFits bands (item_row_in reserves r)
-    → stands bands (bare r) (amount_of reserves (number_in (column r 0))) (maybe_number_in (column r 14)) (maybe_number_in (column r 15)) ≡ true
+    → is_consistent bands (bare r) (amount_of reserves (number_in (column r 0))) (maybe_number_in (column r 14)) (maybe_number_in (column r 15)) ≡ true
 row_sealed bands reserves r h =
     let t : Terms = bare r in
     let start = number_in (column r 7) in
@@ -74,27 +73,28 @@ row_sealed bands reserves r h =
     let led = maybe_number_in (column r 13) in
     let top = maybe_number_in (column r 14) in
     let next = maybe_number_in (column r 15) in
-    let begins : start ≡ t.start = sym (kept_start start reserve t.price led top next t.count) ∙ ap (λ k. k.start) h.stands in
-    let by : (t.leader ≡ (kept_from start reserve t.price led top next t.count).leader) ⊎ IsPurchase t = elim h.told [
+    let begins : start ≡ t.start = sym (kept_start start reserve t.price led top next t.count) ∙ ap (λ k. k.start) h.is_consistent in
+    let by : (t.leader ≡ (kept_from start reserve t.price led top next t.count).leader) ⊎ IsPurchase t = elim h.report [
       | inl bids ↦ inl bids.leader
       | inr buy ↦ inr (record { sold = buy.sold; no_bid = sym (counts start reserve t.price led top next t.count) ∙ buy.no_bid; price = buy.price; met = λ e. cc })
     ] in
     let kept : (item_row_in reserves r).standing.reserve ≡ reserve = ap (λ (o : Opening). o.reserve) (kept_opening start reserve t.price led top next t.count) in
     let fits : is_reserve t reserve ≡ true = reserved t reserve (subst (ReserveFits t.start t.buy_now) kept h.reserve) in
-    rw fits (told bands t start reserve led top next begins refl (are_standing bands reserves r h).stands by)
+    rw fits (report bands t start reserve led top next begins refl (is_sealed bands reserves r h).is_consistent by)
 
--- what a query shows of a row that fits by its own band table holds an item that stands by it
+-- what a query shows of a row that fits by its own band table holds an item that is consistent with
+-- it
 pub terms_row : (editions : BandTables) (reserves : List ReserveRow) (params r : Row) → FitsBy editions (item_row_in reserves r) → TermsHold editions reserves (shown_by terms_shown params r)
 terms_row editions reserves params r h =
     let bands : List (ℕ × ℕ) = bands_in editions (item_row_in reserves r).item.terms.item in
-    let are = are_standing bands reserves r h in
-    (met_out (amount_of reserves (number_in (column r 0))) (maybe_number_in (column r 14)) (bare r) h.item.terms, record { wide = omega arith; top = are.top; second = are.second; stands = row_sealed bands reserves r h })
+    let are = is_sealed bands reserves r h in
+    (met_out (amount_of reserves (number_in (column r 0))) (maybe_number_in (column r 14)) (bare r) h.item.terms, record { wide = omega arith; top = are.top; second = are.second; is_consistent = row_sealed bands reserves r h })
 
 pub item_row : (editions : BandTables) (reserves : List ReserveRow) (params r : Row) → FitsBy editions (item_row_in reserves r) → ItemHolds editions reserves (shown_by item_shown params r)
 item_row editions reserves params r h =
     let bands : List (ℕ × ℕ) = bands_in editions (item_row_in reserves r).item.terms.item in
-    let are = are_standing bands reserves r h in
-    (item_out (amount_of reserves (number_in (column r 0))) (maybe_number_in (column r 14)) (item_of (item_columns r)) h.item, record { wide = omega arith; top = are.top; second = are.second; stands = row_sealed bands reserves r h })
+    let are = is_sealed bands reserves r h in
+    (item_out (amount_of reserves (number_in (column r 0))) (maybe_number_in (column r 14)) (item_of (item_columns r)) h.item, record { wide = omega arith; top = are.top; second = are.second; is_consistent = row_sealed bands reserves r h })
 
 -- each row that a query shows, of a table whose rows fit
 pub rows_hold : (editions : BandTables) (reserves : List ReserveRow) (Hold : Row → Type 0) (shown test : List Term) (params : Row) (rows answer : List Row) → ((r : Row) → FitsBy editions (item_row_in reserves r) → Hold (shown_by shown params r))
@@ -107,10 +107,10 @@ module _ (old new : State) (answer : List Row) (house : IsHouse old.now) (editio
   abbrev R : List ReserveRow
   R = reserves_in old.now.trees
 
-  pub terms_hold : (n : ℕ) → Shown terms_at_text (Int (pos n) ∷ []) old new answer → IfSome (slice_get answer 0) (TermsHold editions R)
+  pub terms_hold : (n : ℕ) → Shown auction_at_text (Int (pos n) ∷ []) old new answer → IfSome (slice_get answer 0) (TermsHold editions R)
   terms_hold n h =
       let params = Int (pos n) ∷ [] in
-      let read = reads_as terms_at_text params old new house_schema house.schema _ terms_at_is.0 terms_at_is.2 terms_at_is.1 answer h in
+      let read = reads_as auction_at_text params old new house_schema house.schema _ auction_at_is.0 auction_at_is.2 auction_at_is.1 answer h in
       let order = in_order (equals 0 ∷ []) terms_shown params (old.now.trees 6) answer house.shaped.1.1.1.1.0.0 (listed 6 (equals 0 ∷ []) terms_shown by_rowid (overlay old.now.trees []) params answer (read.answer Null)) in
       first (TermsHold editions R) answer (rows_hold editions R (TermsHold editions R) terms_shown (equals 0 ∷ []) params (old.now.trees 6) answer (terms_row editions R params) order fit)
 
@@ -145,7 +145,7 @@ module _ (reserves : List ReserveRow) (Fits : ItemRow → Type 0) (n : ℕ) (low
 abbrev AreHere : ℕ → (ItemRow → Type 0) → List ItemRow → Type 0
 AreHere n Fits rows = AllByRecursion (λ (row : ItemRow). row.item.terms.item ≡ n → Fits row) rows
 
-pub terms_here : (old new : State) (answer : List Row) → IsHouse old.now → (editions : BandTables) (n : ℕ) → n < 2 ^ 32 → Shown terms_at_text (Int (pos n) ∷ []) old new answer
+pub terms_here : (old new : State) (answer : List Row) → IsHouse old.now → (editions : BandTables) (n : ℕ) → n < 2 ^ 32 → Shown auction_at_text (Int (pos n) ∷ []) old new answer
     → AreHere n (FitsBy editions) (items_in old.now.trees) → IfSome (slice_get answer 0) (TermsHold editions (reserves_in old.now.trees))
 terms_here old new answer house editions n low h fit =
     let params = Int (pos n) ∷ [] in
@@ -153,7 +153,7 @@ terms_here old new answer house editions n low h fit =
     let make : Row → ItemRow = item_row_in reserves in
     let table = old.now.trees 6 in
     let kept = filter (passes (equals 0 ∷ []) params) table in
-    let read = reads_as terms_at_text params old new house_schema house.schema _ terms_at_is.0 terms_at_is.2 terms_at_is.1 answer h in
+    let read = reads_as auction_at_text params old new house_schema house.schema _ auction_at_is.0 auction_at_is.2 auction_at_is.1 answer h in
     let order = in_order (equals 0 ∷ []) terms_shown params table answer house.shaped.1.1.1.1.0.0 (listed 6 (equals 0 ∷ []) terms_shown by_rowid (overlay old.now.trees []) params answer (read.answer Null)) in
     let fits = kept_fit reserves (FitsBy editions) n low table (are_rows old.now house) (all_unmap (λ (row : ItemRow). row.item.terms.item ≡ n → FitsBy editions row) make table fit) in
     let hold = all_map (TermsHold editions reserves) (shown_by terms_shown params) kept (all_weaker (λ r. FitsBy editions (make r)) (λ r. TermsHold editions reserves (shown_by terms_shown params r)) (terms_row editions reserves params) kept fits) in
@@ -172,27 +172,3 @@ item_here old new answer house editions n low h fit =
     let fits = kept_fit reserves (FitsBy editions) n low table (are_rows old.now house) (all_unmap (λ (row : ItemRow). row.item.terms.item ≡ n → FitsBy editions row) make table fit) in
     let hold = all_map (ItemHolds editions reserves) (shown_by item_shown params) kept (all_weaker (λ r. FitsBy editions (make r)) (λ r. ItemHolds editions reserves (shown_by item_shown params r)) (item_row editions reserves params) kept fits) in
     first (ItemHolds editions reserves) answer (subst (AllByRecursion (ItemHolds editions reserves)) (sym order) hold)
-
--- the standing of an item, by the band table of its number
-pub standing_here : (old new : State) (answer : List Row) → IsHouse old.now → (editions : BandTables) (n : ℕ) → n < 2 ^ 32 → Shown standing_at_text (Int (pos n) ∷ []) old new answer
-    → AreHere n (FitsBy editions) (items_in old.now.trees) → IfSome (slice_get answer 0) (AreStanding (bands_in editions n) (reserves_in old.now.trees))
-standing_here old new answer house editions n low h fit =
-    let bands : List (ℕ × ℕ) = bands_in editions n in
-    let params = Int (pos n) ∷ [] in
-    let reserves : List ReserveRow = reserves_in old.now.trees in
-    let make : Row → ItemRow = item_row_in reserves in
-    let table = old.now.trees 6 in
-    let kept = filter (passes (equals 0 ∷ []) params) table in
-    let read = reads_as standing_at_text params old new house_schema house.schema _ standing_at_is.0 standing_at_is.2 standing_at_is.1 answer h in
-    let order = in_order (equals 0 ∷ []) standing_shown params table answer house.shaped.1.1.1.1.0.0 (listed 6 (equals 0 ∷ []) standing_shown by_rowid (overlay old.now.trees []) params answer (read.answer Null)) in
-    let here = all_weaker (λ r. (make r).item.terms.item ≡ n → FitsBy editions (make r)) (λ r. (make r).item.terms.item ≡ n → ItemRowFits bands (make r)) (λ r fits is. subst (λ (m : ℕ). ItemRowFits (bands_in editions m) (make r)) is (fits is)) table
-    (all_unmap (λ (row : ItemRow). row.item.terms.item ≡ n → FitsBy editions row) make table fit) in
-    let fits = kept_fit reserves (ItemRowFits bands) n low table (are_rows old.now house) here in
-    let stand = all_map (AreStanding bands reserves) (shown_by standing_shown params) kept (all_weaker (λ r. ItemRowFits bands (make r)) (λ r. AreStanding bands reserves (kept_columns r)) (are_standing bands reserves) kept fits) in
-    first (AreStanding bands reserves) answer (subst (AllByRecursion (AreStanding bands reserves)) (sym order) stand)
-
-pub standing_holds : (old new : State) (answer : List Row) → IsHouse old.now → (editions : BandTables) (n : ℕ) → n < 2 ^ 32 → Shown standing_at_text (Int (pos n) ∷ []) old new answer
-    → AllByRecursion (FitsBy editions) (items_in old.now.trees) → IfSome (slice_get answer 0) (AreStanding (bands_in editions n) (reserves_in old.now.trees))
-standing_holds old new answer house editions n low h fit =
-    standing_here old new answer house editions n low h
-    (all_weaker (FitsBy editions) (λ (row : ItemRow). row.item.terms.item ≡ n → FitsBy editions row) (λ row fits is. fits) (items_in old.now.trees) fit)

@@ -12,7 +12,7 @@ pub weaker : (P Q : ℕ → Type 0) (o : Option ℕ) → ((n : ℕ) → P n → 
 weaker P Q None f h = h
 weaker P Q (Some n) f h = f n h
 
--- the start is told only with a state
+-- the start is reported only with a state
 started : (b : Bool) (n : ℕ) → cond b n (2 ^ 64) ≤ most_cents → (b ≡ true) × (n ≤ most_cents)
 started true n h = (refl, h)
 started false n h = absurd (omega (arith, h))

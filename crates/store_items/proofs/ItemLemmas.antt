@@ -25,12 +25,13 @@ use Rattle.proxy.proofs.Placed.{standing-none}
 use Rattle.proxy.specs.Kept.{Kept, opening_of}
 use Rattle.house_rows.specs.declared.change.NewItem.{NewItem}
 use Rattle.house_rows.specs.Changed.{is_item, new_item, with_standing, with_purchase, with_settlement}
+use Rattle.house_rows.specs.Found.{auction_of}
 use Rattle.house_rows.specs.Limits.{most_cents}
 use Rattle.house_rows.specs.Tables.{ItemRow}
 use Rattle.house_rows.specs.Text.{same_text}
 use Rattle.store_rows.specs.Schema.{house_schema, item_table, item_layout}
 use Rattle.store_rows.specs.Rows.{number_in, maybe_number_in, reserves_in}
-use Rattle.store_rows.specs.ItemRows.{amount_of, is_state, item_by, terms_by, kept_by, kept_from, item_row_in, items_in, met_with}
+use Rattle.store_rows.specs.ItemRows.{amount_of, auction_by, is_state, item_by, kept_from, item_row_in, items_in, met_with}
 use Rattle.store_rows.specs.House.{IsHouse}
 use Rattle.store_items.specs.Items.{AddsItem, OfItem, SetsStanding, SetsBought, SetsClosed, SetsSettled, with_end}
 use Rattle.store_rows.proofs.RowLemmas.{is_text, int_if, text_if, equals_number, equals_text, first_part, alone, row_key, small, two}
@@ -42,7 +43,7 @@ use Rattle.store_rows.proofs.Select.{listed, in_order, typed_part, by_rowid, equ
 use Rattle.store_rows.proofs.Wrote.{still_house, map_more}
 use Rattle.store_rows.proofs.Insert.{puts, put_over, cast_int, cast_null}
 use Rattle.store_rows.proofs.Update.{updates, typed_set_on, stays_all, IsStrict}
-use Rattle.store_items.proofs.ItemMeaning.{item_at_text, terms_at_text, standing_at_text, with_lot_text, all_items_text, item_shown, terms_shown, standing_shown, by_lot, item_at_is, terms_at_is, standing_at_is, with_lot_is, all_items_is, put_item_text, set_standing_text, set_bought_text, set_closed_text, set_settled_text, put_terms, standing_set, bought_set, closed_set, settled_set, put_item_is, set_standing_is, set_bought_is, set_closed_is, set_settled_is}
+use Rattle.store_items.proofs.ItemMeaning.{item_at_text, auction_at_text, with_lot_text, all_items_text, item_shown, terms_shown, by_lot, item_at_is, auction_at_is, with_lot_is, all_items_is, put_item_text, set_standing_text, set_bought_text, set_closed_text, set_settled_text, put_terms, standing_set, bought_set, closed_set, settled_set, put_item_is, set_standing_is, set_bought_is, set_closed_is, set_settled_is}
 
 -- ---- what the columns hold
 
@@ -121,21 +122,13 @@ module _ (old new : State) (answer : List Row) (house : IsHouse old.now) where
       first_part (item_by (reserves_in old.now.trees)) (λ (row : ItemRow). row.item) (is_item n) answer (items_in old.now.trees)
       (typed_part (item_by (reserves_in old.now.trees)) (row_of old) (λ (row : ItemRow). row.item) (is_item n) IsRow (equals 0 ∷ []) item_shown params rows answer (λ r. refl) (λ r is. rw (equals_number (rowid r) n is.number low) (alone _)) (are_rows old.now house) order)
 
-  pub first_terms : (n : ℕ) → n < 2 ^ 32 → Shown terms_at_text (Int (pos n) ∷ []) old new answer → option_map (terms_by (reserves_in old.now.trees)) (slice_get answer 0) ≡ option_map (λ (row : ItemRow). row.item.terms) (find (is_item n) (items_in old.now.trees))
-  first_terms n low h =
+  pub first_auction : (n : ℕ) → n < 2 ^ 32 → Shown auction_at_text (Int (pos n) ∷ []) old new answer → option_map (auction_by (reserves_in old.now.trees)) (slice_get answer 0) ≡ option_map auction_of (find (is_item n) (items_in old.now.trees))
+  first_auction n low h =
       let params = Int (pos n) ∷ [] in
-      let read = reads_as terms_at_text params old new house_schema house.schema _ terms_at_is.0 terms_at_is.2 terms_at_is.1 answer h in
+      let read = reads_as auction_at_text params old new house_schema house.schema _ auction_at_is.0 auction_at_is.2 auction_at_is.1 answer h in
       let order = in_order (equals 0 ∷ []) terms_shown params rows answer house.shaped.1.1.1.1.0.0 (listed 6 (equals 0 ∷ []) terms_shown by_rowid (overlay old.now.trees []) params answer (read.answer Null)) in
-      first_part (terms_by (reserves_in old.now.trees)) (λ (row : ItemRow). row.item.terms) (is_item n) answer (items_in old.now.trees)
-      (typed_part (terms_by (reserves_in old.now.trees)) (row_of old) (λ (row : ItemRow). row.item.terms) (is_item n) IsRow (equals 0 ∷ []) terms_shown params rows answer (λ r. refl) (λ r is. rw (equals_number (rowid r) n is.number low) (alone _)) (are_rows old.now house) order)
-
-  pub first_standing : (n : ℕ) → n < 2 ^ 32 → Shown standing_at_text (Int (pos n) ∷ []) old new answer → option_map (kept_by (reserves_in old.now.trees)) (slice_get answer 0) ≡ option_map (λ (row : ItemRow). row.standing) (find (is_item n) (items_in old.now.trees))
-  first_standing n low h =
-      let params = Int (pos n) ∷ [] in
-      let read = reads_as standing_at_text params old new house_schema house.schema _ standing_at_is.0 standing_at_is.2 standing_at_is.1 answer h in
-      let order = in_order (equals 0 ∷ []) standing_shown params rows answer house.shaped.1.1.1.1.0.0 (listed 6 (equals 0 ∷ []) standing_shown by_rowid (overlay old.now.trees []) params answer (read.answer Null)) in
-      first_part (kept_by (reserves_in old.now.trees)) (λ (row : ItemRow). row.standing) (is_item n) answer (items_in old.now.trees)
-      (typed_part (kept_by (reserves_in old.now.trees)) (row_of old) (λ (row : ItemRow). row.standing) (is_item n) IsRow (equals 0 ∷ []) standing_shown params rows answer (λ r. refl) (λ r is. rw (equals_number (rowid r) n is.number low) (alone _)) (are_rows old.now house) order)
+      first_part (auction_by (reserves_in old.now.trees)) auction_of (is_item n) answer (items_in old.now.trees)
+      (typed_part (auction_by (reserves_in old.now.trees)) (row_of old) auction_of (is_item n) IsRow (equals 0 ∷ []) terms_shown params rows answer (λ r. refl) (λ r is. rw (equals_number (rowid r) n is.number low) (alone _)) (are_rows old.now house) order)
 
   pub first_with_lot : (seller : ℕ) (lot : List ℕ) → IsUtf8 lot → seller < 2 ^ 32 → Shown with_lot_text (Int (pos seller) ∷ Text lot ∷ []) old new answer
       → option_map (λ r. number_in (column r 0)) (slice_get answer 0) ≡ option_map (λ (row : ItemRow). row.item.terms.item) (find (λ row. (row.item.terms.seller == seller) && same_text row.item.lot lot) (items_in old.now.trees))
@@ -254,16 +247,16 @@ pub kept_start : (start : ℕ) (reserve : Option ℕ) (at : ℕ) (led top next :
 kept_start start reserve at led top next count = ap (λ (o : Opening). o.start) (kept_opening start reserve at led top next count)
 
 -- a standing whose leader has a top is stored as it is
-told : (start : ℕ) (reserve : Option ℕ) (at : ℕ) (led top next : Option ℕ) (count : ℕ) → is_some top ≡ is_some led → kept_from start reserve at led top next count ≡ record { start = start; reserve = reserve; price = at; leader = led; top = top; second = next; count = count }
-told start reserve at None top next count h = refl
-told start reserve at (Some l) None next count h = absurd (true≢false (sym h))
-told start reserve at (Some l) (Some t) next count h = refl
+report : (start : ℕ) (reserve : Option ℕ) (at : ℕ) (led top next : Option ℕ) (count : ℕ) → is_some top ≡ is_some led → kept_from start reserve at led top next count ≡ record { start = start; reserve = reserve; price = at; leader = led; top = top; second = next; count = count }
+report start reserve at None top next count h = refl
+report start reserve at (Some l) None next count h = absurd (true≢false (sym h))
+report start reserve at (Some l) (Some t) next count h = refl
 
 -- and its reserve is met as its bids meet it
-met_told : (reserve led top : Option ℕ) → is_some top ≡ is_some led → met_with reserve led top ≡ met_by reserve top
-met_told reserve None top h = refl
-met_told reserve (Some l) None h = absurd (true≢false (sym h))
-met_told reserve (Some l) (Some t) h = refl
+met_reported : (reserve led top : Option ℕ) → is_some top ≡ is_some led → met_with reserve led top ≡ met_by reserve top
+met_reported reserve None top h = refl
+met_reported reserve (Some l) None h = absurd (true≢false (sym h))
+met_reported reserve (Some l) (Some t) h = refl
 
 -- a purchase meets the reserve, whatever was so before
 met_bought : (reserve led top : Option ℕ) (buyer : ℕ) → top ≡ None → met_with reserve (Some buyer) top ≡ option_map (λ m. true) (met_with reserve led top)
@@ -331,8 +324,8 @@ sets_standing old new item k count house low kept_low h =
     here led r start e =
         let reserve = amount_of (reserves_in old.now.trees) (number_in (column r 0)) in
         let same : record { start = number_in (column r 7); reserve = reserve } ≡ opening_of k = sym (kept_opening (number_in (column r 7)) reserve (number_in (column r 12)) (maybe_number_in (column r 13)) (maybe_number_in (column r 14)) (maybe_number_in (column r 15)) (number_in (column r 16))) ∙ start e in
-        let standing : kept_from (number_in (column r 7)) reserve k.price k.leader k.top k.second k.count ≡ k = told (number_in (column r 7)) reserve k.price k.leader k.top k.second k.count led ∙ ap (λ (o : Opening). record k { start = o.start; reserve = o.reserve }) same in
-        let met : met_with reserve k.leader k.top ≡ met_by k.reserve k.top = met_told reserve k.leader k.top led ∙ ap (λ (o : Opening). met_by o.reserve k.top) same in
+        let standing : kept_from (number_in (column r 7)) reserve k.price k.leader k.top k.second k.count ≡ k = report (number_in (column r 7)) reserve k.price k.leader k.top k.second k.count led ∙ ap (λ (o : Opening). record k { start = o.start; reserve = o.reserve }) same in
+        let met : met_with reserve k.leader k.top ≡ met_by k.reserve k.top = met_reported reserve k.leader k.top led ∙ ap (λ (o : Opening). met_by o.reserve k.top) same in
         rw (e, small k.price kept_low.price_low, small k.count kept_low.count_low, maybe_back k.leader kept_low.leader_low, maybe_back k.top kept_low.top_low, maybe_back k.second kept_low.second_low, standing, met) refl
 
 -- ---- the purchase

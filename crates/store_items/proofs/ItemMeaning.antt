@@ -19,11 +19,8 @@ use Rattle.store_rows.proofs.Select.{by_rowid, equals}
 abbrev pub item_at_text : List ℕ
 item_at_text = codes "SELECT id, seller, category, start, buy_now, ending, state, closed, price, leader, count, lot, title, body, top, second FROM item WHERE id = ?1 ORDER BY id"
 
-abbrev pub terms_at_text : List ℕ
-terms_at_text = codes "SELECT id, seller, category, start, buy_now, ending, state, closed, price, leader, count, top, second FROM item WHERE id = ?1 ORDER BY id"
-
-abbrev pub standing_at_text : List ℕ
-standing_at_text = codes "SELECT start, price, leader, top, second, count, id FROM item WHERE id = ?1 ORDER BY id"
+abbrev pub auction_at_text : List ℕ
+auction_at_text = codes "SELECT id, seller, category, start, buy_now, ending, state, closed, price, leader, count, top, second FROM item WHERE id = ?1 ORDER BY id"
 
 abbrev pub with_lot_text : List ℕ
 with_lot_text = codes "SELECT id FROM item WHERE seller = ?1 AND lot = ?2 ORDER BY id"
@@ -37,9 +34,6 @@ item_shown =
 
 abbrev pub terms_shown : List Term
 terms_shown = col 1 0 ∷ col 1 2 ∷ col 1 3 ∷ col 1 7 ∷ col 1 8 ∷ col 1 9 ∷ col 1 10 ∷ col 1 11 ∷ col 1 12 ∷ col 1 13 ∷ col 1 16 ∷ col 1 14 ∷ col 1 15 ∷ []
-
-abbrev pub standing_shown : List Term
-standing_shown = col 1 7 ∷ col 1 12 ∷ col 1 13 ∷ col 1 14 ∷ col 1 15 ∷ col 1 16 ∷ col 1 0 ∷ []
 
 -- of this seller and with this lot
 abbrev pub by_lot : List Term
@@ -60,16 +54,10 @@ pub item_at_is : (command_of (understood house_schema item_at_text) ≡ Select (
 unfolding understood everything
 item_at_is = (refl, refl, (refl, refl))
 
-pub terms_at_is : (command_of (understood house_schema terms_at_text) ≡ Select (record { lets = []; body = plain_query 6 (equals 0 ∷ []) terms_shown by_rowid }) terms_names)
-    × (reads_listing house_schema terms_at_text ≡ false) × IsPlain (understood house_schema terms_at_text)
+pub auction_at_is : (command_of (understood house_schema auction_at_text) ≡ Select (record { lets = []; body = plain_query 6 (equals 0 ∷ []) terms_shown by_rowid }) terms_names)
+    × (reads_listing house_schema auction_at_text ≡ false) × IsPlain (understood house_schema auction_at_text)
 unfolding understood everything
-terms_at_is = (refl, refl, (refl, refl))
-
-pub standing_at_is : (command_of (understood house_schema standing_at_text)
-    ≡ Select (record { lets = []; body = plain_query 6 (equals 0 ∷ []) standing_shown by_rowid }) (codes "start" ∷ codes "price" ∷ codes "leader" ∷ codes "top" ∷ codes "second" ∷ codes "count" ∷ codes "id" ∷ []))
-    × (reads_listing house_schema standing_at_text ≡ false) × IsPlain (understood house_schema standing_at_text)
-unfolding understood everything
-standing_at_is = (refl, refl, (refl, refl))
+auction_at_is = (refl, refl, (refl, refl))
 
 pub with_lot_is : (command_of (understood house_schema with_lot_text) ≡ Select (record { lets = []; body = plain_query 6 by_lot (col 1 0 ∷ []) by_rowid }) (codes "id" ∷ []))
     × (reads_listing house_schema with_lot_text ≡ false) × IsPlain (understood house_schema with_lot_text)

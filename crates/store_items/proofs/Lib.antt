@@ -3,7 +3,8 @@ pub mod MaybeLemmas
 pub mod Reserves
 pub mod ItemLemmas
 pub mod Rows
-pub mod Behind
+pub mod Auctions
+pub mod After
 pub mod Closed
 pub mod Counted
 pub mod ItemColumns
@@ -15,10 +16,10 @@ pub mod ItemsSet
 pub mod Listed
 pub mod OwnReserves
 pub mod PartySales
-pub mod RowsStanding
+pub mod ConsistentRows
 pub mod Small
 pub mod Sold
-pub mod Stands
+pub mod IsConsistent
 pub mod TermMeaning
 pub mod TermFinds
 pub mod Undone

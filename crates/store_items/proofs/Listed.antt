@@ -17,7 +17,7 @@ use Rattle.store_rows.specs.House.{SetsClock}
 use Rattle.store_rows.specs.Rows.{reserves_in}
 use Rattle.store_items.specs.Items.{AddsItem}
 use Rattle.store_items.specs.Listed.{AddsListing}
-use Rattle.store_reserves.specs.Reserves.{AddsReserve}
+use Rattle.store_rows.specs.Reserves.{AddsReserve}
 use Rattle.store_rows.specs.ItemRows.{item_row_in, items_in}
 use Rattle.store_rows.specs.Tables.{IsNumbered, Changes, house_row_in, settings_in, tables_in, with_reserve}
 use Rattle.store_rows.proofs.Made.{Makes, makes_both, other, all_below, still_numbered, same_reserves, sets_clock}

@@ -8,9 +8,9 @@ use Rattle.sqlite_value.specs.declared.value.Value.TheVariants.{Int}
 use Rattle.sqlite_value.specs.Order.{Row, column}
 use Rattle.sqlite_trees.specs.Tree.{Trees}
 use Rattle.sqlite_keyed.proofs.ListLemmas.{all-filter}
-use Rattle.house_rows.specs.Found.{own_reserve, own_reserves, reserves_in as reserves_told}
+use Rattle.house_rows.specs.Found.{own_reserve, own_reserves, reserves_in as reserves_reported}
 use Rattle.house_rows.specs.Limits.{most_shown}
-use Rattle.house_rows.specs.Pages.{reserve_told}
+use Rattle.house_rows.specs.Pages.{reserve_reported}
 use Rattle.house_rows.specs.Tables.{ItemRow}
 use Rattle.house_rows.specs.Taken.{has_own_reserve}
 use Rattle.house_rows.specs.declared.item.OwnReserve.{OwnReserve}
@@ -30,28 +30,28 @@ use Rattle.store_items.proofs.TermFinds.{IsRow, seller_test}
 
 -- the reserve of an item, if it has one and its number is not below another
 abbrev reserve_from : List ReserveRow → ℕ → Terms → List OwnReserve
-reserve_from reserves from t = filter (λ r. nat_le from r.item) (reserve_told t (amount_of reserves t.item))
+reserve_from reserves from t = filter (λ r. nat_le from r.item) (reserve_reported t (amount_of reserves t.item))
 
-told_from : (t : Terms) (from : ℕ) (b : Bool) (o : Option ℕ) → nat_le from t.item ≡ b → reserve_told t (cond b o None) ≡ filter (λ (r : OwnReserve). nat_le from r.item) (reserve_told t o)
-told_from t from true None is = refl
-told_from t from true (Some a) is = rw is refl
-told_from t from false None is = refl
-told_from t from false (Some a) is = rw is refl
+report_from : (t : Terms) (from : ℕ) (b : Bool) (o : Option ℕ) → nat_le from t.item ≡ b → reserve_reported t (cond b o None) ≡ filter (λ (r : OwnReserve). nat_le from r.item) (reserve_reported t o)
+report_from t from true None is = refl
+report_from t from true (Some a) is = rw is refl
+report_from t from false None is = refl
+report_from t from false (Some a) is = rw is refl
 
 shown_from : (reserves : List ReserveRow) (from : ℕ) (rows : List Row) → flat_map (reserve_shown reserves from) rows ≡ flat_map (reserve_from reserves from) (map (terms_by reserves) rows)
 shown_from reserves from [] = refl
 shown_from reserves from (r ∷ rows) =
-    ap₂ (λ (a b : List OwnReserve). a ++ b) (told_from (terms_by reserves r) from (nat_le from (number_in (column r 0))) (amount_of reserves (number_in (column r 0))) refl) (shown_from reserves from rows)
+    ap₂ (λ (a b : List OwnReserve). a ++ b) (report_from (terms_by reserves r) from (nat_le from (number_in (column r 0))) (amount_of reserves (number_in (column r 0))) refl) (shown_from reserves from rows)
 
 each : (reserves : List ReserveRow) (from : ℕ) (rows : List ItemRow) → AllByRecursion (IsReserved reserves) rows
-    → flat_map (reserve_from reserves from) (map (λ (row : ItemRow). row.item.terms) rows) ≡ filter (λ r. nat_le from r.item) (reserves_told rows)
+    → flat_map (reserve_from reserves from) (map (λ (row : ItemRow). row.item.terms) rows) ≡ filter (λ r. nat_le from r.item) (reserves_reported rows)
 each reserves from [] all = refl
 each reserves from (row ∷ rows) all =
     let shows = λ (r : OwnReserve). nat_le from r.item in
     let rest = flat_map (reserve_from reserves from) (map (λ (r : ItemRow). r.item.terms) rows) in
-    ap (λ (o : Option ℕ). filter shows (reserve_told row.item.terms o) ++ rest) (sym all.0)
+    ap (λ (o : Option ℕ). filter shows (reserve_reported row.item.terms o) ++ rest) (sym all.0)
     ∙ ap (λ l. filter shows (own_reserve row) ++ l) (each reserves from rows all.1)
-    ∙ sym (filter-append shows (own_reserve row) (reserves_told rows))
+    ∙ sym (filter-append shows (own_reserve row) (reserves_reported rows))
 
 -- those of the rows that a query shows are those of the items
 pub reserves_are : (db : Trees) (member from : ℕ) (answer : List Row)
@@ -92,24 +92,24 @@ there_held : {A : Type 0} (P : A → Type 0) (shows : A → Bool) (many : ℕ) (
 there_held P shows many x rest not held = rw not at held
 
 -- where the first rows that are still to be read hold, the next does if it is read, and so do the first of those after it
-pub next_held : {A : Type 0} (P : A → Type 0) (told : A → Option ℕ) (terms : A → Terms) (most : ℕ) (found : List OwnReserve) (x : A) (rest : List A) → length found < most
-    → AllByRecursion P (take (most - length found) (filter (λ y. is_some (told y)) (x ∷ rest)))
-    → (is_some (told x) ≡ true → P x) × AllByRecursion P (take (most - length (found ++ reserve_told (terms x) (told x))) (filter (λ y. is_some (told y)) rest))
-next_held {A} P told terms most found x rest room held = go (told x) refl
+pub next_held : {A : Type 0} (P : A → Type 0) (report : A → Option ℕ) (terms : A → Terms) (most : ℕ) (found : List OwnReserve) (x : A) (rest : List A) → length found < most
+    → AllByRecursion P (take (most - length found) (filter (λ y. is_some (report y)) (x ∷ rest)))
+    → (is_some (report x) ≡ true → P x) × AllByRecursion P (take (most - length (found ++ reserve_reported (terms x) (report x))) (filter (λ y. is_some (report y)) rest))
+next_held {A} P report terms most found x rest room held = go (report x) refl
   where
-    go : (o : Option ℕ) → told x ≡ o → (is_some (told x) ≡ true → P x) × AllByRecursion P (take (most - length (found ++ reserve_told (terms x) (told x))) (filter (λ y. is_some (told y)) rest))
+    go : (o : Option ℕ) → report x ≡ o → (is_some (report x) ≡ true → P x) × AllByRecursion P (take (most - length (found ++ reserve_reported (terms x) (report x))) (filter (λ y. is_some (report y)) rest))
     go None is =
-        let not : is_some (told x) ≡ false = ap is_some is in
-        let long : length (found ++ reserve_told (terms x) (told x)) ≡ length found = ap (λ o. length (found ++ reserve_told (terms x) o)) is ∙ ap length (append-nil found) in (
+        let not : is_some (report x) ≡ false = ap is_some is in
+        let long : length (found ++ reserve_reported (terms x) (report x)) ≡ length found = ap (λ o. length (found ++ reserve_reported (terms x) o)) is ∙ ap length (append-nil found) in (
           λ e. absurd (true≢false (sym e ∙ not)),
-          subst (λ k. AllByRecursion P (take (most - k) (filter (λ y. is_some (told y)) rest))) (sym long) (there_held P (λ y. is_some (told y)) (most - length found) x rest not held),
+          subst (λ k. AllByRecursion P (take (most - k) (filter (λ y. is_some (report y)) rest))) (sym long) (there_held P (λ y. is_some (report y)) (most - length found) x rest not held),
         )
     go (Some a) is =
-        let yes : is_some (told x) ≡ true = ap is_some is in
-        let long : length (found ++ reserve_told (terms x) (told x)) ≡ length found + 1 = ap (λ o. length (found ++ reserve_told (terms x) o)) is ∙ length-append found (reserve_told (terms x) (Some a)) in
-        let both = here_held P (λ y. is_some (told y)) most (length found) x rest room yes held in
-        (λ e. both.0, subst (λ k. AllByRecursion P (take (most - k) (filter (λ y. is_some (told y)) rest))) (sym long) both.1)
+        let yes : is_some (report x) ≡ true = ap is_some is in
+        let long : length (found ++ reserve_reported (terms x) (report x)) ≡ length found + 1 = ap (λ o. length (found ++ reserve_reported (terms x) o)) is ∙ length-append found (reserve_reported (terms x) (Some a)) in
+        let both = here_held P (λ y. is_some (report y)) most (length found) x rest room yes held in
+        (λ e. both.0, subst (λ k. AllByRecursion P (take (most - k) (filter (λ y. is_some (report y)) rest))) (sym long) both.1)
 
-pub told_few : (t : Terms) (o : Option ℕ) → length (reserve_told t o) ≤ 1
-told_few t None = omega arith
-told_few t (Some a) = omega arith
+pub report_few : (t : Terms) (o : Option ℕ) → length (reserve_reported t o) ≤ 1
+report_few t None = omega arith
+report_few t (Some a) = omega arith

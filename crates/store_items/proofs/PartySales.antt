@@ -278,11 +278,11 @@ no_sales_found db items are fits = sym (ap (λ l. filter (is_party 0) (sales_in 
 
 -- ---- the test of numbers that rise
 
-pub rising_told : (least : ℕ) (items : List Terms) → rise_from least items ≡ true → AllByRecursion (λ (t : Terms). least ≤ t.item) items × ItemsRise items
-rising_told least [] is = (tt, tt)
-rising_told least (t ∷ items) is =
+pub rising_reported : (least : ℕ) (items : List Terms) → rise_from least items ≡ true → AllByRecursion (λ (t : Terms). least ≤ t.item) items × ItemsRise items
+rising_reported least [] is = (tt, tt)
+rising_reported least (t ∷ items) is =
     elim (by_test (nat_le least t.item)) [
-      | inl low ↦ (let rest = rising_told (t.item + 1) items (rw low at is) in
+      | inl low ↦ (let rest = rising_reported (t.item + 1) items (rw low at is) in
           let here : least ≤ t.item = grind (arith, nat_tests, low) in (
             (here, all_weaker (λ (u : Terms). t.item + 1 ≤ u.item) (λ (u : Terms). least ≤ u.item) (λ u up. omega (arith, up, here)) items rest.0),
             (all_weaker (λ (u : Terms). t.item + 1 ≤ u.item) (λ (u : Terms). t.item < u.item) (λ u up. omega (arith, up)) items rest.0, rest.1),
@@ -304,4 +304,4 @@ rising_from_0 items up = rising_kept 0 items (least_0 items) up
 
 -- what is shown of items that rise are sales
 pub sales_are : (all : List Terms) (sales : List Sold) → rise_from 0 all ≡ true → AllByRecursion TermsFit all → sales ≡ flat_map sale_of all → AreSales sales
-sales_are all sales up fits is = subst AreSales (sym is) (are_sales all fits (rising_told 0 all up).1)
+sales_are all sales up fits is = subst AreSales (sym is) (are_sales all fits (rising_reported 0 all up).1)

@@ -1,4 +1,4 @@
--- What look-ups tell of the rows of an item.
+-- What look-ups say of the rows of an item.
 use Rattle.proxy.specs.Opening.{Opening}
 use Rattle.std.proofs.Common.{◌≡◌, ◌≤◌, ◌<◌, ◌^◌, ℕ, Bool, true, not, ◌&&◌, cond, List, [], ◌∷◌, map, filter, find, length, slice_get, option_map, Option, Some, None, eqb, refl, sym, ap, subst, ◌∙◌, arith, IsTrue, IfSome, true≢false}
 use Rattle.std.specs.Prelude.{◌==◌, All, is_some}
@@ -18,9 +18,10 @@ use Rattle.proxy.specs.declared.bid.Bid.{Bid}
 use Rattle.proxy.proofs.Placed.{standing-none}
 use Rattle.house_rows.specs.Asks.{PurchaseFits}
 use Rattle.house_rows.specs.Changed.{is_item}
+use Rattle.house_rows.specs.declared.auction.Auction.{Auction}
 use Rattle.house_rows.specs.declared.item.Terms.{Terms}
 use Rattle.house_rows.specs.Fits.{TermsFit}
-use Rattle.house_rows.specs.Found.{row_at}
+use Rattle.house_rows.specs.Found.{auction_of, row_at}
 use Rattle.house_rows.specs.Editions.{BandTables}
 use Rattle.house_rows.specs.Keeping.{AreSound, FitsBy}
 use Rattle.house_rows.specs.Limits.{most_cents}
@@ -137,21 +138,18 @@ unbid_is start s is =
     let one = first_of_both (s.price == start) (not (is_some s.leader)) two in
     (grind (arith, nat_tests, one), no_one s.leader (second_of_both (s.price == start) (not (is_some s.leader)) two), no_one s.top (second_of_both ((s.price == start) && not (is_some s.leader)) (not (is_some s.top)) is))
 
-pub unbid_checked : (db : Database) → IsHouse db → (n : ℕ) → n < 2 ^ 32 → (t : Terms) (s : Kept) → option_map (λ (row : ItemRow). row.item.terms) (find (is_item n) (items_in db.trees)) ≡ Some t → TermsFit t
-    → option_map (λ (row : ItemRow). row.standing) (find (is_item n) (items_in db.trees)) ≡ Some s → is_unbid t.start s ≡ true → OfItem n IsUnbid db
-unbid_checked db house n low t s found fits stands is =
-    let row = whole (λ (row : ItemRow). row.item.terms) (find (is_item n) (items_in db.trees)) t found in
-    let also = whole (λ (row : ItemRow). row.standing) (find (is_item n) (items_in db.trees)) s stands in
-    let one : Some row.0 ≡ Some also.0 = sym row.1 ∙ also.1 in
-    let same : row.0 ≡ also.0 = cc in
-    let standing : row.0.standing ≡ s = ap (λ (r : ItemRow). r.standing) same ∙ also.2 in
-    let within = subst (λ (terms : Terms). terms.start ≤ most_cents) (sym row.2) fits.start.1 in
-    let told = unbid_is t.start s is in
+pub unbid_checked : (db : Database) → IsHouse db → (n : ℕ) → n < 2 ^ 32 → (a : Auction) → option_map auction_of (find (is_item n) (items_in db.trees)) ≡ Some a → TermsFit a.terms → is_unbid a.terms.start a.standing ≡ true → OfItem n IsUnbid db
+unbid_checked db house n low a found fits is =
+    let row = whole auction_of (find (is_item n) (items_in db.trees)) a found in
+    let terms : row.0.item.terms ≡ a.terms = ap (λ (x : Auction). x.terms) row.2 in
+    let standing : row.0.standing ≡ a.standing = ap (λ (x : Auction). x.standing) row.2 in
+    let within = subst (λ (t : Terms). t.start ≤ most_cents) (sym terms) fits.start.1 in
+    let report = unbid_is a.terms.start a.standing is in
     of_found IsUnbid db house n low row.0 row.1 (
       within,
-      ap (λ (k : Kept). k.price) standing ∙ told.0 ∙ sym (ap (λ (terms : Terms). terms.start) row.2) ∙ sym (ap (λ (o : Opening). o.start) (begins db n row.0 row.1 within)),
-      ap (λ (k : Kept). k.leader) standing ∙ told.1,
-      ap (λ (k : Kept). k.top) standing ∙ told.2,
+      ap (λ (k : Kept). k.price) standing ∙ report.0 ∙ sym (ap (λ (t : Terms). t.start) terms) ∙ sym (ap (λ (o : Opening). o.start) (begins db n row.0 row.1 within)),
+      ap (λ (k : Kept). k.leader) standing ∙ report.1,
+      ap (λ (k : Kept). k.top) standing ∙ report.2,
     )
 
 -- ---- sound tables
@@ -165,25 +163,21 @@ pub item_there : (db : Trees) (item : ℕ) (row : ItemRow) → row_at (tables_in
 unfolding tables_in
 item_there db item row there = there
 
--- of an item that may be bought the row tells so
-pub purchase_unbid : (db : Trees) (moment item buyer price : ℕ) (t : Terms) (s : Kept) → AreSound (tables_in db) → PurchaseFits (tables_in db) moment item buyer price
-    → option_map (λ (row : ItemRow). row.item.terms) (find (is_item item) (items_in db)) ≡ Some t → option_map (λ (row : ItemRow). row.standing) (find (is_item item) (items_in db)) ≡ Some s → is_unbid t.start s ≡ true
-purchase_unbid db moment item buyer price t s sound p found stands =
+-- of an item that may be bought the row says so
+pub purchase_unbid : (db : Trees) (moment item buyer price : ℕ) (a : Auction) → AreSound (tables_in db) → PurchaseFits (tables_in db) moment item buyer price → option_map auction_of (find (is_item item) (items_in db)) ≡ Some a
+    → is_unbid a.terms.start a.standing ≡ true
+purchase_unbid db moment item buyer price a sound p found =
     let there = item_there db item p.row p.row_there in
-    let terms : Some p.row.item.terms ≡ Some t = ap (option_map (λ (row : ItemRow). row.item.terms)) (sym there) ∙ found in
-    let standing : Some p.row.standing ≡ Some s = ap (option_map (λ (row : ItemRow). row.standing)) (sym there) ∙ stands in
+    let found' : Some (auction_of p.row) ≡ Some a = ap (option_map auction_of) (sym there) ∙ found in
+    let same : auction_of p.row ≡ a = cc in
     let fits = there_fits (tables_in db) item p.row sound p.row_there in
     let bands : List (ℕ × ℕ) = bands_for (tables_in db) p.row.item.terms.item in
     let none : length fits.bids ≡ 0 = sym fits.count ∙ p.no_bid in
-    let told : s ≡ record { start = p.row.item.terms.start; reserve = p.row.standing.reserve; price = p.row.item.terms.start; leader = None; top = None; second = None; count = 0 } =
-    (let e : s ≡ p.row.standing = cc in e) ∙ fits.stands ∙ ap (standing_of bands (row_opening p.row)) (no_bids fits.bids none) ∙ standing-none bands (row_opening p.row) in
-    let start : t.start ≡ p.row.item.terms.start = (let e : t ≡ p.row.item.terms = cc in ap (λ (x : Terms). x.start) e) in
-    rw (told, start) (let e : (p.row.item.terms.start == p.row.item.terms.start) ≡ true = grind (arith, nat_tests) in rw e refl)
+    let report : a.standing ≡ record { start = p.row.item.terms.start; reserve = p.row.standing.reserve; price = p.row.item.terms.start; leader = None; top = None; second = None; count = 0 } =
+    sym (ap (λ (x : Auction). x.standing) same) ∙ fits.is_consistent ∙ ap (standing_of bands (row_opening p.row)) (no_bids fits.bids none) ∙ standing-none bands (row_opening p.row) in
+    let start : a.terms.start ≡ p.row.item.terms.start = sym (ap (λ (x : Auction). x.terms.start) same) in
+    rw (report, start) (let e : (p.row.item.terms.start == p.row.item.terms.start) ≡ true = grind (arith, nat_tests) in rw e refl)
   where
     no_bids : (bids : List Bid) → length bids ≡ 0 → bids ≡ []
     no_bids [] e = refl
     no_bids (b ∷ bids) e = absurd (omega (arith, e))
-
-pub same_items : (old new : Database) (item : ℕ) (s : Kept) → new ≡ old → option_map (λ (row : ItemRow). row.standing) (find (is_item item) (items_in new.trees)) ≡ Some s
-    → option_map (λ (row : ItemRow). row.standing) (find (is_item item) (items_in old.trees)) ≡ Some s
-same_items old new item s same found = subst (λ (db : Database). option_map (λ (row : ItemRow). row.standing) (find (is_item item) (items_in db.trees)) ≡ Some s) same found

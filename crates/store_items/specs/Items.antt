@@ -22,7 +22,8 @@ pub record AddsItem (row : ItemRow) (old new : Database) : Type 0 where
 abbrev pub OfItem : ℕ → (ItemRow → Type 0) → Database → Type 0
 OfItem item P db = All (λ row. is_item item row ≡ true → P row) (items_in db.trees)
 
--- the item stands as its bids now do, if start and reserve are its own, and who leads has a top
+-- the item has the standing that its bids now have, if start and reserve are its own, and who leads
+-- has a top
 pub record SetsStanding (item : ℕ) (kept : Kept) (old new : Database) : Type 0 where
   pub house : IsHouse new
   pub others : KeepsOthers 6 old new

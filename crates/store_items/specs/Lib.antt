@@ -1,8 +1,7 @@
-pub mod Columns
 pub mod Items
 pub mod Listed
 pub mod OwnReserves
 pub mod Rising
-pub mod RowsStanding
+pub mod ConsistentRows
 pub mod Sales
 pub mod Standing

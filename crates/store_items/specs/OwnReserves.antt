@@ -1,7 +1,7 @@
 -- The reserves that a member has sealed.
 use Rattle.std.specs.Prelude.{ℕ, if◌then◌else◌, List, Option, None, nat_le}
 use Rattle.sqlite_value.specs.Order.{Row, column}
-use Rattle.house_rows.specs.Pages.{reserve_told}
+use Rattle.house_rows.specs.Pages.{reserve_reported}
 use Rattle.house_rows.specs.declared.item.OwnReserve.{OwnReserve}
 use Rattle.store_rows.specs.ItemRows.{amount_of, terms_by}
 use Rattle.store_rows.specs.Rows.{number_in}
@@ -14,4 +14,4 @@ reserve_in reserves from r =
 
 -- the same with whether it is met
 abbrev pub reserve_shown : List ReserveRow → ℕ → Row → List OwnReserve
-reserve_shown reserves from r = reserve_told (terms_by reserves r) (reserve_in reserves from r)
+reserve_shown reserves from r = reserve_reported (terms_by reserves r) (reserve_in reserves from r)

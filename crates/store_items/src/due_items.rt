@@ -11,16 +11,15 @@ ghost use Rattle.house_rows.specs.declared.fault.KeepFault.TheVariants.{Damaged}
 ghost use Rattle.store_rows.specs.House.{ServesBy};
 ghost use Rattle.store_rows.specs.ItemRows.{items_in};
 ghost use Rattle.store_rows.specs.Tables.{tables_in};
-ghost use Rattle.store_items.specs.RowsStanding.{RowsStand};
+ghost use Rattle.store_items.specs.ConsistentRows.{RowsAreConsistent};
 ghost use Rattle.store_rows.specs.Frames.{OnlyReads};
 
-use crate::ending::close_sells;
+use crate::sold_rule::close_sells;
 use crate::terms::due_terms;
 use house_rows::{Due, KeepFault, Terms};
 use sqlite::{Alter, Connection};
 use std::alloc::Global;
-use store_reserves::Rules;
-use store_rows::bound_of;
+use store_rows::{Rules, bound_of};
 
 // How many of the items a close sells, and how many it doesn't.
 fn counts_of(due: &[Terms]) -> Due
@@ -49,8 +48,8 @@ fn due_by<S: Alter>(
     requires { ServesBy rules.now.reserves (state S.Store conn.old) }
     ensures value { HasCleanDisk (state S.Store conn.new)
         → IfOk result (λ due. due ≡ due_at (tables_in (state S.Store conn.old).now.trees) moment) }
-    ensures stands { HasCleanDisk (state S.Store conn.new)
-        → OnOk result (RowsStand rules.now.editions (λ row. is_due moment row.item.terms)
+    ensures is_consistent { HasCleanDisk (state S.Store conn.new)
+        → OnOk result (RowsAreConsistent rules.now.editions (λ row. is_due moment row.item.terms)
         (state S.Store conn.old).now.trees) }
     ensures damaged { HasCleanDisk (state S.Store conn.new)
         → AreSoundBy rules.now.editions (tables_in (state S.Store conn.old).now.trees)
@@ -77,8 +76,8 @@ pub fn due<S: Alter>(
     requires { ServesBy rules.now.reserves (state S.Store conn.old) }
     ensures value { HasCleanDisk (state S.Store conn.new)
         → IfOk result (λ due. due ≡ due_at (tables_in (state S.Store conn.old).now.trees) moment) }
-    ensures stands { HasCleanDisk (state S.Store conn.new)
-        → OnOk result (RowsStand rules.now.editions (λ row. is_due moment row.item.terms)
+    ensures is_consistent { HasCleanDisk (state S.Store conn.new)
+        → OnOk result (RowsAreConsistent rules.now.editions (λ row. is_due moment row.item.terms)
         (state S.Store conn.old).now.trees) }
     ensures damaged { HasCleanDisk (state S.Store conn.new)
         → AreSoundBy rules.now.editions (tables_in (state S.Store conn.old).now.trees)

@@ -1,31 +1,29 @@
 //! Look-ups in the table of items.
-ghost use Rattle.std.specs.Prelude.{◌≡◌, ◌<◌, ◌^◌, ◌==◌, ◌&&◌, true, find, map, option_map, IfOk, IfSome, IsErrOf};
+ghost use Rattle.std.specs.Prelude.{◌≡◌, ◌<◌, ◌^◌, ◌==◌, ◌&&◌, find, map, option_map, IfOk, IfSome, IsErrOf, Some};
 ghost use Rattle.sqlite.specs.State.{HasCleanDisk};
 ghost use Rattle.sqlite.specs.Held.{state};
-ghost use Rattle.proxy.specs.Rows.{is_standing};
-ghost use Rattle.house_rows.specs.Editions.{bands_in};
 ghost use Rattle.house_rows.specs.Changed.{is_item};
-ghost use Rattle.house_rows.specs.Tables.{ItemRow};
+ghost use Rattle.house_rows.specs.Found.{auction_of};
+ghost use Rattle.house_rows.specs.Tables.{ItemRow, band_tables};
 ghost use Rattle.house_rows.specs.Text.{same_text};
 ghost use Rattle.std.specs.List.{AllByRecursion};
 ghost use Rattle.house_rows.specs.Fits.{ItemFits, StandingFits, TermsFit};
-ghost use Rattle.house_rows.specs.Keeping.{FitsBy, StandsBy};
+ghost use Rattle.house_rows.specs.Keeping.{FitsBy, IsConsistentBy, AreSound};
 ghost use Rattle.house_rows.specs.declared.fault.KeepFault.TheVariants.{Damaged};
 ghost use Rattle.store_rows.specs.House.{Serves, ServesBy};
 ghost use Rattle.store_rows.specs.ItemRows.{items_in};
-ghost use Rattle.store_items.specs.RowsStanding.{RowFitsAt};
+ghost use Rattle.store_items.specs.ConsistentRows.{RowFitsAt};
 ghost use Rattle.store_rows.specs.Frames.{OnlyReads};
+ghost use Rattle.house_rows.specs.Asks.{HasItem};
+ghost use Rattle.store_rows.specs.Tables.{tables_in};
 
-use crate::reads::{first_item, first_terms, item_list};
-use crate::standing::first_standing;
-use house_rows::{Item, KeepFault, Terms};
-use proxy::Standing;
+use crate::reads::{first_auction, first_item, item_list};
+use house_rows::{Auction, Item, KeepFault, Terms};
 use sqlite::{Alter, Connection, params};
 use std::alloc::Global;
-use store_reserves::Rules;
-use store_rows::{first_of, rows_shown};
+use store_rows::{Rules, first_of, rows_shown};
 
-/// The item with a number. A row that doesn't stand by its band table is damaged.
+/// The item with a number. A row that isn't consistent with its band table is damaged.
 pub fn item_at<S: Alter>(
     conn: &mut Connection<S>,
     rules: &Rules,
@@ -36,8 +34,8 @@ pub fn item_at<S: Alter>(
         → IfOk result (λ found. found ≡ option_map (λ (row : ItemRow). row.item)
         (find (is_item number) (items_in (state S.Store conn.old).now.trees))) }
     ensures fits { IfOk result (λ found. IfSome found ItemFits) }
-    ensures stands { IfOk result (λ found. IfSome found
-        (λ it. StandsBy rules.now.editions it.terms)) }
+    ensures is_consistent { IfOk result (λ found. IfSome found
+        (λ it. IsConsistentBy rules.now.editions it.terms)) }
     ensures damaged { HasCleanDisk (state S.Store conn.new)
         → AllByRecursion (FitsBy rules.now.editions) (items_in (state S.Store conn.old).now.trees)
         → ¬ (IsErrOf result Damaged) }
@@ -54,19 +52,21 @@ pub fn item_at<S: Alter>(
     first_item(rules, &rows)
 }
 
-/// The item with a number, without its texts. A row that doesn't stand by its band table is
-/// damaged.
-pub fn terms_at<S: Alter>(
+/// The item with a number, without its texts, with the standing of its bids; of a bought item that
+/// of none. A row that isn't consistent with its band table is damaged.
+pub fn auction_at<S: Alter>(
     conn: &mut Connection<S>,
     rules: &Rules,
     number: u32,
-) -> Result<Option<Terms>, KeepFault>
+) -> Result<Option<Auction>, KeepFault>
     requires { ServesBy rules.now.reserves (state S.Store conn.old) }
     ensures found { HasCleanDisk (state S.Store conn.new)
-        → IfOk result (λ found. found ≡ option_map (λ (row : ItemRow). row.item.terms)
+        → IfOk result (λ found. found ≡ option_map auction_of
         (find (is_item number) (items_in (state S.Store conn.old).now.trees))) }
-    ensures fits { IfOk result (λ found. IfSome found TermsFit) }
-    ensures stands { IfOk result (λ found. IfSome found (λ it. StandsBy rules.now.editions it)) }
+    ensures fits { IfOk result (λ found. IfSome found
+        (λ a. TermsFit a.terms × StandingFits a.standing)) }
+    ensures is_consistent { IfOk result (λ found. IfSome found
+        (λ a. IsConsistentBy rules.now.editions a.terms)) }
     ensures damaged { HasCleanDisk (state S.Store conn.new)
         → AllByRecursion (FitsBy rules.now.editions) (items_in (state S.Store conn.old).now.trees)
         → ¬ (IsErrOf result Damaged) }
@@ -80,23 +80,23 @@ pub fn terms_at<S: Alter>(
         "SELECT id, seller, category, start, buy_now, ending, state, closed, price, leader, count, top, second FROM item WHERE id = ?1 ORDER BY id",
         params![number],
     )?;
-    first_terms(rules, &rows)
+    first_auction(rules, &rows)
 }
 
-/// The standing of the bids on an item; of a bought item that of none. A row that is no standing by
-/// the item's band table is damaged.
-pub fn standing_at<S: Alter>(
+/// The item with a number, without its texts. A row that isn't consistent with its band table is
+/// damaged.
+#[tactic(auto, using(crate::proofs::Auctions::terms_some, crate::proofs::Auctions::terms_none))]
+pub fn terms_at<S: Alter>(
     conn: &mut Connection<S>,
     rules: &Rules,
     number: u32,
-) -> Result<Option<Standing>, KeepFault>
+) -> Result<Option<Terms>, KeepFault>
     requires { ServesBy rules.now.reserves (state S.Store conn.old) }
     ensures found { HasCleanDisk (state S.Store conn.new)
-        → IfOk result (λ found. found ≡ option_map (λ (row : ItemRow). row.standing)
+        → IfOk result (λ found. found ≡ option_map (λ (row : ItemRow). row.item.terms)
         (find (is_item number) (items_in (state S.Store conn.old).now.trees))) }
-    ensures fits { IfOk result (λ found. IfSome found StandingFits) }
-    ensures stands { IfOk result (λ found. IfSome found
-        (λ s. is_standing (bands_in rules.now.editions number) s ≡ true)) }
+    ensures fits { IfOk result (λ found. IfSome found TermsFit) }
+    ensures is_consistent { IfOk result (λ found. IfSome found (λ it. IsConsistentBy rules.now.editions it)) }
     ensures damaged { HasCleanDisk (state S.Store conn.new)
         → AllByRecursion (FitsBy rules.now.editions) (items_in (state S.Store conn.old).now.trees)
         → ¬ (IsErrOf result Damaged) }
@@ -105,16 +105,10 @@ pub fn standing_at<S: Alter>(
         → ¬ (IsErrOf result Damaged) }
     ensures read { OnlyReads (state S.Store conn.old) (state S.Store conn.new) result }
 {
-    let rows = rows_shown(
-        conn,
-        "SELECT start, price, leader, top, second, count, id FROM item WHERE id = ?1 ORDER BY id",
-        params![number],
-    )?;
-    first_standing(
-        rules.editions.bands_for(u64::from(number)),
-        &rules.reserves,
-        &rows,
-    )
+    match auction_at(conn, rules, number)? {
+        Some(auction) => Ok(Some(auction.terms)),
+        None => Ok(None),
+    }
 }
 
 /// The number of a seller's item with a lot.
@@ -147,7 +141,7 @@ pub fn item_with_lot<S: Alter>(
     first_of(&rows)
 }
 
-/// All items, by number. A row that doesn't stand by its band table is damaged.
+/// All items, by number. A row that isn't consistent with its band table is damaged.
 pub fn all_items<S: Alter>(
     alloc: Global,
     conn: &mut Connection<S>,
@@ -158,8 +152,8 @@ pub fn all_items<S: Alter>(
         → IfOk result (λ items. items.items ≡ map (λ (row : ItemRow). row.item)
         (items_in (state S.Store conn.old).now.trees)) }
     ensures fits { IfOk result (λ items. AllByRecursion ItemFits items.items) }
-    ensures stands { IfOk result (λ items. AllByRecursion
-        (λ it. StandsBy rules.now.editions it.terms) items.items) }
+    ensures is_consistent { IfOk result (λ items. AllByRecursion
+        (λ it. IsConsistentBy rules.now.editions it.terms) items.items) }
     ensures damaged { HasCleanDisk (state S.Store conn.new)
         → AllByRecursion (FitsBy rules.now.editions) (items_in (state S.Store conn.old).now.trees)
         → ¬ (IsErrOf result Damaged) }
@@ -171,4 +165,58 @@ pub fn all_items<S: Alter>(
         &[],
     )?;
     item_list(alloc, rules, &rows)
+}
+
+/// An item without its texts; Damaged where there is none, or where its row isn't consistent with
+/// its band table.
+pub fn terms_there<S: Alter>(
+    conn: &mut Connection<S>,
+    rules: &Rules,
+    item: u32,
+) -> Result<Terms, KeepFault>
+    requires { ServesBy rules.now.reserves (state S.Store conn.old) }
+    ensures found { HasCleanDisk (state S.Store conn.new)
+        → IfOk result (λ t. option_map (λ (row : ItemRow). row.item.terms)
+        (find (is_item item) (items_in (state S.Store conn.old).now.trees)) ≡ Some t) }
+    ensures fits { IfOk result TermsFit }
+    ensures is_consistent { IfOk result (IsConsistentBy rules.now.editions) }
+    ensures damaged { HasCleanDisk (state S.Store conn.new)
+        → AreSound (tables_in (state S.Store conn.old).now.trees)
+        → rules.now.editions ≡ band_tables (tables_in (state S.Store conn.old).now.trees)
+        → HasItem (tables_in (state S.Store conn.old).now.trees) item
+        → ¬ (IsErrOf result Damaged) }
+    ensures read { OnlyReads (state S.Store conn.old) (state S.Store conn.new) result }
+{
+    match terms_at(conn, rules, item) {
+        Ok(Some(terms)) => Ok(terms),
+        Ok(None) => Err(KeepFault::Damaged),
+        Err(fault) => Err(fault),
+    }
+}
+
+/// An item without its texts, with the standing of its bids; Damaged where there is none, or where
+/// its row isn't consistent with its band table.
+pub(crate) fn auction_there<S: Alter>(
+    conn: &mut Connection<S>,
+    rules: &Rules,
+    item: u32,
+) -> Result<Auction, KeepFault>
+    requires { ServesBy rules.now.reserves (state S.Store conn.old) }
+    ensures found { HasCleanDisk (state S.Store conn.new)
+        → IfOk result (λ a. option_map auction_of
+        (find (is_item item) (items_in (state S.Store conn.old).now.trees)) ≡ Some a) }
+    ensures fits { IfOk result (λ a. TermsFit a.terms) }
+    ensures is_consistent { IfOk result (λ a. IsConsistentBy rules.now.editions a.terms) }
+    ensures damaged { HasCleanDisk (state S.Store conn.new)
+        → AreSound (tables_in (state S.Store conn.old).now.trees)
+        → rules.now.editions ≡ band_tables (tables_in (state S.Store conn.old).now.trees)
+        → HasItem (tables_in (state S.Store conn.old).now.trees) item
+        → ¬ (IsErrOf result Damaged) }
+    ensures read { OnlyReads (state S.Store conn.old) (state S.Store conn.new) result }
+{
+    match auction_at(conn, rules, item) {
+        Ok(Some(auction)) => Ok(auction),
+        Ok(None) => Err(KeepFault::Damaged),
+        Err(fault) => Err(fault),
+    }
 }

@@ -18,8 +18,7 @@ use crate::item::put_item;
 use crate::item_reads::item_with_lot;
 use house_rows::{KeepFault, NewItem};
 use sqlite::{Alter, Connection, Transaction};
-use store_reserves::put_reserve;
-use store_rows::{fault_of, set_clock, stored_moment};
+use store_rows::{fault_of, put_reserve, set_clock, stored_moment};
 
 // The item with its reserve, if it has one.
 fn put_listing<S: Alter>(

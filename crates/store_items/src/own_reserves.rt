@@ -25,8 +25,7 @@ use house_rows::{KeepFault, MOST_SHOWN, OwnReserve};
 use list_rows::push;
 use sqlite::{Alter, Connection, Row, params};
 use std::alloc::Global;
-use store_reserves::Rules;
-use store_rows::{number_at, rows_shown};
+use store_rows::{Rules, number_at, rows_shown};
 
 // The reserve of the item of a row, if it has one and its number is not below another.
 fn reserve_in(rules: &Rules, row: &Row, from: u64) -> Result<Option<Cents>, KeepFault>

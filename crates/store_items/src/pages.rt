@@ -3,7 +3,7 @@ ghost use Rattle.std.specs.Prelude.{◌≡◌, ◌==◌, ◌&&◌, filter, map, 
 ghost use Rattle.std.specs.List.{AllByRecursion};
 ghost use Rattle.house_rows.specs.Fits.{ItemFits};
 ghost use Rattle.house_rows.specs.Found.{items_in};
-ghost use Rattle.house_rows.specs.Keeping.{FitsBy, StandsBy};
+ghost use Rattle.house_rows.specs.Keeping.{FitsBy, IsConsistentBy};
 ghost use Rattle.house_rows.specs.Taken.{start_of};
 ghost use Rattle.house_rows.specs.Limits.{most_shown};
 ghost use Rattle.house_rows.specs.Tables.{ItemRow};
@@ -19,8 +19,7 @@ use crate::reads::item_list;
 use house_rows::{Item, KeepFault};
 use sqlite::{Alter, Connection, params};
 use std::alloc::Global;
-use store_reserves::Rules;
-use store_rows::{bound_of, page_rows};
+use store_rows::{Rules, bound_of, page_rows};
 
 // The items of a category, from a number on; at most fifty. It is damaged only where one of the rows
 // that it shows doesn't fit.
@@ -38,8 +37,8 @@ fn items_from<S: Alter>(
         (map (λ (row : ItemRow). row.item) (stored.items_in
         (state S.Store conn.old).now.trees)))) }
     ensures fits { IfOk result (λ items. AllByRecursion ItemFits items.items) }
-    ensures stands { IfOk result (λ items. AllByRecursion
-        (λ it. StandsBy rules.now.editions it.terms) items.items) }
+    ensures is_consistent { IfOk result (λ items. AllByRecursion
+        (λ it. IsConsistentBy rules.now.editions it.terms) items.items) }
     ensures damaged { HasCleanDisk (state S.Store conn.new)
         → AllByRecursion (FitsBy rules.now.editions)
         (stored.items_in (state S.Store conn.old).now.trees)
@@ -75,8 +74,8 @@ pub fn items_in<S: Alter>(
         → IfOk result (λ items. items.items ≡ items_in
         (tables_in (state S.Store conn.old).now.trees) category from) }
     ensures fits { IfOk result (λ items. AllByRecursion ItemFits items.items) }
-    ensures stands { IfOk result (λ items. AllByRecursion
-        (λ it. StandsBy rules.now.editions it.terms) items.items) }
+    ensures is_consistent { IfOk result (λ items. AllByRecursion
+        (λ it. IsConsistentBy rules.now.editions it.terms) items.items) }
     ensures damaged { HasCleanDisk (state S.Store conn.new)
         → AllByRecursion (FitsBy rules.now.editions)
         (stored.items_in (state S.Store conn.old).now.trees)

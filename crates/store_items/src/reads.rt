@@ -1,22 +1,21 @@
-//! Items as their rows tell them. A row is damaged that tells what no bids and no purchase leave.
-ghost use Rattle.std.specs.Prelude.{◌≡◌, ◌++◌, true, [], ◌∷◌, IfOk, IfSome, IsErrOf, OnOk, map, option_map, slice_get};
+//! Items as their rows give them. A row is damaged that has what no bids and no purchase leave.
+ghost use Rattle.std.specs.Prelude.{◌≡◌, ◌++◌, true, [], ◌∷◌, IfOk, IfSome, IsErrOf, OnOk, is_some, map, option_map, slice_get};
 ghost use Rattle.std.specs.List.{AllByRecursion};
 ghost use Rattle.house_rows.specs.Editions.{bands_in};
-ghost use Rattle.house_rows.specs.Fits.{ItemFits, TermsFit};
-ghost use Rattle.house_rows.specs.Keeping.{StandsBy};
+ghost use Rattle.house_rows.specs.Fits.{ItemFits, StandingFits, TermsFit};
+ghost use Rattle.house_rows.specs.Keeping.{IsConsistentBy};
 ghost use Rattle.house_rows.specs.declared.fault.KeepFault.TheVariants.{Damaged};
-ghost use Rattle.store_rows.specs.ItemRows.{amount_of, item_by, met_with, terms_by, with_met};
-ghost use Rattle.store_items.specs.Standing.{ItemHolds, TermsHold, is_bought, is_reserve, stands};
+ghost use Rattle.store_rows.specs.ItemRows.{amount_of, auction_by, item_by, kept_from, met_with, terms_by, with_met};
+ghost use Rattle.store_items.specs.Standing.{ItemHolds, TermsHold, is_bought, is_reserve, is_consistent};
 
 use cents::Cents;
-use house_rows::{Item, KeepFault, State, Terms};
+use house_rows::{Auction, Item, KeepFault, State, Terms};
 use list_rows::push;
 use proxy::Standing;
 use sqlite::Row;
 use std::alloc::Global;
 use steps::Bands;
-use store_reserves::Rules;
-use store_rows::{Stored, maybe_cents_at};
+use store_rows::{Rules, Stored, maybe_cents_at};
 
 // Whether nobody has bid, and the item was sold to somebody at its buy-now price.
 fn is_bought(terms: &Terms) -> bool
@@ -41,19 +40,27 @@ fn is_reserve(terms: &Terms, reserve: &Option<Cents>) -> bool
     }
 }
 
-// Whether terms stand, by the reserve and by what is sealed of their bids.
-fn stands(
+// The standing that terms give where they are consistent, by the reserve and by what is sealed of
+// their bids; of a bought item that of no bids.
+#[tactic(auto, using(crate::proofs::IsConsistent::bought_reported, crate::proofs::IsConsistent::row_reported))]
+fn standing_reported(
     bands: &Bands,
     terms: &Terms,
     reserve: Option<Cents>,
     top: Option<Cents>,
     second: Option<Cents>,
-) -> bool
-    ensures { result ≡ stands bands.now terms.now reserve top second }
+) -> Option<Standing>
+    ensures is_consistent { is_some result ≡ is_consistent bands.now terms.now reserve top second }
+    ensures value { IfSome result (λ s. s ≡ kept_from terms.now.start reserve terms.now.price
+        terms.now.leader top second terms.now.count) }
 {
-    let is_in_range = is_reserve(terms, &reserve);
-    let is_unsealed = top.is_none() && second.is_none();
-    let by_bids = Standing::of_row(
+    if !is_reserve(terms, &reserve) {
+        return None;
+    }
+    if top.is_none() && second.is_none() && is_bought(terms) {
+        return Some(Standing::open(terms.start, reserve));
+    }
+    Standing::of_row(
         terms.start,
         reserve,
         bands,
@@ -62,8 +69,7 @@ fn stands(
         top,
         second,
         terms.count,
-    );
-    is_in_range && ((is_unsealed && is_bought(terms)) || by_bids.is_some())
+    )
 }
 
 // Whether the reserve is met, if there is one: what was bought at once meets it.
@@ -77,86 +83,104 @@ fn met_with(reserve: &Option<Cents>, leader: Option<u32>, top: &Option<Cents>) -
     }
 }
 
-// Terms with the reserve of their item, if it has one, where they stand by it and by what is sealed
-// of their bids.
-#[tactic(auto, using(crate::proofs::Stands::stand, crate::proofs::Stands::met_fits))]
-fn sealed(
+// The auction of terms, with the reserve of their item, if it has one, where they are consistent
+// with it and with what is sealed of their bids.
+#[tactic(auto, using(crate::proofs::IsConsistent::stand, crate::proofs::IsConsistent::met_fits, crate::proofs::StandingLemmas::report_fits))]
+fn with_sealed(
     rules: &Rules,
     mut terms: Terms,
     top: Option<Cents>,
     second: Option<Cents>,
-) -> Result<Terms, KeepFault>
-    ensures value { IfOk result (λ it. it ≡ with_met
-        (amount_of rules.now.reserves terms.item) top terms) }
-    ensures fits { TermsFit terms → IfOk result TermsFit }
-    ensures stands { IfOk result (StandsBy rules.now.editions) }
-    ensures damaged { stands (bands_in rules.now.editions terms.item)
+) -> Result<Auction, KeepFault>
+    ensures value { IfOk result (λ a. a ≡ record {
+      terms = with_met (amount_of rules.now.reserves terms.item) top terms;
+      standing = kept_from terms.start (amount_of rules.now.reserves terms.item) terms.price
+          terms.leader top second terms.count;
+    }) }
+    ensures fits { TermsFit terms → IfOk result (λ a. TermsFit a.terms × StandingFits a.standing) }
+    ensures is_consistent { IfOk result (λ a. IsConsistentBy rules.now.editions a.terms) }
+    ensures damaged { is_consistent (bands_in rules.now.editions terms.item)
         terms (amount_of rules.now.reserves terms.item) top second ≡ true
         → ¬ (IsErrOf result Damaged) }
 {
     let item = u64::from(terms.item);
     let bands = rules.editions.bands_for(item);
     let reserve = rules.reserves.amount(item);
-    let met = met_with(&reserve, terms.leader, &top);
-    if !stands(bands, &terms, reserve, top, second) {
+    let Some(standing) = standing_reported(bands, &terms, reserve, top, second) else {
         return Err(KeepFault::Damaged);
-    }
-    terms.met = met;
-    Ok(terms)
+    };
+    terms.met = met_with(&reserve, terms.leader, &top);
+    Ok(Auction { terms, standing })
 }
 
-/// The terms that a row tells, which stand by their band table. What is sealed comes after them.
-pub(crate) fn terms_read(rules: &Rules, row: &Row) -> Result<Terms, KeepFault>
-    ensures value { IfOk result (λ it. it ≡ terms_by rules.now.reserves row.now) }
-    ensures fits { IfOk result TermsFit }
-    ensures stands { IfOk result (StandsBy rules.now.editions) }
+// The auction that a row gives, whose terms are consistent with their band table. What is sealed
+// comes after them.
+fn auction_read(rules: &Rules, row: &Row) -> Result<Auction, KeepFault>
+    ensures value { IfOk result (λ a. a ≡ auction_by rules.now.reserves row.now) }
+    ensures fits { IfOk result (λ a. TermsFit a.terms × StandingFits a.standing) }
+    ensures is_consistent { IfOk result (λ a. IsConsistentBy rules.now.editions a.terms) }
     ensures damaged { TermsHold rules.now.editions rules.now.reserves row.now
         → ¬ (IsErrOf result Damaged) }
 {
     let terms = Terms::read(row)?;
     let top = maybe_cents_at(row, 11)?;
     let second = maybe_cents_at(row, 12)?;
-    sealed(rules, terms, top, second)
+    with_sealed(rules, terms, top, second)
 }
 
-// The item that a row tells, which stands by its band table. What is sealed comes after its texts.
+/// The terms that a row gives, which are consistent with their band table. What is sealed comes
+/// after them.
+pub(crate) fn terms_read(rules: &Rules, row: &Row) -> Result<Terms, KeepFault>
+    ensures value { IfOk result (λ it. it ≡ terms_by rules.now.reserves row.now) }
+    ensures fits { IfOk result TermsFit }
+    ensures is_consistent { IfOk result (IsConsistentBy rules.now.editions) }
+    ensures damaged { TermsHold rules.now.editions rules.now.reserves row.now
+        → ¬ (IsErrOf result Damaged) }
+{
+    Ok(auction_read(rules, row)?.terms)
+}
+
+// The item that a row gives, which is consistent with its band table. What is sealed comes after
+// its texts.
 fn item_read(rules: &Rules, row: &Row) -> Result<Item, KeepFault>
     ensures value { IfOk result (λ it. it ≡ item_by rules.now.reserves row.now) }
     ensures fits { IfOk result ItemFits }
-    ensures stands { IfOk result (λ it. StandsBy rules.now.editions it.terms) }
+    ensures is_consistent { IfOk result (λ it. IsConsistentBy rules.now.editions it.terms) }
     ensures damaged { ItemHolds rules.now.editions rules.now.reserves row.now
         → ¬ (IsErrOf result Damaged) }
 {
     let mut item = Item::read(row)?;
     let top = maybe_cents_at(row, 14)?;
     let second = maybe_cents_at(row, 15)?;
-    item.terms = sealed(rules, item.terms, top, second)?;
+    item.terms = with_sealed(rules, item.terms, top, second)?.terms;
     Ok(item)
 }
 
-/// The terms that the first of the rows tells.
-pub(crate) fn first_terms(rules: &Rules, rows: &[Row]) -> Result<Option<Terms>, KeepFault>
-    ensures value { IfOk result (λ found. found ≡ option_map (terms_by rules.now.reserves)
+/// The auction that the first of the rows gives.
+pub(crate) fn first_auction(rules: &Rules, rows: &[Row]) -> Result<Option<Auction>, KeepFault>
+    ensures value { IfOk result (λ found. found ≡ option_map (auction_by rules.now.reserves)
         (slice_get rows.now 0)) }
-    ensures fits { IfOk result (λ found. IfSome found TermsFit) }
-    ensures stands { IfOk result (λ found. IfSome found (λ it. StandsBy rules.now.editions it)) }
+    ensures fits { IfOk result (λ found. IfSome found
+        (λ a. TermsFit a.terms × StandingFits a.standing)) }
+    ensures is_consistent { IfOk result (λ found. IfSome found
+        (λ a. IsConsistentBy rules.now.editions a.terms)) }
     ensures damaged { IfSome (slice_get rows.now 0)
         (TermsHold rules.now.editions rules.now.reserves)
         → ¬ (IsErrOf result Damaged) }
 {
     match rows.first() {
         None => Ok(None),
-        Some(row) => Ok(Some(terms_read(rules, row)?)),
+        Some(row) => Ok(Some(auction_read(rules, row)?)),
     }
 }
 
-/// The item that the first of the rows tells.
+/// The item that the first of the rows gives.
 pub(crate) fn first_item(rules: &Rules, rows: &[Row]) -> Result<Option<Item>, KeepFault>
     ensures value { IfOk result (λ found. found ≡ option_map (item_by rules.now.reserves)
         (slice_get rows.now 0)) }
     ensures fits { IfOk result (λ found. IfSome found ItemFits) }
-    ensures stands { IfOk result (λ found. IfSome found
-        (λ it. StandsBy rules.now.editions it.terms)) }
+    ensures is_consistent { IfOk result (λ found. IfSome found
+        (λ it. IsConsistentBy rules.now.editions it.terms)) }
     ensures damaged { IfSome (slice_get rows.now 0)
         (ItemHolds rules.now.editions rules.now.reserves)
         → ¬ (IsErrOf result Damaged) }
@@ -167,14 +191,14 @@ pub(crate) fn first_item(rules: &Rules, rows: &[Row]) -> Result<Option<Item>, Ke
     }
 }
 
-// Adds the terms that a row tells.
+// Adds the terms that a row gives.
 fn add_terms(rules: &Rules, row: &Row, all: &mut Vec<Terms>) -> Result<(), KeepFault>
     ensures value { OnOk result (all.new.items
         ≡ all.old.items ++ terms_by rules.now.reserves row.now ∷ []) }
     ensures fits { AllByRecursion TermsFit all.old.items
         → OnOk result (AllByRecursion TermsFit all.new.items) }
-    ensures stands { AllByRecursion (λ it. StandsBy rules.now.editions it) all.old.items
-        → OnOk result (AllByRecursion (λ it. StandsBy rules.now.editions it) all.new.items) }
+    ensures is_consistent { AllByRecursion (λ it. IsConsistentBy rules.now.editions it) all.old.items
+        → OnOk result (AllByRecursion (λ it. IsConsistentBy rules.now.editions it) all.new.items) }
     ensures damaged { TermsHold rules.now.editions rules.now.reserves row.now
         → ¬ (IsErrOf result Damaged) }
 {
@@ -182,11 +206,11 @@ fn add_terms(rules: &Rules, row: &Row, all: &mut Vec<Terms>) -> Result<(), KeepF
     let terms = Terms::read(row)?;
     let top = maybe_cents_at(row, 11)?;
     let second = maybe_cents_at(row, 12)?;
-    let terms = sealed(rules, terms, top, second)?;
-    push(all, terms)
+    let auction = with_sealed(rules, terms, top, second)?;
+    push(all, auction.terms)
 }
 
-/// The terms that rows tell.
+/// The terms that rows give.
 pub(crate) fn terms_list(
     alloc: Global,
     rules: &Rules,
@@ -194,8 +218,8 @@ pub(crate) fn terms_list(
 ) -> Result<Vec<Terms>, KeepFault>
     ensures value { IfOk result (λ all. all.items ≡ map (terms_by rules.now.reserves) rows.now) }
     ensures fits { IfOk result (λ all. AllByRecursion TermsFit all.items) }
-    ensures stands { IfOk result (λ all. AllByRecursion
-        (λ it. StandsBy rules.now.editions it) all.items) }
+    ensures is_consistent { IfOk result (λ all. AllByRecursion
+        (λ it. IsConsistentBy rules.now.editions it) all.items) }
     ensures damaged { AllByRecursion (TermsHold rules.now.editions rules.now.reserves) rows.now
         → ¬ (IsErrOf result Damaged) }
 {
@@ -206,14 +230,14 @@ pub(crate) fn terms_list(
     Ok(all)
 }
 
-// Adds the item that a row tells.
+// Adds the item that a row gives.
 fn add_item(rules: &Rules, row: &Row, all: &mut Vec<Item>) -> Result<(), KeepFault>
     ensures value { OnOk result (all.new.items
         ≡ all.old.items ++ item_by rules.now.reserves row.now ∷ []) }
     ensures fits { AllByRecursion ItemFits all.old.items
         → OnOk result (AllByRecursion ItemFits all.new.items) }
-    ensures stands { AllByRecursion (λ it. StandsBy rules.now.editions it.terms) all.old.items
-        → OnOk result (AllByRecursion (λ it. StandsBy rules.now.editions it.terms) all.new.items) }
+    ensures is_consistent { AllByRecursion (λ it. IsConsistentBy rules.now.editions it.terms) all.old.items
+        → OnOk result (AllByRecursion (λ it. IsConsistentBy rules.now.editions it.terms) all.new.items) }
     ensures damaged { ItemHolds rules.now.editions rules.now.reserves row.now
         → ¬ (IsErrOf result Damaged) }
 {
@@ -221,12 +245,12 @@ fn add_item(rules: &Rules, row: &Row, all: &mut Vec<Item>) -> Result<(), KeepFau
     push(all, item)
 }
 
-/// The items that rows tell.
+/// The items that rows give.
 pub(crate) fn item_list(alloc: Global, rules: &Rules, rows: &[Row]) -> Result<Vec<Item>, KeepFault>
     ensures value { IfOk result (λ all. all.items ≡ map (item_by rules.now.reserves) rows.now) }
     ensures fits { IfOk result (λ all. AllByRecursion ItemFits all.items) }
-    ensures stands { IfOk result (λ all. AllByRecursion
-        (λ it. StandsBy rules.now.editions it.terms) all.items) }
+    ensures is_consistent { IfOk result (λ all. AllByRecursion
+        (λ it. IsConsistentBy rules.now.editions it.terms) all.items) }
     ensures damaged { AllByRecursion (ItemHolds rules.now.editions rules.now.reserves) rows.now
         → ¬ (IsErrOf result Damaged) }
 {

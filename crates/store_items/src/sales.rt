@@ -18,7 +18,7 @@ ghost use Rattle.store_rows.specs.ItemRows.{items_in};
 ghost use Rattle.store_rows.specs.Tables.{tables_in};
 ghost use Rattle.store_rows.specs.Joined.{found_of};
 ghost use Rattle.store_items.specs.Rising.{rise_from};
-ghost use Rattle.store_items.specs.RowsStanding.{RowsStand};
+ghost use Rattle.store_items.specs.ConsistentRows.{RowsAreConsistent};
 ghost use Rattle.store_rows.specs.Frames.{OnlyReads};
 
 use crate::item_reads::all_items;
@@ -28,7 +28,7 @@ use list_rows::push;
 use settle::Sold;
 use sqlite::{Alter, Connection};
 use std::alloc::Global;
-use store_reserves::Rules;
+use store_rows::Rules;
 
 // The sale of an item of these terms, if it was sold.
 fn sale(terms: &Terms) -> Option<Sold>
@@ -110,8 +110,8 @@ fn sales_of_member<S: Alter>(
     ensures value { HasCleanDisk (state S.Store conn.new)
         → IfOk result (λ sales. sales.items ≡ sales_to
         (tables_in (state S.Store conn.old).now.trees) member) }
-    ensures stands { HasCleanDisk (state S.Store conn.new)
-        → OnOk result (RowsStand rules.now.editions
+    ensures is_consistent { HasCleanDisk (state S.Store conn.new)
+        → OnOk result (RowsAreConsistent rules.now.editions
         (λ row. list_any (is_party member) (sale_of row.item.terms))
         (state S.Store conn.old).now.trees) }
     ensures fits { IfOk result (λ sales. All IsSale sales.items) }
@@ -148,8 +148,8 @@ fn sales_of_nobody<S: Alter>(
     ensures value { HasCleanDisk (state S.Store conn.new)
         → IfOk result (λ sales. sales.items ≡ sales_to
         (tables_in (state S.Store conn.old).now.trees) 0) }
-    ensures stands { HasCleanDisk (state S.Store conn.new)
-        → OnOk result (RowsStand rules.now.editions
+    ensures is_consistent { HasCleanDisk (state S.Store conn.new)
+        → OnOk result (RowsAreConsistent rules.now.editions
         (λ row. list_any (is_party 0) (sale_of row.item.terms))
         (state S.Store conn.old).now.trees) }
     ensures fits { IfOk result (λ sales. All IsSale sales.items) }
@@ -179,8 +179,8 @@ pub fn sales_to<S: Alter>(
     ensures value { HasCleanDisk (state S.Store conn.new)
         → IfOk result (λ sales. sales.items ≡ sales_to
         (tables_in (state S.Store conn.old).now.trees) member) }
-    ensures stands { HasCleanDisk (state S.Store conn.new)
-        → OnOk result (RowsStand rules.now.editions
+    ensures is_consistent { HasCleanDisk (state S.Store conn.new)
+        → OnOk result (RowsAreConsistent rules.now.editions
         (λ row. list_any (is_party member) (sale_of row.item.terms))
         (state S.Store conn.old).now.trees) }
     ensures fits { IfOk result (λ sales. All IsSale sales.items) }

@@ -6,7 +6,7 @@ ghost use Rattle.sqlite.specs.Held.{state};
 ghost use Rattle.proxy.specs.Bids.{is_leader};
 ghost use Rattle.house_rows.specs.Fits.{TermsFit};
 ghost use Rattle.house_rows.specs.Items.{is_due};
-ghost use Rattle.house_rows.specs.Keeping.{FitsBy, StandsBy};
+ghost use Rattle.house_rows.specs.Keeping.{FitsBy, IsConsistentBy};
 ghost use Rattle.house_rows.specs.Taken.{FitWhere};
 ghost use Rattle.house_rows.specs.Tables.{ItemRow};
 ghost use Rattle.house_rows.specs.declared.fault.KeepFault.TheVariants.{Damaged};
@@ -18,8 +18,7 @@ use crate::reads::terms_list;
 use house_rows::{KeepFault, Terms};
 use sqlite::{Alter, Connection, params};
 use std::alloc::Global;
-use store_reserves::Rules;
-use store_rows::rows_shown;
+use store_rows::{Rules, rows_shown};
 
 /// The items that a member sells, without their texts.
 pub fn terms_of_seller<S: Alter>(
@@ -34,8 +33,8 @@ pub fn terms_of_seller<S: Alter>(
         (filter (λ row. row.item.terms.seller == seller)
         (items_in (state S.Store conn.old).now.trees))) }
     ensures fits { IfOk result (λ terms. AllByRecursion TermsFit terms.items) }
-    ensures stands { IfOk result (λ terms. AllByRecursion
-        (StandsBy rules.now.editions) terms.items) }
+    ensures is_consistent { IfOk result (λ terms. AllByRecursion
+        (IsConsistentBy rules.now.editions) terms.items) }
     ensures damaged { HasCleanDisk (state S.Store conn.new)
         → AllByRecursion (FitsBy rules.now.editions) (items_in (state S.Store conn.old).now.trees)
         → ¬ (IsErrOf result Damaged) }
@@ -66,8 +65,8 @@ pub(crate) fn terms_led_by<S: Alter>(
         (filter (λ row. is_leader row.item.terms.leader member)
         (items_in (state S.Store conn.old).now.trees))) }
     ensures fits { IfOk result (λ terms. AllByRecursion TermsFit terms.items) }
-    ensures stands { IfOk result (λ terms. AllByRecursion
-        (StandsBy rules.now.editions) terms.items) }
+    ensures is_consistent { IfOk result (λ terms. AllByRecursion
+        (IsConsistentBy rules.now.editions) terms.items) }
     ensures damaged { HasCleanDisk (state S.Store conn.new)
         → AllByRecursion (FitsBy rules.now.editions) (items_in (state S.Store conn.old).now.trees)
         → ¬ (IsErrOf result Damaged) }
@@ -99,8 +98,8 @@ pub(crate) fn due_terms<S: Alter>(
         (filter (λ row. is_due moment row.item.terms)
         (items_in (state S.Store conn.old).now.trees))) }
     ensures fits { IfOk result (λ terms. AllByRecursion TermsFit terms.items) }
-    ensures stands { IfOk result (λ terms. AllByRecursion
-        (StandsBy rules.now.editions) terms.items) }
+    ensures is_consistent { IfOk result (λ terms. AllByRecursion
+        (IsConsistentBy rules.now.editions) terms.items) }
     ensures damaged { HasCleanDisk (state S.Store conn.new)
         → AllByRecursion (FitsBy rules.now.editions) (items_in (state S.Store conn.old).now.trees)
         → ¬ (IsErrOf result Damaged) }

@@ -9,21 +9,22 @@ use Rattle.proxy.specs.Bids.{standing_of}
 use Rattle.proxy.specs.Opening.{Opening}
 use Rattle.proxy.specs.Kept.{Kept}
 use Rattle.proxy.proofs.Placed.{standing-none}
+use Rattle.house_rows.specs.declared.auction.Auction.{Auction}
 use Rattle.house_rows.specs.declared.item.Item.{Item}
 use Rattle.house_rows.specs.declared.item.OwnBid.{OwnBid}
 use Rattle.house_rows.specs.declared.item.OwnReserve.{OwnReserve}
 use Rattle.house_rows.specs.declared.item.Terms.{Terms}
 use Rattle.house_rows.specs.Fits.{IsItem, IsMember, ItemFits, OwnBidFits, OwnReserveFits, StandingFits, TermsFit}
-use Rattle.house_rows.specs.Found.{all_items, item_at, item_with_lot, own_bid, own_bids, own_reserves, reserves_in, standing_at, terms_at}
+use Rattle.house_rows.specs.Found.{all_items, auction_at, auction_of, item_at, item_with_lot, own_bid, own_bids, own_reserves, reserves_in, standing_at, terms_at}
 use Rattle.house_rows.specs.Changed.{is_item}
-use Rattle.house_rows.specs.Keeping.{AllStand, AreSound, ItemRowFits, RowFits, StandsAt, StandsIn}
+use Rattle.house_rows.specs.Keeping.{AllConsistent, AreSound, ItemRowFits, RowFits, IsConsistentAt, IsConsistentIn}
 use Rattle.house_rows.specs.Limits.{most_shown}
-use Rattle.house_rows.specs.Pages.{reserve_told}
+use Rattle.house_rows.specs.Pages.{reserve_reported}
 use Rattle.house_rows.specs.Tables.{ItemRow, Tables, bands_for, row_opening}
 use Rattle.house_rows.specs.Text.{same_text}
 use Rattle.house_rows.proofs.Every.{every_as, every_map}
 use Rattle.house_rows.proofs.Put.{by_test}
-use Rattle.house_rows.proofs.Standing.{row_stands}
+use Rattle.house_rows.proofs.Standing.{row_is_consistent}
 
 pub find_fits : {A : Type 0} (P : A → Type 0) (p : A → Bool) (xs : List A) → AllByRecursion P xs → IfSome (find p xs) P
 find_fits P p [] all = tt
@@ -70,17 +71,17 @@ pub items_fit : (t : Tables) → AreSound t → AllByRecursion ItemFits (all_ite
 items_fit t sound = every_map (λ (row : ItemRow). row.item) ItemFits t.items
     (every_as (RowFits t) (λ (row : ItemRow). ItemFits row.item) t.items (λ row fits. fits.item) sound.items)
 
-pub items_stand : (t : Tables) → AreSound t → AllByRecursion (λ (it : Item). StandsIn t it.terms) (all_items t)
-items_stand t sound = every_map (λ (row : ItemRow). row.item) (λ (it : Item). StandsIn t it.terms) t.items
-    (every_as (RowFits t) (λ (row : ItemRow). StandsIn t row.item.terms) t.items (λ row fits. row_stands (bands_for t row.item.terms.item) row fits) sound.items)
+pub items_are_consistent : (t : Tables) → AreSound t → AllByRecursion (λ (it : Item). IsConsistentIn t it.terms) (all_items t)
+items_are_consistent t sound = every_map (λ (row : ItemRow). row.item) (λ (it : Item). IsConsistentIn t it.terms) t.items
+    (every_as (RowFits t) (λ (row : ItemRow). IsConsistentIn t row.item.terms) t.items (λ row fits. row_is_consistent (bands_for t row.item.terms.item) row fits) sound.items)
 
--- whichever rows of items are looked at, they stand
-pub all_stand : (t : Tables) (test : ItemRow → Bool) → AreSound t → AllStand test t
-all_stand t test sound = filter_fits (λ (row : ItemRow). StandsIn t row.item.terms) test t.items
-    (every_as (RowFits t) (λ (row : ItemRow). StandsIn t row.item.terms) t.items (λ row fits. row_stands (bands_for t row.item.terms.item) row fits) sound.items)
+-- whichever rows of items are looked at, they are consistent
+pub all_are_consistent : (t : Tables) (test : ItemRow → Bool) → AreSound t → AllConsistent test t
+all_are_consistent t test sound = filter_fits (λ (row : ItemRow). IsConsistentIn t row.item.terms) test t.items
+    (every_as (RowFits t) (λ (row : ItemRow). IsConsistentIn t row.item.terms) t.items (λ row fits. row_is_consistent (bands_for t row.item.terms.item) row fits) sound.items)
 
-pub stands_at : (t : Tables) → AreSound t → (item : ℕ) → StandsAt t item
-stands_at t sound item = some_as (λ (row : ItemRow). row.item.terms) (RowFits t) (StandsIn t) _ (λ row fits. row_stands (bands_for t row.item.terms.item) row fits)
+pub is_consistent_at : (t : Tables) → AreSound t → (item : ℕ) → IsConsistentAt t item
+is_consistent_at t sound item = some_as (λ (row : ItemRow). row.item.terms) (RowFits t) (IsConsistentIn t) _ (λ row fits. row_is_consistent (bands_for t row.item.terms.item) row fits)
     (find_fits (RowFits t) (is_item item) t.items sound.items)
 
 each : {A : Type 0} (P : A → Type 0) → ((x : A) → P x) → (xs : List A) → AllByRecursion P xs
@@ -102,11 +103,11 @@ none_leads bands opening (b ∷ bids) k is none = absurd (let n : length (b ∷ 
 
 pub standing_fits : (bands : List (ℕ × ℕ)) (row : ItemRow) → ItemRowFits bands row → StandingFits row.standing
 standing_fits bands row fits = record {
-  leader = elim fits.told [
-    | inl told ↦ rw (← told.leader) fits.item.terms.leader
-    | inr bought ↦ none_leads bands (row_opening row) fits.bids row.standing fits.stands bought.no_bid
+  leader = elim fits.report [
+    | inl report ↦ rw (← report.leader) fits.item.terms.leader
+    | inr bought ↦ none_leads bands (row_opening row) fits.bids row.standing fits.is_consistent bought.no_bid
   ];
-  count = let n : row.standing.count ≡ length fits.bids = ap (λ (x : Kept). x.count) fits.stands in let few = fits.few in omega arith;
+  count = let n : row.standing.count ≡ length fits.bids = ap (λ (x : Kept). x.count) fits.is_consistent in let few = fits.few in omega arith;
 }
 
 pub own_bids_fit : (t : Tables) (member from : ℕ) → AreSound t → AllByRecursion OwnBidFits (own_bids t member from)
@@ -118,8 +119,8 @@ own_bids_fit t member from sound =
     take_fits OwnBidFits most_shown (filter test made)
     (every_as (λ (b : OwnBid). IsItem b.item × (test b ≡ true)) OwnBidFits (filter test made) (λ b one. record { item = one.0; mine = let is = one.1 in grind (arith, nat_tests, is) }) (passed (λ (b : OwnBid). IsItem b.item) test made known))
 
--- a reserve that is told is of an item
-reserve_fits : (terms : Terms) (reserve : Option ℕ) (rest : List OwnReserve) → IsItem terms.item → AllByRecursion OwnReserveFits rest → AllByRecursion OwnReserveFits (reserve_told terms reserve ++ rest)
+-- a reserve that is reported is of an item
+reserve_fits : (terms : Terms) (reserve : Option ℕ) (rest : List OwnReserve) → IsItem terms.item → AllByRecursion OwnReserveFits rest → AllByRecursion OwnReserveFits (reserve_reported terms reserve ++ rest)
 reserve_fits terms None rest is all = all
 reserve_fits terms (Some amount) rest is all = (record { item = is }, all)
 
@@ -135,38 +136,50 @@ own_reserves_fit t member from sound =
     take_fits OwnReserveFits most_shown _ (filter_fits OwnReserveFits (λ (r : OwnReserve). nat_le from r.item) (reserves_in (filter sells t.items))
     (reserves_fit (filter sells t.items) (filter_fits (λ (row : ItemRow). IsItem row.item.terms.item) sells t.items known)))
 
--- what is found in tables that are sound, here those that a keep's fields are, fits and stands
+-- what is found in tables that are sound, here those that a keep's fields are, fits and is
+-- consistent
 pub terms_fit : (t u : Tables) → t ≡ u → AreSound t → (i : ℕ) → IfSome (terms_at t i) TermsFit
 terms_fit t u same sound i = some_as (λ (row : ItemRow). row.item.terms) (RowFits t) TermsFit _ (λ row fits. fits.item.terms) (find_fits (RowFits t) (is_item i) t.items sound.items)
 
-pub terms_stand : (t u : Tables) → t ≡ u → AreSound t → (i : ℕ) → IfSome (terms_at t i) (StandsIn u)
-terms_stand t u same sound i = subst (λ (x : Tables). IfSome (terms_at t i) (StandsIn x)) same (stands_at t sound i)
+pub terms_are_consistent : (t u : Tables) → t ≡ u → AreSound t → (i : ℕ) → IfSome (terms_at t i) (IsConsistentIn u)
+terms_are_consistent t u same sound i = subst (λ (x : Tables). IfSome (terms_at t i) (IsConsistentIn x)) same (is_consistent_at t sound i)
 
 pub item_fits : (t u : Tables) → t ≡ u → AreSound t → (i : ℕ) → IfSome (item_at t i) ItemFits
 item_fits t u same sound i = some_as (λ (row : ItemRow). row.item) (RowFits t) ItemFits _ (λ row fits. fits.item) (find_fits (RowFits t) (is_item i) t.items sound.items)
 
-pub item_stands : (t u : Tables) → t ≡ u → AreSound t → (i : ℕ) → IfSome (item_at t i) (λ it. StandsIn u it.terms)
-item_stands t u same sound i =
-    subst (λ (x : Tables). IfSome (item_at t i) (λ it. StandsIn x it.terms)) same
-    (some_as (λ (row : ItemRow). row.item) (RowFits t) (λ (it : Item). StandsIn t it.terms) _ (λ row fits. row_stands (bands_for t row.item.terms.item) row fits)
+pub item_is_consistent : (t u : Tables) → t ≡ u → AreSound t → (i : ℕ) → IfSome (item_at t i) (λ it. IsConsistentIn u it.terms)
+item_is_consistent t u same sound i =
+    subst (λ (x : Tables). IfSome (item_at t i) (λ it. IsConsistentIn x it.terms)) same
+    (some_as (λ (row : ItemRow). row.item) (RowFits t) (λ (it : Item). IsConsistentIn t it.terms) _ (λ row fits. row_is_consistent (bands_for t row.item.terms.item) row fits)
     (find_fits (RowFits t) (is_item i) t.items sound.items))
 
 pub standing_fit : (t u : Tables) → t ≡ u → AreSound t → (i : ℕ) → IfSome (standing_at t i) StandingFits
 standing_fit t u same sound i =
     some_as (λ (row : ItemRow). row.standing) (RowFits t) StandingFits _ (λ row fits. standing_fits (bands_for t row.item.terms.item) row fits) (find_fits (RowFits t) (is_item i) t.items sound.items)
 
+pub auction_fits : (t u : Tables) → t ≡ u → AreSound t → (i : ℕ) → IfSome (auction_at t i) (λ a. TermsFit a.terms × StandingFits a.standing)
+auction_fits t u same sound i =
+    some_as auction_of (RowFits t) (λ (a : Auction). TermsFit a.terms × StandingFits a.standing) _ (λ row fits. (fits.item.terms, standing_fits (bands_for t row.item.terms.item) row fits))
+    (find_fits (RowFits t) (is_item i) t.items sound.items)
+
+pub auction_is_consistent : (t u : Tables) → t ≡ u → AreSound t → (i : ℕ) → IfSome (auction_at t i) (λ a. IsConsistentIn u a.terms)
+auction_is_consistent t u same sound i =
+    subst (λ (x : Tables). IfSome (auction_at t i) (λ a. IsConsistentIn x a.terms)) same
+    (some_as auction_of (RowFits t) (λ (a : Auction). IsConsistentIn t a.terms) _ (λ row fits. row_is_consistent (bands_for t row.item.terms.item) row fits)
+    (find_fits (RowFits t) (is_item i) t.items sound.items))
+
 pub lot_fits : (t u : Tables) → t ≡ u → AreSound t → (seller : ℕ) (lot : List ℕ) → IfSome (item_with_lot t seller lot) IsItem
 lot_fits t u same sound seller lot =
     some_as (λ (row : ItemRow). row.item.terms.item) (RowFits t) IsItem _ (λ row fits. fits.item.terms.item)
     (find_fits (RowFits t) (λ row. (row.item.terms.seller == seller) && same_text row.item.lot lot) t.items sound.items)
 
-pub those_stand : (t : Tables) (p : Item → Bool) → AreSound t → AllByRecursion (λ (it : Item). StandsIn t it.terms) (filter p (all_items t))
-those_stand t p sound = filter_fits (λ (it : Item). StandsIn t it.terms) p (all_items t) (items_stand t sound)
+pub those_are_consistent : (t : Tables) (p : Item → Bool) → AreSound t → AllByRecursion (λ (it : Item). IsConsistentIn t it.terms) (filter p (all_items t))
+those_are_consistent t p sound = filter_fits (λ (it : Item). IsConsistentIn t it.terms) p (all_items t) (items_are_consistent t sound)
 
-pub first_stand : (t : Tables) (n : ℕ) (p : Item → Bool) → AreSound t → AllByRecursion (λ (it : Item). StandsIn t it.terms) (take n (filter p (all_items t)))
-first_stand t n p sound = take_fits (λ (it : Item). StandsIn t it.terms) n (filter p (all_items t)) (those_stand t p sound)
+pub first_are_consistent : (t : Tables) (n : ℕ) (p : Item → Bool) → AreSound t → AllByRecursion (λ (it : Item). IsConsistentIn t it.terms) (take n (filter p (all_items t)))
+first_are_consistent t n p sound = take_fits (λ (it : Item). IsConsistentIn t it.terms) n (filter p (all_items t)) (those_are_consistent t p sound)
 
-pub ok_items_stand : {Z E : Type 0} (t u : Tables) → t ≡ u → (r : Result (Vec Item Z) E) (xs : List Item) → IfOk r (λ v. v.items ≡ xs) → AllByRecursion (λ (it : Item). StandsIn t it.terms) xs
-    → IfOk r (λ v. AllByRecursion (λ (it : Item). StandsIn u it.terms) v.items)
-ok_items_stand t u same r xs is all =
-    subst (λ (x : Tables). IfOk r (λ v. AllByRecursion (λ (it : Item). StandsIn x it.terms) v.items)) same (ok_items (λ xs. AllByRecursion (λ (it : Item). StandsIn t it.terms) xs) r xs is all)
+pub ok_items_are_consistent : {Z E : Type 0} (t u : Tables) → t ≡ u → (r : Result (Vec Item Z) E) (xs : List Item) → IfOk r (λ v. v.items ≡ xs) → AllByRecursion (λ (it : Item). IsConsistentIn t it.terms) xs
+    → IfOk r (λ v. AllByRecursion (λ (it : Item). IsConsistentIn u it.terms) v.items)
+ok_items_are_consistent t u same r xs is all =
+    subst (λ (x : Tables). IfOk r (λ v. AllByRecursion (λ (it : Item). IsConsistentIn x it.terms) v.items)) same (ok_items (λ xs. AllByRecursion (λ (it : Item). IsConsistentIn t it.terms) xs) r xs is all)

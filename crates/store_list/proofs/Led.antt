@@ -100,8 +100,8 @@ bid_led t moment item placed standing fits row led own =
     elim (by_test (is_item item row)) [
       | inl is ↦ (let same : row ≡ fits.row = same_row t item row fits.row own is fits.row_there in
           let here : item ≡ number_of row = grind (arith, nat_tests, is) in
-          let old : row.standing.leader ≡ leader fits.bids = ap (λ (r : ItemRow). r.standing.leader) same ∙ ap (λ (k : Kept). k.leader) fits.stands in
-          let new : standing.leader ≡ leader (one_more fits.bids placed.member placed.maximum) = ap (λ (k : Kept). k.leader) fits.stands_after in
+          let old : row.standing.leader ≡ leader fits.bids = ap (λ (r : ItemRow). r.standing.leader) same ∙ ap (λ (k : Kept). k.leader) fits.is_consistent in
+          let new : standing.leader ≡ leader (one_more fits.bids placed.member placed.maximum) = ap (λ (k : Kept). k.leader) fits.is_consistent_after in
           rw is (rw new (new_leader t.bids item (number_of row) placed (record { member = placed.member; maximum = placed.maximum; no = length fits.bids + 1 }) fits.bids row.standing.leader here refl old led)))
       | inr other ↦ subst (IsLed (put_by bid_key (record { item = item; bid = placed }) t.bids)) (sym (standing_other item standing row other))
           (bid_stays t.bids (record { item = item; bid = placed }) (number_of row) row.standing.leader led)

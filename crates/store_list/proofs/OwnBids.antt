@@ -1,4 +1,4 @@
--- What a member has bid, item by item, as its tallies tell it.
+-- What a member has bid, item by item, as its tallies give it.
 use Rattle.std.proofs.Common.{◌≡◌, ℕ, zero, suc, ◌+◌, ◌≤◌, ◌<◌, List, [], ◌∷◌, ◌++◌, length, take, drop, map, filter, get_or, Bool, true, false, refl, ◌∙◌, ap, sym, subst, arith, inl, inr, Option, Some, None}
 use Rattle.std.specs.Prelude.{◌==◌, ◌&&◌, if◌then◌else◌, find, option_map, nat_le, nat_lt}
 use Rattle.std.specs.List.{AllByRecursion, AllWithin}
@@ -75,7 +75,7 @@ from_point number xs from i point le =
 
 -- a member's tallies from a number on
 pub record AreShown (t : Tables) (member from : ℕ) (tallies : List Tally) : Type 0 where
-  pub told : AllByRecursion (λ tally. tally.best ≡ best_of t member tally.item) tallies
+  pub report : AllByRecursion (λ tally. tally.best ≡ best_of t member tally.item) tallies
   pub high : AllByRecursion (λ tally. nat_le from tally.item ≡ true) tallies
   pub rising : IsRisingFrom 0 (numbers_in tallies)
   pub complete : (item : ℕ) → 0 < (best_of t member item).mine → nat_le from item ≡ true → is_among (numbers_in tallies) item ≡ true
@@ -107,22 +107,22 @@ among_filtered from n (tally ∷ tallies) high among =
 
 pub shown_from : (t : Tables) (member from : ℕ) (tallies shown : List Tally) → AreTallies t member tallies → (AreRisingFrom 0 (numbers_in tallies) → shown ≡ filter (λ tally. nat_le from tally.item) tallies) → AreShown t member from shown
 shown_from t member from tallies shown are is = rw (is are.rising) record {
-  told = every_filtered (λ tally. tally.best ≡ best_of t member tally.item) (λ tally. nat_le from tally.item) tallies are.told;
+  report = every_filtered (λ tally. tally.best ≡ best_of t member tally.item) (λ tally. nat_le from tally.item) tallies are.report;
   high = high_filtered from tallies;
   rising = rising_filtered from 0 tallies are.rising;
   complete = λ item bid high. among_filtered from item tallies high (are.complete item bid);
 }
 
--- what is told of a row, and whether it is listed
+-- what is reported of a row, and whether it is listed
 
-abbrev pub told_by : Tables → ℕ → ItemRow → OwnBid
-told_by t member = λ (row : ItemRow). own_bid t member row.item
+abbrev pub report_by : Tables → ℕ → ItemRow → OwnBid
+report_by t member = λ (row : ItemRow). own_bid t member row.item
 
 abbrev pub is_listed : ℕ → OwnBid → Bool
 is_listed from = λ (b : OwnBid). nat_lt 0 b.mine && nat_le from b.item
 
 abbrev pub listed_at : Tables → ℕ → ℕ → List ℕ → List OwnBid
-listed_at t member from ks = passed_at (told_by t member) (is_listed from) number_of t.items ks
+listed_at t member from ks = passed_at (report_by t member) (is_listed from) number_of t.items ks
 
 some_is : {A : Type 0} (x y : A) → Some x ≡ Some y → x ≡ y
 some_is x y e = cc
@@ -130,10 +130,10 @@ some_is x y e = cc
 nothing : {A : Type 0} (x : A) → Some x ≡ None → ⊥
 nothing x e = cc
 
-listed_is : (t : Tables) (member from k : ℕ) (best : OwnBest) (row : ItemRow) (test : Bool) → number_of row ≡ k → best ≡ best_of t member k → nat_le from k ≡ true → nat_lt 0 best.mine ≡ test → is_listed from (told_by t member row) ≡ test
+listed_is : (t : Tables) (member from k : ℕ) (best : OwnBest) (row : ItemRow) (test : Bool) → number_of row ≡ k → best ≡ best_of t member k → nat_le from k ≡ true → nat_lt 0 best.mine ≡ test → is_listed from (report_by t member row) ≡ test
 listed_is t member from k best row test same is high mine =
-    let told : (best_of t member (number_of row)).mine ≡ best.mine = ap (λ n. (best_of t member n).mine) same ∙ sym (ap (λ (b : OwnBest). b.mine) is) in
-    rw (told, same, high) (and_true (nat_lt 0 best.mine) ∙ mine) where
+    let report : (best_of t member (number_of row)).mine ≡ best.mine = ap (λ n. (best_of t member n).mine) same ∙ sym (ap (λ (b : OwnBest). b.mine) is) in
+    rw (report, same, high) (and_true (nat_lt 0 best.mine) ∙ mine) where
       and_true : (b : Bool) → b && true ≡ b
       and_true true = refl
       and_true false = refl
@@ -141,12 +141,12 @@ listed_is t member from k best row test same is high mine =
 row_number : (k : ℕ) (rows : List ItemRow) (row : ItemRow) → find (λ row. number_of row == k) rows ≡ Some row → number_of row ≡ k
 row_number k rows row found = same_number (number_of row) k (found_is (λ row. number_of row == k) rows row found)
 
--- what a tally tells of the row that it names
-pub bid_told : (t : Tables) (member k : ℕ) (best : OwnBest) (terms : Terms) (bid : OwnBid) (o : Option ItemRow) → find (λ row. number_of row == k) t.items ≡ o → Some terms ≡ option_map (λ (row : ItemRow). row.item.terms) o
+-- what a tally says of the row that it names
+pub bid_reported : (t : Tables) (member k : ℕ) (best : OwnBest) (terms : Terms) (bid : OwnBid) (o : Option ItemRow) → find (λ row. number_of row == k) t.items ≡ o → Some terms ≡ option_map (λ (row : ItemRow). row.item.terms) o
     → best ≡ best_of t member k → bid ≡ record { item = terms.item; leading = is_leader terms.leader member; maximum = best.maximum; mine = best.mine; price = terms.price; state = terms.state }
-    → Some bid ≡ option_map (told_by t member) o
-bid_told t member k best terms bid None found some is made = absurd (nothing terms some)
-bid_told t member k best terms bid (Some row) found some is made =
+    → Some bid ≡ option_map (report_by t member) o
+bid_reported t member k best terms bid None found some is made = absurd (nothing terms some)
+bid_reported t member k best terms bid (Some row) found some is made =
     let same : terms ≡ row.item.terms = some_is terms row.item.terms some in
     let number : number_of row ≡ k = row_number k t.items row found in
     let best_is : best ≡ best_of t member (number_of row) = is ∙ ap (best_of t member) (sym number) in
@@ -154,14 +154,14 @@ bid_told t member k best terms bid (Some row) found some is made =
     ∙ ap (λ (x : Terms). record { item = x.item; leading = is_leader x.leader member; maximum = best.maximum; mine = best.mine; price = x.price; state = x.state }) same
     ∙ ap (λ (b : OwnBest). record { item = row.item.terms.item; leading = is_leader row.item.terms.leader member; maximum = b.maximum; mine = b.mine; price = row.item.terms.price; state = row.item.terms.state }) best_is)
 
-pub bid_none : (t : Tables) (member : ℕ) (o : Option ItemRow) → None ≡ option_map (λ (row : ItemRow). row.item.terms) o → None ≡ option_map (told_by t member) o
+pub bid_none : (t : Tables) (member : ℕ) (o : Option ItemRow) → None ≡ option_map (λ (row : ItemRow). row.item.terms) o → None ≡ option_map (report_by t member) o
 bid_none t member None none = refl
 bid_none t member (Some row) none = absurd (nothing row.item.terms (sym none))
 
 -- from tally to tally
 
-pub tally_told : (t : Tables) (member from : ℕ) (tallies : List Tally) (i : ℕ) (tally : Tally) → AreShown t member from tallies → i < length tallies → tally ≡ get_or tallies i tally → tally.best ≡ best_of t member tally.item
-tally_told t member from tallies i tally shown lt at' = subst (λ (x : Tally). x.best ≡ best_of t member x.item) (sym at') (every_at (λ (x : Tally). x.best ≡ best_of t member x.item) tallies i tally shown.told lt)
+pub tally_reported : (t : Tables) (member from : ℕ) (tallies : List Tally) (i : ℕ) (tally : Tally) → AreShown t member from tallies → i < length tallies → tally ≡ get_or tallies i tally → tally.best ≡ best_of t member tally.item
+tally_reported t member from tallies i tally shown lt at' = subst (λ (x : Tally). x.best ≡ best_of t member x.item) (sym at') (every_at (λ (x : Tally). x.best ≡ best_of t member x.item) tallies i tally shown.report lt)
 
 tally_high : (t : Tables) (member from : ℕ) (tallies : List Tally) (i : ℕ) (tally : Tally) → AreShown t member from tallies → i < length tallies → tally ≡ get_or tallies i tally → nat_le from tally.item ≡ true
 tally_high t member from tallies i tally shown lt at' = subst (λ (x : Tally). nat_le from x.item ≡ true) (sym at') (every_at (λ (x : Tally). nat_le from x.item ≡ true) tallies i tally shown.high lt)
@@ -170,34 +170,34 @@ number_at : (tallies : List Tally) (i : ℕ) (tally : Tally) → i < length tall
 number_at tallies i tally lt at' =
     ap (λ (x : Tally). x.item) at' ∙ sym (get_or-map (λ (x : Tally). x.item) tallies i tally tally.item lt) ∙ get_or_default (numbers_in tallies) i tally.item 0 (made_long (λ (x : Tally). x.item) tallies i lt)
 
--- what a tally tells: nothing, where it tells of no bid
+-- what a tally says: nothing, where it has no bid
 abbrev pub by_tally : Tables → ℕ → Tally → Option OwnBid
-by_tally t member tally = if nat_lt 0 tally.best.mine then option_map (told_by t member) (find (λ row. number_of row == tally.item) t.items) else None
+by_tally t member tally = if nat_lt 0 tally.best.mine then option_map (report_by t member) (find (λ row. number_of row == tally.item) t.items) else None
 
-listed_row : (t : Tables) (member from k : ℕ) (best : OwnBest) (bid : OwnBid) (o : Option ItemRow) → find (λ row. number_of row == k) t.items ≡ o → Some bid ≡ option_map (told_by t member) o → best ≡ best_of t member k
+listed_row : (t : Tables) (member from k : ℕ) (best : OwnBest) (bid : OwnBid) (o : Option ItemRow) → find (λ row. number_of row == k) t.items ≡ o → Some bid ≡ option_map (report_by t member) o → best ≡ best_of t member k
     → nat_le from k ≡ true → nat_lt 0 best.mine ≡ true → is_listed from bid ≡ true
 listed_row t member from k best bid None found some is high mine = absurd (nothing bid some)
 listed_row t member from k best bid (Some row) found some is high mine =
-    ap (is_listed from) (some_is bid (told_by t member row) some) ∙ listed_is t member from k best row true (row_number k t.items row found) is high mine
+    ap (is_listed from) (some_is bid (report_by t member row) some) ∙ listed_is t member from k best row true (row_number k t.items row found) is high mine
 
 pub bid_more : (t : Tables) (member from : ℕ) (tallies : List Tally) (i : ℕ) (tally : Tally) (bid : OwnBid) (found : List OwnBid) → AreShown t member from tallies → i < length tallies → tally ≡ get_or tallies i tally
     → found ≡ take most_shown (listed_at t member from (take i (numbers_in tallies))) → Some bid ≡ by_tally t member tally → length found < most_shown
     → found ++ bid ∷ [] ≡ take most_shown (listed_at t member from (take (i + 1) (numbers_in tallies)))
 bid_more t member from tallies i tally bid found shown lt at' is some room =
     elim (by_test (nat_lt 0 tally.best.mine)) [
-      | inl mine ↦ (let there : Some bid ≡ option_map (told_by t member) (find (λ row. number_of row == tally.item) t.items) = rw mine at some in
-          let passes : is_listed from bid ≡ true = listed_row t member from tally.item tally.best bid (find (λ row. number_of row == tally.item) t.items) refl there (tally_told t member from tallies i tally shown lt at') (tally_high t member from tallies i tally shown lt at') mine in
+      | inl mine ↦ (let there : Some bid ≡ option_map (report_by t member) (find (λ row. number_of row == tally.item) t.items) = rw mine at some in
+          let passes : is_listed from bid ≡ true = listed_row t member from tally.item tally.best bid (find (λ row. number_of row == tally.item) t.items) refl there (tally_reported t member from tallies i tally shown lt at') (tally_high t member from tallies i tally shown lt at') mine in
           page_more most_shown (listed_at t member from (take i (numbers_in tallies))) (listed_at t member from (take (i + 1) (numbers_in tallies))) found bid is
-          (passed_more (told_by t member) (is_listed from) number_of t.items (numbers_in tallies) i tally.item bid (made_long (λ (x : Tally). x.item) tallies i lt) (number_at tallies i tally lt at') there passes) room)
+          (passed_more (report_by t member) (is_listed from) number_of t.items (numbers_in tallies) i tally.item bid (made_long (λ (x : Tally). x.item) tallies i lt) (number_at tallies i tally lt at') there passes) room)
       | inr none ↦ absurd (nothing bid (rw none at some))
     ]
 
 unlisted : (t : Tables) (member from k i : ℕ) (best : OwnBest) (ks : List ℕ) (o : Option ItemRow) → find (λ row. number_of row == k) t.items ≡ o → i < length ks → k ≡ get_or ks i 0 → best ≡ best_of t member k
     → nat_le from k ≡ true → nat_lt 0 best.mine ≡ false → listed_at t member from (take (i + 1) ks) ≡ listed_at t member from (take i ks)
 unlisted t member from k i best ks None found lt at' is high none =
-    passed_none (told_by t member) (is_listed from) number_of t.items ks i k lt at' (sym (ap (option_map (told_by t member)) found))
+    passed_none (report_by t member) (is_listed from) number_of t.items ks i k lt at' (sym (ap (option_map (report_by t member)) found))
 unlisted t member from k i best ks (Some row) found lt at' is high none =
-    passed_less (told_by t member) (is_listed from) number_of t.items ks i k (told_by t member row) lt at' (sym (ap (option_map (told_by t member)) found))
+    passed_less (report_by t member) (is_listed from) number_of t.items ks i k (report_by t member row) lt at' (sym (ap (option_map (report_by t member)) found))
     (listed_is t member from k best row false (row_number k t.items row found) is high none)
 
 pub bid_less : (t : Tables) (member from : ℕ) (tallies : List Tally) (i : ℕ) (tally : Tally) (found : List OwnBid) → AreShown t member from tallies → i < length tallies → tally ≡ get_or tallies i tally
@@ -206,16 +206,16 @@ pub bid_less : (t : Tables) (member from : ℕ) (tallies : List Tally) (i : ℕ)
 bid_less t member from tallies i tally found shown lt at' is none =
     let lt' = made_long (λ (x : Tally). x.item) tallies i lt in
     is ∙ ap (take most_shown) (sym (elim (by_test (nat_lt 0 tally.best.mine)) [
-      | inl mine ↦ passed_none (told_by t member) (is_listed from) number_of t.items (numbers_in tallies) i tally.item lt' (number_at tallies i tally lt at') (rw mine at none)
+      | inl mine ↦ passed_none (report_by t member) (is_listed from) number_of t.items (numbers_in tallies) i tally.item lt' (number_at tallies i tally lt at') (rw mine at none)
       | inr less ↦ unlisted t member from tally.item i tally.best (numbers_in tallies) (find (λ row. number_of row == tally.item) t.items) refl lt' (number_at tallies i tally lt at')
-          (tally_told t member from tallies i tally shown lt at') (tally_high t member from tallies i tally shown lt at') less
+          (tally_reported t member from tallies i tally shown lt at') (tally_high t member from tallies i tally shown lt at') less
     ]))
 
 -- every item on which the member has bid is among the numbers
 both_of : (n from k : ℕ) → nat_lt 0 n && nat_le from k ≡ true → (0 < n) × (nat_le from k ≡ true)
 both_of n from k passes = (grind (arith, nat_tests, passes), grind (arith, nat_tests, passes))
 
-have_all : (t : Tables) (member from : ℕ) (tallies : List Tally) (rows : List ItemRow) → AreShown t member from tallies → HasAll number_of (λ row. is_listed from (told_by t member row)) (numbers_in tallies) rows
+have_all : (t : Tables) (member from : ℕ) (tallies : List Tally) (rows : List ItemRow) → AreShown t member from tallies → HasAll number_of (λ row. is_listed from (report_by t member row)) (numbers_in tallies) rows
 have_all t member from tallies [] shown = tt
 have_all t member from tallies (row ∷ rows) shown = (
   λ passes. let both = both_of (best_of t member (number_of row)).mine from (number_of row) passes in shown.complete (number_of row) both.0 both.1,
@@ -224,5 +224,5 @@ have_all t member from tallies (row ∷ rows) shown = (
 
 pub bids_all : (t : Tables) (member from : ℕ) (tallies : List Tally) → AreShown t member from tallies → AreInTurn number_of 1 t.items → take most_shown (listed_at t member from (numbers_in tallies)) ≡ own_bids t member from
 bids_all t member from tallies shown in_turn =
-    ap (take most_shown) (passed_all (told_by t member) (is_listed from) number_of t.items (numbers_in tallies) in_turn shown.rising (have_all t member from tallies t.items shown))
+    ap (take most_shown) (passed_all (report_by t member) (is_listed from) number_of t.items (numbers_in tallies) in_turn shown.rising (have_all t member from tallies t.items shown))
     ∙ ap (λ (bids : List OwnBid). take most_shown (filter (is_listed from) bids)) (map_twice (own_bid t member) (λ (row : ItemRow). row.item) t.items)

@@ -1,4 +1,4 @@
--- The sales of items are those that pages tell.
+-- The sales of items are those that pages show.
 use Rattle.std.proofs.Common.{◌≡◌, List, [], ◌∷◌, map, filter, refl, inl, inr}
 use Rattle.std.specs.List.{filter_map}
 use Rattle.settle.specs.Statement.{is_party}

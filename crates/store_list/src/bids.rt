@@ -66,7 +66,7 @@ fn tallies_from(tallies: &[Tally], from: u64) -> &[Tally]
     &tallies[first..]
 }
 
-// What a member's tally tells of its item, if the member has bid there.
+// What a member's tally says of its item, if the member has bid there.
 fn own_bid(items: &Items, tally: &Tally, member: u64) -> Option<OwnBid>
     ensures { (t : Tables) → t.items ≡ items.now → tally.now.best ≡ best_of t member tally.now.item
         → result ≡ (if nat_lt 0 tally.now.best.mine

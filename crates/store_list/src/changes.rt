@@ -11,8 +11,8 @@ use house_rows::{Change, KeepFault, NewItem, Rating};
 use proxy::{Bid, Standing};
 
 impl ListKeep {
-    /// Makes a change, as `apply` of `Keep` does, and tells more of its faults: Damaged comes exactly
-    /// where the new key is taken, whatever else is wanting, and Store never.
+    /// Makes a change, as `apply` of `Keep` does, and says more of its faults: Damaged comes
+    /// exactly where the new key is taken, whatever else is wanting, and Store never.
     pub fn change(&mut self, change: &Change<'_>) -> Result<(), KeepFault>
         requires fits { AreSound self.old → ChangeFits self.old change.now }
         ensures { Applies result self.old self.new change.now }

@@ -6,13 +6,13 @@ ghost use Rattle.house_rows.specs.declared.fault.KeepFault.TheVariants as fault;
 use crate::{bids, watches};
 use cents::Cents;
 use house_rows::{
-    Category, Change, Counts, Due, Editions, Feedback, Item, Keep, KeepFault, Member, OwnBest,
-    OwnBid, OwnReserve, Question, Ratings, Settings, Terms,
+    Auction, Category, Change, Counts, Due, Editions, Feedback, Item, Keep, KeepFault, Member,
+    OwnBest, OwnBid, OwnReserve, Question, Ratings, Settings, Terms,
 };
 use list_bids::Bids;
 use list_items::Items;
 use list_people::{Categories, Members};
-use list_rows::{copies_of, found};
+use list_rows::{clone_found, copies_of};
 use list_talk::{FeedbackTable, Questions};
 use list_watches::Watches;
 use proxy::Standing;
@@ -22,7 +22,7 @@ use std::marker::Model;
 use steps::Bands;
 
 /// The tables of a house, each in the order of its keys. Clauses see the `Tables`, which are sound.
-#[derive(Debug, Drop)]
+#[derive(Drop)]
 pub struct ListKeep {
     pub(crate) alloc: Global,
     // With the settings, and the band tables that were set.
@@ -137,7 +137,7 @@ impl Keep for ListKeep {
     }
 
     fn member(&mut self, member: u64) -> Result<Option<Member>, KeepFault> {
-        found(self.alloc, self.members.member(member))
+        clone_found(self.alloc, self.members.member(member))
     }
 
     fn has_member(&mut self, member: u64) -> Result<bool, KeepFault> {
@@ -145,11 +145,11 @@ impl Keep for ListKeep {
     }
 
     fn member_named(&mut self, name: &str) -> Result<Option<Member>, KeepFault> {
-        found(self.alloc, self.members.named(name))
+        clone_found(self.alloc, self.members.by_name(name))
     }
 
     fn category(&mut self, category: u64) -> Result<Option<Category>, KeepFault> {
-        found(self.alloc, self.categories.category(category))
+        clone_found(self.alloc, self.categories.category(category))
     }
 
     fn has_category(&mut self, category: u64) -> Result<bool, KeepFault> {
@@ -157,11 +157,11 @@ impl Keep for ListKeep {
     }
 
     fn category_named(&mut self, name: &str) -> Result<Option<Category>, KeepFault> {
-        found(self.alloc, self.categories.named(name))
+        clone_found(self.alloc, self.categories.by_name(name))
     }
 
     fn item(&mut self, item: u64) -> Result<Option<Item>, KeepFault> {
-        found(self.alloc, self.items.item(item))
+        clone_found(self.alloc, self.items.item(item))
     }
 
     fn terms(&mut self, item: u64) -> Result<Option<Terms>, KeepFault> {
@@ -174,6 +174,10 @@ impl Keep for ListKeep {
 
     fn standing(&mut self, item: u64) -> Result<Option<Standing>, KeepFault> {
         Ok(self.items.standing(item))
+    }
+
+    fn auction(&mut self, item: u64) -> Result<Option<Auction>, KeepFault> {
+        Ok(self.items.auction(item))
     }
 
     fn own_best(&mut self, item: u64, member: u64) -> Result<OwnBest, KeepFault> {
@@ -198,7 +202,7 @@ impl Keep for ListKeep {
         asker: u64,
         number: u64,
     ) -> Result<Option<Question>, KeepFault> {
-        found(self.alloc, self.questions.question(item, asker, number))
+        clone_found(self.alloc, self.questions.question(item, asker, number))
     }
 
     fn given(&mut self, item: u64, giver: u64) -> Result<bool, KeepFault> {

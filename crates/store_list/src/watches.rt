@@ -25,7 +25,7 @@ pub(crate) fn items_watched(
 {
     let numbers = numbers_of(alloc, watches.of(member))?;
     let most = items.rows().len();
-    items.joined(alloc, &numbers, most, |item| {
+    items.first_passing(alloc, &numbers, most, |item| {
         watches.is_watched(member, u64::from(item.terms.item))
     })
 }

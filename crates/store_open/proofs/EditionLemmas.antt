@@ -17,7 +17,7 @@ use Rattle.house_rows.specs.declared.settings.Settings.{Settings}
 use Rattle.store_rows.specs.declared.edition.EditionRow.{EditionRow}
 use Rattle.store_rows.specs.declared.edition.LaterBandRow.{LaterBandRow}
 use Rattle.store_rows.specs.Tables.{bands_at, editions_by, editions_in, settings_in, tables_in}
-use Rattle.store_open.specs.Opening.{HasEditions}
+use Rattle.store_house.specs.Opening.{HasEditions}
 
 -- ---- a test of all bands, as it is read off a slice
 

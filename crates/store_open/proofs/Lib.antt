@@ -1,11 +1,8 @@
 pub mod EditionLemmas
-pub mod NewHouse
-pub mod NumberLemmas
-pub mod NumbersMeaning
-pub mod NumbersLemmas
-pub mod OpenLemmas
-pub mod PutMeaning
-pub mod PutLemmas
 pub mod ReadLemmas
 pub mod ReserveLemmas
 pub mod UpgradeLemmas
+mod EditionMeaning
+mod EditionRowLemmas
+mod MoreEditions
+mod WrittenEditions

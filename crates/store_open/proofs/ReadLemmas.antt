@@ -26,7 +26,7 @@ use Rattle.store_rows.specs.Rows.{bands_in, categories_in, edition_rows_in, hous
 use Rattle.store_rows.specs.declared.edition.LaterBandRow.{LaterBandRow}
 use Rattle.store_rows.specs.declared.reserve.ReserveRow.{ReserveRow}
 use Rattle.store_rows.specs.Tables.{IsAtRest, IsNumbered, house_row_in, settings_in, tables_in}
-use Rattle.store_open.specs.Opening.{AreNumbered, AreSet, HasEditions, HasReserves, HasSettings, HaveNumbers}
+use Rattle.store_house.specs.Opening.{AreNumbered, AreSet, HasEditions, HasReserves, HasSettings, HaveNumbers}
 use Rattle.store_open.proofs.EditionLemmas.{are_numbered, are_tables, none_over}
 
 abbrev pairs : List BandRow → List (ℕ × ℕ)

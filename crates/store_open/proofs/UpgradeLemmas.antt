@@ -10,8 +10,8 @@ use Rattle.sqlite.specs.Held.{Held, state}
 use Rattle.sqlite.specs.State.{HasCleanDisk, State, Survives}
 use Rattle.sqlite.proofs.StateLemmas.{survives_then, survives_weaker}
 use Rattle.sqlite_schema.specs.declared.schema.Schema.{Schema}
-use Rattle.store_open.proofs.NewHouse.{none_set_yet}
-use Rattle.store_open.proofs.OpenLemmas.{one_schema}
+use Rattle.store_house.proofs.NewHouse.{none_set_yet}
+use Rattle.store_house.proofs.OpenLemmas.{one_schema}
 use Rattle.steps.specs.Table.{IsBandTable}
 use Rattle.house_rows.proofs.Put.{by_test}
 use Rattle.store_rows.specs.Fitting.{FirstRowFits, HouseRowFits, ReserveRowFits}
@@ -22,7 +22,7 @@ use Rattle.store_rows.specs.declared.reserve.ReserveRow.{ReserveRow}
 use Rattle.store_rows.specs.Schema.{first_schema, house_schema}
 use Rattle.store_rows.specs.Tables.{house_row_in, settings_in, tables_in}
 use Rattle.store_rows.specs.declared.house.HouseRow.{HouseRow}
-use Rattle.store_open.specs.Opening.{AreNumbered, AreReserved, AreSet, Follows, FollowsOrGrows, IsFirstSetUp, IsSetUp, IsSoundFirst, IsSoundHouse, Upgraded, Upgrades, first_tables_in}
+use Rattle.store_house.specs.Opening.{AreNumbered, AreReserved, AreSet, Follows, FollowsOrGrows, IsFirstSetUp, IsSetUp, IsSoundFirst, IsSoundHouse, Upgraded, Upgrades, first_tables_in}
 
 -- ---- the two writes
 
@@ -52,7 +52,7 @@ upgrades old mid new first adds version sets =
       later_bands = others.1.1.1.1.1.1.1.1.1.1.1.0 (λ e. absurd (omega (arith, e))) ∙ adds.later_bands;
     }
 
--- the version that was told before the tables were added
+-- the version that was reported before the tables were added
 pub version_before : (old mid : Database) → AddsTables old mid → version_in old.trees ≡ Some 1 → version_in mid.trees ≡ Some 1
 version_before old mid adds version = subst (λ rows. option_map (λ (h : HouseRow). h.version) (find (λ (h : HouseRow). h.id == 1) (map house_in rows)) ≡ Some 1) (sym adds.kept.0) version
 
@@ -132,7 +132,7 @@ module _ (old : Trees) (new : Database) (w : Upgrades old new) where
   pub upgraded_set : AreSet new.trees
   upgraded_set = none_set_yet new.trees w.editions (ap (map later_band_in) w.later_bands)
 
--- the version that a house to be upgraded tells
+-- the version that a house to be upgraded has
 version_of_found : (found : Option HouseRow) → is_some found ≡ true → IfSome found FirstRowFits → option_map (λ (h : HouseRow). h.version) found ≡ Some 1
 version_of_found None some fits = absurd (let e = some in cc)
 version_of_found (Some h) some fits = ap Some fits.version

@@ -1,3 +1,1 @@
-pub mod Opening
-pub mod Plain
-pub mod Putting
+pub mod Setting

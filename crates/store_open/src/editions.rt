@@ -10,13 +10,13 @@ ghost use Rattle.house_rows.specs.declared.fault.KeepFault.TheVariants.{Damaged,
 ghost use Rattle.store_rows.specs.Frames.{OnlyReads};
 ghost use Rattle.store_rows.specs.House.{Serves};
 ghost use Rattle.store_rows.specs.Tables.{bands_at, editions_by};
-ghost use Rattle.store_open.specs.Opening.{AreSet, HasEditions};
+ghost use Rattle.store_house.specs.Opening.{AreSet, HasEditions};
 
+use crate::edition_rows::{all_editions, all_later_bands};
 use house_rows::{Editions, KeepFault, MOST_EDITIONS, Settings};
 use sqlite::{Alter, Connection};
 use std::alloc::Global;
 use steps::{Bands, BandsFault};
-use store_editions::{all_editions, all_later_bands};
 use store_rows::{EditionRow, LaterBandRow};
 
 /// The band table of rows, each an amount and a step in cents; `Damaged` where they are none.

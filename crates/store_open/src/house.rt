@@ -2,7 +2,7 @@
 
 use house_rows::{Counts, Editions};
 use sqlite::{Alter, Connection};
-use store_reserves::Reserves;
+use store_rows::Reserves;
 
 /// A house that was opened.
 #[derive(Drop)]

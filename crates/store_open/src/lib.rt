@@ -1,12 +1,11 @@
-//! The house in a file, made, opened and upgraded.
+//! The house in a file, opened and upgraded, and its band tables.
 //!
-//! Promised: `make_house` leaves the tables of a house with no history, and a crash finds these or
-//! what it could find before; it is `Damaged` exactly where something is listed already or a
-//! transaction is open. `open_house` takes any connection, and hands out one that holds a house of
-//! version 2 whose row fits, with what its settings, its band tables, its reserves, its counts and its
-//! clock are. It is never `Damaged` of a sound house, which `specs/Opening.antt` defines.
+//! Promised: `open_house` takes any connection, and hands out one that holds a house of version 2
+//! whose row fits, with what its settings, its band tables, its reserves, its counts and its clock
+//! are. It is never `Damaged` of a sound house, which `specs/Opening.antt` of `store_house` defines.
 //! `upgrade_house` opens such a house as it is, and makes one of version 1 into it, whole or not at
-//! all. Read `open.rt` first, then `make.rt` and `upgrade.rt`.
+//! all. `set_bands` writes one band table more and a new clock, in one transaction.
+//! Read `open.rt` first, then `upgrade.rt` and `setting.rt`.
 //!
 //! Everything is said wherever the disk was honest. An opening that fails gives the store back as it was.
 //! So does an upgrade, except that after `Store` a crash may find the house upgraded.
@@ -14,19 +13,16 @@
 //! its band tables and its reserves fit: an opening does not read them.
 #![tactic(auto)]
 
-mod anew;
+mod edition_rows;
 mod editions;
 mod house;
-mod make;
-mod numbers;
+mod new_bands;
 mod open;
-mod put;
 mod reserves;
-mod same;
 mod upgrade;
 
 pub use editions::table_of;
 pub use house::Opened;
-pub use make::make_house;
+pub use new_bands::set_bands;
 pub use open::open_house;
 pub use upgrade::upgrade_house;

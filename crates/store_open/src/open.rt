@@ -13,20 +13,18 @@ ghost use Rattle.store_rows.specs.Fitting.{HouseRowFits};
 ghost use Rattle.store_rows.specs.House.{Serves};
 ghost use Rattle.store_rows.specs.Rows.{reserves_in};
 ghost use Rattle.store_rows.specs.Tables.{IsAtRest, house_row_in, tables_in};
-ghost use Rattle.store_open.specs.Opening.{AreNumbered, AreReserved, AreSet, Follows, HasEditions, HasReserves, HasSettings, HaveNumbers, IsSetUp, IsSoundHouse};
+ghost use Rattle.store_house.specs.Opening.{AreNumbered, AreReserved, AreSet, Follows, HasEditions, HasReserves, HasSettings, HaveNumbers, IsSetUp, IsSoundHouse};
 ghost use Rattle.store_rows.specs.Frames.{OnlyReads};
 
-use crate::anew::house_anew;
 use crate::editions::{read_editions, table_of};
 use crate::house::Opened;
-use crate::numbers::read_counts;
 use crate::reserves::read_reserves;
 use house_rows::{Counts, Editions, KeepFault, Rate, Settings};
 use sqlite::{Alter, Connection};
 use std::alloc::Global;
 use steps::Bands;
-use store_reserves::Reserves;
-use store_rows::{BandRow, HouseRow, all_bands, house_row};
+use store_house::{house_anew, read_counts};
+use store_rows::{BandRow, HouseRow, Reserves, all_bands, house_row};
 
 // The rows of the band table as pairs.
 fn pairs(alloc: Global, rows: &[BandRow]) -> Result<Vec<(u64, u64)>, KeepFault>

@@ -12,8 +12,7 @@ ghost use Rattle.store_rows.specs.Rows.{reserves_in};
 use house_rows::KeepFault;
 use sqlite::{Alter, Connection};
 use std::alloc::Global;
-use store_reserves::{Reserves, all_reserves};
-use store_rows::ReserveRow;
+use store_rows::{ReserveRow, Reserves, all_reserves};
 
 // Whether no item of a reserve has a number over this one.
 fn are_within(rows: &[ReserveRow], most: u32) -> bool

@@ -16,25 +16,24 @@ ghost use Rattle.store_rows.specs.House.{IsFirstHouse, IsInside, Serves};
 ghost use Rattle.store_rows.specs.Frames.{OnlyReads};
 ghost use Rattle.store_rows.specs.Rows.{houses_in, reserves_in};
 ghost use Rattle.store_rows.specs.Tables.{IsAtRest, house_row_in, tables_in};
-ghost use Rattle.store_open.specs.Opening.{AreNumbered, AreSet, Follows, FollowsOrGrows, HasEditions, HasReserves, HasSettings, HaveNumbers, IsFirstSetUp, IsSoundFirst, IsSoundHouse, Upgraded, Upgrades, first_tables_in};
+ghost use Rattle.store_house.specs.Opening.{AreNumbered, AreSet, Follows, FollowsOrGrows, HasEditions, HasReserves, HasSettings, HaveNumbers, IsFirstSetUp, IsSoundFirst, IsSoundHouse, Upgraded, Upgrades, first_tables_in};
 
-use crate::anew::either_anew;
 use crate::house::Opened;
 use crate::open::{open_house, read_house};
 use house_rows::{Counts, Editions, KeepFault};
 use sqlite::{Alter, Connection};
 use sqlite_trees::store::Store;
 use std::alloc::Global;
-use store_reserves::Reserves;
-use store_rows::{add_tables, begin, end, set_version, stored_version};
+use store_house::either_anew;
+use store_rows::{Reserves, add_tables, begin, end, set_version, stored_version};
 
 // The version of a house that is upgraded.
 const FIRST_VERSION: u32 = 1;
 
-// Damaged where the row of the house doesn't tell version 1.
+// Damaged where the row of the house doesn't have version 1.
 fn check_first<S: Alter>(conn: &mut Connection<S>) -> Result<(), KeepFault>
     requires { Serves (state S.Store conn.old) }
-    ensures told { HasCleanDisk (state S.Store conn.new)
+    ensures report { HasCleanDisk (state S.Store conn.new)
         → OnOk result (option_map (λ h. h.version) (find (λ h. h.id == 1)
         (houses_in (state S.Store conn.old).now.trees)) ≡ Some 1) }
     ensures damaged { HasCleanDisk (state S.Store conn.new)
@@ -190,8 +189,8 @@ fn upgrade_first<S: Alter + Drop>(
     }
 }
 
-/// Opens the house that a connection holds, and upgrades it if it is of version 1, which is told. What
-/// the connection has not committed is undone. A house of version 2 is not changed.
+/// Opens the house that a connection holds, and upgrades it if it is of version 1, which is
+/// reported. What the connection has not committed is undone. A house of version 2 is not changed.
 ///
 /// `Damaged` where it holds no house of version 1 or 2 that an opening would take. After an error the
 /// store is given back: as it was, or after `Store` it may hold the house upgraded.

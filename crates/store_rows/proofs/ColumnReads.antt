@@ -54,20 +54,20 @@ maybe_text_there (Text t) there = inr (is_text (Text t) there)
 maybe_text_there (Blob b) there = absurd (there refl)
 
 -- what is read from a column that may be NULL
-pub maybe_told : {Z : Type 0} (v : Value) (o : Option (String Z)) → MatchOption o (v ≡ Null) (λ s. (v ≢ Null) × (v ≡ Text (string_bytes s))) → option_map string_bytes o ≡ maybe_text_in v
-maybe_told v None h = sym (ap maybe_text_in h)
-maybe_told v (Some s) h = sym (ap maybe_text_in h.1 ∙ ap Some (text_back _ (IsUtf8-string_bytes s)))
+pub maybe_reported : {Z : Type 0} (v : Value) (o : Option (String Z)) → MatchOption o (v ≡ Null) (λ s. (v ≢ Null) × (v ≡ Text (string_bytes s))) → option_map string_bytes o ≡ maybe_text_in v
+maybe_reported v None h = sym (ap maybe_text_in h)
+maybe_reported v (Some s) h = sym (ap maybe_text_in h.1 ∙ ap Some (text_back _ (IsUtf8-string_bytes s)))
 
 -- ---- numbers
 
 abbrev pub IsNumber : Value → Type 0
 IsNumber v = (n : ℕ) × (v ≡ Int (pos n)) × (n < 2 ^ 32)
 
--- a number is told as it is read
-pub number_told : (v : Value) (n : ℕ) → v ≡ Int (pos n) → n < 2 ^ 32 → n ≡ number_in v
-number_told v n is low = sym (ap number_in is ∙ small n low)
+-- a number is reported as it is read
+pub number_reported : (v : Value) (n : ℕ) → v ≡ Int (pos n) → n < 2 ^ 32 → n ≡ number_in v
+number_reported v n is low = sym (ap number_in is ∙ small n low)
 
--- what is told as a number of 32 bits is one
+-- what is reported as a number of 32 bits is one
 pub is_number : (v : Value) → number_in v < 2 ^ 32 → IsNumber v
 is_number (Int (pos n)) low = (n, refl, go (nat_lt n (2 ^ 32)) refl low)
   where

@@ -21,8 +21,8 @@ abbrev pub is_negative : Value → Bool
 is_negative (Int (negsuc n)) = true
 is_negative _ = false
 
-pub told_at_least : (m n : ℕ) → n < 2 ^ 32 → nat_le n (number_in (Int (pos m))) ≡ nat_le n m
-told_at_least m n low = go (nat_lt m (2 ^ 32)) refl
+pub report_at_least : (m n : ℕ) → n < 2 ^ 32 → nat_le n (number_in (Int (pos m))) ≡ nat_le n m
+report_at_least m n low = go (nat_lt m (2 ^ 32)) refl
   where
     go : (b : Bool) → nat_lt m (2 ^ 32) ≡ b → nat_le n (cond b m (2 ^ 64)) ≡ nat_le n m
     go true e = refl
@@ -35,7 +35,7 @@ compares m n = grind (arith, ints, common_steps, nat_tests)
 pub at_least : (v : Value) (n : ℕ) → is_int v ≡ true → n < 2 ^ 32 → is_true (binary (Compare Ge Binary) v (Int (pos n))) ≡ (not (is_negative v) && nat_le n (number_in v))
 unfolding binary
 at_least Null n is low = absurd (true≢false (sym is))
-at_least (Int (pos m)) n is low = truth_back _ ∙ ap is_ge (value_cmp-Int (pos m) (pos n)) ∙ compares m n ∙ sym (told_at_least m n low)
+at_least (Int (pos m)) n is low = truth_back _ ∙ ap is_ge (value_cmp-Int (pos m) (pos n)) ∙ compares m n ∙ sym (report_at_least m n low)
 at_least (Int (negsuc m)) n is low = truth_back _ ∙ ap is_ge (value_cmp-Int (negsuc m) (pos n)) ∙ grind (arith, ints, common_steps, nat_tests)
 at_least (Real x) n is low = absurd (true≢false (sym is))
 at_least (Text t) n is low = absurd (true≢false (sym is))

@@ -11,7 +11,7 @@ use Rattle.sqlite_trees.specs.View.{is_int}
 use Rattle.sqlite_rules.specs.Edit.{id_in}
 use Rattle.sqlite_schema.specs.Rules.{differ}
 use Rattle.sqlite_keyed.proofs.KeyedLemmas.{Less-from_lt}
-use Rattle.store_rows.proofs.RowLemmas.{equals_number, told_equal, truth_back}
+use Rattle.store_rows.proofs.RowLemmas.{equals_number, report_equal, truth_back}
 
 pub both_true : (a b : Bool) → a ≡ true → b ≡ true → (a && b) ≡ true
 both_true true b e f = f
@@ -32,4 +32,4 @@ differs (Blob x) w p q less = absurd (true≢false (sym p))
 
 -- a number equals itself
 pub self_equal : (n : ℕ) → n < 2 ^ 32 → is_true (binary (Compare Eq Binary) (Int (pos n)) (Int (pos n))) ≡ true
-self_equal n low = equals_number (Int (pos n)) n refl low ∙ told_equal n n low ∙ grind arith
+self_equal n low = equals_number (Int (pos n)) n refl low ∙ report_equal n n low ∙ grind arith

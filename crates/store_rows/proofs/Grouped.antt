@@ -17,9 +17,9 @@ module _ {A : Type 0} (number : A → ℕ) (p : A → Bool) where
   among ns x = list_any (λ n. number x == n) ns && p x
 
   -- no row after a greater number has this one
-  none_behind : (n : ℕ) (xs : List A) → AllByRecursion (λ x. n < number x) xs → filter (of_one n) xs ≡ []
-  none_behind n [] above = refl
-  none_behind n (x ∷ xs) above = let other : (number x == n) ≡ false = grind (arith, nat_tests, above.0) in rw other (none_behind n xs above.1)
+  none_after : (n : ℕ) (xs : List A) → AllByRecursion (λ x. n < number x) xs → filter (of_one n) xs ≡ []
+  none_after n [] above = refl
+  none_after n (x ∷ xs) above = let other : (number x == n) ≡ false = grind (arith, nat_tests, above.0) in rw other (none_after n xs above.1)
 
   not_among : (m : ℕ) (ns : List ℕ) → AllByRecursion (λ n. m < n) ns → list_any (λ n. m == n) ns ≡ false
   not_among m [] above = refl
@@ -44,7 +44,7 @@ module _ {A : Type 0} (number : A → ℕ) (p : A → Bool) where
             rw (is, none) (elim (by_test (p x)) [ inl passes ↦ rw passes (ap (λ l. x ∷ l) rest) | inr fails ↦ rw fails rest ]))
         | inr other ↦ elim (by_test (list_any (λ m. number x == m) ns)) [
           | inl some ↦ (let low = some_above n (number x) ns above some in
-              let gone = none_behind n xs (all_weaker (λ y. number x ≤ number y) (λ y. n < number y) (λ y le. omega (arith, low, le)) xs up.0) in
+              let gone = none_after n xs (all_weaker (λ y. number x ≤ number y) (λ y. n < number y) (λ y le. omega (arith, low, le)) xs up.0) in
               let alone : filter (among ns) xs ≡ filter (among (n ∷ ns)) xs = rw gone at rest in
               rw (other, some, gone) (ap (λ l. cond (p x) (x ∷ l) l) alone))
           | inr none ↦ rw (other, none) rest

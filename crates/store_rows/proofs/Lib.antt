@@ -49,3 +49,8 @@ pub mod Steps
 pub mod Ties
 pub mod UpdateOne
 pub mod Near
+mod ReserveMeaning
+mod ReserveLemmas
+mod ReservePlaces
+pub mod ReservesRising
+pub mod ReservesServing

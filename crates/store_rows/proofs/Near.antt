@@ -54,11 +54,11 @@ module _ {T : Type 0} (number : T → ℕ) where
       omega (arith, parts, none, counted_few (lesser x) before)
 
   module _ (Far : T → Type 0) where
-    -- the number does not tell where the row is shown, or fewer than so many have a lesser one
+    -- the number does not say where the row is shown, or fewer than so many have a lesser one
     abbrev pub IsNear : ℕ → List T → T → Type 0
     IsNear n ts x = Far x ⊎ (counted (lesser x) ts < n)
 
-    -- a row is shown before one of a greater number, or its number does not tell where
+    -- a row is shown before one of a greater number, or its number does not say where
     abbrev pub IsUp : T → T → Type 0
     IsUp x y = Far x ⊎ (number x ≤ number y)
 
@@ -107,42 +107,42 @@ module _ (test project : List Term) (order : List (Term × Sorting)) (params : R
       let less = few_in_all 50 all (rw are at few) in
       omega (arith, less, as_many test project order params table all a)
 
-  module _ {T : Type 0} (told inside : Row → T) (reads : (r : Row) → told (shown_by project params r) ≡ inside r) (number : T → ℕ) (Far Fits : T → Type 0) (Is : Row → Type 0)
+  module _ {T : Type 0} (report inside : Row → T) (reads : (r : Row) → report (shown_by project params r) ≡ inside r) (number : T → ℕ) (Far Fits : T → Type 0) (Is : Row → Type 0)
       (apart : IsAscending (λ r s. is_eq (output_cmp (plain_query 0 test project order) (show r) (show s)) ≡ false) kept) (are : AllByRecursion Is kept)
       (rises : (r s : Row) → Is r → Is s → output_cmp (plain_query 0 test project order) (show r) (show s) ≡ Less → IsUp number Far (inside r) (inside s)) where
     abbrev IsShown : Output → Type 0
     IsShown o = (r : Row) × Is r × (o ≡ show r)
 
-    abbrev told_of : Output → T
-    told_of o = told o.1
+    abbrev report_of : Output → T
+    report_of o = report o.1
 
-    over : (o p : Output) → IsShown o → IsShown p → output_cmp (plain_query 0 test project order) o p ≡ Less → IsUp number Far (told_of o) (told_of p)
+    over : (o p : Output) → IsShown o → IsShown p → output_cmp (plain_query 0 test project order) o p ≡ Less → IsUp number Far (report_of o) (report_of p)
     over o p here there less =
-        let first : told_of o ≡ inside here.0 = ap told_of here.2 ∙ reads here.0 in
-        let second : told_of p ≡ inside there.0 = ap told_of there.2 ∙ reads there.0 in
+        let first : report_of o ≡ inside here.0 = ap report_of here.2 ∙ reads here.0 in
+        let second : report_of p ≡ inside there.0 = ap report_of there.2 ∙ reads there.0 in
         let rising = rises here.0 there.0 here.1 there.1 (rw (here.2, there.2) at less) in
-        subst (λ (t : T). IsUp number Far t (told_of p)) (sym first) (subst (λ (t : T). IsUp number Far (inside here.0) t) (sym second) rising)
+        subst (λ (t : T). IsUp number Far t (report_of p)) (sym first) (subst (λ (t : T). IsUp number Far (inside here.0) t) (sym second) rising)
 
-    pub first_near : (n : ℕ) → AllByRecursion (λ x. IsNear number Far n (map inside kept) x → Fits x) (map inside kept) → AllByRecursion Fits (map told (take n all))
+    pub first_near : (n : ℕ) → AllByRecursion (λ x. IsNear number Far n (map inside kept) x → Fits x) (map inside kept) → AllByRecursion Fits (map report (take n all))
     first_near n fits =
-        let as_ordered : map told all ≡ map told_of a.ordered = ap (map told) a.shown ∙ map-map told (λ (o : Output). o.1) a.ordered in
-        let typed : map told (take n all) ≡ take n (map told_of a.ordered) = sym (take-map told n all) ∙ ap (take n) as_ordered in
+        let as_ordered : map report all ≡ map report_of a.ordered = ap (map report) a.shown ∙ map-map report (λ (o : Output). o.1) a.ordered in
+        let typed : map report (take n all) ≡ take n (map report_of a.ordered) = sym (take-map report n all) ∙ ap (take n) as_ordered in
         let strict = rises_strictly (output_cmp (plain_query 0 test project order)) (output_cmp_total (plain_query 0 test project order)) (map show kept) a.ordered
         (ascending-map (λ x y. is_eq (output_cmp (plain_query 0 test project order) x y) ≡ false) show kept apart) a.same a.sorted in
         let shown = moved IsShown (map show kept) a.ordered a.same (all_map IsShown show kept (all_weaker Is (λ r. IsShown (show r)) (λ r is. (r, is, refl)) kept are)) in
-        let up = ascending-map (IsUp number Far) told_of a.ordered
-        (ascending_on IsShown (λ o p. output_cmp (plain_query 0 test project order) o p ≡ Less) (λ o p. IsUp number Far (told_of o) (told_of p)) over a.ordered shown strict) in
-        let back : map told_of (map show kept) ≡ map inside kept = map-map told_of show kept ∙ map_same (λ r. told_of (show r)) inside reads kept in
-        let same : IsPermutation (map inside kept) (map told_of a.ordered) = subst (λ l. IsPermutation l (map told_of a.ordered)) back (IsPermutation-map told_of (map show kept) a.ordered a.same) in
-        let many = λ (x : T). length_permutation (filter (lesser number x) (map inside kept)) (filter (lesser number x) (map told_of a.ordered)) (IsPermutation-filter (lesser number x) (map inside kept) (map told_of a.ordered) same) in
-        let there = moved (λ x. IsNear number Far n (map inside kept) x → Fits x) (map inside kept) (map told_of a.ordered) same fits in
-        let counts = all_weaker (λ x. IsNear number Far n (map inside kept) x → Fits x) (λ x. IsNear number Far n (map told_of a.ordered) x → Fits x)
-        (λ x fit near. fit (elim near [ inl far ↦ inl far | inr few ↦ inr (omega (arith, few, many x)) ])) (map told_of a.ordered) there in
+        let up = ascending-map (IsUp number Far) report_of a.ordered
+        (ascending_on IsShown (λ o p. output_cmp (plain_query 0 test project order) o p ≡ Less) (λ o p. IsUp number Far (report_of o) (report_of p)) over a.ordered shown strict) in
+        let back : map report_of (map show kept) ≡ map inside kept = map-map report_of show kept ∙ map_same (λ r. report_of (show r)) inside reads kept in
+        let same : IsPermutation (map inside kept) (map report_of a.ordered) = subst (λ l. IsPermutation l (map report_of a.ordered)) back (IsPermutation-map report_of (map show kept) a.ordered a.same) in
+        let many = λ (x : T). length_permutation (filter (lesser number x) (map inside kept)) (filter (lesser number x) (map report_of a.ordered)) (IsPermutation-filter (lesser number x) (map inside kept) (map report_of a.ordered) same) in
+        let there = moved (λ x. IsNear number Far n (map inside kept) x → Fits x) (map inside kept) (map report_of a.ordered) same fits in
+        let counts = all_weaker (λ x. IsNear number Far n (map inside kept) x → Fits x) (λ x. IsNear number Far n (map report_of a.ordered) x → Fits x)
+        (λ x fit near. fit (elim near [ inl far ↦ inl far | inr few ↦ inr (omega (arith, few, many x)) ])) (map report_of a.ordered) there in
         let start : n ≡ 0 + n = omega arith in
-        subst (AllByRecursion Fits) (sym typed) (walk number Far Fits n [] (map told_of a.ordered) up
-        (subst (λ many. AllByRecursion (λ x. IsNear number Far many (map told_of a.ordered) x → Fits x) (map told_of a.ordered)) start counts))
+        subst (AllByRecursion Fits) (sym typed) (walk number Far Fits n [] (map report_of a.ordered) up
+        (subst (λ many. AllByRecursion (λ x. IsNear number Far many (map report_of a.ordered) x → Fits x) (map report_of a.ordered)) start counts))
 
--- ---- the rows that a query keeps, where the test is told of low numbers alone
+-- ---- the rows that a query keeps, where the test is known of low numbers alone
 
 module _ {T : Type 0} (inside : Row → T) (number : T → ℕ) (keep : T → Bool) (p : Row → Bool) (Is : Row → Type 0)
     (low_tests : (r : Row) → Is r → (p r && nat_lt (number (inside r)) (2 ^ 64)) ≡ (keep (inside r) && nat_lt (number (inside r)) (2 ^ 64))) where
@@ -212,7 +212,7 @@ module _ {T : Type 0} (inside : Row → T) (number : T → ℕ) (keep : T → Bo
                 | inr not ↦ rw not rest
               ]
 
--- where each number tells where its row is shown, none has to fit besides
+-- where each number says where its row is shown, none has to fit besides
 pub none_far : {T : Type 0} (keep : T → Bool) (Fits : T → Type 0) (ts : List T) → AllByRecursion (λ x. keep x ≡ true → ⊥ → Fits x) ts
 none_far keep Fits [] = tt
 none_far keep Fits (x ∷ ts) = ((λ is far. absurd far), none_far keep Fits ts)

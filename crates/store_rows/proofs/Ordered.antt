@@ -27,9 +27,9 @@ rated (Real x) is = absurd (true≢false (sym is))
 rated (Text t) is = absurd (true≢false (sym is))
 rated (Blob b) is = absurd (true≢false (sym is))
 
--- what is told is at most a number of ours just where the number is
-told_at_most : (m n : ℕ) → n < 2 ^ 32 → nat_le (number_in (Int (pos m))) n ≡ nat_le m n
-told_at_most m n low = go (nat_lt m (2 ^ 32)) refl
+-- what is reported is at most a number of ours just where the number is
+report_at_most : (m n : ℕ) → n < 2 ^ 32 → nat_le (number_in (Int (pos m))) n ≡ nat_le m n
+report_at_most m n low = go (nat_lt m (2 ^ 32)) refl
   where
     go : (b : Bool) → nat_lt m (2 ^ 32) ≡ b → nat_le (cond b m (2 ^ 64)) n ≡ nat_le m n
     go true e = refl
@@ -39,7 +39,7 @@ told_at_most m n low = go (nat_lt m (2 ^ 32)) refl
 pub within : (v : Value) (n : ℕ) → is_int v ≡ true → n < 2 ^ 32 → (is_true (binary (Compare Ge Binary) v (Int (pos 0))) && is_true (binary (Compare Le Binary) v (Int (pos n)))) ≡ nat_le (number_in v) n
 unfolding binary
 within Null n is low = absurd (true≢false (sym is))
-within (Int (pos m)) n is low = rw (truth_back (is_ge (value_cmp (Int (pos m)) (Int (pos 0)))), truth_back (is_le (value_cmp (Int (pos m)) (Int (pos n)))), value_cmp-Int (pos m) (pos 0), value_cmp-Int (pos m) (pos n), told_at_most m n low) (grind (arith, ints, common_steps))
+within (Int (pos m)) n is low = rw (truth_back (is_ge (value_cmp (Int (pos m)) (Int (pos 0)))), truth_back (is_le (value_cmp (Int (pos m)) (Int (pos n)))), value_cmp-Int (pos m) (pos 0), value_cmp-Int (pos m) (pos n), report_at_most m n low) (grind (arith, ints, common_steps))
 within (Int (negsuc m)) n is low = rw (truth_back (is_ge (value_cmp (Int (negsuc m)) (Int (pos 0)))), value_cmp-Int (negsuc m) (pos 0)) (grind (arith, common_steps))
 within (Real x) n is low = absurd (true≢false (sym is))
 within (Text t) n is low = absurd (true≢false (sym is))

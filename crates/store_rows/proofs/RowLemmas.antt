@@ -35,24 +35,24 @@ pub truth_back : (b : Bool) → is_true (from_truth (Rattle.std.proofs.Common.So
 truth_back true = refl
 truth_back false = refl
 
--- a number of 32 bits is told as it is
+-- a number of 32 bits is reported as it is
 pub small : (n : ℕ) → n < 2 ^ 32 → number_in (Int (pos n)) ≡ n
 small n low = rw (under n low) refl
   where
     under : (n : ℕ) → n < 2 ^ 32 → nat_lt n (2 ^ 32) ≡ true
     under n low = grind arith
 
--- and one that is told below such a number is below it
-told_below : (m n : ℕ) → n < 2 ^ 32 → number_in (Int (pos m)) < n → m < n
-told_below m n low less = go (nat_lt m (2 ^ 32)) refl less
+-- and one that is reported below such a number is below it
+report_below : (m n : ℕ) → n < 2 ^ 32 → number_in (Int (pos m)) < n → m < n
+report_below m n low less = go (nat_lt m (2 ^ 32)) refl less
   where
     go : (b : Bool) → nat_lt m (2 ^ 32) ≡ b → cond b m (2 ^ 64) < n → m < n
     go true e h = h
     go false e h = absurd (omega (arith, h, low))
 
--- the test of what is told is the test of the number
-pub told_equal : (m n : ℕ) → n < 2 ^ 32 → eqb (number_in (Int (pos m))) n ≡ eqb m n
-told_equal m n low = go (nat_lt m (2 ^ 32)) refl
+-- the test of what is reported is the test of the number
+pub report_equal : (m n : ℕ) → n < 2 ^ 32 → eqb (number_in (Int (pos m))) n ≡ eqb m n
+report_equal m n low = go (nat_lt m (2 ^ 32)) refl
   where
     go : (b : Bool) → nat_lt m (2 ^ 32) ≡ b → eqb (cond b m (2 ^ 64)) n ≡ eqb m n
     go true e = refl
@@ -61,7 +61,7 @@ told_equal m n low = go (nat_lt m (2 ^ 32)) refl
 pub equals_number : (v : Value) (n : ℕ) → is_int v ≡ true → n < 2 ^ 32 → is_true (binary (Compare Eq Binary) v (Int (pos n))) ≡ eqb (number_in v) n
 unfolding binary
 equals_number Null n is low = absurd (true≢false (sym is))
-equals_number (Int (pos m)) n is low = truth_back _ ∙ ap is_eq (value_cmp-Int (pos m) (pos n)) ∙ same_as m n ∙ sym (told_equal m n low)
+equals_number (Int (pos m)) n is low = truth_back _ ∙ ap is_eq (value_cmp-Int (pos m) (pos n)) ∙ same_as m n ∙ sym (report_equal m n low)
   where
     same_as : (m n : ℕ) → is_eq (int_cmp (pos m) (pos n)) ≡ eqb m n
     same_as m n = grind (arith, ints, common_steps)
@@ -110,7 +110,7 @@ keyed (r ∷ rows) up all = (above r rows all.0 up.0 all.1, keyed rows up.1 all.
 
 pub key_of_number : (v : Value) (n : ℕ) → is_int v ≡ true → n < 2 ^ 32 → eqb (number_in v) n ≡ true → Rattle.std.specs.Ordering.int_eq (id_in v) (pos n) ≡ true
 key_of_number Null n is low h = absurd (true≢false (sym is))
-key_of_number (Int (pos m)) n is low h = go m n (sym (told_equal m n low) ∙ h)
+key_of_number (Int (pos m)) n is low h = go m n (sym (report_equal m n low) ∙ h)
   where
     go : (m n : ℕ) → eqb m n ≡ true → Rattle.std.specs.Ordering.int_eq (pos m) (pos n) ≡ true
     go m n h = grind (arith, ints, common_steps)
@@ -127,7 +127,7 @@ one_row rows n shaped low =
 
 pub other_key : (v : Value) (n : ℕ) → is_int v ≡ true → n < 2 ^ 32 → eqb (number_in v) n ≡ false → Rattle.std.specs.Ordering.int_eq (id_in v) (pos n) ≡ false
 other_key Null n is low h = absurd (true≢false (sym is))
-other_key (Int (pos m)) n is low h = go m n (sym (told_equal m n low) ∙ h)
+other_key (Int (pos m)) n is low h = go m n (sym (report_equal m n low) ∙ h)
   where
     go : (m n : ℕ) → eqb m n ≡ false → Rattle.std.specs.Ordering.int_eq (pos m) (pos n) ≡ false
     go m n h = grind (arith, ints, common_steps)
@@ -139,7 +139,7 @@ other_key (Blob b) n is low h = absurd (true≢false (sym is))
 -- a row's number is below n
 pub id_below : (v : Value) (n : ℕ) → is_int v ≡ true → n < 2 ^ 32 → number_in v < n → Rattle.std.specs.Prelude.◌<ℤ◌ (id_in v) (pos n)
 id_below Null n is small low = absurd (true≢false (sym is))
-id_below (Int (pos m)) n is small low = omega (arith, ints, told_below m n small low)
+id_below (Int (pos m)) n is small low = omega (arith, ints, report_below m n small low)
 id_below (Int (negsuc m)) n is small low = omega (arith, ints)
 id_below (Real x) n is small low = absurd (true≢false (sym is))
 id_below (Text t) n is small low = absurd (true≢false (sym is))

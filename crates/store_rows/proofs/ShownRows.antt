@@ -5,7 +5,7 @@ use Rattle.house_rows.proofs.Put.{by_test}
 use Rattle.sqlite_value.specs.Order.{Row}
 use Rattle.sqlite_keyed.proofs.ListLemmas.{all-filter}
 
-module _ {T : Type 0} (told : Row → T) (Fits : T → Type 0) where
+module _ {T : Type 0} (report : Row → T) (Fits : T → Type 0) where
   pub found_fits : (p : T → Bool) (table : List T) → AllByRecursion Fits table → IfSome (find p table) Fits
   found_fits p [] all = search
   found_fits p (x ∷ table) all = go (p x) (found_fits p table all.1)
@@ -15,18 +15,18 @@ module _ {T : Type 0} (told : Row → T) (Fits : T → Type 0) where
       go false later = later
 
   -- the first row, of a look-up
-  pub first_fits : (rows : List Row) (p : T → Bool) (table : List T) → option_map told (slice_get rows 0) ≡ find p table → AllByRecursion Fits table → IfSome (option_map told (slice_get rows 0)) Fits
+  pub first_fits : (rows : List Row) (p : T → Bool) (table : List T) → option_map report (slice_get rows 0) ≡ find p table → AllByRecursion Fits table → IfSome (option_map report (slice_get rows 0)) Fits
   first_fits rows p table same all = subst (λ o. IfSome o Fits) (sym same) (found_fits p table all)
 
   -- each row, of a list
-  pub rows_fit : (rows : List Row) (keep : T → Bool) (table : List T) → map told rows ≡ filter keep table → AllByRecursion Fits table → AllByRecursion Fits (map told rows)
+  pub rows_fit : (rows : List Row) (keep : T → Bool) (table : List T) → map report rows ≡ filter keep table → AllByRecursion Fits table → AllByRecursion Fits (map report rows)
   rows_fit rows keep table same all = subst (AllByRecursion Fits) (sym same) (all-filter Fits keep table all)
 
 -- a row of those that fit
-pub row_fits : {T : Type 0} (told : Row → T) (Fits : T → Type 0) (rows : List Row) (i : ℕ) (r : Row) → i < length rows → AllByRecursion Fits (map told rows) → Fits (told (get_or rows i r))
-row_fits told Fits [] i r low all = absurd (omega (arith, low))
-row_fits told Fits (x ∷ rows) zero r low all = all.0
-row_fits told Fits (x ∷ rows) (suc i) r low all = row_fits told Fits rows i r (omega (arith, low)) all.1
+pub row_fits : {T : Type 0} (report : Row → T) (Fits : T → Type 0) (rows : List Row) (i : ℕ) (r : Row) → i < length rows → AllByRecursion Fits (map report rows) → Fits (report (get_or rows i r))
+row_fits report Fits [] i r low all = absurd (omega (arith, low))
+row_fits report Fits (x ∷ rows) zero r low all = all.0
+row_fits report Fits (x ∷ rows) (suc i) r low all = row_fits report Fits rows i r (omega (arith, low)) all.1
 
 -- a part of what is found in a table whose rows fit
 pub part_fits : {T U : Type 0} (part : T → U) (P : T → Type 0) (Fits : U → Type 0) → ((x : T) → P x → Fits (part x)) → (p : T → Bool) (table : List T) → AllByRecursion P table → IfSome (option_map part (find p table)) Fits

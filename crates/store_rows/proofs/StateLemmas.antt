@@ -1,5 +1,5 @@
 -- What a plain statement leaves.
-use Rattle.std.proofs.Common.{◌≡◌, ◌∙◌, ◌⊎◌, inl, inr, List, ℕ, Ok, subst, Result, arith, Err, IfOk, IfErr, IsTrue, OnErr, OnOk, sym}
+use Rattle.std.proofs.Common.{◌≡◌, ◌∙◌, ◌⊎◌, inl, inr, List, [], ℕ, Ok, subst, Result, arith, Err, IfOk, IfErr, IsTrue, OnErr, OnOk, sym}
 use Rattle.sqlite_value.specs.Order.{Row}
 use Rattle.sqlite.specs.declared.error.Error.{Error}
 use Rattle.sqlite.specs.Clock.{timed}
@@ -32,6 +32,17 @@ module _ (sql : List ℕ) (params : Row) (old new : State) (plain : IsPlain (und
       let none = (subst IsPlain h.1.is plain).0 in
       let it = subst (FailsToShow old new sql h.0 (timed params h.0.formats h.1.now) e) none h.2 in
       inl it.3
+
+-- a text that is not run has left all as it was, or the store failed
+pub not_run_ended : (sql : List ℕ) (params : Row) (old new : State) (e : Error) → IsNotRun old new sql params e → IsUnchanged old new ⊎ IsRolledBack old new
+unfolding IsNotRun
+not_run_ended sql params old new e (inl refused) = inl refused.1
+not_run_ended sql params old new e (inr failed) = inr failed.3
+
+pub prepared_ended : {T : Type 0} (P : T → Type 0) (sql : List ℕ) (old new : State) (r : Result T Error) → IfOk r (λ s. P s × IsUnchanged old new) → IfErr r (λ e. (params : Row) → IsNotRun old new sql params e)
+    → IsUnchanged old new ⊎ IsRolledBack old new
+prepared_ended P sql old new (Ok s) ok err = inl ok.1
+prepared_ended P sql old new (Err e) ok err = not_run_ended sql [] old new e (err [])
 
 pub only_reads : (sql : List ℕ) (params : Row) (old new : State) → (HasCleanDisk old → IsPlain (understood old.now.schema sql)) → Survives old new (CommitsShowing sql params old) → Survives old new (λ _. ⊥)
 only_reads sql params old new plain s = survives_weaker old new _ _ (λ clean db. never_commits sql params old db (plain (before s clean))) s

@@ -79,8 +79,8 @@ module _ (tie : Row → Row → Bool) (places : List ℕ) (Is : Row → Type 0) 
 
 -- ---- rows rise with their keys
 
-told_over : (m n : ℕ) → m < 2 ^ 32 → m < n → m < number_in (Int (pos n))
-told_over m n low less = go (nat_lt n (2 ^ 32)) refl
+report_over : (m n : ℕ) → m < 2 ^ 32 → m < n → m < number_in (Int (pos n))
+report_over m n low less = go (nat_lt n (2 ^ 32)) refl
   where
     go : (b : Bool) → nat_lt n (2 ^ 32) ≡ b → m < cond b n (2 ^ 64)
     go true e = less
@@ -88,7 +88,7 @@ told_over m n low less = go (nat_lt n (2 ^ 32)) refl
 
 -- a number over one of ours is over it as a number too
 over_number : (m : ℕ) (w : Value) → m < 2 ^ 32 → is_int w ≡ true → value_cmp (Int (pos m)) w ≡ Less → m < number_in w
-over_number m (Int (pos n)) low is less = told_over m n low (omega (arith, ints, lt_from_Less (pos m) (pos n) (sym (value_cmp-Int (pos m) (pos n)) ∙ less)))
+over_number m (Int (pos n)) low is less = report_over m n low (omega (arith, ints, lt_from_Less (pos m) (pos n) (sym (value_cmp-Int (pos m) (pos n)) ∙ less)))
 over_number m (Int (negsuc n)) low is less = absurd (omega (arith, ints, lt_from_Less (pos m) (negsuc n) (sym (value_cmp-Int (pos m) (negsuc n)) ∙ less)))
 over_number m Null low is less = absurd (true≢false (sym is))
 over_number m (Real x) low is less = absurd (true≢false (sym is))
@@ -110,15 +110,15 @@ pub equal_number : (v w : Value) → number_in v < 2 ^ 32 → is_int w ≡ true 
 equal_number v w low is tie = ap number_in (number_is v low ∙ tied_number (number_in v) w is (sym (ap (λ x. value_cmp x w) (number_is v low)) ∙ tie))
 
 -- what isn't negative rises as a number too
-told_rises : (m n : ℕ) → m ≤ n → number_in (Int (pos m)) ≤ number_in (Int (pos n))
-told_rises m n less =
+report_rises : (m n : ℕ) → m ≤ n → number_in (Int (pos m)) ≤ number_in (Int (pos n))
+report_rises m n less =
     elim (by_test (nat_lt n (2 ^ 32))) [
       | inl is ↦ (let small : nat_lt m (2 ^ 32) ≡ true = grind (arith, nat_tests, is, less) in rw (small, is) less)
       | inr not ↦ rw not (elim (by_test (nat_lt m (2 ^ 32))) [ inl is ↦ rw is (let low : m < 2 ^ 32 = grind (arith, nat_tests, is) in omega (arith, low)) | inr high ↦ rw high (omega arith) ])
     ]
 
 pub number_rises : (v w : Value) → is_int v ≡ true → is_int w ≡ true → is_negative v ≡ false → (value_cmp v w ≡ Less) ⊎ (value_cmp v w ≡ Equal) → number_in v ≤ number_in w
-number_rises (Int (pos m)) (Int (pos n)) from to up (inl less) = told_rises m n (omega (arith, ints, lt_from_Less (pos m) (pos n) (sym (value_cmp-Int (pos m) (pos n)) ∙ less)))
+number_rises (Int (pos m)) (Int (pos n)) from to up (inl less) = report_rises m n (omega (arith, ints, lt_from_Less (pos m) (pos n) (sym (value_cmp-Int (pos m) (pos n)) ∙ less)))
 number_rises (Int (pos m)) (Int (negsuc n)) from to up (inl less) = absurd (omega (arith, ints, lt_from_Less (pos m) (negsuc n) (sym (value_cmp-Int (pos m) (negsuc n)) ∙ less)))
 number_rises (Int (pos m)) (Int (pos n)) from to up (inr tie) = (let same = ap number_in (tied_number m (Int (pos n)) to tie) in omega (arith, same))
 number_rises (Int (pos m)) (Int (negsuc n)) from to up (inr tie) = (let same = ap number_in (tied_number m (Int (negsuc n)) to tie) in omega (arith, same))

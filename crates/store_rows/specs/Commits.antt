@@ -22,8 +22,8 @@ LeavesShown s = (db : Trees) → s.may_leave db → db ≡ s.now.trees
 abbrev pub MadeBy : Change → State → Trees → Type 0
 MadeBy change old trees = (db : Database) × Changes change old.now db × (trees ≡ db.trees)
 
--- A change in a transaction of its own: made and committed, or nothing of it stands. A crash leaves what it left before or
--- the change, and after Ok the change alone.
+-- A change in a transaction of its own: made and committed, or nothing of it remains. A crash
+-- leaves what it left before or the change, and after Ok the change alone.
 pub record Commits {A E : Type 0} (change : Change) (old new : State) (result : Result A E) : Type 0 where
   pub ok : HasCleanDisk new → OnOk result (IsMade change old new)
   pub err : HasCleanDisk new → IsTrue new.is_open → OnErr result (IsBack old new)

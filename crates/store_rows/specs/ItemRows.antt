@@ -5,6 +5,7 @@ use Rattle.sqlite_value.specs.Order.{Row, column}
 use Rattle.sqlite_trees.specs.Tree.{Trees}
 use Rattle.proxy.specs.Bids.{met_by}
 use Rattle.proxy.specs.Kept.{Kept}
+use Rattle.house_rows.specs.declared.auction.Auction.{Auction}
 use Rattle.house_rows.specs.declared.item.Item.{Item}
 use Rattle.house_rows.specs.declared.item.Terms.{Terms}
 use Rattle.house_rows.specs.declared.state.State.{State}
@@ -19,8 +20,8 @@ is_state v = nat_le (number_in v) 3
 abbrev pub state_in : Value → State
 state_in v = if number_in v == 0 then Open else (if number_in v == 1 then Sold else (if number_in v == 2 then Unsold else Settled))
 
--- the standing of the bids: a leader with no top has bought the item at once, and then nobody has bid. The reserve stands in a
--- table of its own
+-- the standing of the bids: a leader with no top has bought the item at once, and then nobody has
+-- bid. The reserve is in a table of its own
 abbrev pub kept_from : ℕ → Option ℕ → ℕ → Option ℕ → Option ℕ → Option ℕ → ℕ → Kept
 kept_from start reserve price None top second count = record {
   start = start;
@@ -58,7 +59,7 @@ met_with reserve (Some leader) (Some top) = met_by reserve (Some top)
 
 -- ---- as a query shows a row
 
--- where the state is none, the start is none of ours. Whether a reserve is met stands in no column
+-- where the state is none, the start is none of ours. Whether a reserve is met is in no column
 abbrev pub terms_of : Row → Terms
 terms_of r = record {
   item = number_in (column r 0);
@@ -96,7 +97,7 @@ item_with reserve top it = record it { terms = with_met reserve top it.terms }
 abbrev pub amount_of : List ReserveRow → ℕ → Option ℕ
 amount_of reserves item = option_map (λ r. r.amount) (find (λ r. r.item == item) reserves)
 
--- a query shows the greatest maximum after the terms, or after the texts, and the item's number after a standing
+-- a query shows what is sealed after the terms, or after the texts
 abbrev pub terms_by : List ReserveRow → Row → Terms
 terms_by reserves r =
     with_met (amount_of reserves (number_in (column r 0))) (maybe_number_in (column r 11)) (terms_of r)
@@ -105,8 +106,12 @@ abbrev pub item_by : List ReserveRow → Row → Item
 item_by reserves r =
     item_with (amount_of reserves (number_in (column r 0))) (maybe_number_in (column r 14)) (item_of r)
 
-abbrev pub kept_by : List ReserveRow → Row → Kept
-kept_by reserves r = kept_of (amount_of reserves (number_in (column r 6))) r
+abbrev pub auction_by : List ReserveRow → Row → Auction
+auction_by reserves r = record {
+  terms = terms_by reserves r;
+  standing = kept_of (amount_of reserves (number_in (column r 0)))
+      (column r 3 ∷ column r 8 ∷ column r 9 ∷ column r 11 ∷ column r 12 ∷ column r 10 ∷ []);
+}
 
 -- ---- as a tree holds it
 
@@ -118,7 +123,7 @@ item_columns r =
 
 abbrev pub kept_columns : Row → Row
 kept_columns r =
-    column r 7 ∷ column r 12 ∷ column r 13 ∷ column r 14 ∷ column r 15 ∷ column r 16 ∷ column r 0 ∷ []
+    column r 7 ∷ column r 12 ∷ column r 13 ∷ column r 14 ∷ column r 15 ∷ column r 16 ∷ []
 
 abbrev pub item_row_with : Option ℕ → Row → ItemRow
 item_row_with reserve r = record {

@@ -16,3 +16,4 @@ pub mod Joined
 pub mod Texts
 pub mod Making
 pub mod Plain
+pub mod Reserves

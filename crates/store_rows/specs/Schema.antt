@@ -38,7 +38,7 @@ refers_to place parent column = record {
 abbrev pub refers : ℕ → List ℕ → Reference
 refers place parent = refers_to place parent (codes "id")
 
--- what tells one table of ours from another
+-- what distinguishes one table of ours from another
 pub record Layout : Type 0 where
   pub name : List ℕ
   pub tree : ℕ

@@ -17,7 +17,7 @@ use sqlite::{Alter, Connection, Row};
 use std::alloc::Global;
 
 /// A row of the band table, in cents.
-#[derive(Clone, Copy, Debug, PartialEq, Eq)]
+#[derive(Clone, Copy)]
 pub struct BandRow {
     /// The price from which the step holds.
     pub from: u64,
@@ -26,7 +26,7 @@ pub struct BandRow {
 }
 
 impl Stored for BandRow {
-    ghost told = { band_of };
+    ghost report = { band_of };
 
     ghost fits = { BandRowFits };
 

@@ -11,8 +11,8 @@ use house_rows::KeepFault;
 use proxy::Bid;
 use sqlite::Row;
 
-// The columns as they stand.
-fn told_bid(row: &Row) -> Result<Bid, KeepFault>
+// The columns as they are.
+fn report_bid(row: &Row) -> Result<Bid, KeepFault>
     ensures value { IfOk result (λ b. b ≡ (bid_of row.now).bid) }
     ensures damaged { BidFits (bid_of row.now).bid → ¬ (IsErrOf result Damaged) }
 {
@@ -27,14 +27,14 @@ fn told_bid(row: &Row) -> Result<Bid, KeepFault>
 }
 
 impl Stored for Bid {
-    ghost told = { λ r. (bid_of r).bid };
+    ghost report = { λ r. (bid_of r).bid };
 
     ghost fits = { BidFits };
 
     fn read(row: &Row) -> Result<Bid, KeepFault> {
-        let told = told_bid(row)?;
-        if bid_fits(&told) {
-            Ok(told)
+        let report = report_bid(row)?;
+        if bid_fits(&report) {
+            Ok(report)
         } else {
             Err(KeepFault::Damaged)
         }

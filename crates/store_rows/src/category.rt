@@ -10,8 +10,8 @@ use crate::stored::Stored;
 use house_rows::{Category, KeepFault};
 use sqlite::Row;
 
-// The columns as they stand.
-fn told_category(row: &Row) -> Result<Category, KeepFault>
+// The columns as they are.
+fn report_category(row: &Row) -> Result<Category, KeepFault>
     ensures value { IfOk result (λ m. m ≡ category_of row.now) }
     ensures damaged { CategoryFits (category_of row.now) → ¬ (IsErrOf result Damaged) }
 {
@@ -21,14 +21,14 @@ fn told_category(row: &Row) -> Result<Category, KeepFault>
 }
 
 impl Stored for Category {
-    ghost told = { category_of };
+    ghost report = { category_of };
 
     ghost fits = { CategoryFits };
 
     fn read(row: &Row) -> Result<Category, KeepFault> {
-        let told = told_category(row)?;
-        if category_fits(&told) {
-            Ok(told)
+        let report = report_category(row)?;
+        if category_fits(&report) {
+            Ok(report)
         } else {
             Err(KeepFault::Damaged)
         }

@@ -1,4 +1,4 @@
-//! An edition of the band table, and a band of one, as their columns tell them.
+//! An edition of the band table, and a band of one, as their columns give them.
 ghost use Rattle.store_rows.specs.Fitting.{EditionRowFits, LaterBandRowFits};
 ghost use Rattle.store_rows.specs.Rows.{edition_row_of, later_band_of};
 
@@ -8,7 +8,7 @@ use house_rows::KeepFault;
 use sqlite::Row;
 
 /// An edition of the band table that the house has set, without its bands.
-#[derive(Clone, Copy, Debug, PartialEq, Eq)]
+#[derive(Clone, Copy)]
 pub struct EditionRow {
     /// Its number.
     pub edition: u32,
@@ -17,7 +17,7 @@ pub struct EditionRow {
 }
 
 impl Stored for EditionRow {
-    ghost told = { edition_row_of };
+    ghost report = { edition_row_of };
 
     ghost fits = { EditionRowFits };
 
@@ -29,7 +29,7 @@ impl Stored for EditionRow {
 }
 
 /// A band of such an edition, in cents.
-#[derive(Clone, Copy, Debug, PartialEq, Eq)]
+#[derive(Clone, Copy)]
 pub struct LaterBandRow {
     /// The number of the edition.
     pub edition: u32,
@@ -40,7 +40,7 @@ pub struct LaterBandRow {
 }
 
 impl Stored for LaterBandRow {
-    ghost told = { later_band_of };
+    ghost report = { later_band_of };
 
     ghost fits = { LaterBandRowFits };
 

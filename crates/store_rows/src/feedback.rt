@@ -26,8 +26,8 @@ fn read_rating(row: &Row, at: usize) -> Result<Rating, KeepFault>
     }
 }
 
-// The columns as they stand.
-fn told_feedback(row: &Row) -> Result<Feedback, KeepFault>
+// The columns as they are.
+fn report_feedback(row: &Row) -> Result<Feedback, KeepFault>
     ensures value { IfOk result (λ f. f ≡ feedback_of row.now) }
     ensures damaged { FeedbackFits (feedback_of row.now) → ¬ (IsErrOf result Damaged) }
 {
@@ -46,14 +46,14 @@ fn told_feedback(row: &Row) -> Result<Feedback, KeepFault>
 }
 
 impl Stored for Feedback {
-    ghost told = { feedback_of };
+    ghost report = { feedback_of };
 
     ghost fits = { FeedbackFits };
 
     fn read(row: &Row) -> Result<Feedback, KeepFault> {
-        let told = told_feedback(row)?;
-        if feedback_fits(&told) {
-            Ok(told)
+        let report = report_feedback(row)?;
+        if feedback_fits(&report) {
+            Ok(report)
         } else {
             Err(KeepFault::Damaged)
         }

@@ -74,7 +74,7 @@ pub fn first_rows<S: Alter>(
     }
 }
 
-// Tells that a query shows no row. Where it shows one the answer is `Damaged`.
+// Reports that a query shows no row. Where it shows one the answer is `Damaged`.
 fn no_row<S: Alter>(
     alloc: Global,
     conn: &mut Connection<S>,

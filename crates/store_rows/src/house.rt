@@ -20,7 +20,7 @@ use sqlite::{Alter, Connection, Row, Transaction, params};
 const ONLY_ROW: u32 = 1;
 
 /// What the house keeps once.
-#[derive(Debug, Drop)]
+#[derive(Drop)]
 pub struct HouseRow {
     /// Always 1.
     pub id: u32,
@@ -34,8 +34,8 @@ pub struct HouseRow {
     pub zone: Text,
 }
 
-// The columns as they stand.
-fn told_house(row: &Row) -> Result<HouseRow, KeepFault>
+// The columns as they are.
+fn report_house(row: &Row) -> Result<HouseRow, KeepFault>
     ensures value { IfOk result (λ h. h ≡ house_of row.now) }
     ensures damaged { HouseRowFits (house_of row.now) → ¬ (IsErrOf result Damaged) }
 {
@@ -54,14 +54,14 @@ fn told_house(row: &Row) -> Result<HouseRow, KeepFault>
 }
 
 impl Stored for HouseRow {
-    ghost told = { house_of };
+    ghost report = { house_of };
 
     ghost fits = { HouseRowFits };
 
     fn read(row: &Row) -> Result<HouseRow, KeepFault> {
-        let told = told_house(row)?;
-        if house_fits(&told) {
-            Ok(told)
+        let report = report_house(row)?;
+        if house_fits(&report) {
+            Ok(report)
         } else {
             Err(KeepFault::Damaged)
         }
@@ -106,7 +106,7 @@ pub fn set_clock<S: Alter>(tx: &mut Transaction<'_, S>, moment: u32) -> Result<(
     )
 }
 
-/// The version of the tables, as the row of the house tells it.
+/// The version of the tables, as the row of the house gives it.
 pub fn stored_version<S: Alter>(conn: &mut Connection<S>) -> Result<Option<u32>, KeepFault>
     requires { Serves (state S.Store conn.old) }
     ensures found { HasCleanDisk (state S.Store conn.new)

@@ -1,4 +1,4 @@
-//! An item as its columns tell it.
+//! An item as its columns give it.
 ghost use Rattle.std.specs.Prelude.{◌≡◌, IfOk, IsErrOf, true};
 ghost use Rattle.sqlite_value.specs.Order.{column};
 ghost use Rattle.house_rows.specs.Fits.{ItemFits, TermsFit};
@@ -7,7 +7,7 @@ ghost use Rattle.store_rows.specs.Columns.{AreTerms, HasTexts};
 ghost use Rattle.store_rows.specs.ItemRows.{is_state, item_of, state_in, terms_of};
 
 use crate::columns::{cents_at, maybe_cents_at, maybe_number_at, number_at, text_at};
-use crate::item_fits::{item_fits, terms_fit};
+use crate::fits::{item_fits, terms_fit};
 use crate::stored::Stored;
 use house_rows::{Item, KeepFault, State, Terms};
 use sqlite::Row;
@@ -28,18 +28,8 @@ fn state_at(row: &Row, at: usize) -> Result<State, KeepFault>
     }
 }
 
-// A number that may be missing, wider.
-fn widen_number(number: Option<u32>) -> Option<u64>
-    ensures { result ≡ number }
-{
-    match number {
-        None => None,
-        Some(number) => Some(u64::from(number)),
-    }
-}
-
-// The columns of the terms, as they stand.
-fn told_terms(row: &Row) -> Result<Terms, KeepFault>
+// The columns of the terms, as they are.
+fn report_terms(row: &Row) -> Result<Terms, KeepFault>
     ensures value { IfOk result (λ t. t ≡ terms_of row.now) }
     ensures damaged { AreTerms row.now → ¬ (IsErrOf result Damaged) }
 {
@@ -51,7 +41,7 @@ fn told_terms(row: &Row) -> Result<Terms, KeepFault>
         buy_now: maybe_cents_at(row, 4)?,
         end: u64::from(number_at(row, 5)?),
         state: state_at(row, 6)?,
-        closed: widen_number(maybe_number_at(row, 7)?),
+        closed: maybe_number_at(row, 7)?.map(u64::from),
         price: cents_at(row, 8)?,
         leader: maybe_number_at(row, 9)?,
         count: number_at(row, 10)?,
@@ -61,26 +51,26 @@ fn told_terms(row: &Row) -> Result<Terms, KeepFault>
 
 // All but the texts, from the first eleven columns, without a reserve.
 impl Stored for Terms {
-    ghost told = { terms_of };
+    ghost report = { terms_of };
 
     ghost fits = { TermsFit };
 
     fn read(row: &Row) -> Result<Terms, KeepFault> {
-        let told = told_terms(row)?;
-        if terms_fit(&told) {
-            Ok(told)
+        let report = report_terms(row)?;
+        if terms_fit(&report) {
+            Ok(report)
         } else {
             Err(KeepFault::Damaged)
         }
     }
 }
 
-// The texts after them, as they stand.
-fn told_item(row: &Row) -> Result<Item, KeepFault>
+// The texts after them, as they are.
+fn report_item(row: &Row) -> Result<Item, KeepFault>
     ensures value { IfOk result (λ i. i ≡ item_of row.now) }
     ensures damaged { AreTerms row.now → HasTexts row.now → ¬ (IsErrOf result Damaged) }
 {
-    let terms = told_terms(row)?;
+    let terms = report_terms(row)?;
     let lot = text_at(row, 11)?;
     let title = text_at(row, 12)?;
     let text = text_at(row, 13)?;
@@ -93,14 +83,14 @@ fn told_item(row: &Row) -> Result<Item, KeepFault>
 }
 
 impl Stored for Item {
-    ghost told = { item_of };
+    ghost report = { item_of };
 
     ghost fits = { ItemFits };
 
     fn read(row: &Row) -> Result<Item, KeepFault> {
-        let told = told_item(row)?;
-        if item_fits(&told) {
-            Ok(told)
+        let report = report_item(row)?;
+        if item_fits(&report) {
+            Ok(report)
         } else {
             Err(KeepFault::Damaged)
         }

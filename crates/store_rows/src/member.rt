@@ -10,8 +10,8 @@ use crate::stored::Stored;
 use house_rows::{KeepFault, Member};
 use sqlite::Row;
 
-// The columns as they stand.
-fn told_member(row: &Row) -> Result<Member, KeepFault>
+// The columns as they are.
+fn report_member(row: &Row) -> Result<Member, KeepFault>
     ensures value { IfOk result (λ m. m ≡ member_of row.now) }
     ensures damaged { MemberFits (member_of row.now) → ¬ (IsErrOf result Damaged) }
 {
@@ -21,14 +21,14 @@ fn told_member(row: &Row) -> Result<Member, KeepFault>
 }
 
 impl Stored for Member {
-    ghost told = { member_of };
+    ghost report = { member_of };
 
     ghost fits = { MemberFits };
 
     fn read(row: &Row) -> Result<Member, KeepFault> {
-        let told = told_member(row)?;
-        if member_fits(&told) {
-            Ok(told)
+        let report = report_member(row)?;
+        if member_fits(&report) {
+            Ok(report)
         } else {
             Err(KeepFault::Damaged)
         }

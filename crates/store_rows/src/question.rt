@@ -10,8 +10,8 @@ use crate::stored::Stored;
 use house_rows::{KeepFault, Question};
 use sqlite::Row;
 
-// The columns as they stand.
-fn told_question(row: &Row) -> Result<Question, KeepFault>
+// The columns as they are.
+fn report_question(row: &Row) -> Result<Question, KeepFault>
     ensures value { IfOk result (λ q. q ≡ question_of row.now) }
     ensures damaged { QuestionFits (question_of row.now) → ¬ (IsErrOf result Damaged) }
 {
@@ -30,14 +30,14 @@ fn told_question(row: &Row) -> Result<Question, KeepFault>
 }
 
 impl Stored for Question {
-    ghost told = { question_of };
+    ghost report = { question_of };
 
     ghost fits = { QuestionFits };
 
     fn read(row: &Row) -> Result<Question, KeepFault> {
-        let told = told_question(row)?;
-        if question_fits(&told) {
-            Ok(told)
+        let report = report_question(row)?;
+        if question_fits(&report) {
+            Ok(report)
         } else {
             Err(KeepFault::Damaged)
         }

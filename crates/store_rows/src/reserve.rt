@@ -1,4 +1,4 @@
-//! A reserve as its columns tell it.
+//! A reserve as its columns give it.
 ghost use Rattle.store_rows.specs.Fitting.{ReserveRowFits};
 ghost use Rattle.store_rows.specs.Rows.{reserve_of};
 
@@ -9,7 +9,7 @@ use house_rows::KeepFault;
 use sqlite::Row;
 
 /// A reserve, and the number of its item.
-#[derive(Clone, Copy, Debug, PartialEq, Eq)]
+#[derive(Clone, Copy)]
 pub struct ReserveRow {
     /// The number of the item.
     pub item: u32,
@@ -18,7 +18,7 @@ pub struct ReserveRow {
 }
 
 impl Stored for ReserveRow {
-    ghost told = { reserve_of };
+    ghost report = { reserve_of };
 
     ghost fits = { ReserveRowFits };
 

@@ -1,20 +1,35 @@
-//! What every statement on a house leaves beside its answer.
-ghost use Rattle.std.specs.Prelude.{◌≡◌, ◌≢◌, ◌↔◌, ℕ, Ok, IfOk, OnOk, IsErrOf};
+//! What every statement on a house, and every commit, leaves beside its answer.
+ghost use Rattle.std.specs.Prelude.{◌≡◌, ◌≢◌, ◌↔◌, ℕ, Ok, false, IfOk, OnOk, IsErrOf, IsTrue, OnErr};
 ghost use Rattle.house_rows.specs.declared.fault.KeepFault.TheVariants.{Damaged, Memory};
 ghost use Rattle.sqlite.specs.declared.error.Error.TheVariants.{SqliteFailure};
 ghost use Rattle.sqlite.specs.declared.error.ErrorCode.TheVariants.{OutOfMemory};
-ghost use Rattle.sqlite.specs.State.{HasCleanDisk, Shown, Executes};
+ghost use Rattle.sqlite.specs.State.{HasCleanDisk, Executes, IsUnchanged, Shown, Survives, IsRolledBack, Shows};
 ghost use Rattle.sqlite.specs.Given.{IsPlain};
 ghost use Rattle.sqlite.specs.Listing.{understood};
 ghost use Rattle.sqlite.specs.Values.{bound};
 ghost use Rattle.sqlite.specs.Held.{state};
-ghost use Rattle.store_rows.specs.House.{IsBegun, Serves, IsHouse};
+ghost use Rattle.store_rows.specs.House.{IsBegun, IsHouse, KeepsCommitted, Serves};
 ghost use Rattle.store_rows.specs.Schema.{house_schema};
 ghost use Rattle.store_rows.specs.Frames.{WritesOnce, OnlyReads};
+ghost use Rattle.house_rows.specs.Fits.{IsMoment};
 
 use house_rows::KeepFault;
 use sqlite::types::ValueRef;
 use sqlite::{Alter, Connection, Error, ErrorCode, Row, Transaction};
+
+/// Whether the connection still serves: a failure of the disk shuts it, and after want of memory
+/// nothing else says that it is open.
+pub fn is_still_open<S: Alter>(conn: &mut Connection<S>) -> bool
+    ensures same { HasCleanDisk (state S.Store conn.new)
+        → IsTrue result
+        → IsUnchanged (state S.Store conn.old) (state S.Store conn.new) }
+    ensures kept { HasCleanDisk (state S.Store conn.new)
+        → KeepsCommitted (state S.Store conn.old) (state S.Store conn.new) }
+    ensures mode { conn.old.in_transaction ≡ false → conn.new.in_transaction ≡ false }
+    ensures crash { Survives (state S.Store conn.old) (state S.Store conn.new) (λ _. ⊥) }
+{
+    conn.prepare("SELECT 1").is_ok()
+}
 
 /// Why a statement, a commit or an opening failed: memory was wanted, or else the store failed.
 pub fn fault_of(error: Error) -> KeepFault
@@ -67,6 +82,38 @@ pub fn run<S: Alter>(
 {
     match tx.execute(sql, params) {
         Ok(_) => Ok(()),
+        Err(error) => Err(fault_of(error)),
+    }
+}
+
+/// A moment as a parameter of 32 bits; Damaged where it has more.
+pub fn stored_moment(moment: u64) -> Result<u32, KeepFault>
+    ensures value { IfOk result (λ m. m ≡ moment) }
+    ensures damaged { IsMoment moment → ¬ (IsErrOf result Damaged) }
+{
+    match u32::try_from(moment) {
+        Ok(moment) => Ok(moment),
+        Err(_) => Err(KeepFault::Damaged),
+    }
+}
+
+/// Commits: what the transaction sees is then what is kept.
+pub fn commit<S: Alter>(tx: Transaction<'_, S>) -> Result<(), KeepFault>
+    ensures ended { tx.exit.0.now.in_transaction ≡ false }
+    ensures ok { HasCleanDisk (state S.Store tx.exit.0.now)
+        → OnOk result (IsTrue (state S.Store tx.entry.conn.now).in_transaction
+        × Shows (state S.Store tx.entry.conn.now) (state S.Store tx.exit.0.now)
+        (state S.Store tx.entry.conn.now).now (state S.Store tx.entry.conn.now).now false) }
+    ensures sound { ¬ (IsErrOf result Damaged) }
+    ensures err { HasCleanDisk (state S.Store tx.exit.0.now)
+        → IsTrue (state S.Store tx.entry.conn.now).in_transaction
+        → OnErr result (IsRolledBack (state S.Store tx.entry.conn.now)
+        (state S.Store tx.exit.0.now)) }
+    ensures crash { Survives (state S.Store tx.entry.conn.now) (state S.Store tx.exit.0.now)
+        (λ db. db ≡ (state S.Store tx.entry.conn.now).now.trees) }
+{
+    match tx.commit() {
+        Ok(()) => Ok(()),
         Err(error) => Err(fault_of(error)),
     }
 }

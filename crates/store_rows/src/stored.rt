@@ -12,22 +12,22 @@ use std::alloc::Global;
 
 /// A typed row, which is read from the columns that a query shows.
 pub trait Stored: Sized + Drop {
-    /// What the columns tell.
-    ghost told: { Columns → Self };
+    /// What the columns give.
+    ghost report: { Columns → Self };
 
     /// Which typed rows fit.
     ghost fits: { Self → Type 0 };
 
     /// Reads the columns. They are damaged only where they don't fit; memory is the other cause.
     fn read(row: &Row) -> Result<Self, KeepFault>
-        ensures value { IfOk result (λ it. it ≡ told row.now) }
+        ensures value { IfOk result (λ it. it ≡ report row.now) }
         ensures fits { IfOk result fits }
-        ensures damaged { fits (told row.now) → ¬ (IsErrOf result Damaged) };
+        ensures damaged { fits (report row.now) → ¬ (IsErrOf result Damaged) };
 }
 
 // A number that is shown alone.
 impl Stored for u32 {
-    ghost told = { λ r. number_in (column r 0) };
+    ghost report = { λ r. number_in (column r 0) };
 
     ghost fits = { λ n. n < 2 ^ 32 };
 
@@ -38,9 +38,9 @@ impl Stored for u32 {
 
 /// The first of the rows.
 pub fn first_of<T: Stored>(rows: &[Row]) -> Result<Option<T>, KeepFault>
-    ensures value { IfOk result (λ found. found ≡ option_map T.told (slice_get rows.now 0)) }
+    ensures value { IfOk result (λ found. found ≡ option_map T.report (slice_get rows.now 0)) }
     ensures fits { IfOk result (λ found. IfSome found T.fits) }
-    ensures damaged { IfSome (option_map T.told (slice_get rows.now 0)) T.fits
+    ensures damaged { IfSome (option_map T.report (slice_get rows.now 0)) T.fits
         → ¬ (IsErrOf result Damaged) }
 {
     match rows.first() {
@@ -51,9 +51,9 @@ pub fn first_of<T: Stored>(rows: &[Row]) -> Result<Option<T>, KeepFault>
 
 /// All of the rows.
 pub fn all_of<T: Stored>(alloc: Global, rows: &[Row]) -> Result<Vec<T>, KeepFault>
-    ensures value { IfOk result (λ all. all.items ≡ map T.told rows.now) }
+    ensures value { IfOk result (λ all. all.items ≡ map T.report rows.now) }
     ensures fits { IfOk result (λ all. AllByRecursion T.fits all.items) }
-    ensures damaged { AllByRecursion T.fits (map T.told rows.now) → ¬ (IsErrOf result Damaged) }
+    ensures damaged { AllByRecursion T.fits (map T.report rows.now) → ¬ (IsErrOf result Damaged) }
 {
     let mut all = Vec::new(alloc);
     for row in rows {

@@ -33,7 +33,7 @@ use Rattle.store_rows.specs.Rows.{number_in, question_in}
 use Rattle.store_rows.specs.Schema.{house_schema, question_table, question_layout}
 use Rattle.store_rows.specs.House.{IsHouse}
 use Rattle.store_talk.specs.Answers.{SetsAnswer}
-use Rattle.store_rows.proofs.RowLemmas.{row_key, keyed, equals_number, told_equal}
+use Rattle.store_rows.proofs.RowLemmas.{row_key, keyed, equals_number, report_equal}
 use Rattle.store_rows.proofs.TextLemmas.{text_back, same_number}
 use Rattle.store_rows.proofs.Insert.{cast_int}
 use Rattle.store_rows.proofs.Update.{stays_all}
@@ -58,7 +58,7 @@ answer_is = (refl, (refl, refl))
 
 -- a column with this number is the number
 is_number : (v : Value) (n : ℕ) → is_int v ≡ true → n < 2 ^ 32 → eqb (number_in v) n ≡ true → v ≡ Int (pos n)
-is_number (Int (pos m)) n is low h = ap (λ k. Int (pos k)) (same_number m n (sym (told_equal m n low) ∙ h))
+is_number (Int (pos m)) n is low h = ap (λ k. Int (pos k)) (same_number m n (sym (report_equal m n low) ∙ h))
 is_number (Int (negsuc m)) n is low h = let e = same_number (2 ^ 64) n h in absurd (omega (arith, low, e))
 is_number Null n is low h = absurd (true≢false (sym is))
 is_number (Real x) n is low h = absurd (true≢false (sym is))

@@ -31,7 +31,7 @@ rated : (is : Bool) (n : ℕ) → cond is n (2 ^ 64) ≤ 1000000 → cond is n (
 rated true n low = refl
 rated false n low = absurd (omega (arith, low))
 
--- what tells an item of ours has it stored
+-- what gives an item of ours has it stored
 unrated : (is : Bool) (n item : ℕ) (by : Bool) → item < 2 ^ 32 → (eqb n item && by) ≡ false → (eqb (cond is n (2 ^ 64)) item && by) ≡ false
 unrated true n item by low none = none
 unrated false n item by low none =
@@ -60,7 +60,7 @@ module _ (item giver : ℕ) (low : item < 2 ^ 32) (small : giver < 2 ^ 32) where
   other : (r : Row) → has_key r ≡ false → is_by (one_feedback_in r) ≡ false
   other r none = unrated (is_rating (column r 4)) (number_in (column r 1)) item (eqb (number_in (column r 2)) giver) low none
 
-  -- the first of the rows with the key, as it is told
+  -- the first of the rows with the key, as it is reported
   abbrev FirstFits : List Row → Type 0
   FirstFits rows = IfSome (option_map feedback_of (slice_get rows 0)) FeedbackFits
 

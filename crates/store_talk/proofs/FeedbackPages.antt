@@ -54,7 +54,7 @@ use Rattle.store_rows.proofs.Update.{numbered_passes}
 use Rattle.store_rows.specs.First.{IsFinite, ShowsFirst, ShowsSome}
 use Rattle.store_rows.proofs.Asked.{Asks, from_second, lists, under_zero}
 use Rattle.store_rows.proofs.Bounds.{bound_of, from_bound}
-use Rattle.store_rows.proofs.Compared.{at_least, fits_not_negative, is_negative, told_at_least}
+use Rattle.store_rows.proofs.Compared.{at_least, fits_not_negative, is_negative, report_at_least}
 use Rattle.store_rows.proofs.Near.{IsUp, first_near, first_rises, first_stored, kept_near, number_most}
 use Rattle.store_rows.proofs.Firsts.{first_by_key, first_fit, first_kept, none_passes, some_passes}
 use Rattle.store_rows.proofs.Grouped.{firsts_rise}
@@ -125,7 +125,7 @@ compares m n = grind (arith, ints, common_steps, nat_tests)
 under : (v : Value) (n : ℕ) → is_int v ≡ true → n < 2 ^ 32 → is_true (binary (Compare Lt Binary) v (Int (pos n))) ≡ not (not (is_negative v) && nat_le n (number_in v))
 unfolding binary
 under Null n is low = absurd (true≢false (sym is))
-under (Int (pos m)) n is low = truth_back _ ∙ ap is_lt (value_cmp-Int (pos m) (pos n)) ∙ compares m n ∙ ap not (sym (told_at_least m n low))
+under (Int (pos m)) n is low = truth_back _ ∙ ap is_lt (value_cmp-Int (pos m) (pos n)) ∙ compares m n ∙ ap not (sym (report_at_least m n low))
 under (Int (negsuc m)) n is low = truth_back _ ∙ ap is_lt (value_cmp-Int (negsuc m) (pos n)) ∙ grind (arith, ints, common_steps)
 under (Real x) n is low = absurd (true≢false (sym is))
 under (Text t) n is low = absurd (true≢false (sym is))
@@ -361,16 +361,16 @@ module _ (member from : ℕ) (low : member < 2 ^ 32) (small : from < 2 ^ 32) (ol
       let typed = feedback_in old.now.trees in
       let some = map one_feedback_in (filter (passes given_test params) table) in
       let kept = sorted_by feedback_key some in
-      let told : map feedback_of rows ≡ take 50 kept =
+      let report : map feedback_of rows ≡ take 50 kept =
       ap (map feedback_of) first.are
       ∙ first_kept given_test talk_shown two_columns params table first.all (listing rows first) feedback_key feedback_of one_feedback_in (λ r. refl) FeedbackFits IsGiven apart (all-filter IsGiven (passes given_test params) table given) rises
       50 (subst (λ l. AllByRecursion FeedbackFits (map feedback_of l)) first.are fits) in
-      told ∙ same_first item_of 50 kept (filter (keeps member from) (sorted_feedback old.now.trees))
+      report ∙ same_first item_of 50 kept (filter (keeps member from) (sorted_feedback old.now.trees))
       (firsts_rise feedback_key kept (sorted_in_order feedback_key some))
       (subst (Rises item_of) (sym (filter-sorted feedback_key (keeps member from) typed)) (firsts_rise feedback_key (sorted_by feedback_key (filter (keeps member from) typed)) (sorted_in_order feedback_key (filter (keeps member from) typed))))
       (same_low item_of feedback_key one_feedback_in (passes given_test params) (keeps member from) IsGiven low_passing table given)
-      (all_weaker FeedbackFits (λ f. is_low item_of f ≡ true) item_is_low (take 50 kept) (subst (AllByRecursion FeedbackFits) told fits))
-      (ap length (sym told) ∙ length-map rows feedback_of ∙ full)
+      (all_weaker FeedbackFits (λ f. is_low item_of f ≡ true) item_is_low (take 50 kept) (subst (AllByRecursion FeedbackFits) report fits))
+      (ap length (sym report) ∙ length-map rows feedback_of ∙ full)
 
   given_shown : (rows : List Row) → Shown stray_feedback_text params old new [] → ShowsFirst 50 given_text params old new rows → AllByRecursion FeedbackFits (map feedback_of rows)
       → map feedback_of rows ≡ take 50 (filter (keeps member from) (sorted_feedback old.now.trees))

@@ -17,7 +17,7 @@ use Rattle.store_rows.proofs.Compared.{is_negative}
 use Rattle.store_rows.proofs.RowLemmas.{filter_same_on}
 use Rattle.store_rows.proofs.Sorting.{filter-sorted}
 use Rattle.store_rows.proofs.Tested.{filter_both}
-use Rattle.store_items.proofs.Behind.{parts}
+use Rattle.store_items.proofs.After.{parts}
 
 module _ {A : Type 0} (number : A → ℕ) where
   -- the number is one of ours

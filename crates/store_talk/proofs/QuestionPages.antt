@@ -53,7 +53,7 @@ use Rattle.store_rows.proofs.Bounds.{bound_of, from_bound}
 use Rattle.store_rows.proofs.Compared.{at_least, below_zero, fits_not_negative, is_negative}
 use Rattle.store_rows.proofs.Near.{all_near, few_kept, first_near, first_stored, kept_near, none_far, number_most, second_rises}
 use Rattle.store_rows.proofs.Firsts.{first_by_key, first_fit, first_kept, none_passes, some_passes}
-use Rattle.store_items.proofs.Behind.{kept_number}
+use Rattle.store_items.proofs.After.{kept_number}
 use Rattle.store_items.proofs.ItemPages.{negative_over}
 use Rattle.store_talk.specs.Spoiled.{HasStray}
 use Rattle.store_talk.specs.Waiting.{WaitingFit}
@@ -162,13 +162,13 @@ module _ (test : List Term) (order : List (Term × Sorting)) (params : Row) (sql
       let talk = are_questions old.now house in
       let kept = sorted_by question_key (map question_in (filter (passes test params) table)) in
       let apart = none_tie (tied test order params) (1 ∷ 2 ∷ 3 ∷ []) IsTalk agrees table house.shaped.1.1.1.1.1.1.1.0 (unique old.now house) (passes test params) (all-filter IsTalk (passes test params) table talk) in
-      let told : map question_of rows ≡ take 50 kept =
+      let report : map question_of rows ≡ take 50 kept =
       ap (map question_of) first.are
       ∙ first_kept test question_shown order params table first.all (lists sql 12 test question_shown order question_names is (λ db. refl) old new params first.all house first.shown)
       question_key question_of question_in (λ r. refl) QuestionFits Is apart are rises 50 (subst (λ l. AllByRecursion QuestionFits (map question_of l)) first.are fits) in
-      told ∙ same_first number 50 kept (filter keep (sorted_questions old.now.trees)) up also_up (same_low number question_key question_in (passes test params) keep IsTalk tests table talk)
-      (all_weaker QuestionFits (λ q. is_low number q ≡ true) lows (take 50 kept) (subst (AllByRecursion QuestionFits) told fits))
-      (ap length (sym told) ∙ length-map rows question_of ∙ full)
+      report ∙ same_first number 50 kept (filter keep (sorted_questions old.now.trees)) up also_up (same_low number question_key question_in (passes test params) keep IsTalk tests table talk)
+      (all_weaker QuestionFits (λ q. is_low number q ≡ true) lows (take 50 kept) (subst (AllByRecursion QuestionFits) report fits))
+      (ap length (sym report) ∙ length-map rows question_of ∙ full)
 
   -- the rows that are shown fit, where those do that the list takes by a number
   questions_near : (agrees : (r s : Row) → IsTalk r → IsTalk s → tied test order params r s ≡ true → agree keys.plain (1 ∷ 2 ∷ 3 ∷ []) r (1 ∷ 2 ∷ 3 ∷ []) s ≡ true)

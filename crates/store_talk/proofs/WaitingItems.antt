@@ -52,9 +52,9 @@ asked_of db member own house are fits q =
     let numbers : List ℕ = map number_of (filter mine rows) in
     let rise = items_rise db house in
     let low = all_weaker (λ row. TermsFit (part row)) (λ row. number_of row < 2 ^ 64) (λ row fit. omega (arith, fit.item.1)) (filter mine rows) (all_unmap TermsFit part (filter mine rows) (rw are at fits)) in
-    let told : map (λ (t : Terms). t.item) own ≡ numbers = ap (map (λ (t : Terms). t.item)) are ∙ map-map (λ (t : Terms). t.item) part (filter mine rows) in
+    let report : map (λ (t : Terms). t.item) own ≡ numbers = ap (map (λ (t : Terms). t.item)) are ∙ map-map (λ (t : Terms). t.item) part (filter mine rows) in
     both_turned (list_any (λ n. q.item == n) (map (λ (t : Terms). t.item) own)) (not (is_some q.answer)) (sells (find (is_item q.item) rows) member)
-    (ap (list_any (λ n. q.item == n)) told ∙ first_passes number_of mine q.item rows rise low ∙ found_sells member (find (is_item q.item) rows))
+    (ap (list_any (λ n. q.item == n)) report ∙ first_passes number_of mine q.item rows rise low ∙ found_sells member (find (is_item q.item) rows))
 
 -- the items of a member rise in their numbers
 own_rise : (db : Database) (member : ℕ) (own : List Terms) → IsHouse db → own ≡ map (λ (row : ItemRow). row.item.terms) (filter (λ row. row.item.terms.seller == member) (items_in db.trees)) → AllByRecursion TermsFit own
@@ -65,8 +65,8 @@ own_rise db member own house are fits =
     let part = λ (row : ItemRow). row.item.terms in
     let numbers : List ℕ = map number_of (filter mine rows) in
     let low = all_weaker (λ row. TermsFit (part row)) (λ row. number_of row < 2 ^ 64) (λ row fit. omega (arith, fit.item.1)) (filter mine rows) (all_unmap TermsFit part (filter mine rows) (rw are at fits)) in
-    let told : map item_of own ≡ numbers = ap (map item_of) are ∙ map-map item_of part (filter mine rows) in
-    subst (IsAscending (λ m n. m < n)) (sym told) (numbers_rise number_of (filter mine rows) (ascending-filter (IsBelow number_of) mine rows (items_rise db house)) low)
+    let report : map item_of own ≡ numbers = ap (map item_of) are ∙ map-map item_of part (filter mine rows) in
+    subst (IsAscending (λ m n. m < n)) (sym report) (numbers_rise number_of (filter mine rows) (ascending-filter (IsBelow number_of) mine rows (items_rise db house)) low)
 
 -- where the questions fit that wait for a member, those fit that wait on its items
 pub waiting_fit_at : (db : Database) (member : ℕ) (own : List Terms) → IsHouse db → own ≡ map (λ (row : ItemRow). row.item.terms) (filter (λ row. row.item.terms.seller == member) (items_in db.trees)) → AllByRecursion TermsFit own
@@ -107,10 +107,10 @@ waiting_found db member own house are fits =
     let numbers : List ℕ = map number_of (filter mine rows) in
     let rise = items_rise db house in
     let low = all_weaker (λ row. TermsFit (part row)) (λ row. number_of row < 2 ^ 64) (λ row fit. omega (arith, fit.item.1)) (filter mine rows) (all_unmap TermsFit part (filter mine rows) (rw are at fits)) in
-    let told : map number own ≡ numbers = ap (map number) are ∙ map-map number part (filter mine rows) in
+    let report : map number own ≡ numbers = ap (map number) are ∙ map-map number part (filter mine rows) in
     let same = λ (q : Question). both_turned (list_any (λ n. q.item == n) numbers) (not (is_some q.answer)) (sells (find (is_item q.item) rows) member)
     (first_passes number_of mine q.item rows rise low ∙ found_sells member (find (is_item q.item) rows)) in
     sym (flat_map-map (waiting_in db.trees) number own)
-    ∙ ap (flat_map (waiting_in db.trees)) told
+    ∙ ap (flat_map (waiting_in db.trees)) report
     ∙ waiting_grouped db.trees numbers (numbers_rise number_of (filter mine rows) (ascending-filter (IsBelow number_of) mine rows rise) low)
     ∙ filter_same (λ q. list_any (λ n. q.item == n) numbers && not (is_some q.answer)) (λ q. not (is_some q.answer) && sells (find (is_item q.item) rows) member) same (sorted_questions db.trees)

@@ -19,7 +19,7 @@ use sqlite::{Alter, Connection, Row};
 use std::alloc::Global;
 use store_rows::first_rows;
 
-// Tells that a query shows no row. Where it shows one the answer is `Damaged`.
+// Reports that a query shows no row. Where it shows one the answer is `Damaged`.
 fn no_row<S: Alter>(
     alloc: Global,
     conn: &mut Connection<S>,

@@ -20,7 +20,7 @@ use Rattle.store_rows.specs.House.{IsHouse}
 use Rattle.store_rows.specs.ItemRows.{items_in}
 use Rattle.store_rows.specs.Sorted.{sorted_watches}
 use Rattle.store_rows.specs.Tables.{tables_in}
-use Rattle.store_items.specs.RowsStanding.{RowFitsAt}
+use Rattle.store_items.specs.ConsistentRows.{RowFitsAt}
 use Rattle.store_watches.specs.Watched.{item_found}
 use Rattle.store_items.proofs.ItemRising.{items_rise, number_of}
 use Rattle.store_rows.proofs.Joined.{among, each_among, joined}

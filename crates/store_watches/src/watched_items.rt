@@ -5,7 +5,7 @@ ghost use Rattle.sqlite.specs.State.{HasCleanDisk};
 ghost use Rattle.sqlite.specs.Held.{state};
 ghost use Rattle.house_rows.specs.Fits.{ItemFits, WatchRowFits};
 ghost use Rattle.house_rows.specs.Found.{is_watched, items_watched, watch_count};
-ghost use Rattle.house_rows.specs.Keeping.{AreSound, AreSoundBy, FitsBy, StandsBy};
+ghost use Rattle.house_rows.specs.Keeping.{AreSound, AreSoundBy, FitsBy, IsConsistentBy};
 ghost use Rattle.house_rows.specs.Taken.{FitWhere};
 ghost use Rattle.house_rows.specs.Tables.{ItemRow};
 ghost use Rattle.house_rows.specs.declared.fault.KeepFault.TheVariants.{Damaged};
@@ -13,7 +13,7 @@ ghost use Rattle.store_rows.specs.House.{Serves, ServesBy};
 ghost use Rattle.store_rows.specs.ItemRows.{items_in};
 ghost use Rattle.store_rows.specs.Rows.{watches_in};
 ghost use Rattle.store_rows.specs.Tables.{tables_in};
-ghost use Rattle.store_items.specs.RowsStanding.{RowFitsAt};
+ghost use Rattle.store_items.specs.ConsistentRows.{RowFitsAt};
 ghost use Rattle.store_watches.specs.Watched.{item_found};
 ghost use Rattle.store_rows.specs.Frames.{OnlyReads};
 
@@ -23,7 +23,7 @@ use list_rows::push;
 use sqlite::{Alter, Connection};
 use std::alloc::Global;
 use store_items::item_at;
-use store_reserves::Rules;
+use store_rows::Rules;
 
 /// How many items a member watches.
 pub fn watch_count<S: Alter>(
@@ -61,8 +61,8 @@ fn add_item<S: Alter>(
         ++ item_found (state S.Store conn.old).now.trees number) }
     ensures fits { AllByRecursion ItemFits items.old.items
         → OnOk result (AllByRecursion ItemFits items.new.items) }
-    ensures stands { AllByRecursion (λ it. StandsBy rules.now.editions it.terms) items.old.items
-        → OnOk result (AllByRecursion (λ it. StandsBy rules.now.editions it.terms) items.new.items) }
+    ensures is_consistent { AllByRecursion (λ it. IsConsistentBy rules.now.editions it.terms) items.old.items
+        → OnOk result (AllByRecursion (λ it. IsConsistentBy rules.now.editions it.terms) items.new.items) }
     ensures damaged { HasCleanDisk (state S.Store conn.new)
         → AllByRecursion (FitsBy rules.now.editions) (items_in (state S.Store conn.old).now.trees)
         → ¬ (IsErrOf result Damaged) }
@@ -89,8 +89,8 @@ fn items_at<S: Alter>(
         → IfOk result (λ items. items.items ≡ flat_map
         (item_found (state S.Store conn.old).now.trees) numbers.now) }
     ensures fits { IfOk result (λ items. AllByRecursion ItemFits items.items) }
-    ensures stands { IfOk result (λ items. AllByRecursion
-        (λ it. StandsBy rules.now.editions it.terms) items.items) }
+    ensures is_consistent { IfOk result (λ items. AllByRecursion
+        (λ it. IsConsistentBy rules.now.editions it.terms) items.items) }
     ensures small { AllByRecursion (λ n. n < 2 ^ 64) numbers.now }
     ensures damaged { HasCleanDisk (state S.Store conn.new)
         → AllByRecursion (FitsBy rules.now.editions) (items_in (state S.Store conn.old).now.trees)
@@ -120,8 +120,8 @@ pub fn items_watched<S: Alter>(
         → IfOk result (λ items. items.items ≡ items_watched
         (tables_in (state S.Store conn.old).now.trees) member) }
     ensures fits { IfOk result (λ items. AllByRecursion ItemFits items.items) }
-    ensures stands { IfOk result (λ items. AllByRecursion
-        (λ it. StandsBy rules.now.editions it.terms) items.items) }
+    ensures is_consistent { IfOk result (λ items. AllByRecursion
+        (λ it. IsConsistentBy rules.now.editions it.terms) items.items) }
     ensures damaged { HasCleanDisk (state S.Store conn.new)
         → AreSoundBy rules.now.editions (tables_in (state S.Store conn.old).now.trees)
         → ¬ (IsErrOf result Damaged) }

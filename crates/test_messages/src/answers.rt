@@ -1,7 +1,7 @@
 //! Answers, byte for byte.
 use crate::frames::Frames;
 use crate::script::Fault;
-use crate::spelling::{first_word, number, shown};
+use crate::words::{first_word, number, spell};
 use std::alloc::Global;
 use wire::{
     Answer, Methods, Status, WireFault, broken_frame, damaged_row, failed_store, no_memory,
@@ -9,21 +9,21 @@ use wire::{
 
 /// The answer of a line, which is also written after those before it.
 pub(crate) fn answer(alloc: Global, frames: &mut Frames, line: &str) -> Result<String, Fault> {
-    let answer = spelled(line, &frames.text)?;
+    let answer = parse_answer(line, &frames.text)?;
     answer.write_into(&mut frames.written)?;
-    Ok(shown(alloc, &answer.to_bytes(alloc)?)?)
+    Ok(spell(alloc, &answer.to_bytes(alloc)?)?)
 }
 
-/// What stands before the body of the answer of a line, and the length of all.
+/// What comes before the body of the answer of a line, and the length of all.
 pub(crate) fn head(alloc: Global, body: &[u8], line: &str) -> Result<String, Fault> {
-    let bytes = spelled(line, body)?.to_bytes(alloc)?;
+    let bytes = parse_answer(line, body)?.to_bytes(alloc)?;
     let length = bytes.len();
-    let head = shown(alloc, &bytes[..length.saturating_sub(body.len())])?;
+    let head = spell(alloc, &bytes[..length.saturating_sub(body.len())])?;
     Ok(format!(in alloc; "{head}, {length} bytes")?)
 }
 
 // The answer that a line spells, with a body.
-fn spelled<'b>(line: &str, body: &'b [u8]) -> Result<Answer<'b>, Fault> {
+fn parse_answer<'b>(line: &str, body: &'b [u8]) -> Result<Answer<'b>, Fault> {
     let (code, line) = first_word(line);
     let (ends, methods) = first_word(line);
     Ok(Answer {
@@ -65,7 +65,7 @@ fn status_of(code: &str) -> Result<Status, Fault> {
 }
 
 /// An answer that takes no memory.
-pub(crate) fn fixed(alloc: Global, line: &str) -> Result<String, Fault> {
+pub(crate) fn fixed_text(alloc: Global, line: &str) -> Result<String, Fault> {
     let (name, ends) = first_word(line);
     let closes = closes(ends)?;
     let bytes = match name {
@@ -74,7 +74,7 @@ pub(crate) fn fixed(alloc: Global, line: &str) -> Result<String, Fault> {
         "damaged" => damaged_row(closes),
         _ => return Err(Fault::Script),
     };
-    Ok(shown(alloc, bytes)?)
+    Ok(spell(alloc, bytes)?)
 }
 
 const FAULTS: [WireFault; 7] = [
@@ -93,6 +93,6 @@ pub(crate) fn fault(alloc: Global, word: &str) -> Result<String, Fault> {
     let found = FAULTS.into_iter().find(|fault| fault.number() == wanted);
     let fault = found.ok_or(Fault::Script)?;
     let (status, word) = (fault.status().code(), fault.word());
-    let answer = shown(alloc, broken_frame(fault))?;
+    let answer = spell(alloc, broken_frame(fault))?;
     Ok(format!(in alloc; "{fault:?}, {status}, {word}, {fault}, {answer}")?)
 }

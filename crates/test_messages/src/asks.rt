@@ -1,13 +1,14 @@
-//! The section on what messages ask: what its lines may be, and what is told of them.
+//! The section on what messages ask: what its lines may be, and the answers to them.
 //!
-//! `send METHOD TARGET` names the request, `head FIELDS` its further fields, each after a line's end that
-//! is spelled out, and `body TEXT` its body; then it is told what the message asks. `begin` empties the
-//! body, `add TEXT` and `times N TEXT` add to it, and `asks` tells what is asked. `raw TEXT` tells what
-//! that text asks as it stands. `frames N` reads the frame of the message N times, and tells the sum of the lengths;
-//! `repeat N` also reads what it asks, and adds the moment and some of the command's numbers.
+//! `send METHOD TARGET` names the request, `head FIELDS` its further fields, each after a line's
+//! end that is spelled out, and `body TEXT` its body; then the answer is what the message asks.
+//! `begin` empties the body, `add TEXT` and `times N TEXT` add to it, and `asks` says what is
+//! asked. `raw TEXT` says what that text asks as it is. `frames N` reads the frame of the message N
+//! times, and gives the sum of the lengths; `repeat N` also reads what it asks, and adds the moment
+//! and some of the command's numbers.
 use crate::commands;
 use crate::script::Fault;
-use crate::spelling::{first_word, number, push, repeat};
+use crate::words::{first_word, number, push, repeat};
 use house_rows::{Command, Message};
 use json::Scratch;
 use site_request::{Asked, Fault as Broken, Routes, read, read_request};
@@ -38,7 +39,7 @@ impl Asks {
     }
 }
 
-/// Plays a line, and tells what it asks, if it asks.
+/// Plays a line, and gives what it asks, if it asks.
 pub(crate) fn play(alloc: Global, asks: &mut Asks, line: &str) -> Result<Option<String>, Fault> {
     let (word, rest) = first_word(line);
     match word {
@@ -58,7 +59,7 @@ fn respell(bytes: &mut Vec<u8>, text: &str) -> Result<(), Fault> {
     push(bytes, text)
 }
 
-// What is told of a line that asks.
+// The answer to a line that asks.
 fn answer(alloc: Global, asks: &mut Asks, word: &str, rest: &str) -> Result<String, Fault> {
     let mut text = Vec::new(alloc);
     push_text(alloc, asks, &mut text, word, rest)?;
@@ -101,7 +102,7 @@ fn push_message(alloc: Global, asks: &Asks, text: &mut Vec<u8>) -> Result<(), Al
     Ok(())
 }
 
-// What is told of a text.
+// The answer for a text.
 fn answer_of(
     alloc: Global,
     asks: &mut Asks,
@@ -111,13 +112,13 @@ fn answer_of(
 ) -> Result<String, Fault> {
     match word {
         "raw" | "body" | "asks" => ask(alloc, asks, text),
-        "frames" => shown(alloc, sum_of_frames(text, number(rest)?)?),
-        "repeat" => shown(alloc, sum_of_asks(alloc, asks, text, number(rest)?)?),
+        "frames" => sum_text(alloc, sum_of_frames(text, number(rest)?)?),
+        "repeat" => sum_text(alloc, sum_of_asks(alloc, asks, text, number(rest)?)?),
         _ => Err(Fault::Script),
     }
 }
 
-fn shown(alloc: Global, sum: u64) -> Result<String, Fault> {
+fn sum_text(alloc: Global, sum: u64) -> Result<String, Fault> {
     Ok(format!(in alloc; "{sum}")?)
 }
 

@@ -1,12 +1,12 @@
-//! How a command is told: its name, its numbers and its texts.
+//! How a command is printed: its name, its numbers and its texts.
 use house_rows::{Command, Rating, Text};
 use std::alloc::AllocError;
 use std::fmt::Write;
 
 /// Adds a command: its name, with the rating of feedback, its numbers, the rows of a band table and
-/// then its texts, in the order in which they stand in `Command`, but for the price at which a listing
-/// may be bought, which comes last of the numbers, and its reserve, which comes after them with its
-/// word.
+/// then its texts, in the order in which they are in `Command`, but for the price at which a
+/// listing may be bought, which comes last of the numbers, and its reserve, which comes after them
+/// with its word.
 pub(crate) fn push(line: &mut String, command: &Command) -> Result<(), AllocError> {
     line.push_str(name(command))?;
     for number in numbers(command).iter().flatten() {

@@ -1,18 +1,18 @@
 //! The section on frames: what its lines may be, and what is answered to them.
 //!
-//! `text T` begins a text, `add T` adds to it, and `times N T` adds N times. `whole` tells the message that
-//! the text is, or its fault, and `one NAME` and `body` a field and the body of that message; `cuts` tells the
-//! same of each beginning of the text. `stream N` reads the text through an inbox in pieces of N bytes.
-//! `inbox` empties the inbox; `feed` gives it the text, `look` and `ended` look at what it holds, before and
-//! at the end of the input, `done` drops the message at its front, `space` tells its room; `looks` tells what
-//! a look tells of each beginning of the text, before and at the end. `answer CODE ENDS METHODS` tells an
-//! answer with the text as its body, `head` of the same words what stands before the body and the length of
-//! all, and `written` the answers so far as they were written into one buffer; `fixed NAME ENDS` and
-//! `fault N` tell answers that stand ready. Behind `whole` and `feed` a text may stand, which becomes the
-//! text.
+//! `text T` begins a text, `add T` adds to it, and `times N T` adds N times. `whole` gives the
+//! message that the text is, or its fault, and `one NAME` and `body` a field and the body of that
+//! message; `cuts` gives the same of each beginning of the text. `stream N` reads the text through
+//! an inbox in pieces of N bytes. `inbox` empties the inbox; `feed` gives it the text, `look` and
+//! `ended` look at what it holds, before and at the end of the input, `done` drops the message at
+//! its front, `space` gives its room; `looks` gives what a look says of each beginning of the text,
+//! before and at the end. `answer CODE ENDS METHODS` gives an answer with the text as its body,
+//! `head` of the same words what comes before the body and the length of all, and `written` the
+//! answers so far as they were written into one buffer; `fixed NAME ENDS` and `fault N` give
+//! answers that are ready. After `whole` and `feed` a text may come, which becomes the text.
 use crate::script::Fault;
-use crate::spelling::first_word;
-use crate::{answers, messages, spelling, streams};
+use crate::words::first_word;
+use crate::{answers, messages, streams, words};
 use std::alloc::{AllocError, Global};
 use wire::Inbox;
 
@@ -40,11 +40,11 @@ impl Frames {
             return Ok(());
         }
         self.text.clear();
-        spelling::push(&mut self.text, text)
+        words::push(&mut self.text, text)
     }
 }
 
-/// Plays a line, and tells what is answered to it, if anything is.
+/// Plays a line, and gives what is answered to it, if anything is.
 pub(crate) fn play(
     alloc: Global,
     frames: &mut Frames,
@@ -54,10 +54,10 @@ pub(crate) fn play(
     match word {
         "text" => {
             frames.text.clear();
-            spelling::push(&mut frames.text, rest)?;
+            words::push(&mut frames.text, rest)?;
         }
-        "add" => spelling::push(&mut frames.text, rest)?,
-        "times" => spelling::repeat(&mut frames.text, rest)?,
+        "add" => words::push(&mut frames.text, rest)?,
+        "times" => words::repeat(&mut frames.text, rest)?,
         "inbox" => frames.inbox = Inbox::new(alloc)?,
         "done" => streams::done(&mut frames.inbox),
         _ => return Ok(Some(answer(alloc, frames, word, rest)?)),
@@ -78,7 +78,7 @@ fn answer(alloc: Global, frames: &mut Frames, word: &str, rest: &str) -> Result<
         "stream" => streams::stream(alloc, &frames.text, rest),
         "feed" => {
             frames.take(rest)?;
-            Ok(streams::fed(alloc, &mut frames.inbox, &frames.text)?)
+            Ok(streams::feed_text(alloc, &mut frames.inbox, &frames.text)?)
         }
         "look" => Ok(streams::look(alloc, &frames.inbox, false)?),
         "ended" => Ok(streams::look(alloc, &frames.inbox, true)?),
@@ -86,8 +86,8 @@ fn answer(alloc: Global, frames: &mut Frames, word: &str, rest: &str) -> Result<
         "looks" => Ok(streams::looks(alloc, &frames.text)?),
         "answer" => answers::answer(alloc, frames, rest),
         "head" => answers::head(alloc, &frames.text, rest),
-        "written" => Ok(spelling::shown(alloc, &frames.written)?),
-        "fixed" => answers::fixed(alloc, rest),
+        "written" => Ok(words::spell(alloc, &frames.written)?),
+        "fixed" => answers::fixed_text(alloc, rest),
         "fault" => answers::fault(alloc, rest),
         _ => Err(Fault::Script),
     }

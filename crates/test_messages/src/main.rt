@@ -1,10 +1,11 @@
 //! Plays a script on messages: texts as frames, streams through an inbox, answers, routes, and what messages ask.
 //!
-//! The stored run is a test of what no clause says: that calls succeed, that the table of routes can be made, and
-//! that the clauses mean what RFC 9110 and RFC 9112 say, what real clients send (`tests/clients` has how those were
-//! captured), and what the house's routes, fields and faults are said to be. `stdin` has the script, `stdout` its
-//! transcript, in which what has to be answered stands after each line, written by hand. Read `script` first,
-//! which says what a line may be, after the mark of `transcript`.
+//! The stored run is a test of what no clause says: that calls succeed, that the table of routes
+//! can be made, and that the clauses mean what RFC 9110 and RFC 9112 say, what real clients send
+//! (`tests/clients` has how those were captured), and what the house's routes, fields and faults
+//! are said to be. `stdin` has the script, `stdout` its transcript, in which what has to be
+//! answered comes after each line, written by hand. Read `script` first, which says what a line may
+//! be, after the mark of `transcript`.
 #![tactic(auto)]
 
 mod answers;
@@ -15,14 +16,14 @@ mod messages;
 mod routes;
 mod runs;
 mod script;
-mod spelling;
 mod streams;
+mod words;
 
 use script::{Fault, Stage};
 use std::alloc::Global;
 use std::io;
 use std::process::ExitCode;
-use transcript::echoed;
+use transcript::echo;
 
 // Plays the script.
 fn play(rt: &(impl Input + Print), alloc: Global) -> Result<(), Fault> {
@@ -39,7 +40,7 @@ fn play_lines(
     script: &str,
 ) -> Result<(), Fault> {
     for line in script.lines() {
-        let line = echoed(rt, line).map_err(|_| Fault::Output)?;
+        let line = echo(rt, line).map_err(|_| Fault::Output)?;
         if let Some(answer) = script::play(alloc, stage, line)? {
             println!(rt; "{answer}").map_err(|_| Fault::Output)?;
         }

@@ -1,7 +1,7 @@
 //! Texts as one message.
 use crate::runs::Runs;
 use crate::script::Fault;
-use crate::spelling::shown;
+use crate::words::spell;
 use std::alloc::{AllocError, Global};
 use wire::Request;
 
@@ -16,8 +16,8 @@ pub(crate) fn whole(alloc: Global, text: &[u8]) -> Result<String, AllocError> {
 /// A message: its method, its target, its length, that of its body, and whether it ends the connection.
 pub(crate) fn message(alloc: Global, request: &Request<'_>) -> Result<String, AllocError> {
     let (method, target) = (
-        shown(alloc, request.method())?,
-        shown(alloc, request.target())?,
+        spell(alloc, request.method())?,
+        spell(alloc, request.target())?,
     );
     let (length, size) = (request.length(), request.body().len());
     let ends = if request.closes() { "closes" } else { "stays" };
@@ -36,7 +36,7 @@ fn read(text: &[u8]) -> Result<Request<'_>, Fault> {
 pub(crate) fn one(alloc: Global, text: &[u8], name: &[u8]) -> Result<String, Fault> {
     let request = read(text)?;
     match request.one(name) {
-        Some(value) => Ok(format!(in alloc; "[{}]", shown(alloc, value)?)?),
+        Some(value) => Ok(format!(in alloc; "[{}]", spell(alloc, value)?)?),
         None => Ok(format!(in alloc; "-")?),
     }
 }
@@ -44,7 +44,7 @@ pub(crate) fn one(alloc: Global, text: &[u8], name: &[u8]) -> Result<String, Fau
 /// The body of the message.
 pub(crate) fn body(alloc: Global, text: &[u8]) -> Result<String, Fault> {
     let request = read(text)?;
-    Ok(format!(in alloc; "[{}]", shown(alloc, request.body())?)?)
+    Ok(format!(in alloc; "[{}]", spell(alloc, request.body())?)?)
 }
 
 /// What each beginning of the text is, from none of it to all of it.
@@ -53,5 +53,5 @@ pub(crate) fn cuts(alloc: Global, text: &[u8]) -> Result<String, AllocError> {
     for count in 0..text.len() {
         runs.add(whole(alloc, &text[..count])?)?;
     }
-    runs.ended(whole(alloc, text)?.as_str())
+    runs.finish_line(whole(alloc, text)?.as_str())
 }

@@ -1,7 +1,7 @@
 //! The section on routes: each line is a method and a target.
 //!
 //! It is answered by what the route is for, with its numbers, or by 404 or 405, with the methods of the path after 405.
-use crate::spelling::first_word;
+use crate::words::first_word;
 use site_request::{Route, RouteFault, Routes, Segment};
 use std::alloc::{AllocError, Global};
 use std::str::from_utf8;
@@ -16,7 +16,7 @@ pub(crate) fn answer(alloc: Global, routes: &Routes, line: &str) -> Result<Strin
     }
 }
 
-// A route: a command, a read, or the statement of two days as they stand in the target.
+// A route: a command, a read, or the statement of two days as they are in the target.
 fn line_of(alloc: Global, route: &Route<'_>) -> Result<String, AllocError> {
     match route {
         Route::Order(order) => format!(in alloc; "{order:?}"),

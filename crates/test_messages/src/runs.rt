@@ -1,4 +1,4 @@
-//! A line of texts, in which equal ones that follow each other stand once, with their number.
+//! A line of texts, in which equal ones that follow each other are written once, with their number.
 use std::alloc::{AllocError, Global};
 use std::fmt::Write;
 
@@ -40,7 +40,7 @@ impl Runs {
     }
 
     /// The line, with an ending.
-    pub(crate) fn ended(mut self, ending: &str) -> Result<String, AllocError> {
+    pub(crate) fn finish_line(mut self, ending: &str) -> Result<String, AllocError> {
         self.flush()?;
         self.line.push_str(ending)?;
         Ok(self.line)

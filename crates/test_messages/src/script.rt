@@ -10,7 +10,7 @@ use std::alloc::{AllocError, Global};
 use thiserror::Error;
 
 /// Why a script isn't played on.
-#[derive(Clone, Copy, Debug, PartialEq, Eq, Error)]
+#[derive(Clone, Copy, Debug, Error)]
 pub(crate) enum Fault {
     /// A line has no meaning, or the script isn't text.
     #[error("a line is no part of a script")]
@@ -57,7 +57,7 @@ impl Stage {
     }
 }
 
-/// Plays a line, and tells what is answered to it, if anything is.
+/// Plays a line, and gives what is answered to it, if anything is.
 pub(crate) fn play(alloc: Global, stage: &mut Stage, line: &str) -> Result<Option<String>, Fault> {
     if line.is_empty() || line.starts_with("--") {
         return Ok(None);

@@ -4,11 +4,11 @@ ghost use Rattle.std.specs.Prelude.{◌≡◌, ◌≤◌, ◌++◌, length, take
 use crate::messages::message;
 use crate::runs::Runs;
 use crate::script::Fault;
-use crate::spelling::number;
+use crate::words::number;
 use std::alloc::{AllocError, Global};
 use wire::{Inbox, Look};
 
-// Copies as many of the bytes as there is room for, and tells how many, as a reader does.
+// Copies as many of the bytes as there is room for, and says how many, as a reader does.
 fn give(room: &mut [u8], bytes: &[u8]) -> usize
     ensures room { result ≤ length room.new }
     ensures fits { result ≤ length bytes.now }
@@ -30,7 +30,11 @@ fn feed(inbox: &mut Inbox, bytes: &[u8]) -> usize
 }
 
 /// How many bytes of the text the inbox takes.
-pub(crate) fn fed(alloc: Global, inbox: &mut Inbox, text: &[u8]) -> Result<String, AllocError> {
+pub(crate) fn feed_text(
+    alloc: Global,
+    inbox: &mut Inbox,
+    text: &[u8],
+) -> Result<String, AllocError> {
     let count = feed(inbox, text);
     format!(in alloc; "{count}")
 }
@@ -50,7 +54,7 @@ pub(crate) fn done(inbox: &mut Inbox) {
     inbox.done(length);
 }
 
-/// What a look at the inbox tells.
+/// The result of a look at the inbox.
 pub(crate) fn look(alloc: Global, inbox: &Inbox, ended: bool) -> Result<String, AllocError> {
     match inbox.look(ended) {
         Look::Whole(request) => message(alloc, &request),
@@ -60,7 +64,8 @@ pub(crate) fn look(alloc: Global, inbox: &Inbox, ended: bool) -> Result<String, 
     }
 }
 
-/// What a look tells of each beginning of the text but none of it, before and at the end of the input.
+/// What a look says of each beginning of the text but none of it, before and at the end of the
+/// input.
 pub(crate) fn looks(alloc: Global, text: &[u8]) -> Result<String, AllocError> {
     let mut runs = Runs::new(alloc);
     for count in 1..text.len() {
@@ -68,10 +73,10 @@ pub(crate) fn looks(alloc: Global, text: &[u8]) -> Result<String, AllocError> {
     }
     let mut inbox = Inbox::new(alloc)?;
     feed(&mut inbox, text);
-    runs.ended(look(alloc, &inbox, true)?.as_str())
+    runs.finish_line(look(alloc, &inbox, true)?.as_str())
 }
 
-// What a look tells of a text, before and at the end of the input.
+// What a look says of a text, before and at the end of the input.
 fn both_looks(alloc: Global, text: &[u8]) -> Result<String, AllocError> {
     let mut inbox = Inbox::new(alloc)?;
     feed(&mut inbox, text);
@@ -85,7 +90,7 @@ pub(crate) fn stream(alloc: Global, text: &[u8], size: &str) -> Result<String, F
     let mut inbox = Inbox::new(alloc)?;
     let mut runs = Runs::new(alloc);
     let end = add_messages(alloc, &mut runs, &mut inbox, text, size)?;
-    Ok(runs.ended(end.as_str())?)
+    Ok(runs.finish_line(end.as_str())?)
 }
 
 // Adds the messages of a text that comes in pieces of a size, and gives how it ends.

@@ -1,92 +1,91 @@
-//! Plays a script on houses in memory and in SQLite: one command or one question a line, and one line of answer.
+//! Plays scripts on houses in memory and in SQLite: commands and questions, houses that are
+//! stopped, and lists of messages.
 //!
-//! `test_store` plays it on houses in memory up to the comment `-- In SQLite.`, and after it, or where there is none,
-//! on houses in SQLite in memory. `test_store memory` plays it on houses in memory. `test_store make FILE` plays
-//! it on a house in a new file, and `test_store ask FILE` asks the house that is there. The stored run is a test of the
-//! house's decisions and of the keep in SQLite: `stdin` has the script, `stdout` its transcript, in which what the house
-//! has to answer stands after each line, written by hand from its rules. `house_script` says what a line may be.
+//! `test_store` plays a script of sections, each of which begins with its line, `> section houses`,
+//! `> section stops` or `> section runs`. The modules of these names say what their lines may be,
+//! after the mark of `transcript`. A word on the command line has a script played that is of one
+//! part alone: `part` has these. The stored run is a test of the house's decisions, of the keep in
+//! SQLite, and of what no clause says: that calls succeed, that a run answers as its messages one
+//! by one, and what a stop leaves of a house in files. `stdin` has the script, `stdout` its
+//! transcript, in which what has to be answered comes after each line, by the rules of the house
+//! and by the formats.
 #![tactic(auto)]
 
-mod database;
-mod place;
+mod case;
+mod files;
+mod houses;
+mod keeps;
+mod list;
+mod messages;
+mod part;
+mod replay;
+mod run_player;
+mod runs;
+mod sessions;
+mod stops;
+mod tally;
 
-use database::{Connects, Databases, InFile, InMemory};
-use house_rows::{KeepFault, Settings};
-use house_script::{Fault, Makes, ask, play, read_script};
-use place::{Place, named_place};
-use sqlite::Alter;
+use house_script::Fault;
+use part::{Part, named_part};
 use std::alloc::Global;
-use std::fs;
+use std::io::Read;
 use std::process::ExitCode;
-use store::SqlKeep;
-use store_list::ListKeep;
 
-// What parts a script that is played in memory and then in SQLite.
-const MARK: &str = "-- In SQLite.\n";
+// What the line of a section begins with; its name comes after it.
+const SECTION: &str = "> section ";
 
-// Makes keeps in memory.
-#[derive(Drop)]
-struct Lists;
-
-impl Makes<ListKeep> for Lists {
-    fn empty(&self, alloc: Global, settings: Settings) -> Result<ListKeep, KeepFault> {
-        ListKeep::create(alloc, settings)
+// All of the standard input.
+fn read_all(rt: &impl Input, alloc: Global) -> Result<Vec<u8>, Fault> {
+    let mut bytes = Vec::new(alloc);
+    match rt.reader().read_to_end(&mut bytes) {
+        Ok(_) => Ok(bytes),
+        Err(_) => Err(Fault::Unread),
     }
 }
 
-// Plays a script on houses that are made in a place.
-fn make<S: Alter + Drop, C: Connects<S>>(
-    rt: &HostRuntime,
-    alloc: Global,
-    place: &C,
-    script: &str,
-) -> Result<(), Fault> {
-    play(rt, alloc, &Databases { place }, script)
+// A script that is text.
+fn text_of(script: &[u8]) -> Result<&str, Fault> {
+    match str::from_utf8(script) {
+        Ok(text) => Ok(text),
+        Err(_) => Err(Fault::Unread),
+    }
 }
 
-// Asks the house that is in a place the questions of a script.
-fn ask_there<S: Alter + Drop, C: Connects<S>>(
-    rt: &HostRuntime,
-    alloc: Global,
-    place: &C,
-    script: &str,
-) -> Result<(), Fault> {
-    let mut keep = SqlKeep::open(alloc, place.connection()?)?;
-    ask(rt, alloc, &mut keep, script)
+// Plays the sections of a script, which begins with the line of the first.
+fn play_sections(rt: &HostRuntime, alloc: Global, script: &str) -> Result<(), Fault> {
+    let sections = script.strip_prefix(SECTION).ok_or(Fault::Script)?;
+    for section in sections.split(SECTION) {
+        play_section(rt, alloc, section)?;
+    }
+    Ok(())
 }
 
-// Plays a script up to the mark on houses in memory, and after it in SQLite.
-fn play_both(rt: &HostRuntime, alloc: Global, script: &str) -> Result<(), Fault> {
-    let place = &InMemory { alloc };
-    let Some((first, rest)) = script.split_once(MARK) else {
-        return make(rt, alloc, place, script);
-    };
-    play(rt, alloc, &Lists, first)?;
-    print!(rt; "{MARK}").map_err(|_| Fault::Output)?;
-    make(rt, alloc, place, rest)
+// Plays a section, from its name on.
+fn play_section(rt: &HostRuntime, alloc: Global, section: &str) -> Result<(), Fault> {
+    let (name, lines) = section.split_once('\n').unwrap_or((section, ""));
+    println!(rt; "{SECTION}{name}")?;
+    match name {
+        "houses" => houses::play_both(rt, alloc, lines),
+        "stops" => stops::play(rt, alloc, lines),
+        "runs" => runs::play(rt, alloc, lines.as_bytes()),
+        _ => Err(Fault::Script),
+    }
 }
 
-// That a file is there which isn't empty: a connection would make a database of it.
-fn is_there(rt: &HostRuntime, path: &str) -> bool {
-    fs::metadata(rt, path).is_ok_and(|file| file.len() > 0)
+// Plays a script of a part.
+fn play_part(rt: &HostRuntime, alloc: Global, part: &Part, script: &[u8]) -> Result<(), Fault> {
+    match part {
+        Part::Sections => play_sections(rt, alloc, text_of(script)?),
+        Part::Houses(place) => houses::play_in(rt, alloc, place, text_of(script)?),
+        Part::Runs => runs::play(rt, alloc, script),
+    }
 }
 
-// Plays the script where the command line says.
+// Plays the script as the command line says.
 fn start(rt: &HostRuntime, alloc: Global) -> Result<(), Fault> {
-    let place = named_place(rt)?;
-    let script = read_script(rt, alloc)?;
-    match place {
-        Place::Both => play_both(rt, alloc, script.as_str()),
-        Place::Memory => play(rt, alloc, &Lists, script.as_str()),
-        Place::New(path) => make(rt, alloc, &InFile::new(rt, path.as_str()), script.as_str()),
-        Place::There(path) if !is_there(rt, path.as_str()) => Err(Fault::Keep),
-        Place::There(path) => ask_there(
-            rt,
-            alloc,
-            &InFile::new(rt, path.as_str()),
-            script.as_str(),
-        ),
-    }
+    let part = named_part(rt)?;
+    let script = read_all(rt, alloc)?;
+    play_part(rt, alloc, &part, &script)
 }
 
 fn main(rt: HostRuntime) -> ExitCode {

@@ -1,15 +1,17 @@
 //! The section on amounts, days and statements: what its lines may be, and what is answered to them.
 //!
-//! `amount N` tells the amount of so many cents and how it is shown, or `-`, `sum N` how a sum of them is shown,
-//! and `read T` the amount that a text is read as. `day T` tells the number of the day that a text spells, and
-//! `number N` that of the day with a number, or `-`. `zone T` takes the zone of a rule, in which `at MOMENT` tells
-//! the number of a moment's day, or `-`. In these texts `\7f;` is the character of that number. `fee PRICE RATE`
-//! tells a fee, and `faults` has a line for each. `sales` begins without sales, and `sale ITEM SELLER BUYER CLOSED
-//! PRICE` adds one. `statement MEMBER FROM TO` makes a statement in the zone: its member, a line for each of its
-//! lines, and its totals. `text pieces N`, `csv pieces N` tell what a sink has of it that takes N bytes at a time,
-//! and `text failing N`, `csv failing N` what one has that fails at the Nth call. A refusal is told by its name.
+//! `amount N` gives the amount of so many cents and how it is shown, or `-`, `sum N` how a sum of
+//! them is shown, and `read T` the amount that a text is read as. `day T` gives the number of the
+//! day that a text spells, and `number N` that of the day with a number, or `-`. `zone T` takes the
+//! zone of a rule, in which `at MOMENT` gives the number of a moment's day, or `-`. In these texts
+//! `\7f;` is the character of that number. `fee PRICE RATE` gives a fee, and `faults` has a line
+//! for each. `sales` begins without sales, and `sale ITEM SELLER BUYER CLOSED PRICE` adds one.
+//! `statement MEMBER FROM TO` makes a statement in the zone: its member, a line for each of its
+//! lines, and its totals. `text pieces N`, `csv pieces N` give what a sink has of it that takes N
+//! bytes at a time, and `text failing N`, `csv failing N` what one has that fails at the Nth call.
+//! A refusal is reported by its name.
 use crate::script::Fault;
-use crate::spelling::first_word;
+use crate::words::first_word;
 use crate::{amounts, days, sales, statements};
 use settle::{SettleFault, Sold, Statement, Zone};
 use std::alloc::Global;
@@ -34,11 +36,11 @@ impl Accounts {
 }
 
 /// The name of a refusal.
-pub(crate) fn refused(alloc: Global, fault: SettleFault) -> Result<String, Fault> {
+pub(crate) fn fault_name(alloc: Global, fault: SettleFault) -> Result<String, Fault> {
     Ok(format!(in alloc; "{fault:?}")?)
 }
 
-/// Plays a line, and tells what is answered to it, if anything is.
+/// Plays a line, and gives what is answered to it, if anything is.
 pub(crate) fn play(
     alloc: Global,
     accounts: &mut Accounts,
@@ -72,8 +74,8 @@ fn answer(alloc: Global, accounts: &mut Accounts, word: &str, rest: &str) -> Res
         "fee" => sales::fee(alloc, rest),
         "faults" => Ok(sales::faults(alloc)?),
         "statement" => statements::statement(alloc, accounts, rest),
-        "text" => statements::written(alloc, accounts, rest, false),
-        "csv" => statements::written(alloc, accounts, rest, true),
+        "text" => statements::sink_text(alloc, accounts, rest, false),
+        "csv" => statements::sink_text(alloc, accounts, rest, true),
         _ => Err(Fault::Script),
     }
 }

@@ -1,6 +1,6 @@
 //! Amounts of money, as numbers and as texts.
 use crate::script::Fault;
-use crate::spelling::{number, spelled};
+use crate::words::{number, text_of};
 use cents::{Cents, show};
 use std::alloc::Global;
 
@@ -14,7 +14,7 @@ pub(crate) fn amount(alloc: Global, word: &str) -> Result<String, Fault> {
 
 /// The amount that a text is read as, or its fault, the fault's number and how it is shown.
 pub(crate) fn read(alloc: Global, text: &str) -> Result<String, Fault> {
-    match Cents::parse(spelled(alloc, text)?.as_str()) {
+    match Cents::parse(text_of(alloc, text)?.as_str()) {
         Ok(amount) => Ok(format!(in alloc; "{}", amount.value())?),
         Err(fault) => Ok(format!(in alloc; "{fault:?}, {}, {fault}", fault.number())?),
     }

@@ -2,20 +2,22 @@
 //!
 //! Bytes that are moved are a pattern's, in which no 251 that follow each other come again at once.
 //!
-//! `source T PIECE CALL ROOM ROOM ..` takes from a source in memory of the text T, which gives PIECE bytes a
-//! call and fails at CALL, into rooms of so many bytes, and tells each outcome and what was taken. `sink PIECE
-//! CALL` begins a sink in memory; `give N` gives it the next N bytes in a call, `all N` in as many as it takes,
-//! `flush` flushes it, and `bytes` tells how many it has and whether they are the pattern's. `moved N PIECE
-//! PIECE` moves N bytes from a source in memory to a sink, `read N` from a reader of std, by a buffer of seven
-//! bytes, and tells how many calls found bytes. `stumbles ERROR` takes three bytes four times from a reader that
-//! fails once, at its second call.
+//! `source T PIECE CALL ROOM ROOM ..` takes from a source in memory of the text T, which gives
+//! PIECE bytes a call and fails at CALL, into rooms of so many bytes, and reports each outcome and
+//! what was taken. `sink PIECE CALL` begins a sink in memory; `give N` gives it the next N bytes in
+//! a call, `all N` in as many as it takes, `flush` flushes it, and `bytes` says how many it has and
+//! whether they are the pattern's. `moved N PIECE PIECE` moves N bytes from a source in memory to a
+//! sink, `read N` from a reader of std, by a buffer of seven bytes, and says how many calls found
+//! bytes. `stumbles ERROR` takes three bytes four times from a reader that fails once, at its
+//! second call.
 //!
-//! `write MOST CALLS ERROR STEP STEP ..` works on a writer of std that takes MOST bytes a call and fails after
-//! CALLS calls. A step is `N` or `+N`, as `all` and `give`, or `flush`; each outcome is told. `offered` tells
-//! how many bytes the writer was offered in each call, `calls` how many calls those are, and `written` how many
-//! flushes it saw and what it has. `failure` tells how a failure is shown. `-` stands for no limit.
+//! `write MOST CALLS ERROR STEP STEP ..` works on a writer of std that takes MOST bytes a call and
+//! fails after CALLS calls. A step is `N` or `+N`, as `all` and `give`, or `flush`; each outcome is
+//! reported. `offered` says how many bytes the writer was offered in each call, `calls` how many
+//! calls those are, and `written` how many flushes it saw and what it has. `failure` says how a
+//! failure is shown. `-` stands for no limit.
 use crate::script::Fault;
-use crate::spelling::first_word;
+use crate::words::first_word;
 use crate::writers::Log;
 use crate::{readers, sinks, writers};
 use device::{Failure, MemorySink};
@@ -67,7 +69,7 @@ pub(crate) fn beginning(alloc: Global, pattern: &[u8], bytes: &[u8]) -> Result<S
     Ok(format!(in alloc; "{} {order}", bytes.len())?)
 }
 
-/// Plays a line, and tells what is answered to it, if anything is.
+/// Plays a line, and gives what is answered to it, if anything is.
 pub(crate) fn play(
     alloc: Global,
     devices: &mut Devices,
@@ -89,7 +91,7 @@ fn answer(alloc: Global, devices: &mut Devices, word: &str, rest: &str) -> Resul
         "flush" => sinks::flush(alloc, &mut devices.sink),
         "bytes" => beginning(alloc, &devices.pattern, devices.sink.bytes()),
         "source" => readers::source(alloc, rest),
-        "moved" => readers::moved(alloc, &devices.pattern, rest),
+        "moved" => readers::move_bytes(alloc, &devices.pattern, rest),
         "read" => readers::read(alloc, &devices.pattern, rest),
         "stumbles" => readers::stumbles(alloc, rest),
         "failure" => Ok(format!(in alloc; "{}", Failure)?),

@@ -1,11 +1,11 @@
-//! Plays a script on what stands below the site: devices, band tables and bids, amounts, days and statements, and
-//! the names of the house.
+//! Plays a script on what is below the site: devices, band tables, amounts, days and statements.
 //!
-//! The stored run is a test of what no clause says: that calls succeed, what comes of readers and writers that
-//! fail, how often a writer is called, and that the clauses mean what people were promised and write. `stdin` has
-//! the script, `stdout` its transcript, in which what has to be answered stands after each line, worked out by
-//! hand, but for the days of moments, which are the C library's. Read `script` first, which says what a line may
-//! be, after the mark of `transcript`. Commands, changes and rows are made by `test_store`.
+//! The stored run is a test of what no clause says: that calls succeed, what comes of readers and
+//! writers that fail, how often a writer is called, and that the clauses mean what people were
+//! promised and write. `stdin` has the script, `stdout` its transcript, in which what has to be
+//! answered comes after each line, worked out by hand, but for the days of moments, which are the C
+//! library's. Read `script` first, which says what a line may be, after the mark of `transcript`.
+//! Commands, changes and rows are made by `test_store`.
 #![tactic(auto)]
 
 mod accounts;
@@ -13,13 +13,10 @@ mod amounts;
 mod bands;
 mod days;
 mod devices;
-mod items;
-mod names;
 mod readers;
 mod sales;
 mod script;
 mod sinks;
-mod spelling;
 mod statements;
 mod tables;
 mod words;
@@ -29,12 +26,12 @@ use script::{Fault, Stage};
 use std::alloc::Global;
 use std::io;
 use std::process::ExitCode;
-use transcript::echoed;
+use transcript::echo;
 
 // Plays the script.
 fn play(rt: &(impl Input + Print), alloc: Global) -> Result<(), Fault> {
     let script = io::read_to_string(alloc, rt.reader()).map_err(|_| Fault::Script)?;
-    let mut stage = Stage::Names;
+    let mut stage = Stage::Nothing;
     play_lines(rt, alloc, &mut stage, script.as_str())
 }
 
@@ -46,7 +43,7 @@ fn play_lines(
     script: &str,
 ) -> Result<(), Fault> {
     for line in script.lines() {
-        let line = echoed(rt, line).map_err(|_| Fault::Output)?;
+        let line = echo(rt, line).map_err(|_| Fault::Output)?;
         if let Some(answer) = script::play(alloc, stage, line)? {
             println!(rt; "{answer}").map_err(|_| Fault::Output)?;
         }

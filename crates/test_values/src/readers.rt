@@ -1,7 +1,7 @@
 //! Sources: in memory, and over readers of std.
 use crate::devices::{beginning, error_of};
 use crate::script::Fault;
-use crate::spelling::{first_word, number, optional};
+use crate::words::{first_word, number, optional};
 use device::{Failure, MemorySink, MemorySource, Reading, Sink, Source, give_all};
 use std::alloc::{AllocError, Global};
 use std::fmt::Write;
@@ -90,7 +90,7 @@ fn of_pattern<'b>(pattern: &'b [u8], word: &str) -> Result<&'b [u8], Fault> {
 }
 
 /// Moves bytes from a source in memory to a sink.
-pub(crate) fn moved(alloc: Global, pattern: &[u8], line: &str) -> Result<String, Fault> {
+pub(crate) fn move_bytes(alloc: Global, pattern: &[u8], line: &str) -> Result<String, Fault> {
     let (count, line) = first_word(line);
     let (from, to) = first_word(line);
     let mut source = in_pieces(of_pattern(pattern, count)?, from)?;

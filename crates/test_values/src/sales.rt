@@ -4,7 +4,7 @@ ghost use Rattle.settle.specs.Lines.{MOST};
 ghost use Rattle.settle.specs.Statement.{IsSale};
 
 use crate::script::Fault;
-use crate::spelling::{amount, first_word, number};
+use crate::words::{amount, first_word, number};
 use settle::{LAST_MOMENT, SettleFault, Sold};
 use std::alloc::{AllocError, Global};
 use std::fmt::Write;

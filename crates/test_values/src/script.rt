@@ -1,17 +1,16 @@
 //! What a script is: sections, each of which begins with its line.
 //!
-//! `section devices`, `section bands`, `section accounts` and `section names` begin a section with nothing in it yet;
-//! the modules of these names say what its lines may be. An empty line, and one that begins with `--`, has no
-//! answer.
+//! `section devices`, `section bands` and `section accounts` begin a section with nothing in it yet; the modules of
+//! these names say what its lines may be. An empty line, and one that begins with `--`, has no answer.
 use crate::accounts::Accounts;
-use crate::bands::Bidding;
+use crate::bands::Tables;
 use crate::devices::Devices;
-use crate::{accounts, bands, devices, names};
+use crate::{accounts, bands, devices};
 use std::alloc::{AllocError, Global};
 use thiserror::Error;
 
 /// Why a script isn't played on.
-#[derive(Clone, Copy, Debug, PartialEq, Eq, Error)]
+#[derive(Clone, Copy, Debug, Error)]
 pub(crate) enum Fault {
     /// A line has no meaning, or the script isn't text.
     #[error("a line is no part of a script")]
@@ -19,9 +18,6 @@ pub(crate) enum Fault {
     /// Memory was wanted.
     #[error("memory is wanted")]
     Memory,
-    /// The standing kept from bid to bid isn't that of the list of accepted bids.
-    #[error("a standing isn't that of its bids")]
-    Standing,
     /// Rows are a table by the one look, and none by the other.
     #[error("rows are a table, and are none")]
     Table,
@@ -41,12 +37,12 @@ impl From<AllocError> for Fault {
 pub(crate) enum Stage {
     /// Sources, sinks and writers.
     Devices(Devices),
-    /// A table, and bids on an item.
-    Bands(Bidding),
+    /// A text, and the example table.
+    Bands(Tables),
     /// A zone, sales and a statement.
     Accounts(Accounts),
-    /// Nothing.
-    Names,
+    /// Nothing: no section has begun.
+    Nothing,
 }
 
 impl Stage {
@@ -54,15 +50,14 @@ impl Stage {
     fn new(alloc: Global, section: &str) -> Result<Stage, Fault> {
         match section {
             "devices" => Ok(Stage::Devices(Devices::new(alloc)?)),
-            "bands" => Ok(Stage::Bands(Bidding::new(alloc)?)),
+            "bands" => Ok(Stage::Bands(Tables::new(alloc)?)),
             "accounts" => Ok(Stage::Accounts(Accounts::new(alloc)?)),
-            "names" => Ok(Stage::Names),
             _ => Err(Fault::Script),
         }
     }
 }
 
-/// Plays a line, and tells what is answered to it, if anything is.
+/// Plays a line, and gives what is answered to it, if anything is.
 pub(crate) fn play(alloc: Global, stage: &mut Stage, line: &str) -> Result<Option<String>, Fault> {
     if line.is_empty() || line.starts_with("--") {
         return Ok(None);
@@ -73,9 +68,9 @@ pub(crate) fn play(alloc: Global, stage: &mut Stage, line: &str) -> Result<Optio
     }
     match stage {
         Stage::Devices(devices) => devices::play(alloc, devices, line),
-        Stage::Bands(bidding) => bands::play(alloc, bidding, line),
+        Stage::Bands(tables) => bands::play(alloc, tables, line),
         Stage::Accounts(accounts) => accounts::play(alloc, accounts, line),
-        Stage::Names => Ok(Some(names::answer(alloc, line)?)),
+        Stage::Nothing => Err(Fault::Script),
     }
 }
 

@@ -1,7 +1,7 @@
 //! A sink in memory.
 use crate::devices::Devices;
 use crate::script::Fault;
-use crate::spelling::{first_word, number, optional};
+use crate::words::{first_word, number, optional};
 use device::{MemorySink, Sink, give_all};
 use std::alloc::Global;
 

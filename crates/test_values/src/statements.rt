@@ -1,14 +1,14 @@
 //! What a statement says, and the bytes that it is written as.
-use crate::accounts::{Accounts, refused};
+use crate::accounts::{Accounts, fault_name};
 use crate::sales::are_sales;
 use crate::script::Fault;
-use crate::spelling::{first_word, number};
+use crate::words::{first_word, number};
 use device::MemorySink;
 use settle::{Day, Statement, lines};
 use std::alloc::{AllocError, Global};
 use std::fmt::Write;
 
-/// Makes the statement that a line asks for, at a fee of a tenth, and tells what it says.
+/// Makes the statement that a line asks for, at a fee of a tenth, and gives what it says.
 pub(crate) fn statement(
     alloc: Global,
     accounts: &mut Accounts,
@@ -30,9 +30,9 @@ pub(crate) fn statement(
         &accounts.zone,
         1000,
     ) {
-        Err(fault) => refused(alloc, fault),
+        Err(fault) => fault_name(alloc, fault),
         Ok(statement) => {
-            let said = shown(alloc, &statement)?;
+            let said = statement_text(alloc, &statement)?;
             accounts.statement = Some(statement);
             Ok(said)
         }
@@ -44,7 +44,7 @@ fn day(word: &str) -> Result<Day, Fault> {
 }
 
 // The member of a statement, its lines, and its totals.
-fn shown(alloc: Global, statement: &Statement) -> Result<String, AllocError> {
+fn statement_text(alloc: Global, statement: &Statement) -> Result<String, AllocError> {
     let mut text = format!(in alloc; "member {}\n", statement.member())?;
     push_lines(&mut text, statement)?;
     push_totals(&mut text, statement)?;
@@ -71,7 +71,7 @@ fn push_totals(text: &mut String, statement: &Statement) -> Result<(), AllocErro
 }
 
 /// What a sink has of the last statement.
-pub(crate) fn written(
+pub(crate) fn sink_text(
     alloc: Global,
     accounts: &Accounts,
     line: &str,

@@ -1,6 +1,6 @@
 //! Band tables, made of rows and read from texts.
 use crate::script::Fault;
-use crate::spelling::{amount, number};
+use crate::words::{amount, number};
 use std::alloc::{AllocError, Global};
 use std::fmt::Write;
 use std::io;
@@ -83,12 +83,12 @@ pub(crate) fn rows(alloc: Global, good: u64, line: &str) -> Result<String, Fault
         }
     }
     let table = Bands::of_rows(alloc, &rows);
-    let is_told_otherwise = match &table {
+    let is_reported_otherwise = match &table {
         Ok(_) => !Bands::are_rows(&rows),
         Err(BandsFault::Memory) => false,
         Err(_) => Bands::are_rows(&rows),
     };
-    if is_told_otherwise {
+    if is_reported_otherwise {
         return Err(Fault::Table);
     }
     outcome(alloc, table)

@@ -1,55 +1,92 @@
-//! The words and numbers by which refusals, states and faults are told.
-use house_rows::{KeepFault, Refusal, State};
-use std::alloc::{AllocError, Global};
-use std::fmt::Write;
+//! How numbers, bytes and texts are spelled in a script.
+use crate::script::Fault;
+use cents::Cents;
+use std::alloc::Global;
+use std::str::FromStr;
 
-const REFUSALS: [Refusal; 20] = [
-    Refusal::NoCaller,
-    Refusal::HouseOnly,
-    Refusal::SellerOnly,
-    Refusal::Unknown,
-    Refusal::MomentBehind,
-    Refusal::Ended,
-    Refusal::NotOpen,
-    Refusal::OwnItem,
-    Refusal::Low { floor: 550 },
-    Refusal::NotHigher,
-    Refusal::HasBids,
-    Refusal::NoBuyNow,
-    Refusal::LotExists,
-    Refusal::NameTaken,
-    Refusal::AlreadyAnswered,
-    Refusal::AlreadyGiven,
-    Refusal::NotParty,
-    Refusal::NotSold,
-    Refusal::Limit,
-    Refusal::Range,
-];
-
-/// Every refusal: itself, its number, its name and its status.
-pub(crate) fn refusals(alloc: Global) -> Result<String, AllocError> {
-    let mut lines = String::new(alloc);
-    for refusal in REFUSALS {
-        let (number, name, status) = (refusal.number(), refusal.name(), refusal.status().code());
-        write!(lines, "{refusal:?}: {number} {name} {status}\n")?;
-    }
-    Ok(lines)
+/// The first word of a line, and what comes after the space after it.
+pub(crate) fn first_word(line: &str) -> (&str, &str) {
+    line.split_once(' ').unwrap_or((line, ""))
 }
 
-/// Every state and its word.
-pub(crate) fn states(alloc: Global) -> Result<String, AllocError> {
-    let mut lines = String::new(alloc);
-    for state in [State::Open, State::Sold, State::Unsold, State::Settled] {
-        write!(lines, "{state:?}: {}\n", state.name())?;
+/// The number that a word spells.
+pub(crate) fn number<T: FromStr>(word: &str) -> Result<T, Fault>
+where
+    <T as FromStr>::Err: Drop,
+{
+    match word.parse() {
+        Ok(number) => Ok(number),
+        Err(_) => Err(Fault::Script),
     }
-    Ok(lines)
 }
 
-/// Every fault of a keep: its number, and how it is shown.
-pub(crate) fn faults(alloc: Global) -> Result<String, AllocError> {
-    let mut lines = String::new(alloc);
-    for fault in [KeepFault::Memory, KeepFault::Store, KeepFault::Damaged] {
-        write!(lines, "{fault:?}: {} {fault}\n", fault.number())?;
+/// The number that a word spells, where it isn't `-`.
+pub(crate) fn optional<T: FromStr>(word: &str) -> Result<Option<T>, Fault>
+where
+    <T as FromStr>::Err: Drop,
+{
+    if word == "-" {
+        return Ok(None);
     }
-    Ok(lines)
+    Ok(Some(number(word)?))
+}
+
+/// The amount that a word spells, in cents.
+pub(crate) fn amount(word: &str) -> Result<Cents, Fault> {
+    Cents::new(number(word)?).ok_or(Fault::Script)
+}
+
+/// Adds the bytes that a text spells: an ASCII character as itself, and `\r`, `\n`, `\t` and `\xff`.
+pub(crate) fn push(bytes: &mut Vec<u8>, text: &str) -> Result<(), Fault> {
+    for (place, part) in text.split('\\').enumerate() {
+        let mut plain = part.as_bytes();
+        if place > 0 {
+            let (byte, rest) = unescape(plain)?;
+            bytes.extend_from_slice(&[byte])?;
+            plain = rest;
+        }
+        bytes.extend_from_slice(plain)?;
+    }
+    Ok(())
+}
+
+// The byte that what follows a backslash spells, and what comes after it.
+fn unescape(part: &[u8]) -> Result<(u8, &[u8]), Fault> {
+    match part {
+        [b'r', rest @ ..] => Ok((b'\r', rest)),
+        [b'n', rest @ ..] => Ok((b'\n', rest)),
+        [b't', rest @ ..] => Ok((b'\t', rest)),
+        [b'x', high, low, rest @ ..] => Ok((digit(*high) << 4 | digit(*low), rest)),
+        _ => Err(Fault::Script),
+    }
+}
+
+// The value of a hexadecimal digit, or 0.
+fn digit(byte: u8) -> u8 {
+    match byte {
+        b'0'..=b'9' => byte - b'0',
+        b'a'..=b'f' => byte - b'a' + 10,
+        _ => 0,
+    }
+}
+
+/// The text that a line spells, in which `\20ac;` is the character of that number.
+pub(crate) fn text_of(alloc: Global, line: &str) -> Result<String, Fault> {
+    let mut text = String::new(alloc);
+    push_characters(&mut text, line)?;
+    Ok(text)
+}
+
+fn push_characters(text: &mut String, line: &str) -> Result<(), Fault> {
+    for (place, part) in line.split('\\').enumerate() {
+        let mut plain = part;
+        if place > 0 {
+            let (number, rest) = part.split_once(';').ok_or(Fault::Script)?;
+            let number = u32::from_str_radix(number, 16).map_err(|_| Fault::Script)?;
+            text.push(char::from_u32(number).ok_or(Fault::Script)?)?;
+            plain = rest;
+        }
+        text.push_str(plain)?;
+    }
+    Ok(())
 }

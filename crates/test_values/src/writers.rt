@@ -1,7 +1,7 @@
 //! Writers of std as gathering sinks.
 use crate::devices::{Devices, beginning, error_of};
 use crate::script::Fault;
-use crate::spelling::{first_word, number, optional};
+use crate::words::{first_word, number, optional};
 use device::{Failure, Sink, Writing, give_all};
 use std::alloc::Global;
 use std::fmt::Write as _;
@@ -63,7 +63,7 @@ pub(crate) fn answer(
     rest: &str,
 ) -> Result<String, Fault> {
     match word {
-        "write" => written(alloc, devices, rest),
+        "write" => write_steps(alloc, devices, rest),
         "offered" => Ok(format!(in alloc; "{:?}", devices.log.offered.as_slice())?),
         "calls" => Ok(format!(in alloc; "{}", devices.log.offered.len())?),
         "written" => {
@@ -75,7 +75,7 @@ pub(crate) fn answer(
 }
 
 // Makes the steps of a line on a new writer.
-fn written(alloc: Global, devices: &mut Devices, line: &str) -> Result<String, Fault> {
+fn write_steps(alloc: Global, devices: &mut Devices, line: &str) -> Result<String, Fault> {
     let (most, line) = first_word(line);
     let (calls, line) = first_word(line);
     let (error, steps) = first_word(line);

@@ -7,7 +7,7 @@ use Rattle.std.proofs.lemmas.List.Elements.{filter-append}
 use Rattle.std.proofs.lemmas.List.Folds.{list_any-append}
 use Rattle.httparse.specs.Spans.{header_bytes, span_bytes}
 use Rattle.httparse.specs.declared.spans.HeaderSpan.{HeaderSpan}
-use Rattle.wire.specs.Fields.{Pair, has_transfer, pieces_behind, values_of}
+use Rattle.wire.specs.Fields.{Pair, has_transfer, pieces_after, values_of}
 use Rattle.wire.specs.Known.{IsCount}
 use Rattle.wire.specs.declared.fields.Values.{Values}
 
@@ -59,7 +59,7 @@ fields_next bytes spans i d name value inside named valued =
     let pair : same ≡ header_bytes bytes (get_or spans i d) = λ j. (named j, valued j) in
     ap (λ f. map (header_bytes bytes) (take i spans) ++ f ∷ []) pair ∙ sym (fields_more bytes spans i d inside)
 
--- one field more that may tell a transfer coding
+-- one field more that may name a transfer coding
 pub transfer_more : (fields : List Pair) (f : Pair)
     → has_transfer (fields ++ f ∷ []) ≡ (has_transfer fields || str_eq_ignore_ascii_case f.0 (codes "transfer-encoding"))
 unfolding has_transfer
@@ -101,20 +101,20 @@ transfer_none = refl
 
 -- the pieces of a list, from a place on
 pub pieces_comma : (list : List ℕ) (start place : ℕ) → place < length list → get_or list place 0 ≡ 44
-    → pieces_behind (slice_range list start place) (drop place list) ≡ slice_range list start place ∷ pieces_behind [] (drop
+    → pieces_after (slice_range list start place) (drop place list) ≡ slice_range list start place ∷ pieces_after [] (drop
     (place + 1) list)
 pieces_comma list start place inside comma = rw (drop_more list place 0 inside, comma) refl
 
 pub pieces_other : (list : List ℕ) (start place : ℕ) → start ≤ place → place < length list → get_or list place 0 ≢ 44
-    → pieces_behind (slice_range list start place) (drop place list) ≡ pieces_behind (slice_range list start (place + 1)) (drop
+    → pieces_after (slice_range list start place) (drop place list) ≡ pieces_after (slice_range list start (place + 1)) (drop
     (place + 1) list)
 pieces_other list start place order inside other =
     let here : drop place list ≡ get_or list place 0 ∷ drop (place + 1) list = drop_more list place 0 inside in
     let longer : slice_range list start (place + 1) ≡ slice_range list start place ++ get_or list place 0 ∷ []
     = slice_longer list start place order inside in
-    ap (pieces_behind (slice_range list start place)) here
+    ap (pieces_after (slice_range list start place)) here
     ∙ step (get_or list place 0 == 44) (eqb_not (get_or list place 0) other)
-    ∙ ap (λ l. pieces_behind l (drop (place + 1) list)) (sym longer)
+    ∙ ap (λ l. pieces_after l (drop (place + 1) list)) (sym longer)
   where
     slice_longer : (list : List ℕ) (start place : ℕ) → start ≤ place → place < length list
         → slice_range list start (place + 1) ≡ slice_range list start place ++ get_or list place 0 ∷ []
@@ -125,9 +125,9 @@ pieces_other list start place order inside other =
         let few : n < length (drop start list) = omega (arith, length-drop start list) in
         rw (more, take_more (drop start list) n 0 few, get_or-drop, place_is) refl
 
-    step : (t : Bool) → t ≡ false → (if t then slice_range list start place ∷ pieces_behind [] (drop
-        (place + 1) list) else pieces_behind (slice_range list start place ++ get_or list place 0 ∷ []) (drop (place + 1) list))
-        ≡ pieces_behind (slice_range list start place ++ get_or list place 0 ∷ []) (drop (place + 1) list)
+    step : (t : Bool) → t ≡ false → (if t then slice_range list start place ∷ pieces_after [] (drop
+        (place + 1) list) else pieces_after (slice_range list start place ++ get_or list place 0 ∷ []) (drop (place + 1) list))
+        ≡ pieces_after (slice_range list start place ++ get_or list place 0 ∷ []) (drop (place + 1) list)
     step t e = rw e refl
 
     eqb_not : (n : ℕ) → n ≢ 44 → (n == 44) ≡ false

@@ -1,4 +1,4 @@
--- What a head at the front tells of the bytes.
+-- What a head at the front says of the bytes.
 use Rattle.std.proofs.Common.{if◌then◌else◌, nat_lt, ◌≡◌, ℕ, ◌+◌, ◌<◌, ◌≤◌, List, [], ◌∷◌, ◌++◌, Bool, true, false, length, take, drop, Result, Ok, Err, refl, sym, ap, ◌∙◌, subst, arith, rules, inl, inr, append-nil, length-append, length-drop}
 use Rattle.std.proofs.lemmas.List.{drop-append-le, length-take-le, take-append-le}
 use Rattle.httparse.specs.Grammar.{IsRequestHead, RequestHead, print_blank, print_end, print_request, print_section, print_version}
@@ -12,7 +12,7 @@ use Rattle.wire.specs.Message.{Message}
 use Rattle.wire.specs.declared.fault.WireFault.{WireFault}
 use Rattle.wire.specs.declared.fault.WireFault.TheVariants as fault
 
--- a message and what stands after it
+-- a message and what comes after it
 abbrev found : Message → List ℕ → Message × List ℕ
 found m rest = (m, rest)
 
@@ -151,7 +151,7 @@ nothing_begins_head h after b = omega (arith, length_split [] h after b, some_he
           is.method.0,
         )
 
--- nothing stands at the front of nothing
+-- nothing is at the front of nothing
 pub nothing_begins : (m : Message) (rest : List ℕ) → IsMessageAt [] m rest → ⊥
 unfolding IsFront
 nothing_begins m rest (inl (h, after, b, e)) = nothing_begins_head h after b

@@ -6,7 +6,7 @@ use Rattle.httparse.specs.Grammar.{RequestHead, ReadsRequest, HasNoRequest, prin
 use Rattle.httparse.proofs.GrammarLemmas.{request_prefix_free}
 use Rattle.wire.specs.Head.{NeverHead, most_bytes}
 
--- what stands at the front of a longer text stands at the front of the text, if that is as long
+-- what is at the front of a longer text is at the front of the text, if that is as long
 pub front_within : (xs more ys rest : List ℕ) → length ys ≤ length xs → xs ++ more ≡ ys ++ rest → xs ≡ ys ++ drop (length ys) xs
 front_within xs more ys rest fits e =
     let front : take (length ys) xs ≡ ys = sym (take-append-le (length ys) xs more fits) ∙ ap (take (length ys)) e ∙ take_at ys rest

@@ -16,14 +16,14 @@ use Rattle.httparse.specs.Spans.{name_and_value}
 use Rattle.httparse.proofs.GrammarLemmas.{cons-append, print_request-append}
 use Rattle.memchr.specs.Find.{IsFirstByte, is_byte}
 use Rattle.wire.specs.Fields.{Pair, values_of}
-use Rattle.wire.specs.Lines.{field_in, fields_in, name_end, request_line, value_behind}
+use Rattle.wire.specs.Lines.{field_in, fields_in, name_end, request_line, value_after}
 use Rattle.wire.proofs.FieldLemmas.{values_of-more, values_of-none}
 
 -- no byte of the list is x
 abbrev pub Lacks : ℕ → List ℕ → Type 0
 Lacks x bytes = All (λ b. (b == x) ≡ false) bytes
 
--- where the first x stands, or the length
+-- where the first x is, or the length
 abbrev pub place_of : ℕ → List ℕ → ℕ
 place_of x bytes = position_or_len (λ b. b == x) bytes
 
@@ -71,9 +71,9 @@ lacks_place x bytes lacks =
     position_or_len_is (λ b. b == x) bytes (length bytes) 0 (omega arith)
     (λ i low. All-get_or (λ b. (b == x) ≡ false) bytes i 0 low lacks) (λ low. absurd (omega (arith, low)))
 
--- the first x stands after what lacks it
-pub place_behind : (x : ℕ) (front rest : List ℕ) → Lacks x front → place_of x (front ++ x ∷ rest) ≡ length front
-place_behind x front rest lacks =
+-- the first x comes after what lacks it
+pub place_after : (x : ℕ) (front rest : List ℕ) → Lacks x front → place_of x (front ++ x ∷ rest) ≡ length front
+place_after x front rest lacks =
     let long : length (front ++ x ∷ rest) ≡ length front + length (x ∷ rest) = length-append front (x ∷ rest) in
     position_or_len_is (λ b. b == x) (front ++ x ∷ rest) (length front) 0 (omega (arith, long)) before (λ _. here)
   where
@@ -93,28 +93,28 @@ lacks_by test x fails bytes pass =
 
 -- the field of a line with a colon
 pub field_at : (line : List ℕ) (k : ℕ) → name_end line ≡ k → k < length line
-    → field_in line ≡ (take k line, value_behind (drop (k + 1) line)) ∷ []
+    → field_in line ≡ (take k line, value_after (drop (k + 1) line)) ∷ []
 unfolding field_in
 field_at line k e low =
     let test : nat_lt k (length line) ≡ true = search (rules, low) in
-    let pair : ℕ → Pair = λ n. (take n line, value_behind (drop (n + 1) line)) in
+    let pair : ℕ → Pair = λ n. (take n line, value_after (drop (n + 1) line)) in
     ap (λ n. if nat_lt n (length line) then pair n ∷ [] else []) e ∙ whenever (pair k ∷ []) [] (nat_lt k (length line)) test
 
 pub field_nowhere : (line : List ℕ) → length line ≤ name_end line → field_in line ≡ []
 unfolding field_in
 field_nowhere line none =
     let test : nat_lt (name_end line) (length line) ≡ false = search (rules, none) in
-    let pair : ℕ → Pair = λ n. (take n line, value_behind (drop (n + 1) line)) in
+    let pair : ℕ → Pair = λ n. (take n line, value_after (drop (n + 1) line)) in
     unless (pair (name_end line) ∷ []) [] (nat_lt (name_end line) (length line)) test
 
--- the field of a line with a name and what stands after its colon
-field_of_line : (name raw : List ℕ) → Lacks 58 name → field_in (name ++ 58 ∷ raw) ≡ (name, value_behind raw) ∷ []
+-- the field of a line with a name and what comes after its colon
+field_of_line : (name raw : List ℕ) → Lacks 58 name → field_in (name ++ 58 ∷ raw) ≡ (name, value_after raw) ∷ []
 field_of_line name raw lacks =
     let line = name ++ 58 ∷ raw in
     let low : length name < length line = omega (arith, length-append name (58 ∷ raw)) in
-    field_at line (length name) (place_behind 58 name raw lacks) low
-    ∙ ap (λ n. (n, value_behind (drop (length name + 1) line)) ∷ []) (take-append_seam name (58 ∷ raw))
-    ∙ ap (λ r. (name, value_behind r) ∷ []) (drop-append-add name (58 ∷ raw) 1)
+    field_at line (length name) (place_after 58 name raw lacks) low
+    ∙ ap (λ n. (n, value_after (drop (length name + 1) line)) ∷ []) (take-append_seam name (58 ∷ raw))
+    ∙ ap (λ r. (name, value_after r) ∷ []) (drop-append-add name (58 ∷ raw) 1)
 
 -- the value of one field by its name
 pub named_one : (name : List ℕ) (f : Pair) → str_eq_ignore_ascii_case f.0 name ≡ true → values_of name (f ∷ []) ≡ f.1 ∷ []
@@ -138,14 +138,14 @@ other_length a b other = is_not (str_eq_ignore_ascii_case a b) (λ e. other (sam
         let lists = (bytes_eq-Decides (str_to_ascii_lowercase a) (str_to_ascii_lowercase b)).0 e in
         sym (length-map a to_ascii_lowercase) ∙ ap (λ (l : List ℕ). length l) lists ∙ length-map b to_ascii_lowercase
 
--- a line of whose name it is told that it is another has no value of this one
+-- a line whose name is known to be another has no value of this one
 pub other_name : (line name : List ℕ) → (name_end line < length line → name_end line ≡ length name → str_eq_ignore_ascii_case
     (take (name_end line) line) name ≡ false)
     → values_of name (field_in line) ≡ []
 other_name line name other = elim (cases_lt (name_end line) (length line)) [
   | inr none ↦ ap (values_of name) (field_nowhere line none) ∙ values_of-none name
   | inl low ↦ ap (values_of name) (field_at line (name_end line) refl low)
-      ∙ named_other name (take (name_end line) line, value_behind (drop (name_end line + 1) line)) (differs low)
+      ∙ named_other name (take (name_end line) line, value_after (drop (name_end line + 1) line)) (differs low)
 ]
   where
     differs : name_end line < length line → str_eq_ignore_ascii_case (take (name_end line) line) name ≡ false
@@ -192,14 +192,14 @@ unfolding is_token_byte
 token_lacks_line bytes pass = lacks_by is_token_byte 10 refl bytes pass
 
 -- the value up to a carriage return that there is or not
-value_plain : (f : Field) → IsField f → value_behind f.raw ≡ trim_ows f.raw
+value_plain : (f : Field) → IsField f → value_after f.raw ≡ trim_ows f.raw
 value_plain f is =
     ap (λ n. trim_ows (take n f.raw)) (lacks_place 13 f.raw (value_lacks 13 refl f is))
     ∙ ap trim_ows (take_all (length f.raw) f.raw (omega arith))
 
-value_returned : (f : Field) → IsField f → value_behind (f.raw ++ 13 ∷ []) ≡ trim_ows f.raw
+value_returned : (f : Field) → IsField f → value_after (f.raw ++ 13 ∷ []) ≡ trim_ows f.raw
 value_returned f is =
-    ap (λ n. trim_ows (take n (f.raw ++ 13 ∷ []))) (place_behind 13 f.raw [] (value_lacks 13 refl f is))
+    ap (λ n. trim_ows (take n (f.raw ++ 13 ∷ []))) (place_after 13 f.raw [] (value_lacks 13 refl f is))
     ∙ ap trim_ows (take-append_seam f.raw (13 ∷ []))
 
 -- a line of a field, and what follows
@@ -244,11 +244,11 @@ section_fields (f ∷ fields) last all =
     regroup : (a b c d : List ℕ) → ((a ++ b) ++ c) ++ d ≡ a ++ (b ++ (c ++ d))
     regroup a b c d = simp append_assoc
 
--- what stands after the empty lines of a head
-abbrev pub behind_blank : RequestHead → List ℕ
-behind_blank h = request_line h ++ (print_end h.line_end ++ print_section h.fields h.last)
+-- what comes after the empty lines of a head
+abbrev pub after_blank : RequestHead → List ℕ
+after_blank h = request_line h ++ (print_end h.line_end ++ print_section h.fields h.last)
 
-pub head_lines : (h : RequestHead) → print_request h ≡ print_blank h.blank ++ behind_blank h
+pub head_lines : (h : RequestHead) → print_request h ≡ print_blank h.blank ++ after_blank h
 head_lines h =
     sym (append-nil (print_request h)) ∙ print_request-append h []
     ∙ regroup (print_blank h.blank) h.method h.target (print_version h.minor) (print_end h.line_end) (print_section h.fields h.last)
@@ -295,22 +295,23 @@ trims space text r all some first (n, is, long, below, stops) = elim (cases_orde
     get_or-append [] ys = refl
     get_or-append (x ∷ xs) ys = get_or-append xs ys
 
--- after the line of a request, the empty lines before it trimmed off, stands its end, and then the lines of the fields
-pub behind_request_line : (h : RequestHead) (text : List ℕ) → IsRequestHead h → IsTrimAsciiStart (print_request h) text
+-- after the line of a request, the empty lines before it trimmed off, comes its end, and then the
+-- lines of the fields
+pub after_request_line : (h : RequestHead) (text : List ℕ) → IsRequestHead h → IsTrimAsciiStart (print_request h) text
     → (length (request_line h) ≤ length text) × (drop (length (request_line h)) text ≡ print_end h.line_end ++ print_section h.fields h.last)
-behind_request_line h text is trimmed =
+after_request_line h text is trimmed =
     let rest = print_end h.line_end ++ print_section h.fields h.last in
-    let behind_method = 32 ∷ (h.target ++ 32 ∷ print_version h.minor) in
-    let begins : is_ascii_whitespace (get_or (behind_blank h) 0 0) ≡ false = ap (λ (l : List ℕ). is_ascii_whitespace (get_or l 0 0))
-    (append_assoc h.method behind_method rest) ∙ token_no_space h.method (behind_method ++ rest) is.method in
-    let some : 0 < length (behind_blank h) = omega (
+    let after_method = 32 ∷ (h.target ++ 32 ∷ print_version h.minor) in
+    let begins : is_ascii_whitespace (get_or (after_blank h) 0 0) ≡ false = ap (λ (l : List ℕ). is_ascii_whitespace (get_or l 0 0))
+    (append_assoc h.method after_method rest) ∙ token_no_space h.method (after_method ++ rest) is.method in
+    let some : 0 < length (after_blank h) = omega (
       arith,
       length-append (request_line h) rest,
       length-append h.method
-          behind_method,
+          after_method,
       is.method.0,
     ) in
-    let same : text ≡ behind_blank h = trims (print_blank h.blank) (behind_blank h) text (blank_space h.blank) some begins (subst
+    let same : text ≡ after_blank h = trims (print_blank h.blank) (after_blank h) text (blank_space h.blank) some begins (subst
     (λ t. IsTrimAsciiStart t text) (head_lines h) trimmed) in (
       omega (arith, ap (λ (l : List ℕ). length l) same, length-append (request_line h) rest),
       ap (drop (length (request_line h))) same ∙ drop-append_seam (request_line h) rest,
@@ -322,12 +323,12 @@ pub request_line_long : (h : RequestHead)
 request_line_long h =
     let method = length-append h.method (32 ∷ (h.target ++ 32 ∷ print_version h.minor)) in
     let target = length-append h.target (32 ∷ print_version h.minor) in
-    let whole = ap (λ (l : List ℕ). length l) (head_lines h) ∙ length-append (print_blank h.blank) (behind_blank h) in
-    let behind = length-append (request_line h) (print_end h.line_end ++ print_section h.fields h.last) in
-    (omega (arith, method, target), omega (arith, whole, behind))
+    let whole = ap (λ (l : List ℕ). length l) (head_lines h) ∙ length-append (print_blank h.blank) (after_blank h) in
+    let rest_after = length-append (request_line h) (print_end h.line_end ++ print_section h.fields h.last) in
+    (omega (arith, method, target), omega (arith, whole, rest_after))
 
--- what stands after a line and its line feed
-pub behind_line : (text : List ℕ) (k : ℕ)
+-- what comes after a line and its line feed
+pub after_line : (text : List ℕ) (k : ℕ)
     → take (length (take (length text - k) (drop k text)) - 1) (drop 1 (take (length text - k) (drop k text))) ≡ drop (k + 1) text
-behind_line text k =
+after_line text k =
     take_rest (take (length text - k) (drop k text)) 1 ∙ ap (λ (l : List ℕ). drop 1 l) (take_rest text k) ∙ drop-drop 1 k text

@@ -26,7 +26,7 @@ one_stop rest most (broken f) limit is also = absurd (omega (arith, also, is.0))
 one_stop rest most (broken f) clean is also = absurd (is.1 also.1)
 one_stop rest most (broken f) (broken g) is also = ap broken (err_is f g (one_front rest (Err f) (Err g) is.2 also.2))
 
--- where a message stands and one more may come, nothing stops
+-- where a message is there and one more may come, nothing stops
 goes_on : (stream : List ℕ) (most : ℕ) (m : Message) (after : List ℕ) (stop : Stop) → 0 < most → IsMessageAt stream m after
     → IsRest stream most stop → ⊥
 goes_on stream most m after closed more here is = is
@@ -41,13 +41,13 @@ abbrev Same : List Message → List Message → List ℕ → List ℕ → Stop �
 Same messages others rest other stop end = (messages ≡ others) × (rest ≡ other) × (stop ≡ end)
 
 -- after one message
-behind : (t : Bool) (most : ℕ) (after : List ℕ) (messages others : List Message) (rest other : List ℕ) (stop end : Stop)
+rest_after : (t : Bool) (most : ℕ) (after : List ℕ) (messages others : List Message) (rest other : List ℕ) (stop end : Stop)
     → (Cut after most messages rest stop → Cut after most others other end → Same messages others rest other stop end)
     → MatchBool t ((messages ≡ []) × (rest ≡ after) × (stop ≡ closed)) (Cut after most messages rest stop)
     → MatchBool t ((others ≡ []) × (other ≡ after) × (end ≡ closed)) (Cut after most others other end)
     → Same messages others rest other stop end
-behind true most after messages others rest other stop end later (a, b, c) (d, e, f) = (a ∙ sym d, b ∙ sym e, c ∙ sym f)
-behind false most after messages others rest other stop end later cut also = later cut also
+rest_after true most after messages others rest other stop end later (a, b, c) (d, e, f) = (a ∙ sym d, b ∙ sym e, c ∙ sym f)
+rest_after false most after messages others rest other stop end later cut also = later cut also
 
 same_cut : (messages others : List Message) (stream : List ℕ) (most : ℕ) (rest other : List ℕ) (stop end : Stop)
     → Cut stream most messages rest stop → Cut stream most others other end → Same messages others rest other stop end
@@ -58,15 +58,15 @@ same_cut [] (n ∷ others) stream most rest other stop end (e, is) (more, after,
     absurd (goes_on stream most n after stop more here (subst (λ r. IsRest r most stop) (sym e) is))
 same_cut (m ∷ messages) [] stream most rest other stop end (more, after, here, tail) (d, also) =
     absurd (goes_on stream most m after end more here (subst (λ r. IsRest r most end) (sym d) also))
-same_cut (m ∷ messages) (n ∷ others) stream most rest other stop end (more, after, here, tail) (some, behind_n, there, last) =
+same_cut (m ∷ messages) (n ∷ others) stream most rest other stop end (more, after, here, tail) (some, after_n, there, last) =
     let x : Message × List ℕ = (m, after) in
-    let y : Message × List ℕ = (n, behind_n) in
+    let y : Message × List ℕ = (n, after_n) in
     let same : y ≡ x = ok_is y x (one_front stream (Ok y) (Ok x) there here) in
     let moved : MatchBool (ends_connection m.minor m.fields) ((others ≡ []) × (other ≡ after) × (end ≡ closed)) (Cut after
     (most - 1) others other end) =
     subst (λ (p : Message × List ℕ). MatchBool (ends_connection p.0.minor p.0.fields) ((others ≡ []) × (other ≡ p.1) × (end ≡ closed))
     (Cut p.1 (most - 1) others other end)) same last in
-    let later = behind (ends_connection m.minor m.fields) (most - 1) after messages others rest other stop end
+    let later = rest_after (ends_connection m.minor m.fields) (most - 1) after messages others rest other stop end
     (same_cut messages others after (most - 1) rest other stop end) tail moved in
     (cons_is (sym (ap (λ p. p.0) same)) later.0, later.1, later.2)
   where

@@ -12,9 +12,9 @@ part items start end order =
     sym (drop-take start (end - start) items) ∙ ap (λ n. drop start (take n items)) whole
 
 -- what is held after its first bytes
-pub held_behind : (items : List ℕ) (start end count : ℕ) → start + count ≤ end
+pub held_after : (items : List ℕ) (start end count : ℕ) → start + count ≤ end
     → take (end - (start + count)) (drop (start + count) items) ≡ drop count (take (end - start) (drop start items))
-held_behind items start end count within =
+held_after items start end count within =
     let split : count + (end - (start + count)) ≡ end - start = omega arith in
     ap (take (end - (start + count))) (sym (drop-drop count start items))
     ∙ sym (drop-take count (end - (start + count)) (drop start items))

@@ -20,7 +20,7 @@ methods_text Get = codes "GET"
 methods_text Post = codes "POST"
 methods_text GetAndPost = codes "GET, POST"
 
--- the field that tells the methods of a path, where the answer has it
+-- the field that gives the methods of a path, where the answer has it
 unfoldable pub allow_field : Option Methods → List ℕ
 allow_field None = []
 allow_field (Some methods) = codes "allow: " ++ methods_text methods ++ codes "\r\n"
@@ -29,7 +29,7 @@ allow_field (Some methods) = codes "allow: " ++ methods_text methods ++ codes "\
 unfoldable pub closing_field : Bool → List ℕ
 closing_field closes = if closes then codes "connection: close\r\n" else []
 
--- what stands between the number of the content-length and the body
+-- what is between the number of the content-length and the body
 unfoldable pub head_end : Option Methods → Bool → List ℕ
 head_end allow closes = codes "\r\n" ++ allow_field allow ++ closing_field closes ++ codes "\r\n"
 
@@ -37,6 +37,6 @@ head_end allow closes = codes "\r\n" ++ allow_field allow ++ closing_field close
 unfoldable pub answer_bytes : Status → Option Methods → Bool → List ℕ → List ℕ
 answer_bytes status allow closes body = head_start status ++ decimal (length body) ++ head_end allow closes ++ body
 
--- the body that tells one word
+-- the body that gives one word
 abbrev pub error_body : List ℕ → List ℕ
 error_body word = codes "{\"error\":\"" ++ word ++ codes "\"}"

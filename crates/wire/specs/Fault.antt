@@ -25,7 +25,7 @@ status_of Size = ContentTooLarge
 status_of End = BadRequest
 status_of Excess = BadRequest
 
--- the word that its answer tells
+-- the word that its answer gives
 abbrev pub word_of : WireFault → List ℕ
 word_of Head = codes "head"
 word_of Host = codes "host"

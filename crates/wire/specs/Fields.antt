@@ -30,7 +30,7 @@ only (value ∷ other ∷ values) = None
 unfoldable pub has_host : ℕ → List Pair → Bool
 has_host minor fields = minor == 0 || length (values_of (codes "host") fields) == 1
 
--- a field tells a transfer coding, whatever its value (RFC 9112, 6.1)
+-- a field names a transfer coding, whatever its value (RFC 9112, 6.1)
 unfoldable pub has_transfer : List Pair → Bool
 has_transfer fields = list_any (λ f. str_eq_ignore_ascii_case f.0 (codes "transfer-encoding")) fields
 
@@ -40,16 +40,17 @@ body_length digits =
     if not (nat_lt 0 (length digits) && list_all is_ascii_digit digits) then Err fault.Length else (
     if nat_lt most_body (digits_value 10 digits) then Err fault.Size else Ok (digits_value 10 digits))
 
--- the length of the body by the values of the field that tells it: none is 0, two are a fault (RFC 9112, 6.3)
+-- the length of the body by the values of the field that gives it: none is 0, two are a fault (RFC
+-- 9112, 6.3)
 abbrev pub length_by : List (List ℕ) → Result ℕ WireFault
 length_by [] = Ok 0
 length_by (digits ∷ []) = body_length digits
 length_by (digits ∷ others ∷ more) = Err fault.Length
 
 -- the pieces of a list that commas part, after what the first has so far
-abbrev pub pieces_behind : List ℕ → List ℕ → List (List ℕ)
-pieces_behind piece [] = piece ∷ []
-pieces_behind piece (b ∷ bytes) = if b == 44 then piece ∷ pieces_behind [] bytes else pieces_behind (piece ++ b ∷ []) bytes
+abbrev pub pieces_after : List ℕ → List ℕ → List (List ℕ)
+pieces_after piece [] = piece ∷ []
+pieces_after piece (b ∷ bytes) = if b == 44 then piece ∷ pieces_after [] bytes else pieces_after (piece ++ b ∷ []) bytes
 
 -- the token `close` in any case, spaces and tabs round it dropped
 unfoldable pub is_close : List ℕ → Bool
@@ -57,7 +58,7 @@ is_close piece = str_eq_ignore_ascii_case (trim_ows piece) (codes "close")
 
 -- a list has the token `close`
 unfoldable pub names_close : List ℕ → Bool
-names_close list = list_any is_close (pieces_behind [] list)
+names_close list = list_any is_close (pieces_after [] list)
 
 -- the connection ends after the message: it is of HTTP/1.0, or some `connection` names `close` (RFC 9112, 9.3)
 unfoldable pub ends_connection : ℕ → List Pair → Bool

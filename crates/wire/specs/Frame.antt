@@ -1,4 +1,4 @@
--- What stands at the front of a stream, and what a text is as one message. Start here.
+-- What is at the front of a stream, and what a text is as one message. Start here.
 use Rattle.std.specs.Prelude.{◌≡◌, ◌⊎◌, ℕ, ◌+◌, List, [], ◌∷◌, not, length, map, take, drop, Result, Ok, Err, nat_lt, if◌then◌else◌, codes}
 use Rattle.httparse.specs.Grammar.{RequestHead, print_request}
 use Rattle.httparse.specs.Spans.{name_and_value}
@@ -30,16 +30,16 @@ message_of h body = record {
   length = length (print_request h) + length body;
 }
 
--- a message of a body of that length and what stands after it, or the fault
+-- a message of a body of that length and what comes after it, or the fault
 abbrev pub with_body : RequestHead → List ℕ → Result ℕ WireFault → Result (Message × List ℕ) WireFault
 with_body h after (Ok n) = if nat_lt (length after) n then Err fault.End else Ok (message_of h (take n after), drop n after)
 with_body h after (Err e) = Err e
 
--- a head and the bytes after it: the message and what stands after it, or the first fault
+-- a head and the bytes after it: the message and what comes after it, or the first fault
 abbrev pub judged : RequestHead → List ℕ → Result (Message × List ℕ) WireFault
 judged h after = with_body h after (announced h.minor (fields_of h))
 
--- what stands at the front of bytes that nothing follows: a message and the rest, or the first fault
+-- what is at the front of bytes that nothing follows: a message and the rest, or the first fault
 unfoldable pub IsFront : List ℕ → Result (Message × List ℕ) WireFault → Type 0
 IsFront bytes front =
     ((h : RequestHead) × (after : List ℕ) × BeginsHead bytes h after × (front ≡ judged h after))
@@ -49,7 +49,7 @@ IsFront bytes front =
 abbrev pub IsMessageAt : List ℕ → Message → List ℕ → Type 0
 IsMessageAt bytes message rest = IsFront bytes (Ok (message, rest))
 
--- nothing may stand after the one message of a text
+-- nothing may come after the one message of a text
 abbrev pub alone : Result (Message × List ℕ) WireFault → Result Message WireFault
 alone (Ok (message, [])) = Ok message
 alone (Ok (message, b ∷ rest)) = Err fault.Excess

@@ -1,4 +1,4 @@
--- What the bytes of a stream tell so far.
+-- What the bytes of a stream say so far.
 use Rattle.std.specs.Prelude.{◌≡◌, ℕ, ◌<◌, ◌≤◌, List, ◌++◌, length, drop, Result, Ok, Err, codes}
 use Rattle.httparse.specs.Grammar.{RequestHead, MayBecomeRequest, print_request}
 use Rattle.wire.specs.Frame.{IsFront, IsMessageAt, fields_of}
@@ -38,7 +38,7 @@ pub record ArePartsOf (h : RequestHead) (parts : Parts) : Type 0 where
   pub moment : IsCount (values_of (codes "x-moment") (fields_of h)) parts.moment
   pub len : parts.len ≡ length (print_request h)
 
--- what the search for a head tells
+-- the result of the search for a head
 abbrev pub IsFound : List ℕ → Head → Type 0
 IsFound bytes (Found parts) =
     (h : RequestHead) × ArePartsOf h parts × BeginsHead bytes h (drop parts.len bytes) × (parts.len ≤ length bytes)

@@ -16,10 +16,10 @@ pub record BeginsHead (bytes : List ℕ) (h : RequestHead) (rest : List ℕ) : T
   pub fields : length h.fields ≤ most_fields
   pub size : length (print_request h) ≤ most_bytes
 
--- no head stands at the front
+-- no head is at the front
 abbrev pub NoHead : List ℕ → Type 0
 NoHead bytes = (h : RequestHead) (rest : List ℕ) → ¬ (BeginsHead bytes h rest)
 
--- no head stands there, whatever follows
+-- no head is there, whatever follows
 abbrev pub NeverHead : List ℕ → Type 0
 NeverHead bytes = (more : List ℕ) → NoHead (bytes ++ more)

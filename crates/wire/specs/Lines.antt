@@ -9,13 +9,13 @@ abbrev pub name_end : List ℕ → ℕ
 name_end line = position_or_len (λ b. b == 58) line
 
 -- the value after a colon: up to the carriage return, without spaces and tabs round it
-abbrev pub value_behind : List ℕ → List ℕ
-value_behind raw = trim_ows (before_first (λ b. b == 13) raw)
+abbrev pub value_after : List ℕ → List ℕ
+value_after raw = trim_ows (before_first (λ b. b == 13) raw)
 
 -- the field of a line; a line with no colon has none
 unfoldable pub field_in : List ℕ → List Pair
 field_in line =
-    if nat_lt (name_end line) (length line) then (take (name_end line) line, value_behind (drop (name_end line + 1) line)) ∷ [] else []
+    if nat_lt (name_end line) (length line) then (take (name_end line) line, value_after (drop (name_end line + 1) line)) ∷ [] else []
 
 -- the fields of the lines that line feeds part
 unfoldable pub fields_in : List ℕ → List Pair

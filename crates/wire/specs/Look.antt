@@ -11,7 +11,8 @@ abbrev pub IsFaultOf : List ℕ → Bool → WireFault → Type 0
 IsFaultOf held true f = IsFront held (Err f)
 IsFaultOf held false f = IsKnownFault held f
 
--- a message stands at the front, or more bytes may make one, or none ever will; at a clean end nothing is held, at a fault something is
+-- a message is at the front, or more bytes may make one, or none ever will; at a clean end nothing
+-- is held, at a fault something is
 abbrev pub IsLook : List ℕ → Bool → Look → Type 0
 IsLook held ended (look.Whole m) = IsMessageAt held m (drop m.length held) × (m.length ≤ length held)
 IsLook held ended look.More = (ended ≡ false) × (EndsInHead held ⊎ EndsInBody held)

@@ -10,7 +10,7 @@ use std::alloc::{AllocError, Global};
 const MOST_HEAD: usize = 192;
 
 /// An answer of JSON.
-#[derive(Clone, Copy, Debug, PartialEq, Eq)]
+#[derive(Clone, Copy)]
 pub struct Answer<'a> {
     pub status: Status,
     /// The methods of the path, which the status 405 asks for (RFC 9110, 15.5.6).
@@ -54,7 +54,7 @@ fn head_start(status: Status) -> &'static [u8]
     }
 }
 
-// What stands between the number of the content-length and the body, in one piece.
+// What is between the number of the content-length and the body, in one piece.
 #[tactic(auto, unfolding(crate::specs::Answer::head_end, crate::specs::Answer::allow_field, crate::specs::Answer::closing_field))]
 fn head_end(allow: Option<Methods>, closes: bool) -> &'static [u8]
     ensures { result.now ≡ head_end allow closes }

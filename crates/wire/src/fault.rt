@@ -7,7 +7,7 @@ use thiserror::Error;
 
 /// Why bytes are no message of the profile: the first that holds, in this order. Each ends the
 /// connection.
-#[derive(Clone, Copy, Debug, PartialEq, Eq, Hash, Error)]
+#[derive(Clone, Copy, Debug, Error)]
 pub enum WireFault {
     /// There is no head of at most 8192 bytes and 64 fields, or the input ends inside one.
     #[error("no head of a request")]
@@ -27,8 +27,8 @@ pub enum WireFault {
     /// The input ends inside the body.
     #[error("the input ends inside the body")]
     End = 6,
-    /// Bytes stand after the one message.
-    #[error("bytes behind the message")]
+    /// Bytes come after the one message.
+    #[error("bytes after the message")]
     Excess = 7,
 }
 
@@ -51,7 +51,7 @@ impl WireFault {
         }
     }
 
-    /// The word that its answer tells.
+    /// The word that its answer gives.
     pub fn word(self) -> &'static str
         ensures { result.now ≡ word_of self }
     {

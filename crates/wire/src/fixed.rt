@@ -1,4 +1,4 @@
-//! Answers that take no memory, as texts that stand ready.
+//! Answers that take no memory, as texts that are ready.
 ghost use Rattle.std.specs.Prelude.{◌≡◌, None, codes, true};
 ghost use Rattle.wire.specs.Answer.{answer_bytes, error_body};
 ghost use Rattle.wire.specs.Fault.{status_of, word_of};

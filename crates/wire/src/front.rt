@@ -1,4 +1,4 @@
-//! What stands at the front of the bytes of a stream.
+//! What is at the front of the bytes of a stream.
 ghost use Rattle.wire.specs.Front.{IsFrontSoFar};
 
 use crate::fault::WireFault;
@@ -6,7 +6,7 @@ use crate::head::{Head, head_at};
 use crate::lines::field_lines;
 use crate::request::Request;
 
-// What stands round the method and the target in the line of a request, of either version.
+// What is round the method and the target in the line of a request, of either version.
 const VERSION: &[u8] = b"  HTTP/1.1";
 
 /// Why the bytes are no message yet.

@@ -4,7 +4,7 @@ ghost use Rattle.httparse.specs.Spans.{RequestOverflows};
 ghost use Rattle.wire.specs.Front.{IsFound};
 
 use crate::fields::Values;
-use crate::known::{Known, known_of, noted};
+use crate::known::{Known, known_of, note_field};
 use httparse::spans::{EMPTY_HEADER_SPAN, HeaderSpan, parse_request};
 use httparse::{Error, Status};
 
@@ -32,7 +32,7 @@ pub(crate) struct Parts<'b> {
     pub(crate) len: usize,
 }
 
-/// What the search for a head tells.
+/// The result of the search for a head.
 #[derive(Drop)]
 pub(crate) enum Head<'b> {
     /// The parts of the head.
@@ -58,8 +58,8 @@ fn head_in<'b>(bytes: &'b [u8], room: &mut [HeaderSpan]) -> Option<Head<'b>>
                     target: spans.path.of(bytes),
                     minor: spans.version,
                     known: known_of(bytes, &room[..spans.headers]),
-                    member: noted(bytes, &room[..spans.headers], b"x-member"),
-                    moment: noted(bytes, &room[..spans.headers], b"x-moment"),
+                    member: note_field(bytes, &room[..spans.headers], b"x-member"),
+                    moment: note_field(bytes, &room[..spans.headers], b"x-moment"),
                     len: spans.len,
                 }))
             } else {
@@ -78,7 +78,8 @@ fn head_in<'b>(bytes: &'b [u8], room: &mut [HeaderSpan]) -> Option<Head<'b>>
     }
 }
 
-// Finds a head of many fields at the front. It stands apart, so that others clear no room for it.
+// Finds a head of many fields at the front. It is a function of its own, so that others clear no
+// room for it.
 #[inline(never)]
 fn crowded_head_at<'b>(bytes: &'b [u8]) -> Head<'b>
     ensures { IsFound bytes.now result }

@@ -66,7 +66,7 @@ impl Inbox {
         self.buffer.slice_mut(end..)
     }
 
-    /// Tells that the first so many bytes of the room are the next ones of the stream.
+    /// Says that the first so many bytes of the room are the next ones of the stream.
     pub fn took(&mut self, count: usize)
         requires { count ≤ length self.old.room }
         ensures held { self.new.held ≡ self.old.held ++ take count self.old.room }
@@ -75,7 +75,7 @@ impl Inbox {
         self.end += count;
     }
 
-    /// Looks at the bytes held. `ended` tells that no more will come.
+    /// Looks at the bytes held. `ended` says that no more will come.
     pub fn look(&self, ended: bool) -> Look<'_>
         ensures { IsLook self.now.held ended result }
     {

@@ -2,13 +2,12 @@
 ghost use Rattle.std.specs.Prelude.{◌≡◌, ◌≤◌, ◌<◌, ◌++◌, ◌∷◌, [], List, length, map, All, IfOk, ◌&&◌, codes};
 ghost use Rattle.std.specs.Str.{str_eq_ignore_ascii_case};
 ghost use Rattle.httparse.specs.Spans.{IsHeaderWithin, header_bytes};
-ghost use Rattle.wire.specs.Fields.{Pair, ends_connection, names_close, values_of};
+ghost use Rattle.wire.specs.Fields.{Pair, ends_connection, names_close, values_of, body_length};
 ghost use Rattle.wire.specs.Frame.{announced};
 ghost use Rattle.wire.specs.Known.{IsCount, IsKnown};
 
 use crate::fault::WireFault;
 use crate::fields::{Values, has_close, is_same};
-use crate::length::length_of;
 use httparse::spans::HeaderSpan;
 
 /// What a frame asks of the fields.
@@ -60,7 +59,7 @@ fn and_field<'b>(
 /// The values of the fields of that name: a short walk of its own for each name that every message
 /// is asked for.
 #[inline(always)]
-pub(crate) fn noted<'b>(bytes: &'b [u8], spans: &[HeaderSpan], wanted: &[u8]) -> Values<'b>
+pub(crate) fn note_field<'b>(bytes: &'b [u8], spans: &[HeaderSpan], wanted: &[u8]) -> Values<'b>
     requires { All (IsHeaderWithin (length bytes.now)) spans.now }
     ensures { IsCount (values_of wanted.now (map (header_bytes bytes.now) spans.now)) result }
 {
@@ -118,4 +117,31 @@ impl<'b> Known<'b> {
     {
         minor == 0 || self.closes
     }
+}
+
+// The most bytes of a body.
+const MOST_BODY: usize = 16384;
+
+/// The number that one or more digits write. Digits are read to their end, however many they are.
+pub(crate) fn length_of(digits: &[u8]) -> Result<usize, WireFault>
+    ensures value { result ≡ body_length digits.now }
+    ensures small { IfOk result (λ n. n ≤ 16384) }
+{
+    if digits.is_empty() {
+        return Err(WireFault::Length);
+    }
+    let mut number = 0;
+    for byte in digits {
+        if !byte.is_ascii_digit() {
+            return Err(WireFault::Length);
+        }
+        // A number that is too large stays so.
+        if number <= MOST_BODY {
+            number = number * 10 + usize::from(*byte - b'0');
+        }
+    }
+    if number > MOST_BODY {
+        return Err(WireFault::Size);
+    }
+    Ok(number)
 }

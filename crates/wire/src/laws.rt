@@ -15,7 +15,7 @@ pub fn every_text_has_a_frame()
     ensures { (text : List ℕ) → (frame : Result Message WireFault) × IsFrame text frame }
 {}
 
-/// A message that stands at the front of a stream stands there whatever follows.
+/// A message that is at the front of a stream is there whatever follows.
 pub fn a_message_stays()
     ensures { (stream more : List ℕ) (message : Message) (rest : List ℕ)
         → IsMessageAt stream message rest → IsMessageAt (stream ++ more) message (rest ++ more) }

@@ -1,9 +1,9 @@
 //! HTTP/1.x messages out of a stream of bytes that comes in any pieces, and the bytes of an answer.
 //!
 //! Promised: which messages a stream holds follows from its bytes alone, however they are cut; a
-//! fault is told only where it holds whatever may follow; and an answer has one text. No call but
-//! `Inbox::new` and those that write an `Answer` takes memory. Read `specs/Frame.antt` first, which
-//! says what stands at the front of a stream, and then `look` and `inbox`.
+//! fault is reported only where it holds whatever may follow; and an answer has one text. No call
+//! but `Inbox::new` and those that write an `Answer` takes memory. Read `specs/Frame.antt` first,
+//! which says what is at the front of a stream, and then `look` and `inbox`.
 #![tactic(auto)]
 
 mod answer;
@@ -16,7 +16,6 @@ mod head;
 mod inbox;
 mod known;
 mod laws;
-mod length;
 mod lines;
 mod look;
 mod methods;

@@ -10,8 +10,8 @@ ghost use Rattle.wire.specs.Lines.{field_in, fields_in, request_line};
 use crate::fields::{Values, is_same, trim};
 use memchr::memchr;
 
-// What stands after the end of a line.
-fn behind_end(text: &[u8]) -> &[u8]
+// What comes after the end of a line.
+fn after_end(text: &[u8]) -> &[u8]
     ensures { (end : LineEnd) (rest : List ℕ) → text.now ≡ print_end end ++ rest → result.now ≡ rest }
 {
     match text {
@@ -26,14 +26,14 @@ fn behind_end(text: &[u8]) -> &[u8]
 pub(crate) fn field_lines(head: &[u8], line: usize) -> &[u8]
     ensures { (h : RequestHead) → IsRequestHead h → head.now ≡ print_request h → line ≡ length (request_line h) → fields_in result.now ≡ fields_of h }
 {
-    // Empty lines may stand before that of the request.
+    // Empty lines may come before that of the request.
     match head.trim_ascii_start().get(line..) {
-        Some(text) => behind_end(text),
+        Some(text) => after_end(text),
         None => &[],
     }
 }
 
-// What stands before the carriage return.
+// What comes before the carriage return.
 fn before_return(raw: &[u8]) -> &[u8]
     ensures { result.now ≡ before_first (λ b. b == 13) raw.now }
 {

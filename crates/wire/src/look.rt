@@ -8,17 +8,17 @@ use crate::request::Request;
 /// What the bytes held are.
 #[derive(Drop)]
 pub enum Look<'b> {
-    /// A whole message stands at the front.
+    /// A whole message is at the front.
     Whole(Request<'b>),
     /// More bytes may make a message of them.
     More,
     /// Nothing is held, and the input has ended.
     Clean,
-    /// Something is held, and no message ever stands there.
+    /// Something is held, and no message is ever there.
     Fault(WireFault),
 }
 
-/// Looks at the bytes held. `ended` tells that no more will come.
+/// Looks at the bytes held. `ended` says that no more will come.
 pub(crate) fn look_at<'b>(held: &'b [u8], ended: bool) -> Look<'b>
     ensures { IsLook held.now ended result }
 {

@@ -2,8 +2,8 @@
 ghost use Rattle.std.specs.Prelude.{◌≡◌};
 ghost use Rattle.wire.specs.Answer.{methods_text};
 
-/// The methods that a path has, which the answer to another method tells (RFC 9110, 10.2.1).
-#[derive(Clone, Copy, Debug, PartialEq, Eq, Hash)]
+/// The methods that a path has, which the answer to another method gives (RFC 9110, 10.2.1).
+#[derive(Clone, Copy)]
 pub enum Methods {
     Get,
     Post,

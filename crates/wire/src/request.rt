@@ -14,7 +14,7 @@ pub struct Request<'b> {
     pub(crate) target: &'b [u8],
     pub(crate) minor: u8,
     // The lines of the fields, which are read again where a field is asked for: to keep where 64
-    // fields stand costs more than to read a few lines twice.
+    // fields are costs more than to read a few lines twice.
     pub(crate) lines: &'b [u8],
     pub(crate) body: &'b [u8],
     pub(crate) closes: bool,
@@ -88,7 +88,7 @@ impl<'b> Request<'b> {
         self.body
     }
 
-    /// The value of a field that stands exactly once, without spaces and tabs round it. Names are
+    /// The value of a field that occurs exactly once, without spaces and tabs round it. Names are
     /// compared without ASCII case.
     #[inline(always)]
     pub fn one(&self, name: &[u8]) -> Option<&'b [u8]>

@@ -9,27 +9,27 @@ const FULL = 50;
 
 // Why something was not done: the body of the answer, or a word of ours where none came.
 export class Refusal extends Error {
-  constructor(told) {
-    super(told.error);
-    this.told = told;
+  constructor(answer) {
+    super(answer.error);
+    this.answer = answer;
   }
 }
 
-// Whether the house told that what was asked for is not there.
-export const isUnknown = refusal => refusal instanceof Refusal && refusal.told.error === "Unknown";
+// Whether the house answered that what was asked for is not there.
+export const isUnknown = refusal => refusal instanceof Refusal && refusal.answer.error === "Unknown";
 
 async function exchange(path, options) {
   const sent = performance.now();
   let answer;
-  let told;
+  let text;
   try {
     answer = await fetch(BASE + path, options);
     heard(answer.headers.get("date"), sent, performance.now());
-    told = await answer.text();
+    text = await answer.text();
   } catch {
     throw new Refusal({ error: "silence" });
   }
-  const value = parsed(told);
+  const value = parsed(text);
   if (!answer.ok || value === null) {
     throw new Refusal(value ?? { error: "gateway", why: "words" });
   }
@@ -71,7 +71,7 @@ export async function* lists(path, kind, from = 1) {
   }
 }
 
-// All entries of such lists. What stands in two of them is there once.
+// All entries of such lists. What is in two of them is there once.
 export async function whole(path, kind) {
   const found = new Map();
   for await (const list of lists(path, kind)) {

@@ -18,7 +18,7 @@ async function number() {
   try {
     return (await read(OWN)).member;
   } catch (refusal) {
-    if (refusal.told?.error !== "NoCaller") {
+    if (refusal.answer?.error !== "NoCaller") {
       throw refusal;
     }
   }

@@ -26,7 +26,7 @@ export const draw = (tag, attributes = {}, ...children) =>
 
 export const replace = (element, ...children) => element.replaceChildren(...present(children));
 
-// Puts a text where another stands. An equal one stays, so that no screen reader tells it again.
+// Puts a text where another is. An equal one stays, so that no screen reader reads it again.
 export function put(element, text) {
   if (element.textContent !== text) {
     element.textContent = text;
@@ -36,7 +36,7 @@ export function put(element, text) {
 // What a member wrote, within a sentence of ours: marks of right-to-left in it turn nothing around it.
 export const written = text => make("bdi", {}, text);
 
-// Letters that are written from the right, and marks that turn what stands around them.
+// Letters that are written from the right, and marks that turn what is around them.
 const TURNING = /[\u0590-\u08ff\u200e\u200f\u202a-\u202e\u2066-\u2069\ufb1d-\ufdff\ufe70-\ufefc]/;
 
 // The same in a place for plain text alone, such as a window's title.

@@ -3,18 +3,18 @@ import { Refusal } from "./api.js";
 import { make, put } from "./dom.js";
 import { sentence } from "./words.js";
 
-// After so many milliseconds somebody who waits is told that nothing is lost.
+// After so many milliseconds somebody who waits sees that nothing is lost.
 const SLOW = 4000;
 const STILL = "The house has not answered yet. Your turn comes, and nothing has to be done.";
 
 // Does some work once at a time. Meanwhile its button says that it waits, and pressing it again does nothing. It stays
 // where the keyboard is, which a disabled one would not.
-async function whileWaiting(button, waits, told, work) {
+async function whileWaiting(button, waits, outcome, work) {
   const label = button.textContent;
-  const slow = setTimeout(() => put(told, STILL), SLOW);
+  const slow = setTimeout(() => put(outcome, STILL), SLOW);
   button.setAttribute("aria-disabled", "true");
   put(button, waits);
-  put(told, "");
+  put(outcome, "");
   try {
     await work();
   } finally {
@@ -25,20 +25,20 @@ async function whileWaiting(button, waits, told, work) {
 }
 
 // Says what came of some work: its sentence, or why it was refused. A fault of the page goes to the console too.
-async function saying(told, context, work) {
+async function saying(outcome, context, work) {
   try {
-    put(told, (await work()) ?? "");
+    put(outcome, (await work()) ?? "");
   } catch (error) {
     const isRefusal = error instanceof Refusal;
-    told.classList.add("refused");
-    put(told, isRefusal ? sentence(error.told, context()) : "This page has a fault. Load it again.");
+    outcome.classList.add("refused");
+    put(outcome, isRefusal ? sentence(error.answer, context()) : "This page has a fault. Load it again.");
     if (!isRefusal) {
       console.error(error);
     }
   }
 }
 
-const toldPart = () => make("p", { class: "told", role: "status" });
+const outcomePart = () => make("p", { class: "outcome", role: "status" });
 
 // Sets what a button says when it doesn't wait.
 export function label(button, text) {
@@ -49,40 +49,40 @@ export function label(button, text) {
 }
 
 // What a button does: a second question where there is one, and then the work. `unless` is what is said after a no.
-async function pressed(button, told, { waits, context = () => ({}), isMeant = () => true, unless = "", act }, values) {
+async function pressed(button, outcome, { waits, context = () => ({}), isMeant = () => true, unless = "", act }, values) {
   if (button.getAttribute("aria-disabled") === "true") {
     return;
   }
-  told.classList.remove("refused");
+  outcome.classList.remove("refused");
   if (!await isMeant(...values)) {
-    put(told, unless);
+    put(outcome, unless);
     return;
   }
-  await whileWaiting(button, waits, told, () => saying(told, context, () => act(...values)));
+  await whileWaiting(button, waits, outcome, () => saying(outcome, context, () => act(...values)));
 }
 
 // A form of fields. `act` is given their values, and answers a sentence on what was done.
 export function form({ fields, button: text, kind = "", ...does }) {
-  const told = toldPart();
+  const outcome = outcomePart();
   const button = make("button", { type: "submit", class: kind }, text);
   const submit = event => {
     event.preventDefault();
     const wrong = fields.filter(field => !field.holds());
     if (wrong.length) {
-      put(told, "");
+      put(outcome, "");
       wrong[0].control.focus();
       return;
     }
-    pressed(button, told, does, fields.map(field => field.value));
+    pressed(button, outcome, does, fields.map(field => field.value));
   };
-  const node = make("form", { novalidate: true, submit }, ...fields.map(field => field.node), button, told);
+  const node = make("form", { novalidate: true, submit }, ...fields.map(field => field.node), button, outcome);
   return { node, button };
 }
 
 // A button that acts by itself.
 export function action({ button: text, kind = "", ...does }) {
-  const told = toldPart();
-  const click = () => pressed(button, told, does, []);
+  const outcome = outcomePart();
+  const click = () => pressed(button, outcome, does, []);
   const button = make("button", { type: "button", class: kind, click }, text);
-  return { node: make("div", { class: "action" }, button, told), button };
+  return { node: make("div", { class: "action" }, button, outcome), button };
 }

@@ -14,10 +14,10 @@ import { AMOUNT, sums, table } from "./table.js";
 const number = count => shown(count * 100).slice(0, -3);
 
 // The rate is in ten-thousandths: 1000 is 10 %.
-const facts = told => [
-  ["Members", number(told.members)], ["Items", number(told.items)], ["Categories", number(told.categories)],
-  ["Fee of a sale", `${told.rate / 100} %`], ["Zone", told.zone],
-  ["Clock", told.clock ? time(told.clock) : "not set yet"],
+const facts = page => [
+  ["Members", number(page.members)], ["Items", number(page.items)], ["Categories", number(page.categories)],
+  ["Fee of a sale", `${page.rate / 100} %`], ["Zone", page.zone],
+  ["Clock", page.clock ? time(page.clock) : "not set yet"],
 ];
 
 function steps(bands) {
@@ -61,12 +61,12 @@ async function ofHouse(place, refill) {
 }
 
 export async function house() {
-  const [told, { bands }] = await Promise.all([read("/house"), read("/bands")]);
+  const [page, { bands }] = await Promise.all([read("/house"), read("/bands")]);
   const place = make("div");
   const refill = async () => replace(place, make("ul", { class: "people" },
     ...(await categories()).map(one => make("li", {}, link(`category/${one.category}`, written(one.name))))));
   return { title: "The house", nodes: [
-    sums(facts(told)),
+    sums(facts(page)),
     ...(caller.isHouse ? await ofHouse(place, refill) : []),
     steps(bands)] };
 }

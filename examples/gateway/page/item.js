@@ -1,4 +1,4 @@
-// The page of an item. What may change is read again and again, and a change is told.
+// The page of an item. What may change is read again and again, and a change is announced.
 import { read } from "./api.js";
 import { caller } from "./caller.js";
 import { link, make, paragraphs, put, replace, written } from "./dom.js";
@@ -92,22 +92,22 @@ function followed(first, reserve, wasWatched, conversation) {
   const shownNow = { ...first };
   const about = facts(reserve);
   const place = make("div");
-  const lookAgain = async isTold => {
+  const lookAgain = async isAnnounced => {
     const after = await look(shownNow.item.item);
     const before = { ...shownNow };
     Object.assign(shownNow, after);
     if (!isSame(before, after)) {
       await update();
       const words = change(before, after);
-      if (isTold && words) {
+      if (isAnnounced && words) {
         tell(words);
       }
     }
   };
   // One look after the other, so that no older one is shown after a newer.
   let last = Promise.resolve();
-  const refresh = (isTold = true) => {
-    last = last.catch(() => {}).then(() => lookAgain(isTold));
+  const refresh = (isAnnounced = true) => {
+    last = last.catch(() => {}).then(() => lookAgain(isAnnounced));
     return last;
   };
   const offer = offers(shownNow, wasWatched, refresh);

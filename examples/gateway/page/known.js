@@ -19,7 +19,7 @@ export const nameOf = number => once(names, number, async () => (await read(`/me
 // A title stays too. Prices don't, so only the title is to be taken from here.
 const titleOf = number => once(items, number, async () => (await read(`/items/${number}`)).title);
 
-// Each is a read of its own. So of a long list that many are read, the greatest numbers, and the others are told by
+// Each is a read of its own. So of a long list that many are read, the greatest numbers, and the others are shown by
 // their numbers alone.
 const MOST = 200;
 

@@ -18,7 +18,7 @@ import { Visit } from "./visit.js";
 import { watches } from "./watches.js";
 import { sentence } from "./words.js";
 
-// Each part of the page by the first word after #/. It makes a heading and what stands below it.
+// Each part of the page by the first word after #/. It makes a heading and what is below it.
 const PARTS = { "": front, category, item, member, bids, watches, questions, sell, statement, house, members, settling };
 
 const OF_ALL = [["", "Items"]];
@@ -67,7 +67,7 @@ function failure(error) {
   if (!(error instanceof Refusal)) {
     console.error(error);
   }
-  const why = error instanceof Refusal ? sentence(error.told, { isRead: true }) : "This page has a fault.";
+  const why = error instanceof Refusal ? sentence(error.answer, { isRead: true }) : "This page has a fault.";
   return { title: "This can't be shown", nodes: [make("p", {}, why), again()] };
 }
 

@@ -78,7 +78,7 @@ export const countdown = end => make("span", { class: "countdown", "data-end": e
 
 function left(end) {
   if (!isKnown()) {
-    return "a time that the house has not told yet";
+    return "a time that the house has not given yet";
   }
   const seconds = secondsLeft(end);
   return seconds > 0 ? duration(seconds) : "no time";

@@ -19,9 +19,9 @@ const tooLow = (now, amount) => now.bid?.leading
   ? `You lead already. Write more than your own maximum, which is ${shown(now.bid.maximum)}.`
   : `The next bid is ${shown(amount)} or more.`;
 
-function came(told) {
-  return told.leader === caller.number ? `Your bid is taken, and you lead at ${shown(told.price)}.`
-    : `Your bid is taken, but another maximum is as high or higher. The next bid is ${shown(told.floor)} or more.`;
+function came(answer) {
+  return answer.leader === caller.number ? `Your bid is taken, and you lead at ${shown(answer.price)}.`
+    : `Your bid is taken, but another maximum is as high or higher. The next bid is ${shown(answer.floor)} or more.`;
 }
 
 const isMeant = (maximum, floor) => maximum < FAR * floor || isSure({
@@ -33,12 +33,12 @@ const isMeant = (maximum, floor) => maximum < FAR * floor || isSure({
 // Sends a bid. Where no answer came, the caller's own bid tells whether it was taken.
 async function bid(now, maximum, refresh) {
   try {
-    const told = await send(`/items/${now.item.item}/bids`, { maximum });
+    const answer = await send(`/items/${now.item.item}/bids`, { maximum });
     await refresh(false);
-    return came(told);
+    return came(answer);
   } catch (refusal) {
     await refresh(false).catch(() => {});
-    if (refusal instanceof Refusal && ["silence", "gateway"].includes(refusal.told.error) && now.bid?.maximum === maximum) {
+    if (refusal instanceof Refusal && ["silence", "gateway"].includes(refusal.answer.error) && now.bid?.maximum === maximum) {
       return "Your bid is taken.";
     }
     throw refusal;
@@ -57,9 +57,9 @@ function bidding(now, refresh) {
     isMeant: maximum => isMeant(maximum, now.item.floor), unless: "Nothing was bid.",
     act: async maximum => {
       Object.assign(seen, { tried: "bid", floor: now.item.floor, maximum: now.bid?.maximum });
-      const told = await bid(now, maximum, refresh);
+      const sentence = await bid(now, maximum, refresh);
       field.clear();
-      return told;
+      return sentence;
     },
   });
   const update = () => {

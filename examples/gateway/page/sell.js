@@ -48,8 +48,8 @@ function fieldsOf(list) {
 
 async function list(category, title, text, start, buyNow, reserve, day, time, lot) {
   const end = Math.min(moment(day, time), LAST);
-  const told = await send("/items", { category, title, text, start, buy_now: buyNow, reserve, end, lot });
-  location.hash = `#/item/${told.item}`;
+  const answer = await send("/items", { category, title, text, start, buy_now: buyNow, reserve, end, lot });
+  location.hash = `#/item/${answer.item}`;
   setTimeout(() => tell("Your item is listed."), 500);
 }
 

@@ -11,8 +11,8 @@ const ENOUGH = 1000;
 
 const some = (count, words) => `${count} ${words}`;
 
-const closed = told => told.sold + told.unsold === 0 ? "Nothing was due."
-  : `Closed: ${some(told.sold, "sold")}, ${some(told.unsold, "not sold")}.`;
+const closed = answer => answer.sold + answer.unsold === 0 ? "Nothing was due."
+  : `Closed: ${some(answer.sold, "sold")}, ${some(answer.unsold, "not sold")}.`;
 
 // A button that settles the sale of an item, for the house; else nothing.
 export function settle(item, after) {
@@ -22,9 +22,9 @@ export function settle(item, after) {
   return action({
     button: "Settle this sale", waits: "Settling..", context: () => ({ tried: "settle" }),
     act: async () => {
-      const told = await send(`/items/${item.item}/settle`);
+      const answer = await send(`/items/${item.item}/settle`);
       await after?.();
-      return `Settled: ${shown(told.price)} paid, ${shown(told.fee)} fee, ${shown(told.net)} for the seller.`;
+      return `Settled: ${shown(answer.price)} paid, ${shown(answer.fee)} fee, ${shown(answer.net)} for the seller.`;
     },
   }).node;
 }
@@ -53,9 +53,9 @@ function closing(refill) {
   return action({
     button: "Close what is due", waits: "Closing..",
     act: async () => {
-      const told = await send("/close");
+      const answer = await send("/close");
       await refill();
-      return closed(told);
+      return closed(answer);
     },
   }).node;
 }

@@ -66,10 +66,10 @@ function download(statement, from, to) {
 
 export async function statement(visit, first, last) {
   const [from, to] = first && last ? [first, last] : period();
-  const told = await read(`/me/statement/${from}/${to}`);
+  const answer = await read(`/me/statement/${from}/${to}`);
   const days = `, ${dayInWords(from)} to ${dayInWords(to)}. Both days belong to it.`;
   const heading = make("p", { class: "soft" }, "For ", written(caller.name), days);
-  const nodes = told.lines.length ? [totals(told), chart(told.lines), await lines(told), download(told, from, to)]
+  const nodes = answer.lines.length ? [totals(answer), chart(answer.lines), await lines(answer), download(answer, from, to)]
     : [make("p", { class: "empty" }, "Nothing was sold or bought in this period. Choose other days.")];
   return { title: "Statement", nodes: [heading, choosing(from, to), ...nodes] };
 }

@@ -1,13 +1,13 @@
-// Tables, which a narrow window shows as one block for each row. The roles stand by themselves, since a table that is
+// Tables, which a narrow window shows as one block for each row. The roles are given apart, since a table that is
 // shown as blocks would lose them.
 import { make } from "./dom.js";
 
-// Columns are a title and a kind: amounts stand on the right, and what a row is about comes first on a narrow window.
+// Columns are a title and a kind: amounts are on the right, and what a row is about comes first on a narrow window.
 export const TEXT = "text";
 export const AMOUNT = "number";
 export const SUBJECT = "subject";
 
-// Names with what stands for each, in large letters.
+// Names with the value of each, in large letters.
 export const sums = entries => make("dl", { class: "sums" }, ...entries.map(([name, value]) =>
   make("div", {}, make("dt", {}, name), make("dd", {}, value))));
 

@@ -68,19 +68,19 @@ function higher(context) {
 }
 
 // The sentence for a refusal, by what was tried: its name, and the floor and the own maximum that were shown.
-export function sentence(told, context = {}) {
-  const { error } = told;
+export function sentence(answer, context = {}) {
+  const { error } = answer;
   if (error === "Low") {
-    return low(told.floor, context);
+    return low(answer.floor, context);
   }
   if (error === "NotHigher") {
     return higher(context);
   }
   if (error === "field") {
-    return `The house did not understand the field ${told.field}. Fill it in again.`;
+    return `The house did not understand the field ${answer.field}. Fill it in again.`;
   }
   if (error === "silence" || error === "gateway") {
-    return GATEWAY[told.why] ?? (context.isRead ? "The house did not answer. Try again in a moment." : UNSURE);
+    return GATEWAY[answer.why] ?? (context.isRead ? "The house did not answer. Try again in a moment." : UNSURE);
   }
   return SPECIAL[context.tried]?.[error] ?? RULES[error] ?? FAULTS[error]
     ?? `The house refused this, by the word ${error}. Tell whoever runs the house.`;

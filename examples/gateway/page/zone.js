@@ -14,7 +14,7 @@ const UTC = { standard: { name: "UTC", offset: 0 }, summer: null, begins: null, 
 
 const bare = name => name.replace(/[<>]/g, "");
 
-// Hours, minutes and seconds as seconds, with the sign that stands before them.
+// Hours, minutes and seconds as seconds, with the sign that is before them.
 function length(text) {
   const [hours, minutes = 0, rest = 0] = text.replace(/[+-]/, "").split(":").map(Number);
   return (text.startsWith("-") ? -1 : 1) * (hours * HOUR + minutes * 60 + rest);

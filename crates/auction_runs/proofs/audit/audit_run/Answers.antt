@@ -5,4 +5,4 @@ use Rattle.auction_runs.proofs.audit.audit_run.Goals as goal
 pub returns-clause-equal : goal.returns-clause-equal
 returns-clause-equal g c =
     λ e. of_value _ c.tell_compared.result true (c.status.ensures.equal.0 e)
-    c.tell_compared.ensures.told
+    c.tell_compared.ensures.report

@@ -3,4 +3,4 @@ use Rattle.auction_runs.proofs.bands.bands_run.Goals as goal
 
 pub returns-clause-set : goal.returns-clause-set
 returns-clause-set g c =
-    λ e. where_done c.set_and_tell.result (c.ended.ensures.done.0 e) c.set_and_tell.ensures.set
+    λ e. where_done c.set_and_tell.result (c.finish_run.ensures.done.0 e) c.set_and_tell.ensures.set

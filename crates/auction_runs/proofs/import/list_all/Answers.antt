@@ -9,9 +9,9 @@ returns-clause-ended g c =
     let k = g.K.Keep in
     on_ok_then c.finish.result c.finish.ensures.ended (λ ended.
     taken k.content k.is_failed k.is_honest k.may_leave g.K.Ends.is_ended c.args.by
-    c.args.keep c.in_ok-keep.keep c.known.new.keep (keep_of c.in_ok-site.site)
+    c.args.keep c.check_import.new.keep (keep_of c.in_ok-site.site)
     (keep_of c.import-imported.new.site) c.end.result (zone_of c.in_ok-site.site)
-    c.in_ok-keep.ensures.same c.in_ok-lots.ensures.known.read
+    c.in_ok-lots.ensures.known.read
     c.in_ok-lots.ensures.known.known c.in_ok-site.ensures.keep
     c.in_ok-site.ensures.zone c.import-imported.ensures.ordered c.end.ensures ended)
 
@@ -22,13 +22,13 @@ returns-clause-listed g c =
     let after = c.import-imported.new.site in
     ok_of_both _ _ c.finish.result c.import-imported.result c.finish.ensures.same
     c.finish.ensures.ended c.import-imported.ensures.imported
-    (λ told ended. dealt k.content k.is_failed k.is_honest k.may_leave g.K.Ends.is_ended
+    (λ report ended. dealt k.content k.is_failed k.is_honest k.may_leave g.K.Ends.is_ended
     g.R.Read.remaining c.args.by c.args.keep (keep_of site)
     (taken k.content k.is_failed k.is_honest k.may_leave g.K.Ends.is_ended c.args.by
-    c.args.keep c.in_ok-keep.keep c.known.new.keep (keep_of site) (keep_of after)
-    c.end.result (zone_of site) c.in_ok-keep.ensures.same c.in_ok-lots.ensures.known.read
+    c.args.keep c.check_import.new.keep (keep_of site) (keep_of after)
+    c.end.result (zone_of site) c.in_ok-lots.ensures.known.read
     c.in_ok-lots.ensures.known.known c.in_ok-site.ensures.keep
     c.in_ok-site.ensures.zone c.import-imported.ensures.ordered c.end.ensures ended)
     c.args.lots c.in_ok-lots.lots (g.W.Write.contents c.args.output.now)
-    (g.W.Write.contents c.import-imported.new.output) (g.W.Write.contents c.finish.new.output) told
+    (g.W.Write.contents c.import-imported.new.output) (g.W.Write.contents c.finish.new.output) report
     c.in_ok-lots.ensures.same c.in_ok-site.ensures.keep c.finish.ensures.kept)

@@ -5,4 +5,4 @@ use Rattle.auction_runs.proofs.surplus.surplus_run.Goals as goal
 pub returns-clause-covered : goal.returns-clause-covered
 returns-clause-covered g c =
     λ e. of_value _ c.tell_surplus.result true (c.status.ensures.equal.0 e)
-    c.tell_surplus.ensures.told
+    c.tell_surplus.ensures.report

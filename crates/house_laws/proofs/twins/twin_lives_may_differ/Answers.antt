@@ -48,9 +48,9 @@ pub returns-clause-twin_lives_get_these_replies : goal.returns-clause-twin_lives
 unfolding next reply verdict items items_shown greatest leader price second top step_at questions published waiting page_of own_watches
 returns-clause-twin_lives_get_these_replies g c = refl
 
-pub returns-clause-own_choice_is_told : goal.returns-clause-own_choice_is_told
+pub returns-clause-own_choice_is_answered : goal.returns-clause-own_choice_is_answered
 unfolding next reply verdict items items_shown greatest leader price second top step_at questions published waiting page_of own_watches
-returns-clause-own_choice_is_told g c = (
+returns-clause-own_choice_is_answered g c = (
   (
     tt,
     (inl refl, record { public = refl; waiting = refl }),

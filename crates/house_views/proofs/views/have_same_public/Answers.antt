@@ -1,10 +1,10 @@
 use Rattle.std.proofs.lemmas.Result.{IfOk-weaker}
-use Rattle.house_views.proofs.Public.{public_told}
+use Rattle.house_views.proofs.Public.{public_reported}
 use Rattle.house_views.proofs.views.have_same_public.Goals as goal
 
-pub returns-clause-told : goal.returns-clause-told
-returns-clause-told g c = λ left right settings h k e d.
+pub returns-clause-report : goal.returns-clause-report
+returns-clause-report g c = λ left right settings h k e d.
     let content = g.K.Keep.content in
     IfOk-weaker c.have_same_rows.result _ _
-    (λ same. public_told settings h k (content c.args.left.now) (content c.args.right.now) same e d)
-    (c.have_same_rows.ensures.told left right)
+    (λ same. public_reported settings h k (content c.args.left.now) (content c.args.right.now) same e d)
+    (c.have_same_rows.ensures.report left right)

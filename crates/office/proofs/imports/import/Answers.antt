@@ -13,7 +13,7 @@ use Rattle.office.proofs.imports.import.Goals as goal
 
 pub returns-clause-imported : goal.returns-clause-imported
 returns-clause-imported g c text is =
-    let listed = c.in_ok-told.ensures.imported text
+    let listed = c.in_ok-report.ensures.imported text
     (c.in_ok-read_head.ensures.ok text (c.plain_reader-reader.ensures text is)) in
     record {
       rows = listed.rows;
@@ -23,7 +23,7 @@ returns-clause-imported g c text is =
       shown = Appends-trans (g.W.Write.contents c.args.output.now)
           (g.W.Write.contents c.import_rows.new.output)
           (g.W.Write.contents c.print_totals.new.output) listed.printed
-          (totals_line c.in_ok-told.told) listed.shown c.in_ok-print_totals.ensures.line;
+          (totals_line c.in_ok-report.report) listed.shown c.in_ok-print_totals.ensures.line;
     }
 
 pub returns-clause-counted : goal.returns-clause-counted
@@ -31,14 +31,14 @@ returns-clause-counted g c text is =
     let k = g.K.Keep in
     let step =
     IsStep k.content k.is_failed k.is_honest k.may_leave (zone_of c.args.site.now) in
-    let listed = c.in_ok-told.ensures.imported text
+    let listed = c.in_ok-report.ensures.imported text
     (c.in_ok-read_head.ensures.ok text (c.plain_reader-reader.ensures text is)) in
     let size : length (records_of text) ≡ length (head ∷ listed.rows) = ap length listed.all in
     omega (
       arith,
       size,
       all_counted step c.args.by listed.rows (keep_of c.args.site.now)
-          (keep_of c.import_rows.new.site) c.in_ok-told.told listed.printed listed.imported,
+          (keep_of c.import_rows.new.site) c.in_ok-report.report listed.printed listed.imported,
     )
 
 pub returns-in_err-read_head-clause-ended : goal.returns-in_err-read_head-clause-ended
@@ -50,10 +50,10 @@ returns-in_err-read_head-clause-ended g c =
       shown = Appends-nil (g.W.Write.contents c.args.output.now);
     }))
 
-pub returns-in_err-told-clause-ended : goal.returns-in_err-told-clause-ended
-returns-in_err-told-clause-ended g c =
-    let p = err_from_is_err_and c.from_residual-in_err-told.result c.from_residual-in_err-told.ensures.1 in
-    rw (p.1, p.2) (λ text is. inr (c.in_err-told.ensures.ended text
+pub returns-in_err-report-clause-ended : goal.returns-in_err-report-clause-ended
+returns-in_err-report-clause-ended g c =
+    let p = err_from_is_err_and c.from_residual-in_err-report.result c.from_residual-in_err-report.ensures.1 in
+    rw (p.1, p.2) (λ text is. inr (c.in_err-report.ensures.ended text
     (c.in_ok-read_head.ensures.ok text (c.plain_reader-reader.ensures text is))))
 
 pub returns-in_err-print_totals-clause-ended : goal.returns-in_err-print_totals-clause-ended
@@ -67,8 +67,8 @@ returns-in_err-print_totals-clause-ended g c =
     (g.W.Write.contents c.import_rows.new.output))
     (Appends (g.W.Write.contents c.args.output.now)
     (g.W.Write.contents c.print_totals.new.output))
-    c.args.by (records_of text) c.in_ok-told.told _
+    c.args.by (records_of text) c.in_ok-report.report _
     (keep_of c.args.site.now) (keep_of c.import_rows.new.site)
-    (c.in_ok-told.ensures.imported text
+    (c.in_ok-report.ensures.imported text
     (c.in_ok-read_head.ensures.ok text (c.plain_reader-reader.ensures text is)))
     c.in_err-print_totals.ensures.fault))

@@ -4,7 +4,7 @@ use Rattle.csv.specs.Records.{fields_of}
 use Rattle.site.specs.Answers.{IsStep, zone_of}
 use Rattle.office.specs.Imports.{keep_of}
 use Rattle.office.proofs.Listed.{spelled_listable}
-use Rattle.office.proofs.Rows.{done_row, ended_row, unprinted_row, unread_row, write_stands}
+use Rattle.office.proofs.Rows.{done_row, ended_row, unprinted_row, unread_row, write_is_consistent}
 use Rattle.office.proofs.imports.import_row.Goals as goal
 
 pub list-requires : goal.list-requires
@@ -52,4 +52,4 @@ returns-in-Err-clause-ended g c =
 
 pub returns-in-Err-clause-quiet : goal.returns-in-Err-clause-quiet
 returns-in-Err-clause-quiet g c =
-    write_stands c.refuse_field.result _ c.refuse_field.ensures.fault
+    write_is_consistent c.refuse_field.result _ c.refuse_field.ensures.fault

@@ -7,7 +7,7 @@ use Rattle.site.specs.Answers.{IsStep, zone_of}
 use Rattle.office.specs.declared.fault.ImportFault.TheVariants as importing
 use Rattle.office.specs.Imports.{keep_of}
 use Rattle.office.specs.Lots.{head}
-use Rattle.office.proofs.Chains.{imported_more, one_more, ordered_on, stands_on}
+use Rattle.office.proofs.Chains.{imported_more, one_more, ordered_on, is_consistent_on}
 use Rattle.office.proofs.Ends.{cut_at_row, cut_between}
 use Rattle.office.proofs.imports.import_rows.Goals as goal
 
@@ -40,9 +40,9 @@ loop-before-preserved g c =
     let done = rw so_far.zone at c.in_ok-outcome.ensures.row in
     let ordered = rw so_far.zone at c.in_ok-outcome.ensures.ordered in
     let outcome = c.in_ok-outcome.outcome in
-    let more = one_more c.loop-before.told outcome in
+    let more = one_more c.loop-before.report outcome in
     record {
-      counted = rw c.counted-told.ensures (omega (arith, more, so_far.counted));
+      counted = rw c.with_outcome-report.ensures (omega (arith, more, so_far.counted));
       zone = c.in_ok-outcome.ensures.zone ∙ so_far.zone;
       ordered = ordered_on step c.args.by (keep_of c.args.site.now) (keep_of c.loop-before.site)
           (keep_of c.import_row.new.site) so_far.ordered ordered;
@@ -55,8 +55,8 @@ loop-before-preserved g c =
             next,
             imported_more step c.args.by rows (fields_of c.next.new.row)
                 (keep_of c.args.site.now) (keep_of c.loop-before.site)
-                (keep_of c.import_row.new.site) c.loop-before.told c.counted-told.result
-                printed done.0 outcome imported (rw so_far.counted done.1) c.counted-told.ensures,
+                (keep_of c.import_row.new.site) c.loop-before.report c.with_outcome-report.result
+                printed done.0 outcome imported (rw so_far.counted done.1) c.with_outcome-report.ensures,
             Appends-trans (g.W.Write.contents c.args.output.now)
                 (g.W.Write.contents c.loop-before.output)
                 (g.W.Write.contents c.import_row.new.output) printed done.0 shown done.2,
@@ -75,7 +75,7 @@ returns-in_err-next-clause-ended g c =
     (Appends (g.W.Write.contents c.args.output.now)
     (g.W.Write.contents c.loop-before.output))
     c.args.by c.loop-before.reader rows text _
-    (keep_of c.args.site.now) (keep_of c.loop-before.site) c.loop-before.told printed
+    (keep_of c.args.site.now) (keep_of c.loop-before.site) c.loop-before.report printed
     read imported shown (c.in_err-next.ensures.fault (head ∷ rows) text read))
 
 pub returns-in_err-outcome-clause-ended : goal.returns-in_err-outcome-clause-ended
@@ -95,8 +95,8 @@ returns-in_err-outcome-clause-ended g c =
     (g.W.Write.contents c.import_row.new.output))
     c.args.by c.next.new.reader rows (fields_of c.next.new.row) text _
     (keep_of c.args.site.now) (keep_of c.loop-before.site) (keep_of c.import_row.new.site)
-    c.loop-before.told printed next imported
-    (stands_on (g.W.Write.contents c.args.output.now)
+    c.loop-before.report printed next imported
+    (is_consistent_on (g.W.Write.contents c.args.output.now)
     (g.W.Write.contents c.loop-before.output)
     (g.W.Write.contents c.import_row.new.output) printed _ shown
     c.in_err-outcome.ensures.quiet)
@@ -111,5 +111,5 @@ returns-clause-ended g c text has =
     cut_between g.R.Read.remaining step
     (Appends (g.W.Write.contents c.args.output.now) (g.W.Write.contents c.loop-before.output))
     c.args.by c.loop-before.reader rows text importing.Read
-    (keep_of c.args.site.now) (keep_of c.loop-before.site) c.loop-before.told printed
+    (keep_of c.args.site.now) (keep_of c.loop-before.site) c.loop-before.report printed
     read imported shown (inr refl)

@@ -14,12 +14,12 @@ invariant-loop-before g l =
     let first = l.fn.site in
     let step = IsStep keep.content keep.is_failed keep.is_honest keep.may_leave (zone_of first) in
     record {
-      counted : sum_of l.told ≡ l.before;
+      counted : sum_of l.report ≡ l.before;
       zone : zone_of l.site ≡ zone_of first;
       ordered : HasOrdered step l.by (keep_of first) (keep_of l.site);
       read : (text : List ℕ) → HasRead g.R.Read.remaining l.fn.reader (head ∷ []) text
           → (rows : List (List (List ℕ))) × (printed : List ℕ)
           × HasRead g.R.Read.remaining l.reader (head ∷ rows) text
-          × HasImported step l.by rows (keep_of first) (keep_of l.site) l.told printed
+          × HasImported step l.by rows (keep_of first) (keep_of l.site) l.report printed
           × Appends (g.W.Write.contents l.fn.output) (g.W.Write.contents l.output) printed;
     }

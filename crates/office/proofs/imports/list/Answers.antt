@@ -3,8 +3,8 @@ use Rattle.std.specs.Io.KnownBytes.{Appends}
 use Rattle.site.specs.Answers.{IsStep, zone_of}
 use Rattle.office.specs.Imports.{keep_of}
 use Rattle.office.specs.Orders.{message_of}
-use Rattle.office.proofs.Chains.{told_done, told_ended, told_ordered}
-use Rattle.office.proofs.Rows.{long_done, long_ended, write_stands}
+use Rattle.office.proofs.Chains.{report_done, report_ended, report_ordered}
+use Rattle.office.proofs.Rows.{long_done, long_ended, write_is_consistent}
 use Rattle.office.proofs.imports.list.Goals as goal
 
 pub returns-then-branch-clause-done : goal.returns-then-branch-clause-done
@@ -14,10 +14,10 @@ returns-then-branch-clause-done g c =
     IsStep k.content k.is_failed k.is_honest k.may_leave (zone_of c.args.site.now) in
     let fits : message_of c.args.by c.args.lot.now ≡ Some c.write.new.self.text.items =
     rw c.if-branch.true at c.in_ok-write.ensures in
-    told_done step (Appends (g.W.Write.contents c.args.output.now) (g.W.Write.contents c.ask.new.output))
+    report_done step (Appends (g.W.Write.contents c.args.output.now) (g.W.Write.contents c.ask.new.output))
     c.args.by c.args.lot.now c.write.new.self.text.items c.args.number c.ask.result
     (keep_of c.args.site.now) (keep_of c.ask.new.site) c.requires fits
-    (rw c.deref.ensures.value at c.ask.ensures.told)
+    (rw c.deref.ensures.value at c.ask.ensures.report)
 
 pub returns-then-branch-clause-ended : goal.returns-then-branch-clause-ended
 returns-then-branch-clause-ended g c =
@@ -26,10 +26,10 @@ returns-then-branch-clause-ended g c =
     IsStep k.content k.is_failed k.is_honest k.may_leave (zone_of c.args.site.now) in
     let fits : message_of c.args.by c.args.lot.now ≡ Some c.write.new.self.text.items =
     rw c.if-branch.true at c.in_ok-write.ensures in
-    told_ended step (Appends (g.W.Write.contents c.args.output.now) (g.W.Write.contents c.ask.new.output))
+    report_ended step (Appends (g.W.Write.contents c.args.output.now) (g.W.Write.contents c.ask.new.output))
     c.args.by c.args.lot.now c.write.new.self.text.items c.args.number c.ask.result
     (keep_of c.args.site.now) (keep_of c.ask.new.site) c.requires fits
-    (rw c.deref.ensures.value at c.ask.ensures.told)
+    (rw c.deref.ensures.value at c.ask.ensures.report)
 
 pub returns-then-branch-clause-ordered : goal.returns-then-branch-clause-ordered
 returns-then-branch-clause-ordered g c =
@@ -38,10 +38,10 @@ returns-then-branch-clause-ordered g c =
     IsStep k.content k.is_failed k.is_honest k.may_leave (zone_of c.args.site.now) in
     let fits : message_of c.args.by c.args.lot.now ≡ Some c.write.new.self.text.items =
     rw c.if-branch.true at c.in_ok-write.ensures in
-    told_ordered step (Appends (g.W.Write.contents c.args.output.now) (g.W.Write.contents c.ask.new.output))
+    report_ordered step (Appends (g.W.Write.contents c.args.output.now) (g.W.Write.contents c.ask.new.output))
     c.args.by c.args.lot.now c.write.new.self.text.items c.args.number c.ask.result
     (keep_of c.args.site.now) (keep_of c.ask.new.site) c.requires fits
-    (rw c.deref.ensures.value at c.ask.ensures.told)
+    (rw c.deref.ensures.value at c.ask.ensures.report)
 
 pub returns-else-branch-clause-done : goal.returns-else-branch-clause-done
 returns-else-branch-clause-done g c =
@@ -66,4 +66,4 @@ returns-else-branch-clause-ended g c =
 
 pub returns-else-branch-clause-quiet : goal.returns-else-branch-clause-quiet
 returns-else-branch-clause-quiet g c =
-    write_stands c.refuse_long.result _ c.refuse_long.ensures.fault
+    write_is_consistent c.refuse_long.result _ c.refuse_long.ensures.fault

@@ -3,8 +3,8 @@ use Rattle.std.proofs.lemmas.Bool.Decides.{Decides-eqb}
 use Rattle.std.proofs.lemmas.Slice.Eq.{starts_is}
 use Rattle.office.proofs.outcome.outcome_of.Goals as goal
 
-pub returns-then-starts_with-clause-told : goal.returns-then-starts_with-clause-told
-returns-then-starts_with-clause-told c = (
+pub returns-then-starts_with-clause-report : goal.returns-then-starts_with-clause-report
+returns-then-starts_with-clause-report c = (
   _,
   (starts_is Decides-eqb c.args.reply.now (codes "HTTP/1.1 201 ") c.starts_with.result
       c.starts_with.ensures.value).0 c.if-starts_with.true,

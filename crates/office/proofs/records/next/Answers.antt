@@ -6,11 +6,11 @@ use Rattle.office.proofs.records.next.Goals as goal
 
 pub returns-in-Ok-clause-ok : goal.returns-in-Ok-clause-ok
 returns-in-Ok-clause-ok g c rows text has =
-    let told = c.in-Ok.ensures in
+    let report = c.in-Ok.ensures in
     let plain = has.plain in
     read_on g.R.Read.remaining c.args.reader.now c.read_byte_record.new.self c.in-Ok.found rows
     (fields_of c.read_byte_record.new.row) text has
-    (told.reads plain.untrimmed plain.ready) told.flexible (inl (told.ready plain.untrimmed))
+    (report.reads plain.untrimmed plain.ready) report.flexible (inl (report.ready plain.untrimmed))
 
 pub returns-in-Err-clause-fault : goal.returns-in-Err-clause-fault
 returns-in-Err-clause-fault g c rows text has =

@@ -1,29 +1,15 @@
-use Rattle.std.proofs.Common.{refl, ap, Err}
+use Rattle.std.proofs.Common.{refl, Err}
 use Rattle.std.proofs.lemmas.Result.{err_from_is_err_and}
 use Rattle.house_rows.specs.declared.reply.Reply.TheVariants.{Shows}
 use Rattle.site_acts.proofs.Acts.{acted_by_reading, some_text}
-use Rattle.house_rows.specs.declared.settings.Settings.{Settings}
 use Rattle.pages_laws.specs.ByTables.{page_by}
-use Rattle.site_acts.proofs.Staying.{faults_after, faults_err, left_alone, rate_is, shown_page, shown_reads}
+use Rattle.site_acts.proofs.Staying.{faults_after, faults_err, shown_page, shown_reads}
 use Rattle.site_acts.proofs.reading.read.Goals as goal
-
-pub returns-in_err-rate-clause-acted : goal.returns-in_err-rate-clause-acted
-returns-in_err-rate-clause-acted g c =
-    let exit = err_from_is_err_and c.from_residual.result c.from_residual.ensures.1 in
-    let fault = c.in_err-rate.field-0.0 in
-    rw (exit.1, exit.2) (
-    acted_by_reading g.K.Keep.content g.K.Keep.is_failed g.K.Keep.is_honest g.K.Keep.may_leave
-    c.args.writer.now.zone c.args.closes _
-    (Err fault) c.args.out.now.items c.args.out.now.items c.args.keep.now c.args.keep.now refl
-    (λ honest settings h is e. tt) tt (λ honest. tt) refl (faults_err _ _ fault _ _ _ c.in_err-rate.ensures.faults)
-    (left_alone g.K.Keep.content g.K.Keep.is_failed g.K.Keep.is_honest g.K.Keep.may_leave
-    c.args.keep.now)
-    )
 
 pub returns-in_err-page-clause-acted : goal.returns-in_err-page-clause-acted
 returns-in_err-page-clause-acted g c =
-    let exit = err_from_is_err_and c.from_residual-in_err-page.result
-    c.from_residual-in_err-page.ensures.1 in
+    let exit = err_from_is_err_and c.from_residual.result
+    c.from_residual.ensures.1 in
     let fault = c.in_err-page.field-0.0 in
     rw (exit.1, exit.2) (
     acted_by_reading g.K.Keep.content g.K.Keep.is_failed g.K.Keep.is_honest g.K.Keep.may_leave
@@ -38,22 +24,15 @@ returns-clause-acted g c =
     let p = c.in_ok-page.ensures in
     acted_by_reading g.K.Keep.content g.K.Keep.is_failed g.K.Keep.is_honest g.K.Keep.may_leave
     c.args.writer.now.zone c.args.closes _
-    c.show.result c.args.out.now.items c.show.new.out.items c.args.keep.now c.read.new.keep refl
+    c.write.result c.args.out.now.items c.write.new.out.items c.args.keep.now c.read.new.keep refl
     (λ honest settings h is e.
-    shown_reads c.show.result c.args.writer.now.zone c.args.closes settings h c.args.caller
-    c.args.query.now c.in_ok-page.page c.in_ok-rate.field-0.now.rate c.args.out.now.items
-    c.show.new.out.items
-    (p.page honest settings h e)
-    (rate_is (g.K.Keep.content c.args.keep.now) c.in_ok-rate.field-0.now settings h
-    (c.in_ok-rate.ensures.value (p.read.honest honest)) e) c.show.ensures.ok)
-    (some_text c.show.result c.args.writer.now.zone c.in_ok-rate.field-0.now.rate c.args.closes
-    (Shows c.in_ok-page.page) c.args.out.now.items c.show.new.out.items c.show.ensures.ok)
-    (λ honest. shown_page c.show.result c.args.writer.now.zone c.args.closes c.in_ok-page.page
+    shown_reads c.write.result c.args.writer.now.zone c.args.closes settings h c.args.caller
+    c.args.query.now c.in_ok-page.page c.args.out.now.items c.write.new.out.items
+    (p.page honest settings h e) c.write.ensures.ok)
+    (some_text c.write.result c.args.writer.now.zone c.args.closes
+    (Shows c.in_ok-page.page) c.args.out.now.items c.write.new.out.items c.write.ensures.ok)
+    (λ honest. shown_page c.write.result c.args.writer.now.zone c.args.closes c.in_ok-page.page
     (page_by (g.K.Keep.content c.args.keep.now) c.args.caller c.args.query.now)
-    c.in_ok-rate.field-0.now.rate
-    (g.K.Keep.content c.args.keep.now).settings.rate
-    c.args.out.now.items c.show.new.out.items (p.tables honest)
-    (ap (λ (s : Settings). s.rate) (c.in_ok-rate.ensures.value (p.read.honest honest)))
-    c.show.ensures.ok)
-    c.show.ensures.err (faults_after c.in_ok-page.page c.show.result _ _ _ p.faults
-    c.show.ensures.memory) p.read
+    c.args.out.now.items c.write.new.out.items (p.tables honest) c.write.ensures.ok)
+    c.write.ensures.err (faults_after c.in_ok-page.page c.write.result _ _ _ p.faults
+    c.write.ensures.memory) p.read

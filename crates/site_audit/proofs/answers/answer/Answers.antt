@@ -1,14 +1,14 @@
 use Rattle.std.specs.Cow.{cow_slice_items}
-use Rattle.site_audit.proofs.Places.{step_told}
+use Rattle.site_audit.proofs.Places.{step_reported}
 use Rattle.site_audit.proofs.answers.answer.Goals as goal
 
-pub returns-clause-told : goal.returns-clause-told
-returns-clause-told g c = λ honest settings h is e asked asks.
+pub returns-clause-report : goal.returns-clause-report
+returns-clause-report g c = λ honest settings h is e asked asks.
     let k = g.K.Keep in
     let (found, also, step) = c.answer.ensures.step in
-    step_told k.content k.is_failed k.is_honest k.may_leave cow_slice_items settings
+    step_reported k.content k.is_failed k.is_honest k.may_leave cow_slice_items settings
     c.args.site.now.writer.zone h c.args.text.now found asked c.answer.result
-    c.args.site.now.keep c.answer.new.self.keep c.served.result also asks step c.served.ensures
+    c.args.site.now.keep c.answer.new.self.keep c.check_status.result also asks step c.check_status.ensures
     honest is e
 
 pub returns-clause-used : goal.returns-clause-used

@@ -2,12 +2,12 @@ use Rattle.std.proofs.Common.{◌≡◌, ◌∙◌, ap, subst}
 use Rattle.steps.specs.Table.{IsBandTable}
 use Rattle.house_rows.specs.Tables.{Tables}
 use Rattle.site_audit.specs.Places.{keep_of}
-use Rattle.site_audit.proofs.Pairs.{alike_told, seen_err, seen_from, seen_gave, sound_if}
+use Rattle.site_audit.proofs.Pairs.{alike_reported, seen_err, seen_from, seen_gave, sound_if}
 use Rattle.site_audit.proofs.pair.are_alike.Goals as goal
 
-pub returns-in_err-have_same_settings-clause-told :
-    goal.returns-in_err-have_same_settings-clause-told
-returns-in_err-have_same_settings-clause-told g c = λ honest honest' settings others h k is is' e d.
+pub returns-in_err-have_same_settings-clause-report :
+    goal.returns-in_err-have_same_settings-clause-report
+returns-in_err-have_same_settings-clause-report g c = λ honest honest' settings others h k is is' e d.
     let n = g.K.Keep in
     let same = ap n.content c.keep_mut.ensures.keep in
     let same' = ap n.content c.keep_mut-2.ensures.keep in
@@ -23,14 +23,14 @@ returns-in_err-have_same_settings-clause-told g c = λ honest honest' settings o
     (sound_if settings h (n.content a) is (same ∙ e))
     (sound_if others k (n.content b) is' (same' ∙ d))))
 
-pub returns-clause-told : goal.returns-clause-told
-returns-clause-told g c = λ honest honest' settings others h k is is' e d.
+pub returns-clause-report : goal.returns-clause-report
+returns-clause-report g c = λ honest honest' settings others h k is is' e d.
     let n = g.K.Keep in
     let same = ap n.content c.keep_mut.ensures.keep in
     let same' = ap n.content c.keep_mut-2.ensures.keep in (
-      alike_told settings others h k (n.content c.keep_mut.result.now)
+      alike_reported settings others h k (n.content c.keep_mut.result.now)
           (n.content c.keep_mut-2.result.now) c.in_ok-have_same_settings.field-0 (same ∙ e)
-          (same' ∙ d) (c.in_ok-have_same_settings.ensures.told honest honest'),
+          (same' ∙ d) (c.in_ok-have_same_settings.ensures.report honest honest'),
       same,
       same',
     )

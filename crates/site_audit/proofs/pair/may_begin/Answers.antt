@@ -8,8 +8,8 @@ use Rattle.site_audit.specs.Places.{keep_of}
 use Rattle.site_audit.proofs.Pairs.{begun, left_err, right_err, seen_gave, sound_if}
 use Rattle.site_audit.proofs.pair.may_begin.Goals as goal
 
-pub returns-in_err-is_new-clause-told : goal.returns-in_err-is_new-clause-told
-returns-in_err-is_new-clause-told g c = λ honest honest' settings others h k is is' e d.
+pub returns-in_err-is_new-clause-report : goal.returns-in_err-is_new-clause-report
+returns-in_err-is_new-clause-report g c = λ honest honest' settings others h k is is' e d.
     let n = g.K.Keep in
     let a = keep_of c.args.left.now in
     let b = keep_of c.args.right.now in
@@ -20,8 +20,8 @@ returns-in_err-is_new-clause-told g c = λ honest honest' settings others h k is
     (keep_of c.is_new.new.self) f c.in_err-is_new.ensures.faults honest
     (sound_if settings h (n.content a) is e))
 
-pub returns-in_err-is_new-2-clause-told : goal.returns-in_err-is_new-2-clause-told
-returns-in_err-is_new-2-clause-told g c = λ honest honest' settings others h k is is' e d.
+pub returns-in_err-is_new-2-clause-report : goal.returns-in_err-is_new-2-clause-report
+returns-in_err-is_new-2-clause-report g c = λ honest honest' settings others h k is is' e d.
     let n = g.K.Keep in
     let a = keep_of c.args.left.now in
     let b = keep_of c.args.right.now in
@@ -33,8 +33,8 @@ returns-in_err-is_new-2-clause-told g c = λ honest honest' settings others h k 
     (keep_of c.is_new.new.self) (keep_of c.is_new-2.new.self) f c.in_err-is_new-2.ensures.faults
     honest' (sound_if others k (n.content b) is' d))
 
-pub returns-clause-told : goal.returns-clause-told
-returns-clause-told g c = λ honest honest' settings others h k is is' e d.
+pub returns-clause-report : goal.returns-clause-report
+returns-clause-report g c = λ honest honest' settings others h k is is' e d.
     let n = g.K.Keep in
     let a = keep_of c.args.left.now in
     let b = keep_of c.args.right.now in
@@ -48,9 +48,9 @@ returns-clause-told g c = λ honest honest' settings others h k is is' e d.
     b' c.in_ok-is_new-2.ensures.faults c.in_ok-is_new-2.ensures.read before' in
     begun n.content n.is_failed settings others h k a b a' b' (keep_of c.are_alike.new.left)
     (keep_of c.are_alike.new.right) c.are_alike.result e d
-    ((c.in_ok-is_new.ensures.told before settings h is e).0 c.if-not-branch.false)
-    ((c.in_ok-is_new-2.ensures.told before' others k is' d).0 c.if-not-branch-2.false) same same'
-    (c.are_alike.ensures.told honest honest' settings others h k is is' (same ∙ e) (same' ∙ d))
+    ((c.in_ok-is_new.ensures.report before settings h is e).0 c.if-not-branch.false)
+    ((c.in_ok-is_new-2.ensures.report before' others k is' d).0 c.if-not-branch-2.false) same same'
+    (c.are_alike.ensures.report honest honest' settings others h k is is' (same ∙ e) (same' ∙ d))
 
 pub returns-clause-valid : goal.returns-clause-valid
 returns-clause-valid g c = λ honest.

@@ -4,8 +4,8 @@ use Rattle.site_audit.specs.Places.{keep_of}
 use Rattle.site_audit.proofs.Pairs.{seen_err, seen_from, seen_gave, seen_ok, sound_if}
 use Rattle.site_audit.proofs.pair.sites_agree.Goals as goal
 
-pub returns-in_err-agree-clause-told : goal.returns-in_err-agree-clause-told
-returns-in_err-agree-clause-told g c = λ honest honest' settings h k is is' e d.
+pub returns-in_err-agree-clause-report : goal.returns-in_err-agree-clause-report
+returns-in_err-agree-clause-report g c = λ honest honest' settings h k is is' e d.
     let n = g.K.Keep in
     let same = ap n.content c.keep_mut.ensures.keep in
     let same' = ap n.content c.keep_mut-2.ensures.keep in
@@ -22,8 +22,8 @@ returns-in_err-agree-clause-told g c = λ honest honest' settings h k is is' e d
     (sound_if settings h (n.content a) is (same ∙ e))
     (sound_if settings k (n.content b) is' (same' ∙ d))))
 
-pub returns-clause-told : goal.returns-clause-told
-returns-clause-told g c = λ honest honest' settings h k is is' e d.
+pub returns-clause-report : goal.returns-clause-report
+returns-clause-report g c = λ honest honest' settings h k is is' e d.
     let n = g.K.Keep in
     let same = ap n.content c.keep_mut.ensures.keep in
     let same' = ap n.content c.keep_mut-2.ensures.keep in
@@ -35,4 +35,4 @@ returns-clause-told g c = λ honest honest' settings h k is is' e d.
     (seen_ok n.content n.is_failed n.is_honest n.may_leave (Agrees settings c.args.caller h k) a b
     c.agree.new.left c.agree.new.right c.in_ok-agree.field-0 c.in_ok-agree.ensures.faults
     c.in_ok-agree.ensures.left c.in_ok-agree.ensures.right honest honest'
-    (c.in_ok-agree.ensures.told honest honest' settings h k (same ∙ e) (same' ∙ d)))
+    (c.in_ok-agree.ensures.report honest honest' settings h k (same ∙ e) (same' ∙ d)))

@@ -5,12 +5,12 @@ use Rattle.site_audit.specs.Places.{keep_of}
 use Rattle.site_audit.proofs.Places.{next_is, not_both, place_gave, place_left, place_right, place_seen, reply_kept}
 use Rattle.site_audit.proofs.place.take_place.Goals as goal
 
-pub returns-then-not-may_pair-clause-told : goal.returns-then-not-may_pair-clause-told
-returns-then-not-may_pair-clause-told g c = λ honest honest' settings h k is is' e d x y a b place.
+pub returns-then-not-may_pair-clause-report : goal.returns-then-not-may_pair-clause-report
+returns-then-not-may_pair-clause-report g c = λ honest honest' settings h k is is' e d x y a b place.
     not_both c.may_pair.result ((c.may_pair.ensures x y a b).1 place.paired) c.if-not-may_pair.true
 
-pub returns-in_err-reply-clause-told : goal.returns-in_err-reply-clause-told
-returns-in_err-reply-clause-told g c = λ honest honest' settings h k is is' e d x y a b.
+pub returns-in_err-reply-clause-report : goal.returns-in_err-reply-clause-report
+returns-in_err-reply-clause-report g c = λ honest honest' settings h k is is' e d x y a b.
     let n = g.K.Keep in
     let kept = map cow_slice_items c.args.replies.now.items in
     let fault = c.in_err-reply.field-0.0 in
@@ -19,10 +19,10 @@ returns-in_err-reply-clause-told g c = λ honest honest' settings h k is is' e d
     c.from_residual.ensures
     (place_left n.content n.is_failed (cow_slice_items {X = ℕ} {Z = Global}) settings (zone_of c.args.left.now)
     c.args.caller h k x y kept kept (keep_of c.answer.new.site) (keep_of c.args.right.now) fault
-    (c.in_err-reply.ensures.told honest settings h is e x.asked a.asks))
+    (c.in_err-reply.ensures.report honest settings h is e x.asked a.asks))
 
-pub returns-in_err-answer-clause-told : goal.returns-in_err-answer-clause-told
-returns-in_err-answer-clause-told g c = λ honest honest' settings h k is is' e d x y a b.
+pub returns-in_err-answer-clause-report : goal.returns-in_err-answer-clause-report
+returns-in_err-answer-clause-report g c = λ honest honest' settings h k is is' e d x y a b.
     let n = g.K.Keep in
     let kept = map cow_slice_items c.args.replies.now.items in
     let fault = c.in_err-answer.field-0.0 in
@@ -32,15 +32,15 @@ returns-in_err-answer-clause-told g c = λ honest honest' settings h k is is' e 
     (place_right n.content n.is_failed (cow_slice_items {X = ℕ} {Z = Global}) settings (zone_of c.args.left.now)
     (zone_of c.args.right.now) c.args.caller h k x y kept kept (keep_of c.answer.new.site)
     (keep_of c.answer-2.new.site) fault
-    (c.in_err-answer.ensures.told honest' settings k is' d y.asked b.asks))
+    (c.in_err-answer.ensures.report honest' settings k is' d y.asked b.asks))
 
-pub returns-clause-told : goal.returns-clause-told
-returns-clause-told g c = λ honest honest' settings h k is is' e d x y a b.
+pub returns-clause-report : goal.returns-clause-report
+returns-clause-report g c = λ honest honest' settings h k is is' e d x y a b.
     let n = g.K.Keep in
     let before = c.sites_agree.ensures.left.honest honest in
     let before' = c.sites_agree.ensures.right.honest honest' in
-    let left = c.in_ok-reply.ensures.told before settings h is e x.asked a.asks in
-    let right = c.in_ok-answer.ensures.told before' settings k is' d y.asked b.asks in
+    let left = c.in_ok-reply.ensures.report before settings h is e x.asked a.asks in
+    let right = c.in_ok-answer.ensures.report before' settings k is' d y.asked b.asks in
     place_seen n.content n.is_failed settings (zone_of c.args.left.now) c.args.caller h k x y
     (map cow_slice_items c.args.replies.now.items)
     (map cow_slice_items c.keep_reply.new.replies.items) (keep_of c.answer.new.site)
@@ -50,6 +50,6 @@ returns-clause-told g c = λ honest honest' settings h k is is' e d x y a b.
     (reply_kept cow_slice_items settings (zone_of c.args.left.now) c.args.caller h x.asked
     c.in_ok-reply.reply c.is_callers.result _ _ (c.is_callers.ensures x.asked a.asks) left.0
     c.in_ok-keep_reply.ensures.ok)
-    (c.sites_agree.ensures.told honest honest' settings (next_of settings h x.asked)
+    (c.sites_agree.ensures.report honest honest' settings (next_of settings h x.asked)
     (next_of settings k y.asked) (next_is settings h x.asked is) (next_is settings k y.asked is')
     left.1 right.1)

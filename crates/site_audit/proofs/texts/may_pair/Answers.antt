@@ -1,5 +1,5 @@
 use Rattle.std.proofs.Common.{◌∙◌, inl, refl, sym}
-use Rattle.site_audit.proofs.Callers.{others_told, paired_same, unpaired}
+use Rattle.site_audit.proofs.Callers.{others_reported, paired_same, unpaired}
 use Rattle.site_audit.proofs.texts.may_pair.Goals as goal
 
 pub returns-then-are_equal : goal.returns-then-are_equal
@@ -19,7 +19,7 @@ returns-then-is_callers c = λ x y a b. (
 
 pub returns : goal.returns
 returns c = λ x y a b.
-    others_told c.args.caller c.args.left.now c.args.right.now x y a b
+    others_reported c.args.caller c.args.left.now c.args.right.now x y a b
     (λ e. let same = c.are_equal.ensures.1 e in cc)
     (sym (c.is_callers.ensures x.asked a.asks) ∙ c.if-is_callers.false) c.is_callers-2.result
     (c.is_callers-2.ensures y.asked b.asks)

@@ -14,7 +14,7 @@ returns-clause-verdict g c =
     let u = n.content (keep_of c.args.right.now) in
     let before = c.audit_from.ensures.left.honest honest in
     let before' = c.audit_from.ensures.right.honest honest' in
-    let seen = c.in_ok-may_begin.ensures.told before before' settings others h k is is' e d in
+    let seen = c.in_ok-may_begin.ensures.report before before' settings others h k is is' e d in
     let may = seen.0.0 c.if-not-branch.false in
     let same = same_settings settings others h k t u e d may in
     verdict_of n.content n.is_failed settings (zone_of c.may_begin.new.left)

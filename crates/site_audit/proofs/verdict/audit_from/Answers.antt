@@ -4,7 +4,7 @@ use Rattle.std.proofs.lemmas.List.{length-map}
 use Rattle.site.specs.Answers.{zone_of}
 use Rattle.site_audit.specs.Places.{keep_of}
 use Rattle.site_audit.proofs.Lists.{ends_apart, next_read}
-use Rattle.site_audit.proofs.Runs.{compared_more, found_apart, found_end, found_equal, found_fault, found_gave, told_by, used_twice}
+use Rattle.site_audit.proofs.Runs.{compared_more, found_apart, found_end, found_equal, found_fault, found_gave, report_by, used_twice}
 use Rattle.site_audit.proofs.verdict.audit_from.Goals as goal
 
 pub returns-in_default-clause-found : goal.returns-in_default-clause-found
@@ -42,11 +42,11 @@ returns-in_err-take_place-clause-found g c =
     (keep_of c.loop-place.left) (keep_of c.loop-place.right) (keep_of c.take_place.new.left)
     (keep_of c.take_place.new.right) fault c.loop-place.invariant.so
     c.in_err-take_place.ensures.left.honest c.in_err-take_place.ensures.right.honest more more'
-    (told_by n.content n.is_failed n.is_honest (zone_of c.loop-place.left)
+    (report_by n.content n.is_failed n.is_honest (zone_of c.loop-place.left)
     (zone_of c.args.left.now) c.args.caller t o kept now (keep_of c.loop-place.left)
     (keep_of c.loop-place.right) (keep_of c.take_place.new.left) (keep_of c.take_place.new.right)
     (Err fault) (Err fault) c.loop-place.invariant.left.zone refl
-    c.in_err-take_place.ensures.told)
+    c.in_err-take_place.ensures.report)
     honest honest' settings h k (is, is', e, d) lefts rights are others_are)
 
 pub returns-then-not-branch-clause-found : goal.returns-then-not-branch-clause-found
@@ -70,12 +70,12 @@ returns-then-not-branch-clause-found g c =
     (keep_of c.loop-place.left) (keep_of c.loop-place.right) (keep_of c.take_place.new.left)
     (keep_of c.take_place.new.right) c.loop-place.invariant.so
     c.in_ok-take_place.ensures.left.honest c.in_ok-take_place.ensures.right.honest more more'
-    (told_by n.content n.is_failed n.is_honest (zone_of c.loop-place.left)
+    (report_by n.content n.is_failed n.is_honest (zone_of c.loop-place.left)
     (zone_of c.args.left.now) c.args.caller t o kept now (keep_of c.loop-place.left)
     (keep_of c.loop-place.right) (keep_of c.take_place.new.left)
     (keep_of c.take_place.new.right) (Ok c.in_ok-take_place.field-0) (Ok false)
     c.loop-place.invariant.left.zone (ap Ok c.if-not-branch.true)
-    c.in_ok-take_place.ensures.told)
+    c.in_ok-take_place.ensures.report)
     honest honest' settings h k (is, is', e, d) lefts rights are others_are)
 
 pub loop-place-preserved : goal.loop-place-preserved
@@ -98,12 +98,12 @@ loop-place-preserved g c =
           (keep_of c.loop-place.left) (keep_of c.loop-place.right) (keep_of c.take_place.new.left)
           (keep_of c.take_place.new.right) c.loop-place.invariant.so
           c.in_ok-take_place.ensures.left.honest c.in_ok-take_place.ensures.right.honest more more'
-          (told_by n.content n.is_failed n.is_honest (zone_of c.loop-place.left)
+          (report_by n.content n.is_failed n.is_honest (zone_of c.loop-place.left)
           (zone_of c.args.left.now) c.args.caller t o kept now (keep_of c.loop-place.left)
           (keep_of c.loop-place.right) (keep_of c.take_place.new.left)
           (keep_of c.take_place.new.right) (Ok c.in_ok-take_place.field-0) (Ok true)
           c.loop-place.invariant.left.zone (ap Ok c.if-not-branch.false)
-          c.in_ok-take_place.ensures.told);
+          c.in_ok-take_place.ensures.report);
       left = used_twice n.is_failed n.is_honest c.args.left.now c.loop-place.left
           c.take_place.new.left c.loop-place.invariant.left c.in_ok-take_place.ensures.left;
       right = used_twice n.is_failed n.is_honest c.args.right.now c.loop-place.right

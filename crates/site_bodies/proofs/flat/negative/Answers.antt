@@ -9,4 +9,4 @@ pub returns : goal.returns
 returns c =
     let z = c.in_ok-minus.field-0 in
     subst (λ w. IsValue c.args.bytes.now (plain.Below w) c.in_ok-size.after.now) (sym (to_z-of_z {w = w64} (search rules)))
-    (below_value c.in_ok-size.size z c.in_ok-behind.ensures c.in_ok-size.ensures c.in_ok-minus.ensures)
+    (below_value c.in_ok-size.size z c.in_ok-rest_after.ensures c.in_ok-size.ensures c.in_ok-minus.ensures)

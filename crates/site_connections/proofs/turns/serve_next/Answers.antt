@@ -6,8 +6,8 @@ returns-clause-taken g c = inl (record {
   came = c.in-Some.connection;
   between = c.accept.new.self;
   accepted = rw c.in-Some.is at c.in_ok-connection.ensures;
-  ended = c.serve_one-told.new.connection;
-  told = c.serve_one-told.result;
-  served = c.serve_one-told.ensures.served;
+  ended = c.serve_one-report.new.connection;
+  report = c.serve_one-report.result;
+  served = c.serve_one-report.ensures.served;
   left = c.end.ensures;
 })

@@ -5,12 +5,12 @@ use Rattle.steps.proofs.reading.next.Goals as goal
 
 pub returns-in-Ok-clause-ok : goal.returns-in-Ok-clause-ok
 returns-in-Ok-clause-ok g c rows text has =
-    let told = c.in-Ok.ensures in
+    let report = c.in-Ok.ensures in
     let plain = has.plain in
     read_on g.R.Read.remaining c.args.reader.now c.read_byte_record.new.self c.in-Ok.found rows (fields_of c.read_byte_record.new.row) text has
-    (told.reads plain.untrimmed plain.ready) told.flexible (inl (told.ready plain.untrimmed))
+    (report.reads plain.untrimmed plain.ready) report.flexible (inl (report.ready plain.untrimmed))
 
 pub returns-in-Err-clause-stopped : goal.returns-in-Err-clause-stopped
 returns-in-Err-clause-stopped g c rows text has =
-    let told = c.in-Err.ensures in
-    told.fails ∙ read_stops g.R.Read.remaining c.args.reader.now c.read_byte_record.new.self c.in-Err.error.kind has.plain (told.why has.plain.ready)
+    let report = c.in-Err.ensures in
+    report.fails ∙ read_stops g.R.Read.remaining c.args.reader.now c.read_byte_record.new.self c.in-Err.error.kind has.plain (report.why has.plain.ready)

@@ -10,9 +10,9 @@ use Rattle.store_rows.specs.Tables.{tables_in}
 use Rattle.store_bids.specs.OwnBids.{own_found}
 use Rattle.house_rows.specs.Reached.{FitsAt}
 use Rattle.store_bids.specs.Reached.{FitInTurn}
-use Rattle.store_items.specs.RowsStanding.{ItemStands}
+use Rattle.store_items.specs.ConsistentRows.{ItemIsConsistent}
 use Rattle.store_rows.proofs.Steps.{both_same, both_survive, clean_before, first_found_all, first_found_full, found_more}
-use Rattle.store_reserves.proofs.Serving.{serves_still}
+use Rattle.store_rows.proofs.ReservesServing.{serves_still}
 use Rattle.store_bids.proofs.bid_lists.add_own_bids.Goals as goal
 
 pub add_own_bid-requires : goal.add_own_bid-requires
@@ -42,9 +42,9 @@ loop-number-preserved g c =
           ∙ held.found (clean_before mid new crash clean);
       few = (let more = c.in_ok-add_own_bid.ensures.few in omega (arith, more));
       fits = λ all. c.in_ok-add_own_bid.ensures.fits (held.fits all);
-      stands = λ clean all. (let before = clean_before mid new crash clean in
-          let P = λ (db : Database) (b : OwnBid). ItemStands c.args.rules.now.editions db.trees b.item in
-          subst (λ (db : Database). AllByRecursion (P db) c.loop-number.found.items → AllByRecursion (P db) c.add_own_bid.new.found.items) (held.same before).0.now_is (c.in_ok-add_own_bid.ensures.stands clean) (held.stands before all));
+      is_consistent = λ clean all. (let before = clean_before mid new crash clean in
+          let P = λ (db : Database) (b : OwnBid). ItemIsConsistent c.args.rules.now.editions db.trees b.item in
+          subst (λ (db : Database). AllByRecursion (P db) c.loop-number.found.items → AllByRecursion (P db) c.add_own_bid.new.found.items) (held.same before).0.now_is (c.in_ok-add_own_bid.ensures.is_consistent clean) (held.is_consistent before all));
       reached = λ clean fit. (let now = held.reached (clean_before mid new crash clean) fit in
           let first = subst (FitInTurn c.args.rules.now.editions t c.args.member (length c.loop-number.found.items)) (drop_more numbers i 0 c.loop-number-test.true) now in
           subst (λ many. FitInTurn c.args.rules.now.editions t c.args.member many (drop (i + 1) numbers)) (sym (ap length (one clean) ∙ length-append c.loop-number.found.items (F (get_or numbers i 0)))) first.1);

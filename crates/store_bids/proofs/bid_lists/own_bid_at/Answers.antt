@@ -8,10 +8,10 @@ use Rattle.house_rows.specs.Found.{best_of}
 use Rattle.store_rows.specs.Tables.{tables_in}
 use Rattle.store_bids.proofs.OwnBidItems.{bid_found}
 use Rattle.store_bids.proofs.InTurn.{items_are}
-use Rattle.store_bids.proofs.BidStanding.{bid_stands}
-use Rattle.store_items.proofs.RowsStanding.{terms_in}
+use Rattle.store_bids.proofs.BidStanding.{bid_is_consistent}
+use Rattle.store_items.proofs.ConsistentRows.{terms_in}
 use Rattle.store_rows.proofs.Steps.{clean_before}
-use Rattle.store_reserves.proofs.Serving.{serves, serves_still}
+use Rattle.store_rows.proofs.ReservesServing.{serves, serves_still}
 use Rattle.store_bids.proofs.bid_lists.own_bid_at.Goals as goal
 
 pub own_best-requires : goal.own_best-requires
@@ -42,9 +42,9 @@ returns-clause-value g c clean =
     let best = c.in_ok-best.ensures.value clean ∙ ap (λ (db : Database). best_of (tables_in db.trees) c.args.member c.args.item) same in
     c.own_bid.ensures.value ∙ bid_found old.now.trees c.args.member c.args.item c.in_ok-terms.terms c.in_ok-best.best (c.in_ok-terms.ensures.found before) best
 
-pub returns-clause-stands : goal.returns-clause-stands
-returns-clause-stands g c clean =
+pub returns-clause-is_consistent : goal.returns-clause-is_consistent
+returns-clause-is_consistent g c clean =
     let db = (state g.S.Store c.args.conn.now).now.trees in
     let before = clean_before (state g.S.Store c.terms_at.new.conn) (state g.S.Store c.own_best.new.conn) c.own_best.ensures.read.crash clean in
-    let here = terms_in c.args.rules.now.editions db c.args.item c.in_ok-terms.terms (c.in_ok-terms.ensures.found before) c.in_ok-terms.ensures.stands in
-    bid_stands c.args.rules.now.editions db c.args.member c.args.item c.own_bid.result (returns-clause-value g c clean) here
+    let here = terms_in c.args.rules.now.editions db c.args.item c.in_ok-terms.terms (c.in_ok-terms.ensures.found before) c.in_ok-terms.ensures.is_consistent in
+    bid_is_consistent c.args.rules.now.editions db c.args.member c.args.item c.own_bid.result (returns-clause-value g c clean) here

@@ -7,13 +7,13 @@ use Rattle.house_rows.specs.declared.item.OwnBid.{OwnBid}
 use Rattle.store_rows.specs.Sorted.{sorted_bids}
 use Rattle.store_rows.specs.Tables.{tables_in}
 use Rattle.store_rows.proofs.Steps.{clean_before}
-use Rattle.store_items.specs.RowsStanding.{ItemStands}
-use Rattle.store_bids.specs.OwnBids.{behind, items_bid_on, numbers_from, own_found}
+use Rattle.store_items.specs.ConsistentRows.{ItemIsConsistent}
+use Rattle.store_bids.specs.OwnBids.{rest_after, items_bid_on, numbers_from, own_found}
 use Rattle.store_bids.specs.Reached.{FitInTurn}
 use Rattle.store_bids.proofs.InTurn.{added, first_in_turn, next_in_turn}
 use Rattle.store_bids.proofs.ItemsBid.{low_items}
 use Rattle.store_bids.proofs.Numbers.{first_part, go_on, numbers_above}
-use Rattle.store_reserves.proofs.Serving.{serves, serves_still}
+use Rattle.store_rows.proofs.ReservesServing.{serves, serves_still}
 use Rattle.store_bids.proofs.bid_pages.add_next_bids.Goals as goal
 
 pub items_bid_on-requires : goal.items_bid_on-requires
@@ -41,11 +41,11 @@ returns-clause-value g c clean =
     let many : c.len.result ≡ length items = search rules in
     let begun : c.from.result ≡ c.args.from = search rules in
     let listed = c.in_ok-numbers.ensures.value ∙ ap (λ n. numbers_from n c.deref.result.now) begun ∙ ap (numbers_from c.args.from) items_are in
-    let split = go_on c.args.from c.next_behind.result all items numbers (low_items (sorted_bids old.trees) c.args.member) (c.in_ok-items.ensures.items before) listed
-    (λ few. c.next_behind.ensures.last (subst (λ n. n < 50) (sym many) few))
-    (λ full some. c.next_behind.ensures.next (subst (λ n. 50 ≤ n) (sym many) full) (subst (λ (l : List ℕ). 0 < length l) (sym also_numbers) some) ∙ ap (behind 0) also_numbers) in
+    let split = go_on c.args.from c.next_after.result all items numbers (low_items (sorted_bids old.trees) c.args.member) (c.in_ok-items.ensures.items before) listed
+    (λ few. c.next_after.ensures.last (subst (λ n. n < 50) (sym many) few))
+    (λ full some. c.next_after.ensures.next (subst (λ n. 50 ≤ n) (sym many) full) (subst (λ (l : List ℕ). 0 < length l) (sym also_numbers) some) ∙ ap (rest_after 0) also_numbers) in
     let found = subst (λ (db : Database). c.add_own_bids.new.found.items ≡ take most_shown (c.args.found.now.items ++ flat_map (own_found (tables_in db.trees) c.args.member) c.deref-2.result.now)) same (c.in_ok-add_own_bids.ensures.value clean) in
-    added F c.args.found.now.items c.add_own_bids.new.found.items numbers (numbers_from c.next_behind.result all) (numbers_from c.args.from all)
+    added F c.args.found.now.items c.add_own_bids.new.found.items numbers (numbers_from c.next_after.result all) (numbers_from c.args.from all)
     (found ∙ ap (λ l. take most_shown (c.args.found.now.items ++ flat_map F l)) numbers_are) split
 
 pub returns-clause-rises : goal.returns-clause-rises
@@ -54,14 +54,14 @@ returns-clause-rises g c =
     let also_numbers : c.deref-3.result.now ≡ numbers = search rules in
     let begun : c.from.result ≡ c.args.from = search rules in
     let above = subst (AllByRecursion (λ n. c.args.from ≤ n)) (sym (also_numbers ∙ c.in_ok-numbers.ensures.value ∙ ap (λ n. numbers_from n c.deref.result.now) begun)) (numbers_above c.args.from c.deref.result.now) in
-    c.next_behind.ensures.rises c.args.from (omega (arith, c.ranges.from)) above
+    c.next_after.ensures.rises c.args.from (omega (arith, c.ranges.from)) above
 
-pub returns-clause-stands : goal.returns-clause-stands
-returns-clause-stands g c clean =
+pub returns-clause-is_consistent : goal.returns-clause-is_consistent
+returns-clause-is_consistent g c clean =
     let mid = state g.S.Store c.items_bid_on.new.conn in
     let before = clean_before mid (state g.S.Store c.add_own_bids.new.conn) c.add_own_bids.ensures.read.crash clean in
-    let P = λ (db : Database) (b : OwnBid). ItemStands c.args.rules.now.editions db.trees b.item in
-    subst (λ (db : Database). AllByRecursion (P db) c.args.found.now.items → AllByRecursion (P db) c.add_own_bids.new.found.items) (c.in_ok-items.ensures.read.same before).0.now_is (c.in_ok-add_own_bids.ensures.stands clean)
+    let P = λ (db : Database) (b : OwnBid). ItemIsConsistent c.args.rules.now.editions db.trees b.item in
+    subst (λ (db : Database). AllByRecursion (P db) c.args.found.now.items → AllByRecursion (P db) c.add_own_bids.new.found.items) (c.in_ok-items.ensures.read.same before).0.now_is (c.in_ok-add_own_bids.ensures.is_consistent clean)
 
 pub returns-clause-later : goal.returns-clause-later
 returns-clause-later g c clean fit =
@@ -79,11 +79,11 @@ returns-clause-later g c clean fit =
     let many : c.len.result ≡ length items = search rules in
     let begun : c.from.result ≡ c.args.from = search rules in
     let listed = c.in_ok-numbers.ensures.value ∙ ap (λ n. numbers_from n c.deref.result.now) begun ∙ ap (numbers_from c.args.from) items_are in
-    let split = go_on c.args.from c.next_behind.result all items numbers (low_items (sorted_bids old.trees) c.args.member) (c.in_ok-items.ensures.items before) listed
-    (λ few. c.next_behind.ensures.last (subst (λ n. n < 50) (sym many) few))
-    (λ full some. c.next_behind.ensures.next (subst (λ n. 50 ≤ n) (sym many) full) (subst (λ (l : List ℕ). 0 < length l) (sym also_numbers) some) ∙ ap (behind 0) also_numbers) in
+    let split = go_on c.args.from c.next_after.result all items numbers (low_items (sorted_bids old.trees) c.args.member) (c.in_ok-items.ensures.items before) listed
+    (λ few. c.next_after.ensures.last (subst (λ n. n < 50) (sym many) few))
+    (λ full some. c.next_after.ensures.next (subst (λ n. 50 ≤ n) (sym many) full) (subst (λ (l : List ℕ). 0 < length l) (sym also_numbers) some) ∙ ap (rest_after 0) also_numbers) in
     let found = subst (λ (db : Database). c.add_own_bids.new.found.items ≡ take most_shown (c.args.found.now.items ++ flat_map (own_found (tables_in db.trees) c.args.member) c.deref-2.result.now)) same (c.in_ok-add_own_bids.ensures.value clean) in
-    next_in_turn c.args.rules.now.editions (tables_in old.trees) c.args.member c.args.found.now.items c.add_own_bids.new.found.items numbers (numbers_from c.next_behind.result all) (numbers_from c.args.from all)
+    next_in_turn c.args.rules.now.editions (tables_in old.trees) c.args.member c.args.found.now.items c.add_own_bids.new.found.items numbers (numbers_from c.next_after.result all) (numbers_from c.args.from all)
     (found ∙ ap (λ l. take most_shown (c.args.found.now.items ++ flat_map F l)) numbers_are) split fit
 
 pub returns-in_err-add_own_bids-clause-reached : goal.returns-in_err-add_own_bids-clause-reached
@@ -100,7 +100,7 @@ returns-in_err-add_own_bids-clause-reached g c clean fit is =
     let begun : c.from.result ≡ c.args.from = search rules in
     let listed = c.in_ok-numbers.ensures.value ∙ ap (λ n. numbers_from n c.deref.result.now) begun ∙ ap (numbers_from c.args.from) items_are in
     let split = first_part c.args.from all items numbers (c.in_ok-items.ensures.items before) listed in
-    let first = first_in_turn c.args.rules.now.editions (tables_in old.trees) c.args.member (length c.args.found.now.items) numbers (numbers_from (behind c.args.from numbers) all) (numbers_from c.args.from all) split fit in
+    let first = first_in_turn c.args.rules.now.editions (tables_in old.trees) c.args.member (length c.args.found.now.items) numbers (numbers_from (rest_after c.args.from numbers) all) (numbers_from c.args.from all) split fit in
     let now = subst (λ (db : Database). FitInTurn c.args.rules.now.editions (tables_in db.trees) c.args.member (length c.args.found.now.items) c.deref-2.result.now) (sym same)
     (subst (FitInTurn c.args.rules.now.editions (tables_in old.trees) c.args.member (length c.args.found.now.items)) (sym numbers_are) first) in
     c.add_own_bids.ensures.reached clean now (search rules)

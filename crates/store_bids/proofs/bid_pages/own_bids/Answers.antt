@@ -11,14 +11,14 @@ use Rattle.store_rows.proofs.StartLemmas.{shown_before}
 use Rattle.store_rows.proofs.StateLemmas.{plain_at}
 use Rattle.store_rows.proofs.Steps.{both_same, clean_before}
 use Rattle.store_items.proofs.ItemRising.{number_of}
-use Rattle.store_items.specs.RowsStanding.{ItemStands}
+use Rattle.store_items.specs.ConsistentRows.{ItemIsConsistent}
 use Rattle.store_bids.specs.OwnBids.{found_from}
 use Rattle.store_bids.specs.Reached.{FitFrom}
 use Rattle.store_bids.specs.Strays.{far_items_text}
 use Rattle.store_bids.proofs.InTurn.{all_fit}
 use Rattle.store_bids.proofs.ItemsBid.{all_ours, far_items_finite, far_items_is, items_up, low_items_finite, low_items_is, no_far_item, no_low_item}
 use Rattle.store_bids.proofs.ListedBids.{own_fewer, own_full, own_in_turn, own_ours}
-use Rattle.store_reserves.proofs.Serving.{serves, serves_still}
+use Rattle.store_rows.proofs.ReservesServing.{serves, serves_still}
 use Rattle.store_bids.proofs.bid_pages.own_bids.Goals as goal
 
 pub no_item-requires-clause-serves : goal.no_item-requires-clause-serves
@@ -61,11 +61,11 @@ returns-then-len-ge-MOST_SHOWN-clause-value g c clean =
     let many : most_shown ≤ length found = omega (arith, whole) in
     own_full old.now c.args.member c.args.from house found (items_up old mid house (c.in_ok-no_item.ensures.none before)) are many
 
-pub returns-then-len-ge-MOST_SHOWN-clause-stands : goal.returns-then-len-ge-MOST_SHOWN-clause-stands
-returns-then-len-ge-MOST_SHOWN-clause-stands g c clean =
+pub returns-then-len-ge-MOST_SHOWN-clause-is_consistent : goal.returns-then-len-ge-MOST_SHOWN-clause-is_consistent
+returns-then-len-ge-MOST_SHOWN-clause-is_consistent g c clean =
     let mid = state g.S.Store c.no_item.new.conn in
     let before = clean_before mid (state g.S.Store c.own_bids_from.new.conn) c.own_bids_from.ensures.read.crash clean in
-    subst (λ (db : Database). AllByRecursion (λ (b : OwnBid). ItemStands c.args.rules.now.editions db.trees b.item) c.in_ok-found.found.items) (c.in_ok-no_item.ensures.read.same before).0.now_is (c.in_ok-found.ensures.stands clean)
+    subst (λ (db : Database). AllByRecursion (λ (b : OwnBid). ItemIsConsistent c.args.rules.now.editions db.trees b.item) c.in_ok-found.found.items) (c.in_ok-no_item.ensures.read.same before).0.now_is (c.in_ok-found.ensures.is_consistent clean)
 
 pub returns-in_err-no_item-clause-reached : goal.returns-in_err-no_item-clause-reached
 returns-in_err-no_item-clause-reached g c clean fit is =
@@ -125,10 +125,10 @@ returns-clause-value g c clean =
     let far = shown_before far_items_text [] old mid kept new [] (plain_at far_items_text old far_items_is.2 house) (c.in_ok-no_item-2.ensures.none clean) in
     own_fewer old.now c.args.member c.args.from house found (all_ours old first new house (c.in_ok-no_item.ensures.none early) far) are
 
-pub returns-clause-stands : goal.returns-clause-stands
-returns-clause-stands g c clean =
+pub returns-clause-is_consistent : goal.returns-clause-is_consistent
+returns-clause-is_consistent g c clean =
     let first = state g.S.Store c.no_item.new.conn in
     let mid = state g.S.Store c.own_bids_from.new.conn in
     let late = clean_before mid (state g.S.Store c.no_item-2.new.conn) c.no_item-2.ensures.read.crash clean in
     let early = clean_before first mid c.own_bids_from.ensures.read.crash late in
-    subst (λ (db : Database). AllByRecursion (λ (b : OwnBid). ItemStands c.args.rules.now.editions db.trees b.item) c.in_ok-found.found.items) (c.in_ok-no_item.ensures.read.same early).0.now_is (c.in_ok-found.ensures.stands late)
+    subst (λ (db : Database). AllByRecursion (λ (b : OwnBid). ItemIsConsistent c.args.rules.now.editions db.trees b.item) c.in_ok-found.found.items) (c.in_ok-no_item.ensures.read.same early).0.now_is (c.in_ok-found.ensures.is_consistent late)

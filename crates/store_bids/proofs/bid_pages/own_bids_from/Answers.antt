@@ -8,14 +8,14 @@ use Rattle.house_rows.specs.declared.item.OwnBid.{OwnBid}
 use Rattle.store_rows.specs.Sorted.{sorted_bids}
 use Rattle.store_rows.specs.Tables.{tables_in}
 use Rattle.store_rows.proofs.Steps.{both_same, both_survive, clean_before}
-use Rattle.store_items.specs.RowsStanding.{ItemStands}
+use Rattle.store_items.specs.ConsistentRows.{ItemIsConsistent}
 use Rattle.store_bids.specs.OwnBids.{found_from, items_bid_on, numbers_from, own_found}
 use Rattle.store_bids.specs.Reached.{FitFrom}
 use Rattle.store_bids.proofs.InTurn.{all_added, none_left}
 use Rattle.store_bids.proofs.ItemsBid.{low_items}
-use Rattle.store_bids.proofs.Numbers.{none_behind}
+use Rattle.store_bids.proofs.Numbers.{none_after}
 use Rattle.store_bids.proofs.bid_pages.own_bids_from.Goals.{then-bids-test+else-next-lt-BEHIND_ALL, else-bids-test}
-use Rattle.store_reserves.proofs.Serving.{serves_still}
+use Rattle.store_rows.proofs.ReservesServing.{serves_still}
 use Rattle.store_bids.proofs.bid_pages.own_bids_from.Goals as goal
 
 pub add_next_bids-requires-clause-serves : goal.add_next_bids-requires-clause-serves
@@ -39,9 +39,9 @@ bids-preserved g c =
           ∙ held.found before);
       few = c.in_ok-next.ensures.few;
       fits = c.in_ok-next.ensures.fits held.fits;
-      stands = λ clean. (let before = clean_before mid new crash clean in
-          let P = λ (db : Database) (b : OwnBid). ItemStands c.args.rules.now.editions db.trees b.item in
-          subst (λ (db : Database). AllByRecursion (P db) c.bids.found.items → AllByRecursion (P db) c.add_next_bids.new.found.items) (held.same before).0.now_is (c.in_ok-next.ensures.stands clean) (held.stands before));
+      is_consistent = λ clean. (let before = clean_before mid new crash clean in
+          let P = λ (db : Database) (b : OwnBid). ItemIsConsistent c.args.rules.now.editions db.trees b.item in
+          subst (λ (db : Database). AllByRecursion (P db) c.bids.found.items → AllByRecursion (P db) c.add_next_bids.new.found.items) (held.same before).0.now_is (c.in_ok-next.ensures.is_consistent clean) (held.is_consistent before));
       reached = λ clean fit. (let before = clean_before mid new crash clean in
           subst (λ (db : Database). FitFrom c.args.rules.now.editions db.trees c.args.member (length c.bids.found.items) c.bids.next → FitFrom c.args.rules.now.editions db.trees c.args.member (length c.add_next_bids.new.found.items) c.in_ok-next.next)
           (held.same before).0.now_is (c.in_ok-next.ensures.later clean) (held.reached before fit));
@@ -67,7 +67,7 @@ returns-clause-value g c clean =
     let count = c.bids.found.ok.0 in
     elim c.bids-test.branch [
       | then-bids-test+else-next-lt-BEHIND_ALL w ↦ (let far : 2 ^ 32 ≤ c.bids.next = omega (arith, w.if-next-lt-BEHIND_ALL.false) in
-          let none = none_behind c.bids.next all (all_weaker (λ n. n < 2 ^ 32) (λ n. n < c.bids.next) (λ n low. omega (arith, low, far)) all (low_items bids c.args.member)) in
+          let none = none_after c.bids.next all (all_weaker (λ n. n < 2 ^ 32) (λ n. n < c.bids.next) (λ n low. omega (arith, low, far)) all (low_items bids c.args.member)) in
           none_left F c.bids.found.items whole (numbers_from c.bids.next all) held.few (held.found clean) none)
       | else-bids-test w ↦ (let many : most_shown ≤ length c.bids.found.items = omega (arith, w.bids-test.false, count) in
           all_added F c.bids.found.items whole (numbers_from c.bids.next all) held.few (held.found clean) many)

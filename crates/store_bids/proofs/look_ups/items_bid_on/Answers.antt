@@ -7,7 +7,7 @@ use Rattle.store_rows.specs.Sorted.{sorted_bids}
 use Rattle.store_rows.proofs.StateLemmas.{ok_then}
 use Rattle.store_rows.proofs.Tested.{all-take}
 use Rattle.store_bids.specs.OwnBids.{items_bid_on}
-use Rattle.store_bids.proofs.ItemsBid.{items_bid_finite, items_bid_is, items_shown, low_items, told}
+use Rattle.store_bids.proofs.ItemsBid.{items_bid_finite, items_bid_is, items_shown, low_items, report}
 use Rattle.store_bids.proofs.look_ups.items_bid_on.Goals as goal
 
 pub first_rows-requires-clause-plain : goal.first_rows-requires-clause-plain
@@ -23,7 +23,7 @@ returns-clause-items g c clean =
     let same : c.deref.result.now ≡ c.in_ok-rows.rows.items = search rules in
     let first = rw (c.params-to_sql.ensures, c.params-to_sql-2.ensures) at (c.in_ok-rows.ensures.rows clean) in
     let found = items_shown c.args.member c.args.from low small (state g.S.Store c.args.conn.now) (state g.S.Store c.first_rows.new.conn) (c.first_rows.ensures.house clean) c.in_ok-rows.rows.items first in
-    ok_then c.all_of.result c.all_of.ensures.value (λ _ e. e ∙ ap (map told) same ∙ found)
+    ok_then c.all_of.result c.all_of.ensures.value (λ _ e. e ∙ ap (map report) same ∙ found)
 
 pub returns-clause-sound : goal.returns-clause-sound
 returns-clause-sound g c clean =
@@ -34,4 +34,4 @@ returns-clause-sound g c clean =
     let found = items_shown c.args.member c.args.from low small (state g.S.Store c.args.conn.now) (state g.S.Store c.first_rows.new.conn) (c.first_rows.ensures.house clean) c.in_ok-rows.rows.items first in
     let items = items_bid_on (sorted_bids (state g.S.Store c.args.conn.now).now.trees) c.args.member in
     let fits = all-take (λ n. n < 2 ^ 32) 50 (filter (nat_le c.args.from) items) (all-filter (λ n. n < 2 ^ 32) (nat_le c.args.from) items (low_items (sorted_bids (state g.S.Store c.args.conn.now).now.trees) c.args.member)) in
-    c.all_of.ensures.damaged (subst (AllByRecursion (λ n. n < 2 ^ 32)) (sym (ap (map told) same ∙ found)) fits)
+    c.all_of.ensures.damaged (subst (AllByRecursion (λ n. n < 2 ^ 32)) (sym (ap (map report) same ∙ found)) fits)

@@ -21,8 +21,8 @@ returns-clause-bids g c clean =
     let same : c.deref.result.now ≡ items = search rules in
     let shown = rw (c.params-to_sql.ensures, c.params-to_sql-2.ensures) at (c.in_ok-rows.ensures.rows clean) in
     ok_both c.all_of.result c.all_of.ensures.value c.all_of.ensures.fits (λ all e fits.
-    let told = e ∙ ap (map bid_alone) same in
-    told ∙ bids_shown c.args.member c.args.item low small (state g.S.Store c.args.conn.now) (state g.S.Store c.rows_shown.new.conn) items (c.rows_shown.ensures.house clean) shown (subst (AllByRecursion BidFits) told fits))
+    let report = e ∙ ap (map bid_alone) same in
+    report ∙ bids_shown c.args.member c.args.item low small (state g.S.Store c.args.conn.now) (state g.S.Store c.rows_shown.new.conn) items (c.rows_shown.ensures.house clean) shown (subst (AllByRecursion BidFits) report fits))
 
 pub returns-clause-here : goal.returns-clause-here
 returns-clause-here g c clean fits =

@@ -4,7 +4,7 @@ use Rattle.std.specs.List.{AllByRecursion}
 use Rattle.sqlite.specs.Held.{state}
 use Rattle.house_rows.specs.Found.{due_at}
 use Rattle.house_rows.specs.Items.{is_due}
-use Rattle.house_rows.specs.Keeping.{FitsBy, StandsBy}
+use Rattle.house_rows.specs.Keeping.{FitsBy, IsConsistentBy}
 use Rattle.house_rows.specs.Taken.{FitWhere}
 use Rattle.house_rows.specs.Tables.{ItemRow}
 use Rattle.store_rows.specs.ItemRows.{items_in}
@@ -19,12 +19,12 @@ returns-clause-value g c clean =
     let db = (state g.S.Store c.args.conn.now).now.trees in
     ok_then c.due_by.result (c.due_by.ensures.value clean) (λ due e. e ∙ ap (due_at (tables_in db)) c.bound_of.ensures ∙ due_found c.args.moment low db)
 
-pub returns-clause-stands : goal.returns-clause-stands
-returns-clause-stands g c clean =
+pub returns-clause-is_consistent : goal.returns-clause-is_consistent
+returns-clause-is_consistent g c clean =
     let low : c.args.moment < 2 ^ 64 = omega (arith, c.ranges.moment) in
     let db = (state g.S.Store c.args.conn.now).now.trees in
-    let stand = λ (rows : List ItemRow). OnOk c.due_by.result (AllByRecursion (λ (row : ItemRow). StandsBy c.args.rules.now.editions row.item.terms) rows) in
-    subst stand (ap (λ m. filter (λ (row : ItemRow). is_due m row.item.terms) (items_in db)) c.bound_of.ensures ∙ due_rows c.args.moment low db) (c.due_by.ensures.stands clean)
+    let stand = λ (rows : List ItemRow). OnOk c.due_by.result (AllByRecursion (λ (row : ItemRow). IsConsistentBy c.args.rules.now.editions row.item.terms) rows) in
+    subst stand (ap (λ m. filter (λ (row : ItemRow). is_due m row.item.terms) (items_in db)) c.bound_of.ensures ∙ due_rows c.args.moment low db) (c.due_by.ensures.is_consistent clean)
 
 pub returns-clause-here : goal.returns-clause-here
 returns-clause-here g c clean fits =

@@ -4,7 +4,7 @@ use Rattle.house_rows.specs.History.{counted}
 use Rattle.house_rows.specs.Items.{close_sells, is_due}
 use Rattle.store_items.proofs.Counted.{due_terms_are}
 use Rattle.store_rows.proofs.Sound.{rows_fit}
-use Rattle.store_items.proofs.RowsStanding.{terms_stand}
+use Rattle.store_items.proofs.ConsistentRows.{terms_are_consistent}
 use Rattle.store_items.proofs.due_items.due_by.Goals as goal
 
 pub returns-in_err-due-clause-damaged : goal.returns-in_err-due-clause-damaged
@@ -18,9 +18,9 @@ returns-clause-value g c clean =
     (c.counts_of.ensures.sold ∙ ap (counted (λ t. close_sells t.leader t.met)) same)
     (c.counts_of.ensures.unsold ∙ ap (counted (λ t. not (close_sells t.leader t.met))) same)
 
-pub returns-clause-stands : goal.returns-clause-stands
-returns-clause-stands g c clean =
-    terms_stand c.args.rules.now.editions (state g.S.Store c.args.conn.now).now.trees (λ row. is_due c.args.moment row.item.terms) c.in_ok-due.due.items (c.in_ok-due.ensures.terms clean) c.in_ok-due.ensures.stands
+pub returns-clause-is_consistent : goal.returns-clause-is_consistent
+returns-clause-is_consistent g c clean =
+    terms_are_consistent c.args.rules.now.editions (state g.S.Store c.args.conn.now).now.trees (λ row. is_due c.args.moment row.item.terms) c.in_ok-due.due.items (c.in_ok-due.ensures.terms clean) c.in_ok-due.ensures.is_consistent
 
 pub returns-in_err-due-clause-here : goal.returns-in_err-due-clause-here
 returns-in_err-due-clause-here g c clean fits is = c.in_err-due.ensures.here clean fits (search rules)

@@ -8,7 +8,7 @@ use Rattle.store_items.proofs.ItemMeaning.{all_items_is}
 use Rattle.store_items.proofs.ItemLemmas.{items_answer}
 use Rattle.store_items.specs.Standing.{ItemHolds}
 use Rattle.store_items.proofs.Holding.{items_hold}
-use Rattle.store_reserves.proofs.Serving.{serves}
+use Rattle.store_rows.proofs.ReservesServing.{serves}
 use Rattle.store_items.proofs.item_reads.all_items.Goals as goal
 
 pub rows_shown-requires-clause-serves : goal.rows_shown-requires-clause-serves

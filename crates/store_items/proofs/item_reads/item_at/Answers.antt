@@ -7,7 +7,7 @@ use Rattle.store_items.proofs.ItemMeaning.{item_at_is}
 use Rattle.store_items.proofs.ItemLemmas.{first_item}
 use Rattle.store_items.specs.Standing.{ItemHolds}
 use Rattle.store_items.proofs.Holding.{item_here, item_holds}
-use Rattle.store_reserves.proofs.Serving.{serves}
+use Rattle.store_rows.proofs.ReservesServing.{serves}
 use Rattle.store_items.proofs.item_reads.item_at.Goals as goal
 
 pub rows_shown-requires-clause-serves : goal.rows_shown-requires-clause-serves

@@ -9,8 +9,8 @@ use Rattle.store_rows.specs.Rows.{number_in}
 use Rattle.store_rows.proofs.Steps.{first_found_all, first_found_full, found_more}
 use Rattle.store_items.specs.OwnReserves.{reserve_in, reserve_shown}
 use Rattle.store_items.specs.Standing.{TermsHold}
-use Rattle.store_items.proofs.OwnReserves.{next_held, told_few}
-use Rattle.store_items.proofs.Stands.{row_has}
+use Rattle.store_items.proofs.OwnReserves.{next_held, report_few}
+use Rattle.store_items.proofs.IsConsistent.{row_has}
 use Rattle.store_items.proofs.own_reserves.first_reserves.Goals as goal
 
 pub loop-row-preserved : goal.loop-row-preserved
@@ -31,7 +31,7 @@ loop-row-preserved c =
           ap (take most_shown) (found_more F rows i c.row-item.result c.loop-row.found.items c.add_reserve.new.found.items (c.loop-row.found.items ++ flat_map F (drop i rows)) c.loop-row-test.true refl one)
           ∙ held.found;
       few = (let long = ap length one ∙ length-append c.loop-row.found.items (F x) in
-          let more = told_few (terms_by R x) (reserve_in R c.args.from x) in
+          let more = report_few (terms_by R x) (reserve_in R c.args.from x) in
           omega (arith, long, more, room));
       fits = c.in_ok-add_reserve.ensures.fits held.fits;
       held = λ fit. (let now = subst (λ l. AllByRecursion Holds (take (most_shown - length c.loop-row.found.items) (filter shows l))) (drop_more rows i c.row-item.result c.loop-row-test.true) (held.held fit) in

@@ -22,7 +22,7 @@ use Rattle.store_items.specs.Standing.{TermsHold}
 use Rattle.store_items.proofs.OwnReserves.{own_test, reserves_are}
 use Rattle.store_items.proofs.TermMeaning.{terms_of_seller_is, terms_of_seller_text}
 use Rattle.store_items.proofs.TermFinds.{first_kept, seller_test, terms_found, terms_numbered}
-use Rattle.store_reserves.proofs.Serving.{serves}
+use Rattle.store_rows.proofs.ReservesServing.{serves}
 use Rattle.store_items.proofs.own_reserves.reserves_of.Goals as goal
 
 pub rows_shown-requires-clause-serves : goal.rows_shown-requires-clause-serves

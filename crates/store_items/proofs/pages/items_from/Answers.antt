@@ -10,7 +10,7 @@ use Rattle.store_rows.specs.ItemRows.{item_by}
 use Rattle.store_rows.specs.Rows.{reserves_in}
 use Rattle.store_rows.proofs.StateLemmas.{ok_then}
 use Rattle.store_items.proofs.ItemPages.{items_is, items_finite, items_held, items_shown, no_stray_item, no_stray_shown, shown_held, stray_items_is, stray_items_finite}
-use Rattle.store_reserves.proofs.Serving.{serves}
+use Rattle.store_rows.proofs.ReservesServing.{serves}
 use Rattle.store_items.proofs.pages.items_from.Goals as goal
 
 pub page_rows-requires-clause-serves : goal.page_rows-requires-clause-serves

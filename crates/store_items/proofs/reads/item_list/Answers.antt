@@ -1,6 +1,6 @@
 use Rattle.std.proofs.Common.{sym, subst, arith, rules}
 use Rattle.store_items.specs.Standing.{ItemHolds}
-use Rattle.store_items.proofs.Stands.{row_has}
+use Rattle.store_items.proofs.IsConsistent.{row_has}
 use Rattle.store_items.proofs.reads.item_list.Goals as goal
 
 pub returns-in_err-add_item-clause-damaged : goal.returns-in_err-add_item-clause-damaged

@@ -1,6 +1,6 @@
 use Rattle.std.proofs.Common.{sym, subst, arith, rules}
 use Rattle.store_items.specs.Standing.{TermsHold}
-use Rattle.store_items.proofs.Stands.{row_has}
+use Rattle.store_items.proofs.IsConsistent.{row_has}
 use Rattle.store_items.proofs.reads.terms_list.Goals as goal
 
 pub returns-in_err-add_terms-clause-damaged : goal.returns-in_err-add_terms-clause-damaged

@@ -12,9 +12,9 @@ use Rattle.store_rows.proofs.StateLemmas.{ok_then}
 use Rattle.store_items.specs.Rising.{rise_from}
 use Rattle.store_items.proofs.PartySales.{both_fit, rising_from_0, sales_are, sales_found}
 use Rattle.store_rows.proofs.Sound.{rows_fit}
-use Rattle.store_items.proofs.RowsStanding.{ok_so, sales_stand}
+use Rattle.store_items.proofs.ConsistentRows.{ok_so, sales_are_consistent}
 use Rattle.store_rows.proofs.Steps.{clean_before}
-use Rattle.store_reserves.proofs.Serving.{serves_still}
+use Rattle.store_rows.proofs.ReservesServing.{serves_still}
 use Rattle.store_items.proofs.sales.sales_of_member.Goals as goal
 
 pub terms_led_by-requires : goal.terms_led_by-requires
@@ -87,14 +87,14 @@ returns-clause-few g c =
     let fit = both_fit c.in_ok-sold.sold.items c.in_ok-led.led.items all c.in_ok-sold.ensures.fits c.in_ok-led.ensures.fits c.in_ok-items.ensures.both in
     ok_then c.sales_of.result c.sales_of.ensures.value (λ sales e. (sales_are all sales.items up fit (e ∙ ap (flat_map sale_of) shown)).few)
 
-pub returns-clause-stands : goal.returns-clause-stands
-returns-clause-stands g c clean =
+pub returns-clause-is_consistent : goal.returns-clause-is_consistent
+returns-clause-is_consistent g c clean =
     let old = state g.S.Store c.args.conn.now in
     let before = clean_before (state g.S.Store c.terms_of_seller.new.conn) (state g.S.Store c.terms_led_by.new.conn) c.terms_led_by.ensures.read.crash clean in
     let same = (c.in_ok-sold.ensures.read.same before).0.now_is in
     let led_is = c.in_ok-led.ensures.terms clean ∙ ap (λ (db : Database). map (λ (row : ItemRow). row.item.terms) (filter (λ row. is_leader row.item.terms.leader c.args.member) (items_in db.trees))) same in
     ok_so c.sales_of.result
-    (sales_stand c.args.rules.now.editions old.now.trees c.args.member c.in_ok-sold.sold.items c.in_ok-led.led.items c.requires.numbered (c.in_ok-sold.ensures.terms before) led_is c.in_ok-sold.ensures.stands c.in_ok-led.ensures.stands)
+    (sales_are_consistent c.args.rules.now.editions old.now.trees c.args.member c.in_ok-sold.sold.items c.in_ok-led.led.items c.requires.numbered (c.in_ok-sold.ensures.terms before) led_is c.in_ok-sold.ensures.is_consistent c.in_ok-led.ensures.is_consistent)
 
 pub returns-in_err-sold-clause-here : goal.returns-in_err-sold-clause-here
 returns-in_err-sold-clause-here g c clean sells leads is = c.in_err-sold.ensures.here clean sells (search rules)

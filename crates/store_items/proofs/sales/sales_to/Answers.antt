@@ -1,7 +1,7 @@
 use Rattle.std.proofs.Common.{◌≡◌, ◌==◌, arith, true}
 use Rattle.std.proofs.lemmas.Bool.Decides.{nat_tests}
 use Rattle.sqlite.specs.Held.{state}
-use Rattle.store_items.proofs.RowsStanding.{all_fit, led_fit, sold_fit}
+use Rattle.store_items.proofs.ConsistentRows.{all_fit, led_fit, sold_fit}
 use Rattle.store_items.proofs.sales.sales_to.Goals as goal
 
 pub returns-then-member-eq0-clause-here : goal.returns-then-member-eq0-clause-here

@@ -9,7 +9,7 @@ use Rattle.store_rows.proofs.StateLemmas.{ok_then}
 use Rattle.store_items.specs.Standing.{TermsHold}
 use Rattle.store_items.proofs.TermMeaning.{due_terms_is, due_terms_text, ended_by}
 use Rattle.store_items.proofs.TermFinds.{due_test, terms_found, terms_held, terms_kept}
-use Rattle.store_reserves.proofs.Serving.{serves}
+use Rattle.store_rows.proofs.ReservesServing.{serves}
 use Rattle.store_items.proofs.terms.due_terms.Goals as goal
 
 pub rows_shown-requires-clause-serves : goal.rows_shown-requires-clause-serves

@@ -9,7 +9,7 @@ use Rattle.store_rows.proofs.StateLemmas.{ok_then}
 use Rattle.store_items.specs.Standing.{TermsHold}
 use Rattle.store_items.proofs.TermMeaning.{terms_of_seller_is, terms_of_seller_text}
 use Rattle.store_items.proofs.TermFinds.{seller_test, terms_found, terms_held, terms_kept}
-use Rattle.store_reserves.proofs.Serving.{serves}
+use Rattle.store_rows.proofs.ReservesServing.{serves}
 use Rattle.store_items.proofs.terms.terms_of_seller.Goals as goal
 
 pub rows_shown-requires-clause-serves : goal.rows_shown-requires-clause-serves

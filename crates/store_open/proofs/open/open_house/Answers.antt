@@ -3,8 +3,8 @@ use Rattle.std.proofs.lemmas.Result.{err_from_is_err_and}
 use Rattle.sqlite.specs.Effect.{Database}
 use Rattle.sqlite.specs.Held.{state}
 use Rattle.sqlite.specs.State.{HasCleanDisk}
-use Rattle.store_open.specs.Opening.{AreNumbered, AreReserved, AreSet, IsSetUp}
-use Rattle.store_open.proofs.OpenLemmas.{gives_back, leads_made, leads_on}
+use Rattle.store_house.specs.Opening.{AreNumbered, AreReserved, AreSet, IsSetUp}
+use Rattle.store_house.proofs.OpenLemmas.{gives_back, leads_made, leads_on}
 use Rattle.store_open.proofs.ReadLemmas.{WasRead, was_read}
 use Rattle.store_open.proofs.open.open_house.Goals as goal
 

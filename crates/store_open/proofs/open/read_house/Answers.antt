@@ -8,7 +8,7 @@ use Rattle.store_rows.specs.ItemRows.{items_by}
 use Rattle.store_rows.specs.Rows.{reserves_in}
 use Rattle.store_rows.specs.declared.reserve.ReserveRow.{ReserveRow}
 use Rattle.house_rows.specs.declared.settings.Settings.{Settings}
-use Rattle.store_open.specs.Opening.{AreNumbered, AreSet, HasEditions, HasSettings, HaveNumbers}
+use Rattle.store_house.specs.Opening.{AreNumbered, AreSet, HasEditions, HasSettings, HaveNumbers}
 use Rattle.store_open.proofs.open.read_house.Goals as goal
 
 pub returns-clause-counts : goal.returns-clause-counts

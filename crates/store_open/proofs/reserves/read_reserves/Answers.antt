@@ -3,8 +3,8 @@ use Rattle.std.specs.List.{AllByRecursion}
 use Rattle.sqlite.specs.Held.{state}
 use Rattle.store_rows.specs.declared.reserve.ReserveRow.{ReserveRow}
 use Rattle.store_rows.proofs.Steps.{clean_before}
-use Rattle.store_reserves.specs.Reserves.{AreRising}
-use Rattle.store_reserves.proofs.Rising.{reserves_rise}
+use Rattle.store_rows.specs.Reserves.{AreRising}
+use Rattle.store_rows.proofs.ReservesRising.{reserves_rise}
 use Rattle.store_open.proofs.ReserveLemmas.{is_within, within_is}
 use Rattle.store_open.proofs.reserves.read_reserves.Goals as goal
 

@@ -4,8 +4,8 @@ use Rattle.sqlite.specs.Effect.{Database}
 use Rattle.sqlite.specs.Held.{state}
 use Rattle.sqlite.specs.State.{HasCleanDisk}
 use Rattle.sqlite.proofs.StateLemmas.{unchanged}
-use Rattle.store_open.specs.Opening.{Upgraded}
-use Rattle.store_open.proofs.OpenLemmas.{not_shut}
+use Rattle.store_house.specs.Opening.{Upgraded}
+use Rattle.store_house.proofs.OpenLemmas.{not_shut}
 use Rattle.store_open.proofs.ReadLemmas.{WasRead, was_read}
 use Rattle.store_open.proofs.UpgradeLemmas.{gives_back_grown, gives_back_open}
 use Rattle.store_open.proofs.upgrade.upgrade_first.Goals as goal

@@ -3,7 +3,7 @@ use Rattle.std.proofs.lemmas.Result.{err_from_is_err_and}
 use Rattle.sqlite.specs.Effect.{Database}
 use Rattle.sqlite.specs.Held.{state}
 use Rattle.sqlite.specs.State.{HasCleanDisk}
-use Rattle.store_open.specs.Opening.{IsSoundHouse, first_tables_in}
+use Rattle.store_house.specs.Opening.{IsSoundHouse, first_tables_in}
 use Rattle.store_open.proofs.UpgradeLemmas.{follows_or_grows, follows_twice, grows_after, not_both, not_first, sound_first_at, sound_house_at, upgraded_tables}
 use Rattle.store_open.proofs.upgrade.upgrade_house.Goals as goal
 

@@ -2,7 +2,7 @@ use Rattle.std.proofs.Common.{◌∙◌, ap, subst, sym, arith, refl, rules}
 use Rattle.sqlite.specs.Effect.{Database}
 use Rattle.sqlite.specs.Held.{state}
 use Rattle.sqlite.specs.State.{HasCleanDisk}
-use Rattle.store_open.specs.Opening.{HasEditions, HasReserves, HasSettings, HaveNumbers, Upgraded, Upgrades}
+use Rattle.store_house.specs.Opening.{HasEditions, HasReserves, HasSettings, HaveNumbers, Upgraded, Upgrades}
 use Rattle.store_open.proofs.UpgradeLemmas.{nothing_committed, set_up_version, survives_end, survives_none, survives_two, upgraded_numbered, upgraded_reserved, upgraded_set, upgraded_set_up}
 use Rattle.store_open.proofs.upgrade.upgrade_read.Goals as goal
 

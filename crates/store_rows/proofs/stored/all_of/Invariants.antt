@@ -3,4 +3,4 @@ use Rattle.std.specs.List.{AllByRecursion}
 use Rattle.store_rows.proofs.stored.all_of.Given as goal
 
 abbrev pub invariant-loop-row : goal.invariant-loop-row
-invariant-loop-row g l = record { values : l.all.items ≡ map g.T.Stored.told (take l.row-index l.rows); fits : AllByRecursion g.T.Stored.fits l.all.items }
+invariant-loop-row g l = record { values : l.all.items ≡ map g.T.Stored.report (take l.row-index l.rows); fits : AllByRecursion g.T.Stored.fits l.all.items }

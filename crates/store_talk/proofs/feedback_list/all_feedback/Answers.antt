@@ -15,9 +15,9 @@ returns-clause-given g c clean =
     let items = c.in_ok-rows.rows.items in
     let same : c.deref.result.now ≡ items = search rules in
     ok_both c.all_of.result c.all_of.ensures.value c.all_of.ensures.fits (λ all e fits.
-    let told = e ∙ ap (map feedback_of) same in
-    told ∙ feedback_shown [] [] all_feedback_text all_feedback_is (state g.S.Store c.args.conn.now) (state g.S.Store c.rows_shown.new.conn) items (c.rows_shown.ensures.house clean) (c.in_ok-rows.ensures.rows clean)
-    (λ f. true) (λ r is. refl) (subst (AllByRecursion FeedbackFits) told fits) ∙ everything_passes _)
+    let report = e ∙ ap (map feedback_of) same in
+    report ∙ feedback_shown [] [] all_feedback_text all_feedback_is (state g.S.Store c.args.conn.now) (state g.S.Store c.rows_shown.new.conn) items (c.rows_shown.ensures.house clean) (c.in_ok-rows.ensures.rows clean)
+    (λ f. true) (λ r is. refl) (subst (AllByRecursion FeedbackFits) report fits) ∙ everything_passes _)
 
 pub returns-clause-damaged : goal.returns-clause-damaged
 returns-clause-damaged g c clean fits =

@@ -27,8 +27,8 @@ returns-clause-given g c clean =
     let none = rw (c.params-to_sql-3.ensures, c.params-to_sql-4.ensures) at (c.in_ok-rows.ensures.no_stray clean) in
     let same : c.deref.result.now ≡ c.in_ok-rows.rows.items = search rules in
     ok_both c.all_of.result c.all_of.ensures.value c.all_of.ensures.fits (λ all e fits.
-    let told = e ∙ ap (map feedback_of) same in
-    told ∙ given_either c.args.member c.args.from low small (state g.S.Store c.args.conn.now) (state g.S.Store c.listed_rows.new.conn) (c.listed_rows.ensures.house clean) c.in_ok-rows.rows.items none first (subst (AllByRecursion FeedbackFits) told fits))
+    let report = e ∙ ap (map feedback_of) same in
+    report ∙ given_either c.args.member c.args.from low small (state g.S.Store c.args.conn.now) (state g.S.Store c.listed_rows.new.conn) (c.listed_rows.ensures.house clean) c.in_ok-rows.rows.items none first (subst (AllByRecursion FeedbackFits) report fits))
 
 pub returns-clause-damaged : goal.returns-clause-damaged
 returns-clause-damaged g c clean fits =

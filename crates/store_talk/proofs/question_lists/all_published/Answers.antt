@@ -17,9 +17,9 @@ returns-clause-asked g c clean =
     let items = c.in_ok-rows.rows.items in
     let same : c.deref.result.now ≡ items = search rules in
     ok_both c.all_of.result c.all_of.ensures.value c.all_of.ensures.fits (λ all e fits.
-    let told = e ∙ ap (map question_of) same in
-    told ∙ questions_shown (was_answered ∷ []) [] all_published_text all_published_is (state g.S.Store c.args.conn.now) (state g.S.Store c.rows_shown.new.conn) items (c.rows_shown.ensures.house clean) (c.in_ok-rows.ensures.rows clean)
-    (λ q. is_some q.answer) answered_test (subst (AllByRecursion QuestionFits) told fits))
+    let report = e ∙ ap (map question_of) same in
+    report ∙ questions_shown (was_answered ∷ []) [] all_published_text all_published_is (state g.S.Store c.args.conn.now) (state g.S.Store c.rows_shown.new.conn) items (c.rows_shown.ensures.house clean) (c.in_ok-rows.ensures.rows clean)
+    (λ q. is_some q.answer) answered_test (subst (AllByRecursion QuestionFits) report fits))
 
 pub returns-clause-damaged : goal.returns-clause-damaged
 returns-clause-damaged g c clean fits =

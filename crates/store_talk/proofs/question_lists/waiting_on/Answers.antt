@@ -21,9 +21,9 @@ returns-clause-asked g c clean =
     let same : c.deref.result.now ≡ items = search rules in
     let shown = rw c.params-to_sql.ensures at (c.in_ok-rows.ensures.rows clean) in
     ok_both c.all_of.result c.all_of.ensures.value c.all_of.ensures.fits (λ all e fits.
-    let told = e ∙ ap (map question_of) same in
-    told ∙ questions_shown (equals 1 ∷ waits ∷ []) (Int (pos c.args.item) ∷ []) waiting_on_text waiting_on_is (state g.S.Store c.args.conn.now) (state g.S.Store c.rows_shown.new.conn) items (c.rows_shown.ensures.house clean) shown
-    (λ q. (q.item == c.args.item) && not (is_some q.answer)) (waiting_test c.args.item low) (subst (AllByRecursion QuestionFits) told fits))
+    let report = e ∙ ap (map question_of) same in
+    report ∙ questions_shown (equals 1 ∷ waits ∷ []) (Int (pos c.args.item) ∷ []) waiting_on_text waiting_on_is (state g.S.Store c.args.conn.now) (state g.S.Store c.rows_shown.new.conn) items (c.rows_shown.ensures.house clean) shown
+    (λ q. (q.item == c.args.item) && not (is_some q.answer)) (waiting_test c.args.item low) (subst (AllByRecursion QuestionFits) report fits))
 
 pub returns-clause-damaged : goal.returns-clause-damaged
 returns-clause-damaged g c clean fits =

@@ -20,8 +20,8 @@ returns-clause-asked g c clean =
     let first = rw c.params-to_sql.ensures at (c.in_ok-rows.ensures.rows clean) in
     let same : c.deref.result.now ≡ c.in_ok-rows.rows.items = search rules in
     ok_both c.all_of.result c.all_of.ensures.value c.all_of.ensures.fits (λ all e fits.
-    let told = e ∙ ap (map question_of) same in
-    told ∙ waiting_shown c.args.item low (state g.S.Store c.args.conn.now) (state g.S.Store c.first_rows.new.conn) (c.first_rows.ensures.house clean) c.in_ok-rows.rows.items first (subst (AllByRecursion QuestionFits) told fits))
+    let report = e ∙ ap (map question_of) same in
+    report ∙ waiting_shown c.args.item low (state g.S.Store c.args.conn.now) (state g.S.Store c.first_rows.new.conn) (c.first_rows.ensures.house clean) c.in_ok-rows.rows.items first (subst (AllByRecursion QuestionFits) report fits))
 
 pub returns-clause-damaged : goal.returns-clause-damaged
 returns-clause-damaged g c clean fits =

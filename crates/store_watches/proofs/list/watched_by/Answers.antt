@@ -15,8 +15,8 @@ returns-clause-items g c clean =
     let same : c.deref.result.now ≡ items = search rules in
     let shown = rw c.params-to_sql.ensures at (c.in_ok-rows.ensures.rows clean) in
     ok_both c.all_of.result c.all_of.ensures.value c.all_of.ensures.fits (λ all e fits.
-    let told = e ∙ ap (map item_shown) same in
-    told ∙ watched_shown c.args.member low (state g.S.Store c.args.conn.now) (state g.S.Store c.rows_shown.new.conn) items (c.rows_shown.ensures.house clean) shown (subst (AllByRecursion (λ n. n < 2 ^ 32)) told fits))
+    let report = e ∙ ap (map item_shown) same in
+    report ∙ watched_shown c.args.member low (state g.S.Store c.args.conn.now) (state g.S.Store c.rows_shown.new.conn) items (c.rows_shown.ensures.house clean) shown (subst (AllByRecursion (λ n. n < 2 ^ 32)) report fits))
 
 pub returns-clause-rises : goal.returns-clause-rises
 returns-clause-rises g c clean =
@@ -25,8 +25,8 @@ returns-clause-rises g c clean =
     let same : c.deref.result.now ≡ items = search rules in
     let shown = rw c.params-to_sql.ensures at (c.in_ok-rows.ensures.rows clean) in
     ok_both c.all_of.result c.all_of.ensures.value c.all_of.ensures.fits (λ all e fits.
-    let told = e ∙ ap (map item_shown) same in
-    subst (AllPairs (λ m n. m < n)) (sym told) (watched_rise c.args.member low (state g.S.Store c.args.conn.now) (state g.S.Store c.rows_shown.new.conn) items (c.rows_shown.ensures.house clean) shown (subst (AllByRecursion (λ n. n < 2 ^ 32)) told fits)))
+    let report = e ∙ ap (map item_shown) same in
+    subst (AllPairs (λ m n. m < n)) (sym report) (watched_rise c.args.member low (state g.S.Store c.args.conn.now) (state g.S.Store c.rows_shown.new.conn) items (c.rows_shown.ensures.house clean) shown (subst (AllByRecursion (λ n. n < 2 ^ 32)) report fits)))
 
 pub returns-clause-damaged : goal.returns-clause-damaged
 returns-clause-damaged g c clean fits =

@@ -1,12 +1,12 @@
 use Rattle.std.proofs.Common.{◌≡◌, ◌++◌, arith, get_or, rules, subst, sym}
 use Rattle.sqlite.specs.Effect.{Database}
 use Rattle.sqlite.specs.Held.{state}
-use Rattle.store_items.specs.RowsStanding.{RowFitsAt}
-use Rattle.store_items.proofs.Stands.{row_has}
+use Rattle.store_items.specs.ConsistentRows.{RowFitsAt}
+use Rattle.store_items.proofs.IsConsistent.{row_has}
 use Rattle.store_watches.specs.Watched.{item_found}
 use Rattle.store_rows.proofs.Steps.{both_same, both_survive, clean_before, found_more}
 use Rattle.store_watches.proofs.WatchedItems.{all_small}
-use Rattle.store_reserves.proofs.Serving.{serves_still}
+use Rattle.store_rows.proofs.ReservesServing.{serves_still}
 use Rattle.store_watches.proofs.watched_items.items_at.Goals as goal
 
 pub add_item-requires : goal.add_item-requires
@@ -29,7 +29,7 @@ loop-number-preserved g c =
           found_more (item_found old.now.trees) c.args.numbers.now c.loop-number.number-index 0 c.loop-number.items.items c.add_item.new.items.items _ c.loop-number-test.true (held.found before)
           (subst (λ (db : Database). c.add_item.new.items.items ≡ c.loop-number.items.items ++ item_found db.trees (get_or c.args.numbers.now c.loop-number.number-index 0)) (held.same before).0.now_is (c.in_ok-add_item.ensures.items clean)));
       fits = c.in_ok-add_item.ensures.fits held.fits;
-      stands = c.in_ok-add_item.ensures.stands held.stands;
+      is_consistent = c.in_ok-add_item.ensures.is_consistent held.is_consistent;
     }
 
 pub returns-clause-small : goal.returns-clause-small

@@ -3,14 +3,14 @@ use Rattle.std.specs.List.{AllByRecursion}
 use Rattle.sqlite.specs.Effect.{Database}
 use Rattle.sqlite.specs.Held.{state}
 use Rattle.house_rows.specs.Keeping.{FitsBy}
-use Rattle.store_items.specs.RowsStanding.{RowFitsAt}
+use Rattle.store_items.specs.ConsistentRows.{RowFitsAt}
 use Rattle.store_rows.specs.ItemRows.{items_in}
 use Rattle.store_rows.proofs.StateLemmas.{ok_then}
 use Rattle.store_watches.specs.Watched.{item_found}
 use Rattle.store_rows.proofs.Sound.{rows_fit, watches_fit}
 use Rattle.store_rows.proofs.Steps.{clean_before}
 use Rattle.store_watches.proofs.WatchedItems.{watched_fit_at, watched_found}
-use Rattle.store_reserves.proofs.Serving.{serves, serves_still}
+use Rattle.store_rows.proofs.ReservesServing.{serves, serves_still}
 use Rattle.store_watches.proofs.watched_items.items_watched.Goals as goal
 
 pub watched_by-requires : goal.watched_by-requires

@@ -46,8 +46,8 @@ returns-then-spans-le-MOST_BYTES-clause-found c =
         target = c.of-then-spans-le-MOST_BYTES.ensures ∙ is.path;
         minor = is.version;
         known = subst (λ fs. IsKnown fs c.known_of.result) fields c.known_of.ensures;
-        member = subst (λ fs. IsCount (values_of (codes "x-member") fs) c.noted.result) fields c.noted.ensures;
-        moment = subst (λ fs. IsCount (values_of (codes "x-moment") fs) c.noted-then-spans-le-MOST_BYTES.result) fields c.noted-then-spans-le-MOST_BYTES.ensures;
+        member = subst (λ fs. IsCount (values_of (codes "x-member") fs) c.note_field.result) fields c.note_field.ensures;
+        moment = subst (λ fs. IsCount (values_of (codes "x-moment") fs) c.note_field-then-spans-le-MOST_BYTES.result) fields c.note_field-then-spans-le-MOST_BYTES.ensures;
         len = is.len;
       },
       begins,

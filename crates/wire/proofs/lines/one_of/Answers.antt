@@ -8,7 +8,7 @@ use Rattle.wire.specs.Lines.{field_in, fields_in}
 use Rattle.wire.specs.declared.fields.Values.{Values}
 use Rattle.wire.specs.declared.fields.Values.TheVariants.{Absent, One, Many}
 use Rattle.wire.proofs.FieldLemmas.{values_of-none}
-use Rattle.wire.proofs.LineLemmas.{behind_line, first_line, found_at, lacks_unfound, last_line}
+use Rattle.wire.proofs.LineLemmas.{after_line, first_line, found_at, lacks_unfound, last_line}
 use Rattle.wire.proofs.lines.one_of.Goals as goal
 
 pub loop-end-init : goal.loop-end-init
@@ -21,7 +21,7 @@ loop-end-preserved c =
     let k = c.in-Some.end in
     let found = c.in-Some.ensures in
     let line = field_in (take k rest) in
-    let left = behind_line rest k in (
+    let left = after_line rest k in (
       before ++ line,
       e ∙ ap (λ l. before ++ l) (first_line rest k (found_at 10 rest k found) found.0.high ∙ ap (λ t. line ++ fields_in t) (sym left))
           ∙ sym (append_assoc before line (fields_in _)),

@@ -6,7 +6,7 @@ use Rattle.std.proofs.lemmas.List.{take_rest}
 use Rattle.std.proofs.lemmas.List.Sums.{passes_at_first}
 use Rattle.httparse.specs.Grammar.{trim_ows}
 use Rattle.wire.specs.Fields.{Pair, values_of}
-use Rattle.wire.specs.Lines.{name_end, value_behind}
+use Rattle.wire.specs.Lines.{name_end, value_after}
 use Rattle.wire.proofs.LineLemmas.{field_at, found_at, named_one, other_name}
 use Rattle.wire.proofs.lines.value_in.Goals.{then-line-name-via-then-line-name, then-line-name-via-else-line-name+then-line-name-ne58}
 use Rattle.wire.proofs.lines.value_in.Goals as goal
@@ -53,12 +53,12 @@ returns c =
       | inl before ↦ absurd (found.0.before (length name) (omega arith) before colon)
       | inr not ↦ omega (arith, not, c.if-colon-name.false)
     ] in
-    let f : Pair = (take k line, value_behind (drop (k + 1) line)) in
+    let f : Pair = (take k line, value_after (drop (k + 1) line)) in
     let same : str_eq_ignore_ascii_case (take k line) name ≡ true = ap (λ n. str_eq_ignore_ascii_case (take n line) name) first
     ∙ sym c.is_same.ensures ∙ c.if-not-is_same.false in
-    let value : c.trim.result.now ≡ value_behind (drop (k + 1) line) = c.trim.ensures
+    let value : c.trim.result.now ≡ value_after (drop (k + 1) line) = c.trim.ensures
     ∙ ap trim_ows c.before_return.ensures
-    ∙ ap value_behind (take_rest line (k + 1)) in
+    ∙ ap value_after (take_rest line (k + 1)) in
     ap (values_of name) (field_at line k (found_at 58 line k found) found.0.high)
     ∙ named_one name f same
     ∙ ap (λ v. v ∷ []) (sym value)

@@ -3,4 +3,4 @@ use Rattle.list_people.proofs.Finding.{number_found}
 use Rattle.list_people.proofs.members.Members.member.Goals as goal
 
 pub returns : goal.returns
-returns c = number_found (λ (m : Member). m.member) _ _ c.args.self.now c.args.number _ c.numbered.ensures c.deref.ensures.value c.self.view_is c.self.invariant.in_turn
+returns c = number_found (λ (m : Member). m.member) _ _ c.args.self.now c.args.number _ c.row_at.ensures c.deref.ensures.value c.self.view_is c.self.invariant.in_turn

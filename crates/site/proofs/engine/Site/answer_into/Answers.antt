@@ -9,8 +9,8 @@ returns-in-Ok-clause-step g c =
     rw (← c.in-Ok.ensures)
     (step_acted k.content k.is_failed k.is_honest k.may_leave c.args.self.now.writer.zone
     c.in-Ok.asked
-    c.act-acted.result c.told.result c.args.out.now.items c.act-acted.new.out.items
-    c.args.self.now.keep c.act-acted.new.keep c.act-acted.ensures.acted c.told.ensures)
+    c.act-acted.result c.or_fault_text.result c.args.out.now.items c.act-acted.new.out.items
+    c.args.self.now.keep c.act-acted.new.keep c.act-acted.ensures.acted c.or_fault_text.ensures)
 
 pub returns-in-Err-clause-step : goal.returns-in-Err-clause-step
 unfolding asked_of

@@ -1,15 +1,15 @@
 use Rattle.house.proofs.Unchanged.{still_there}
-use Rattle.site.proofs.Bare.{new_told}
+use Rattle.site.proofs.Bare.{new_reported}
 use Rattle.site.proofs.engine.Site.is_new.Goals as goal
 
-pub returns-clause-told : goal.returns-clause-told
-returns-clause-told g c = λ honest settings h is e.
+pub returns-clause-report : goal.returns-clause-report
+returns-clause-report g c = λ honest settings h is e.
     let k = g.K.Keep in
     let first = c.in_ok-counts.ensures in
     let second = c.in_ok-clock.ensures in
     let before = second.read.honest honest in
     let start = first.read.honest before in
-    new_told settings h (k.content c.args.self.now.keep) (k.content c.counts.new.self)
+    new_reported settings h (k.content c.args.self.now.keep) (k.content c.counts.new.self)
     c.in_ok-newest.newest c.in_ok-counts.counts c.in_ok-clock.clock c.are_blank.result is e
     (c.in_ok-newest.ensures.value start) (first.value before)
     (still_there c.in_ok-counts.counts k.content k.is_failed k.is_honest k.may_leave

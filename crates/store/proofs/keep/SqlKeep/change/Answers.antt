@@ -8,7 +8,7 @@ use Rattle.house_rows.specs.Editions.{BandTables}
 use Rattle.house_rows.specs.Limits.{most_editions}
 use Rattle.house_rows.specs.Tables.{band_tables}
 use Rattle.store_rows.specs.Tables.{reserves_after, tables_in}
-use Rattle.store_reserves.specs.declared.rules.Rules.{Rules}
+use Rattle.store_rows.specs.declared.rules.Rules.{Rules}
 use Rattle.store.specs.After.{IsSettable, bands_set, with_table}
 use Rattle.store.specs.Kept.{House, content}
 use Rattle.store.proofs.Moves.{fits_settable, known_after, left_after, not_err, room_of}
@@ -94,25 +94,25 @@ returns-then-is_err-2-clause-crash g c = rw (← c.self.view_is) (λ honest t le
 -- whether a table was to be set or not, the keep has what the fault left
 pub returns-in-Err-clause-crash : goal.returns-in-Err-clause-crash
 returns-in-Err-clause-crash g c = λ honest t left.
-    let conn_is : c.match-table-2.self.conn ≡ c.told_fault.new.conn =
+    let conn_is : c.match-table-2.self.conn ≡ c.reported_fault.new.conn =
     elim c.match-table-2.branch [ in-Some-2 w ↦ ap (λ (k : House _). k.conn) w.self-is | in-None-2 w ↦ ap (λ (k : House _). k.conn) w.self-is ] in
-    let failed_is : c.match-table-2.self.failed ≡ c.told_fault.new.failed =
+    let failed_is : c.match-table-2.self.failed ≡ c.reported_fault.new.failed =
     elim c.match-table-2.branch [ in-Some-2 w ↦ ap (λ (k : House _). k.failed) w.self-is | in-None-2 w ↦ ap (λ (k : House _). k.failed) w.self-is ] in
     let old = state g.S.Store c.self.inside.conn in
     let mid = state g.S.Store c.make_change.new.conn in
-    let told = state g.S.Store c.told_fault.new.conn in
-    let ended : HasCleanDisk told = subst (λ (k : _). HasCleanDisk (state g.S.Store k)) conn_is honest in
-    let found : (db : Trees) × told.may_leave db × (t ≡ tables_in db) = subst (λ (k : _). (db : Trees) × (state g.S.Store k).may_leave db × (t ≡ tables_in db)) conn_is left in
-    let clean : HasCleanDisk mid = omega (arith, c.told_fault.ensures.crash.clean, ended) in
+    let report = state g.S.Store c.reported_fault.new.conn in
+    let ended : HasCleanDisk report = subst (λ (k : _). HasCleanDisk (state g.S.Store k)) conn_is honest in
+    let found : (db : Trees) × report.may_leave db × (t ≡ tables_in db) = subst (λ (k : _). (db : Trees) × (state g.S.Store k).may_leave db × (t ≡ tables_in db)) conn_is left in
+    let clean : HasCleanDisk mid = omega (arith, c.reported_fault.ensures.crash.clean, ended) in
     let before : HasCleanDisk old = omega (arith, c.in-Err.ensures.commit.crash.clean, clean) in
     let rests = c.self.invariant.rests c.if-self.false before in
     let stays : old.may_leave old.committed.trees = g.met.S.Store.stays c.self.inside.conn.store rests.is_open in
     let db = found.0 in
-    let may_mid : mid.may_leave db = elim (c.told_fault.ensures.crash.crash ended db found.1) [ inl may ↦ may | inr none ↦ absurd none ] in
-    let same : c.told_fault.new.failed ≡ false → IsTrue mid.is_open × (mid.committed ≡ old.committed) = λ going.
-    let is_open = (c.told_fault.ensures.same ended going).0.was_open in
+    let may_mid : mid.may_leave db = elim (c.reported_fault.ensures.crash.crash ended db found.1) [ inl may ↦ may | inr none ↦ absurd none ] in
+    let same : c.reported_fault.new.failed ≡ false → IsTrue mid.is_open × (mid.committed ≡ old.committed) = λ going.
+    let is_open = (c.reported_fault.ensures.same ended going).0.was_open in
     (is_open, (c.in-Err.ensures.commit.err clean is_open).1) in
-    let either = left_after old mid c.args.change.now c.told_fault.new.failed db stays (λ is_open. g.met.S.Store.settled c.make_change.new.conn.store db is_open may_mid) same
+    let either = left_after old mid c.args.change.now c.reported_fault.new.failed db stays (λ is_open. g.met.S.Store.settled c.make_change.new.conn.store db is_open may_mid) same
     (c.in-Err.ensures.commit.crash.crash clean db may_mid) in
     rw (← c.self.view_is) (elim either [
       | inl may ↦ inl (db, may, found.2)

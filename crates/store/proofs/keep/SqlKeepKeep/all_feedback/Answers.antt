@@ -7,12 +7,12 @@ use Rattle.house_rows.specs.Ratings.{feedback_key}
 use Rattle.store_rows.specs.Rows.{feedback_in}
 use Rattle.store_rows.specs.Tables.{tables_in}
 use Rattle.store_rows.proofs.Shown.{every_stored}
-use Rattle.store.proofs.Known.{not_told}
+use Rattle.store.proofs.Known.{not_reported}
 use Rattle.store.proofs.keep.SqlKeepKeep.all_feedback.Goals as goal
 
 pub returns-in-Err-clause-damaged : goal.returns-in-Err-clause-damaged
 unfolding tables_in
 returns-in-Err-clause-damaged g c = rw (← c.self.view_is)
-    (λ honest fits. not_told _ _ _ c.told_fault.ensures.fault c.told_fault.ensures.store (λ is.
-    let clean : HasCleanDisk (state g.S.Store c.all_feedback.new.conn) = omega (arith, c.told_fault.ensures.crash.clean, honest) in
+    (λ honest fits. not_reported _ _ _ c.reported_fault.ensures.fault c.reported_fault.ensures.store (λ is.
+    let clean : HasCleanDisk (state g.S.Store c.all_feedback.new.conn) = omega (arith, c.reported_fault.ensures.crash.clean, honest) in
     c.in-Err.ensures.damaged clean (every_stored feedback_key FeedbackFits (feedback_in (state g.S.Store c.self.inside.conn).now.trees) fits) (ap Err is)))

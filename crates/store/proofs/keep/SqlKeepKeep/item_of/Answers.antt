@@ -4,7 +4,7 @@ use Rattle.sqlite.specs.Held.{state}
 use Rattle.sqlite.specs.State.{HasCleanDisk}
 use Rattle.house_rows.specs.Fits.{IsItem}
 use Rattle.store_rows.specs.Tables.{tables_in}
-use Rattle.store.proofs.Known.{not_told}
+use Rattle.store.proofs.Known.{not_reported}
 use Rattle.store.proofs.Sound.{number_low}
 use Rattle.store.proofs.keep.SqlKeepKeep.item_of.Goals as goal
 
@@ -26,8 +26,8 @@ returns-else-not-is_item_number-clause-value g c =
 pub returns-in-Err-clause-damaged : goal.returns-in-Err-clause-damaged
 unfolding tables_in
 returns-in-Err-clause-damaged g c = rw (← c.self.view_is)
-    (λ honest fits. not_told _ _ _ c.told_fault.ensures.fault c.told_fault.ensures.store (λ is.
-    let clean : HasCleanDisk (state g.S.Store c.item_with_lot.new.conn) = omega (arith, c.told_fault.ensures.crash.clean, honest) in
+    (λ honest fits. not_reported _ _ _ c.reported_fault.ensures.fault c.reported_fault.ensures.store (λ is.
+    let clean : HasCleanDisk (state g.S.Store c.item_with_lot.new.conn) = omega (arith, c.reported_fault.ensures.crash.clean, honest) in
     let seller : c.in-Ok.seller ≡ c.args.seller = search rules in
     let stored = rw (← seller) at fits in
     c.in-Err.ensures.here clean (number_low _ stored) (ap Err is)))

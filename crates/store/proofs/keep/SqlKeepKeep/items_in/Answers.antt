@@ -8,7 +8,7 @@ use Rattle.house_rows.specs.Taken.{start_of}
 use Rattle.house_rows.specs.Tables.{ItemRow}
 use Rattle.store_rows.specs.ItemRows.{items_in}
 use Rattle.store_rows.specs.Tables.{tables_in}
-use Rattle.store.proofs.Known.{items_stand, known_list, known_rows, known_serves, not_told, told_sound, works}
+use Rattle.store.proofs.Known.{items_are_consistent, known_list, known_rows, known_serves, not_reported, report_sound, works}
 use Rattle.store.proofs.keep.SqlKeepKeep.items_in.Goals as goal
 
 pub items_in-requires : goal.items_in-requires
@@ -16,21 +16,21 @@ items_in-requires g c = known_serves g.S.Store _ c.self.invariant (works _ _ c.s
 
 pub returns-in-Err-clause-faults : goal.returns-in-Err-clause-faults
 returns-in-Err-clause-faults g c = rw (← c.self.view_is)
-    (told_sound _ _ _ _ _ c.told_fault.ensures.fault c.told_fault.ensures.store (λ honest sound is.
-    let clean : HasCleanDisk (state g.S.Store c.items_in.new.conn) = omega (arith, c.told_fault.ensures.crash.clean, honest) in
+    (report_sound _ _ _ _ _ c.reported_fault.ensures.fault c.reported_fault.ensures.store (λ honest sound is.
+    let clean : HasCleanDisk (state g.S.Store c.items_in.new.conn) = omega (arith, c.reported_fault.ensures.crash.clean, honest) in
     let before : HasCleanDisk (state g.S.Store c.self.inside.conn) = omega (arith, c.in-Err.ensures.read.crash.clean, clean) in
     c.in-Err.ensures.damaged clean (known_rows _ _ _ _ _ (c.self.invariant.known (works _ _ c.self.view_is c.in_ok-serves.ensures.ok) before) sound) (ap Err is)))
 
-pub returns-in-Ok-items_in-clause-stands : goal.returns-in-Ok-items_in-clause-stands
-returns-in-Ok-items_in-clause-stands g c = λ honest.
+pub returns-in-Ok-items_in-clause-is_consistent : goal.returns-in-Ok-items_in-clause-is_consistent
+returns-in-Ok-items_in-clause-is_consistent g c = λ honest.
     let before : HasCleanDisk (state g.S.Store c.self.inside.conn) = omega (arith, c.in-Ok-items_in.ensures.read.crash.clean, honest) in
-    rw (← c.self.view_is) (items_stand _ _ _ _ _ (c.self.invariant.known (works _ _ c.self.view_is c.in_ok-serves.ensures.ok) before) _ c.in-Ok-items_in.ensures.stands)
+    rw (← c.self.view_is) (items_are_consistent _ _ _ _ _ (c.self.invariant.known (works _ _ c.self.view_is c.in_ok-serves.ensures.ok) before) _ c.in-Ok-items_in.ensures.is_consistent)
 
 pub returns-in-Err-clause-damaged : goal.returns-in-Err-clause-damaged
 unfolding tables_in
 returns-in-Err-clause-damaged g c = rw (← c.self.view_is)
-    (λ honest fits. not_told _ _ _ c.told_fault.ensures.fault c.told_fault.ensures.store (λ is.
-    let clean : HasCleanDisk (state g.S.Store c.items_in.new.conn) = omega (arith, c.told_fault.ensures.crash.clean, honest) in
+    (λ honest fits. not_reported _ _ _ c.reported_fault.ensures.fault c.reported_fault.ensures.store (λ is.
+    let clean : HasCleanDisk (state g.S.Store c.items_in.new.conn) = omega (arith, c.reported_fault.ensures.crash.clean, honest) in
     let before : HasCleanDisk (state g.S.Store c.self.inside.conn) = omega (arith, c.in-Err.ensures.read.crash.clean, clean) in
     let same : c.in-Ok.category ≡ c.args.category = search rules in
     let row_of = λ (category : ℕ). AllByRecursion (FitsBy c.self.inside.rules.editions) (take 50 (filter (λ (row : ItemRow). (row.item.terms.category == category) && nat_le (start_of c.args.from) row.item.terms.item) (items_in (state g.S.Store c.self.inside.conn).now.trees))) in

@@ -6,7 +6,7 @@ use Rattle.store_rows.specs.Tables.{tables_in}
 use Rattle.std.specs.Prelude.{Err, IfSome, Option}
 use Rattle.house_rows.specs.Fits.{QuestionFits}
 use Rattle.house_rows.specs.declared.talk.Question.{Question}
-use Rattle.store.proofs.Known.{not_told, works}
+use Rattle.store.proofs.Known.{not_reported, works}
 use Rattle.store.proofs.Sound.{question_found}
 use Rattle.store.proofs.keep.SqlKeepKeep.question.Goals as goal
 
@@ -24,8 +24,8 @@ returns-in-Ok-question_at-clause-value g c = λ honest.
 pub returns-in-Err-clause-damaged : goal.returns-in-Err-clause-damaged
 unfolding tables_in
 returns-in-Err-clause-damaged g c = rw (← c.self.view_is)
-    (λ honest fits. not_told _ _ _ c.told_fault.ensures.fault c.told_fault.ensures.store (λ is.
-    let clean : HasCleanDisk (state g.S.Store c.question_at.new.conn) = omega (arith, c.told_fault.ensures.crash.clean, honest) in
+    (λ honest fits. not_reported _ _ _ c.reported_fault.ensures.fault c.reported_fault.ensures.store (λ is.
+    let clean : HasCleanDisk (state g.S.Store c.question_at.new.conn) = omega (arith, c.reported_fault.ensures.crash.clean, honest) in
     let before : HasCleanDisk (state g.S.Store c.self.inside.conn) = omega (arith, c.in-Err.ensures.read.crash.clean, clean) in
     let db = (state g.S.Store c.self.inside.conn).now.trees in
     let house = (c.self.invariant.rests (works _ _ c.self.view_is c.in_ok-serves.ensures.ok) before).house in

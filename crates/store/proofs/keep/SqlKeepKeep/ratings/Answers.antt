@@ -7,13 +7,13 @@ use Rattle.house_rows.specs.Taken.{FitWhere}
 use Rattle.house_rows.specs.declared.talk.Feedback.{Feedback}
 use Rattle.store_rows.specs.Rows.{feedback_in}
 use Rattle.store_rows.proofs.Sound.{feedback_where}
-use Rattle.store.proofs.Known.{not_told}
+use Rattle.store.proofs.Known.{not_reported}
 use Rattle.store.proofs.keep.SqlKeepKeep.ratings.Goals as goal
 
 pub returns-in-Err-clause-damaged : goal.returns-in-Err-clause-damaged
 returns-in-Err-clause-damaged g c = rw (← c.self.view_is)
-    (λ honest fits. not_told _ _ _ c.told_fault.ensures.fault c.told_fault.ensures.store (λ is.
-    let clean : HasCleanDisk (state g.S.Store c.ratings.new.conn) = omega (arith, c.told_fault.ensures.crash.clean, honest) in
+    (λ honest fits. not_reported _ _ _ c.reported_fault.ensures.fault c.reported_fault.ensures.store (λ is.
+    let clean : HasCleanDisk (state g.S.Store c.ratings.new.conn) = omega (arith, c.reported_fault.ensures.crash.clean, honest) in
     let before : HasCleanDisk (state g.S.Store c.self.inside.conn) = omega (arith, c.in-Err.ensures.read.crash.clean, clean) in
     let same : c.in-Ok.member ≡ c.args.member = search rules in
     let db = (state g.S.Store c.self.inside.conn).now.trees in

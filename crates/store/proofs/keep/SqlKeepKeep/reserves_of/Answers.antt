@@ -9,7 +9,7 @@ use Rattle.house_rows.specs.Taken.{FitWhere, has_own_reserve}
 use Rattle.house_rows.specs.Tables.{ItemRow}
 use Rattle.store_rows.specs.ItemRows.{items_in}
 use Rattle.store_rows.specs.Tables.{tables_in}
-use Rattle.store.proofs.Known.{known_list, known_rows, known_serves, not_told, told_sound, works}
+use Rattle.store.proofs.Known.{known_list, known_rows, known_serves, not_reported, report_sound, works}
 use Rattle.store.proofs.keep.SqlKeepKeep.reserves_of.Goals as goal
 
 pub reserves_of-requires : goal.reserves_of-requires
@@ -17,16 +17,16 @@ reserves_of-requires g c = known_serves g.S.Store _ c.self.invariant (works _ _ 
 
 pub returns-in-Err-clause-faults : goal.returns-in-Err-clause-faults
 returns-in-Err-clause-faults g c = rw (← c.self.view_is)
-    (told_sound _ _ _ _ _ c.told_fault.ensures.fault c.told_fault.ensures.store (λ honest sound is.
-    let clean : HasCleanDisk (state g.S.Store c.reserves_of.new.conn) = omega (arith, c.told_fault.ensures.crash.clean, honest) in
+    (report_sound _ _ _ _ _ c.reported_fault.ensures.fault c.reported_fault.ensures.store (λ honest sound is.
+    let clean : HasCleanDisk (state g.S.Store c.reserves_of.new.conn) = omega (arith, c.reported_fault.ensures.crash.clean, honest) in
     let before : HasCleanDisk (state g.S.Store c.self.inside.conn) = omega (arith, c.in-Err.ensures.read.crash.clean, clean) in
     c.in-Err.ensures.damaged clean (known_rows _ _ _ _ _ (c.self.invariant.known (works _ _ c.self.view_is c.in_ok-serves.ensures.ok) before) sound) (ap Err is)))
 
 pub returns-in-Err-clause-damaged : goal.returns-in-Err-clause-damaged
 unfolding tables_in
 returns-in-Err-clause-damaged g c = rw (← c.self.view_is)
-    (λ honest numbered fits. not_told _ _ _ c.told_fault.ensures.fault c.told_fault.ensures.store (λ is.
-    let clean : HasCleanDisk (state g.S.Store c.reserves_of.new.conn) = omega (arith, c.told_fault.ensures.crash.clean, honest) in
+    (λ honest numbered fits. not_reported _ _ _ c.reported_fault.ensures.fault c.reported_fault.ensures.store (λ is.
+    let clean : HasCleanDisk (state g.S.Store c.reserves_of.new.conn) = omega (arith, c.reported_fault.ensures.crash.clean, honest) in
     let before : HasCleanDisk (state g.S.Store c.self.inside.conn) = omega (arith, c.in-Err.ensures.read.crash.clean, clean) in
     let same : c.in-Ok.member ≡ c.args.member = search rules in
     let rows = items_in (state g.S.Store c.self.inside.conn).now.trees in

@@ -1,25 +1,11 @@
-use Rattle.std.proofs.Common.{ap, arith, ◌≡◌, rules, subst, sym}
-use Rattle.std.specs.Prelude.{Err}
-use Rattle.sqlite.specs.Held.{state}
-use Rattle.sqlite.specs.State.{HasCleanDisk}
-use Rattle.store_items.specs.RowsStanding.{RowFitsAt}
-use Rattle.store.proofs.Known.{known_row, known_rows, known_serves, not_told, told_sound, works}
+use Rattle.std.proofs.Common.{rules}
 use Rattle.store.proofs.keep.SqlKeepKeep.standing.Goals as goal
 
-pub standing_at-requires : goal.standing_at-requires
-standing_at-requires g c = known_serves g.S.Store _ c.self.invariant (works _ _ c.self.view_is c.in_ok-serves.ensures.ok)
+pub returns-in_err-auction-clause-faults : goal.returns-in_err-auction-clause-faults
+returns-in_err-auction-clause-faults g c = record {
+  store = search rules;
+  damaged = λ honest sound is. c.in_err-auction.ensures.faults.damaged honest sound (search rules);
+}
 
-pub returns-in-Err-clause-faults : goal.returns-in-Err-clause-faults
-returns-in-Err-clause-faults g c = rw (← c.self.view_is)
-    (told_sound _ _ _ _ _ c.told_fault.ensures.fault c.told_fault.ensures.store (λ honest sound is.
-    let clean : HasCleanDisk (state g.S.Store c.standing_at.new.conn) = omega (arith, c.told_fault.ensures.crash.clean, honest) in
-    let before : HasCleanDisk (state g.S.Store c.self.inside.conn) = omega (arith, c.in-Err.ensures.read.crash.clean, clean) in
-    c.in-Err.ensures.damaged clean (known_rows _ _ _ _ _ (c.self.invariant.known (works _ _ c.self.view_is c.in_ok-serves.ensures.ok) before) sound) (ap Err is)))
-
-pub returns-in-Err-clause-damaged : goal.returns-in-Err-clause-damaged
-returns-in-Err-clause-damaged g c = rw (← c.self.view_is)
-    (λ honest fits. not_told _ _ _ c.told_fault.ensures.fault c.told_fault.ensures.store (λ is.
-    let clean : HasCleanDisk (state g.S.Store c.standing_at.new.conn) = omega (arith, c.told_fault.ensures.crash.clean, honest) in
-    let before : HasCleanDisk (state g.S.Store c.self.inside.conn) = omega (arith, c.in-Err.ensures.read.crash.clean, clean) in
-    let same : c.in-Ok.item ≡ c.args.item = search rules in
-    c.in-Err.ensures.here clean (subst (RowFitsAt c.self.inside.rules.editions (state g.S.Store c.self.inside.conn).now.trees) (sym same) (known_row _ _ _ _ _ (c.self.invariant.known (works _ _ c.self.view_is c.in_ok-serves.ensures.ok) before) c.args.item fits)) (ap Err is)))
+pub returns-in_err-auction-clause-damaged : goal.returns-in_err-auction-clause-damaged
+returns-in_err-auction-clause-damaged g c honest fits is = c.in_err-auction.ensures.damaged honest fits (search rules)

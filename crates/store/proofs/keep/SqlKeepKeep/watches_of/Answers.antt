@@ -12,7 +12,7 @@ use Rattle.store_rows.specs.ItemRows.{items_in}
 use Rattle.store_rows.specs.Rows.{watches_in}
 use Rattle.store_rows.specs.Tables.{tables_in}
 use Rattle.store_rows.proofs.Sound.{watches_where}
-use Rattle.store.proofs.Known.{items_stand, known_serves, known_sound, known_where, not_told, told_sound, works}
+use Rattle.store.proofs.Known.{items_are_consistent, known_serves, known_sound, known_where, not_reported, report_sound, works}
 use Rattle.store.proofs.keep.SqlKeepKeep.watches_of.Goals as goal
 
 pub items_watched-requires : goal.items_watched-requires
@@ -20,20 +20,20 @@ items_watched-requires g c = known_serves g.S.Store _ c.self.invariant (works _ 
 
 pub returns-in-Err-clause-faults : goal.returns-in-Err-clause-faults
 returns-in-Err-clause-faults g c = rw (← c.self.view_is)
-    (told_sound _ _ _ _ _ c.told_fault.ensures.fault c.told_fault.ensures.store (λ honest sound is.
-    let clean : HasCleanDisk (state g.S.Store c.items_watched.new.conn) = omega (arith, c.told_fault.ensures.crash.clean, honest) in
+    (report_sound _ _ _ _ _ c.reported_fault.ensures.fault c.reported_fault.ensures.store (λ honest sound is.
+    let clean : HasCleanDisk (state g.S.Store c.items_watched.new.conn) = omega (arith, c.reported_fault.ensures.crash.clean, honest) in
     let before : HasCleanDisk (state g.S.Store c.self.inside.conn) = omega (arith, c.in-Err.ensures.read.crash.clean, clean) in
     c.in-Err.ensures.damaged clean (known_sound _ _ _ _ _ (c.self.invariant.known (works _ _ c.self.view_is c.in_ok-serves.ensures.ok) before) sound) (ap Err is)))
 
-pub returns-in-Ok-items_watched-clause-stands : goal.returns-in-Ok-items_watched-clause-stands
-returns-in-Ok-items_watched-clause-stands g c = λ honest.
+pub returns-in-Ok-items_watched-clause-is_consistent : goal.returns-in-Ok-items_watched-clause-is_consistent
+returns-in-Ok-items_watched-clause-is_consistent g c = λ honest.
     let before : HasCleanDisk (state g.S.Store c.self.inside.conn) = omega (arith, c.in-Ok-items_watched.ensures.read.crash.clean, honest) in
-    rw (← c.self.view_is) (items_stand _ _ _ _ _ (c.self.invariant.known (works _ _ c.self.view_is c.in_ok-serves.ensures.ok) before) _ c.in-Ok-items_watched.ensures.stands)
+    rw (← c.self.view_is) (items_are_consistent _ _ _ _ _ (c.self.invariant.known (works _ _ c.self.view_is c.in_ok-serves.ensures.ok) before) _ c.in-Ok-items_watched.ensures.is_consistent)
 
 pub returns-in-Err-clause-damaged : goal.returns-in-Err-clause-damaged
 returns-in-Err-clause-damaged g c = rw (← c.self.view_is)
-    (λ honest watches items. not_told _ _ _ c.told_fault.ensures.fault c.told_fault.ensures.store (λ is.
-    let clean : HasCleanDisk (state g.S.Store c.items_watched.new.conn) = omega (arith, c.told_fault.ensures.crash.clean, honest) in
+    (λ honest watches items. not_reported _ _ _ c.reported_fault.ensures.fault c.reported_fault.ensures.store (λ is.
+    let clean : HasCleanDisk (state g.S.Store c.items_watched.new.conn) = omega (arith, c.reported_fault.ensures.crash.clean, honest) in
     let before : HasCleanDisk (state g.S.Store c.self.inside.conn) = omega (arith, c.in-Err.ensures.read.crash.clean, clean) in
     let same : c.in-Ok.member ≡ c.args.member = search rules in
     let db = (state g.S.Store c.self.inside.conn).now.trees in

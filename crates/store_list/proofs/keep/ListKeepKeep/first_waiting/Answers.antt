@@ -5,10 +5,10 @@ use Rattle.house_rows.specs.Changed.{is_item}
 use Rattle.house_rows.specs.Fits.{QuestionFits}
 use Rattle.house_rows.specs.Found.{first_waiting, sells}
 use Rattle.house_rows.specs.Limits.{most_shown}
-use Rattle.store_list.proofs.Fitting.{filter_fits, ok_items, ok_same, take_fits, ok_each, stands_at}
+use Rattle.store_list.proofs.Fitting.{filter_fits, ok_items, ok_same, take_fits, ok_each, is_consistent_at}
 use Rattle.store_list.proofs.Waiting.{own_complete, risen}
 use Rattle.house_rows.specs.declared.talk.Question.{Question}
-use Rattle.house_rows.specs.Keeping.{AreSound, StandsAt}
+use Rattle.house_rows.specs.Keeping.{AreSound, IsConsistentAt}
 use Rattle.store_list.proofs.keep.ListKeepKeep.first_waiting.Goals as goal
 
 pub first_waiting_on-requires-clause-rising : goal.first_waiting_on-requires-clause-rising
@@ -26,5 +26,5 @@ returns-clause-fits c =
     (own_complete c.args.member c.sold_by-own.result.now c.self.inside.items c.self.inside.questions c.sold_by-own.ensures.complete))
     (take_fits QuestionFits most_shown _ (filter_fits QuestionFits _ _ c.self.invariant.sound.questions))
 
-pub returns-clause-stands : goal.returns-clause-stands
-returns-clause-stands c = λ _. ok_each (λ (q : Question). StandsAt c.args.self.now q.item) c.first_waiting_on.result (λ q. stands_at c.args.self.now (subst AreSound c.self.view_is c.self.invariant.sound) q.item)
+pub returns-clause-is_consistent : goal.returns-clause-is_consistent
+returns-clause-is_consistent c = λ _. ok_each (λ (q : Question). IsConsistentAt c.args.self.now q.item) c.first_waiting_on.result (λ q. is_consistent_at c.args.self.now (subst AreSound c.self.view_is c.self.invariant.sound) q.item)

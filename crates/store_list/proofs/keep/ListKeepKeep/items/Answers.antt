@@ -1,10 +1,10 @@
 use Rattle.std.specs.List.{AllByRecursion}
 use Rattle.house_rows.specs.Fits.{ItemFits}
-use Rattle.store_list.proofs.Fitting.{items_fit, items_stand, ok_items, ok_items_stand}
+use Rattle.store_list.proofs.Fitting.{items_fit, items_are_consistent, ok_items, ok_items_are_consistent}
 use Rattle.store_list.proofs.keep.ListKeepKeep.items.Goals as goal
 
 pub returns-clause-fits : goal.returns-clause-fits
 returns-clause-fits c = ok_items (λ xs. AllByRecursion ItemFits xs) c.all.result _ c.all.ensures.value (items_fit _ c.self.invariant.sound)
 
-pub returns-clause-stands : goal.returns-clause-stands
-returns-clause-stands c = λ _. ok_items_stand _ _ c.self.view_is c.all.result _ c.all.ensures.value (items_stand _ c.self.invariant.sound)
+pub returns-clause-is_consistent : goal.returns-clause-is_consistent
+returns-clause-is_consistent c = λ _. ok_items_are_consistent _ _ c.self.view_is c.all.result _ c.all.ensures.value (items_are_consistent _ c.self.invariant.sound)

@@ -6,7 +6,7 @@ use Rattle.house_rows.specs.Fits.{ItemFits}
 use Rattle.house_rows.specs.Limits.{most_shown}
 use Rattle.house_rows.specs.Tables.{ItemRow}
 use Rattle.store_list.proofs.Fitting.{filter_fits, items_fit, ok_items, take_fits}
-use Rattle.store_list.proofs.Fitting.{first_stand, ok_items_stand}
+use Rattle.store_list.proofs.Fitting.{first_are_consistent, ok_items_are_consistent}
 use Rattle.store_list.proofs.keep.ListKeepKeep.items_in.Goals as goal
 
 pub returns-clause-value : goal.returns-clause-value
@@ -20,6 +20,6 @@ returns-clause-fits c =
     let listed : List Item = filter is_listed rows in
     ok_items (λ xs. AllByRecursion ItemFits xs) c.in_category.result (take most_shown listed) c.in_category.ensures.value (take_fits ItemFits most_shown listed (filter_fits ItemFits is_listed rows fits))
 
-pub returns-clause-stands : goal.returns-clause-stands
-returns-clause-stands c = λ _. ok_items_stand _ _ c.self.view_is c.in_category.result _ c.in_category.ensures.value
-    (first_stand _ most_shown (λ (it : Item). (it.terms.category == c.args.category) && nat_le c.args.from it.terms.item) c.self.invariant.sound)
+pub returns-clause-is_consistent : goal.returns-clause-is_consistent
+returns-clause-is_consistent c = λ _. ok_items_are_consistent _ _ c.self.view_is c.in_category.result _ c.in_category.ensures.value
+    (first_are_consistent _ most_shown (λ (it : Item). (it.terms.category == c.args.category) && nat_le c.args.from it.terms.item) c.self.invariant.sound)

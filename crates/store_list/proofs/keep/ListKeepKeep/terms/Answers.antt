@@ -1,8 +1,8 @@
-use Rattle.store_list.proofs.Fitting.{terms_fit, terms_stand}
+use Rattle.store_list.proofs.Fitting.{terms_fit, terms_are_consistent}
 use Rattle.store_list.proofs.keep.ListKeepKeep.terms.Goals as goal
 
 pub returns-clause-fits : goal.returns-clause-fits
 returns-clause-fits c = rw c.terms.ensures (terms_fit _ _ c.self.view_is c.self.invariant.sound c.args.item)
 
-pub returns-clause-stands : goal.returns-clause-stands
-returns-clause-stands c = λ _. rw c.terms.ensures (terms_stand _ _ c.self.view_is c.self.invariant.sound c.args.item)
+pub returns-clause-is_consistent : goal.returns-clause-is_consistent
+returns-clause-is_consistent c = λ _. rw c.terms.ensures (terms_are_consistent _ _ c.self.view_is c.self.invariant.sound c.args.item)

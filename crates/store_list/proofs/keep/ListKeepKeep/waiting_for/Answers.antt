@@ -4,10 +4,10 @@ use Rattle.std.specs.List.{AllByRecursion}
 use Rattle.house_rows.specs.Changed.{is_item}
 use Rattle.house_rows.specs.Fits.{QuestionFits}
 use Rattle.house_rows.specs.Found.{sells}
-use Rattle.store_list.proofs.Fitting.{filter_fits, ok_items, ok_each, stands_at}
+use Rattle.store_list.proofs.Fitting.{filter_fits, ok_items, ok_each, is_consistent_at}
 use Rattle.store_list.proofs.Waiting.{own_complete, risen}
 use Rattle.house_rows.specs.declared.talk.Question.{Question}
-use Rattle.house_rows.specs.Keeping.{AreSound, StandsAt}
+use Rattle.house_rows.specs.Keeping.{AreSound, IsConsistentAt}
 use Rattle.store_list.proofs.keep.ListKeepKeep.waiting_for.Goals as goal
 
 pub waiting_on-requires-clause-rising : goal.waiting_on-requires-clause-rising
@@ -24,5 +24,5 @@ returns-clause-fits c =
     (own_complete c.args.member c.sold_by-own.result.now c.self.inside.items c.self.inside.questions c.sold_by-own.ensures.complete))
     (filter_fits QuestionFits _ _ c.self.invariant.sound.questions)
 
-pub returns-clause-stands : goal.returns-clause-stands
-returns-clause-stands c = λ _. ok_each (λ (q : Question). StandsAt c.args.self.now q.item) c.waiting_on.result (λ q. stands_at c.args.self.now (subst AreSound c.self.view_is c.self.invariant.sound) q.item)
+pub returns-clause-is_consistent : goal.returns-clause-is_consistent
+returns-clause-is_consistent c = λ _. ok_each (λ (q : Question). IsConsistentAt c.args.self.now q.item) c.waiting_on.result (λ q. is_consistent_at c.args.self.now (subst AreSound c.self.view_is c.self.invariant.sound) q.item)

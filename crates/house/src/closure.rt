@@ -1,0 +1,34 @@
+//! Closing the items that are due.
+ghost use Rattle.std.specs.Prelude.{◌≡◌, IfOk};
+ghost use Rattle.house_rows.specs.declared.command.Command.TheVariants as command;
+ghost use Rattle.house_rows.specs.declared.settings.Settings.{Settings as TheSettings};
+ghost use Rattle.house_rows.specs.Asks.{ChangeFits};
+ghost use Rattle.house_rows.specs.History.{History};
+ghost use Rattle.house_rows.specs.Keeping.{AreSound, Faults, IsRead};
+ghost use Rattle.house_rows.specs.Tables.{tables_of};
+ghost use Rattle.house_rows.specs.Verdict.{IsHistory};
+ghost use Rattle.house.specs.Decided.{IfAccepted, IsDecided};
+ghost use Rattle.house.specs.Own.{IsOf};
+
+use crate::targets::common;
+use house_rows::{Change, Keep, KeepFault, Refusal};
+
+/// Decides on a close of every item that is due.
+pub fn close<'c, K: Keep>(
+    keep: &mut K,
+    moment: u64,
+    caller: u64,
+) -> Result<Result<Change<'c>, Refusal>, KeepFault>
+    ensures decided { K.is_honest keep.new → (settings : TheSettings) (h : History) → IsHistory settings h
+        → K.content keep.old ≡ tables_of settings h → IfOk result (IsDecided settings h moment caller command.Close) }
+    ensures fits { K.is_honest keep.new → AreSound (K.content keep.old)
+        → IfAccepted result (ChangeFits (K.content keep.old)) }
+    ensures own { K.is_honest keep.new → IfAccepted result (IsOf moment caller command.Close) }
+    ensures faults { Faults result (K.is_honest keep.new) (K.is_failed keep.new) (K.content keep.old) }
+    ensures read { IsRead K.content K.is_failed K.is_honest K.may_leave keep.old keep.new }
+{
+    match common(keep, moment, caller, true)? {
+        Some(refusal) => Ok(Err(refusal)),
+        None => Ok(Ok(Change::Close { moment })),
+    }
+}

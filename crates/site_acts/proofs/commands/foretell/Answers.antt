@@ -1,0 +1,7 @@
+use Rattle.site_acts.proofs.Acts.{done_text}
+use Rattle.site_acts.proofs.commands.foretell.Goals as goal
+
+pub returns-clause-text : goal.returns-clause-text
+returns-clause-text g c =
+    done_text c.write.result c.args.writer.now.zone c.args.closes c.in_ok-report.report
+    c.args.out.now.items c.write.new.out.items c.write.ensures.ok

@@ -1,0 +1,85 @@
+//! The result of an accepted command.
+ghost use Rattle.std.specs.Prelude.{◌≡◌, ◌∷◌, ℕ, false, IfOk};
+ghost use Rattle.house.specs.Decided.{IsAccepted};
+ghost use Rattle.house.specs.Own.{IsOf};
+ghost use Rattle.house_rows.specs.declared.command.Command.{Command};
+ghost use Rattle.house_rows.specs.declared.settings.Settings.{Settings as TheSettings};
+ghost use Rattle.house_rows.specs.History.{History};
+ghost use Rattle.house_rows.specs.Keeping.{Faults, IsRead};
+ghost use Rattle.house_rows.specs.Runs.{entry};
+ghost use Rattle.house_rows.specs.Tables.{tables_of};
+ghost use Rattle.house_rows.specs.CommandResult.{result_of};
+ghost use Rattle.house_rows.specs.Verdict.{IsHistory};
+
+use crate::bands::next_edition;
+use crate::bidding::tell_bid;
+use crate::closure::tell_close;
+use crate::listing::tell_listing;
+use crate::people::{tell_category, tell_member};
+use crate::settlement::tell_settlement;
+use house_rows::{Change, CommandResult, Keep, KeepFault};
+
+/// The result that an accepted command will have once its change is made. The keep has not failed;
+/// nothing is changed.
+pub fn tell<K: Keep>(keep: &mut K, change: &Change<'_>) -> Result<CommandResult, KeepFault>
+    requires going { K.is_failed keep.old ≡ false }
+    ensures report { K.is_honest keep.new → (settings : TheSettings) (h : History) → IsHistory settings h
+        → K.content keep.old ≡ tables_of settings h → (moment caller : ℕ) (command : Command)
+        → IsAccepted settings h moment caller command change.now → IsOf moment caller command change.now
+        → IfOk result (λ r.
+        r ≡ result_of settings (entry moment caller command ∷ h) moment caller command h) }
+    ensures faults { Faults result (K.is_honest keep.new) (K.is_failed keep.new) (K.content keep.old) }
+    ensures read { IsRead K.content K.is_failed K.is_honest K.may_leave keep.old keep.new }
+{
+    match change {
+        Change::Register { .. } => tell_member(keep),
+        Change::AddCategory { .. } => tell_category(keep),
+        Change::List { .. } => tell_listing(keep),
+        Change::Bid { item, standing, .. } => tell_bid(keep, *item, standing),
+        Change::Buy { item, price, .. } => Ok(CommandResult::Bought {
+            item: *item,
+            price: *price,
+        }),
+        Change::Close { moment } => tell_close(keep, *moment),
+        Change::Settle { item, .. } => tell_settlement(keep, *item),
+        Change::Watch { item, .. } => Ok(CommandResult::Watched {
+            item: *item,
+            watched: true,
+        }),
+        Change::Unwatch { item, .. } => Ok(CommandResult::Watched {
+            item: *item,
+            watched: false,
+        }),
+        Change::Ask {
+            item,
+            asker,
+            number,
+            ..
+        } => Ok(CommandResult::Question {
+            asker: *asker,
+            item: *item,
+            number: *number,
+        }),
+        Change::Answer {
+            item,
+            asker,
+            number,
+            ..
+        } => Ok(CommandResult::Question {
+            asker: *asker,
+            item: *item,
+            number: *number,
+        }),
+        Change::Feedback {
+            item,
+            to,
+            rating,
+            ..
+        } => Ok(CommandResult::Rated {
+            item: *item,
+            rating: *rating,
+            to: *to,
+        }),
+        Change::SetBands { .. } => next_edition(keep),
+    }
+}

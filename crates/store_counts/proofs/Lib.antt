@@ -1,2 +1,0 @@
-pub mod CountMeaning
-pub mod CountLemmas

@@ -1,4 +1,0 @@
-mod Meaning
-mod Lemmas
-mod More
-mod Written

@@ -1,0 +1,16 @@
+pub mod CategoryMeaning
+pub mod CategoryLemmas
+pub mod CountMeaning
+pub mod CountLemmas
+pub mod FindMeaning
+pub mod MemberMeaning
+pub mod MemberLemmas
+pub mod PeopleFinds
+pub mod Written
+pub mod NewHouse
+pub mod NumberLemmas
+pub mod NumbersMeaning
+pub mod NumbersLemmas
+pub mod OpenLemmas
+pub mod PutMeaning
+pub mod PutLemmas

@@ -1,0 +1,24 @@
+use Rattle.std.proofs.Common.{◌≡◌, ◌∙◌, ap, rules, map, subst, sym}
+use Rattle.sqlite.specs.Held.{state}
+use Rattle.store_rows.specs.Rows.{category_of}
+use Rattle.house_rows.specs.Fits.{CategoryFits}
+use Rattle.std.specs.List.{AllByRecursion}
+use Rattle.store_rows.proofs.StateLemmas.{ok_then}
+use Rattle.store_house.proofs.CategoryMeaning.{all_is}
+use Rattle.store_house.proofs.CategoryLemmas.{all_answer}
+use Rattle.store_house.proofs.categories.all_categories.Goals as goal
+
+pub rows_shown-requires-clause-plain : goal.rows_shown-requires-clause-plain
+rows_shown-requires-clause-plain g c = all_is.2
+
+pub returns-clause-categories : goal.returns-clause-categories
+returns-clause-categories g c clean =
+    let same : c.deref.result.now ≡ c.in_ok-rows.rows.items = search rules in
+    let found = all_answer (state g.S.Store c.args.conn.now) (state g.S.Store c.rows_shown.new.conn) c.in_ok-rows.rows.items (c.rows_shown.ensures.house clean) (c.in_ok-rows.ensures.rows clean) in
+    ok_then c.all_of.result c.all_of.ensures.value (λ _ e. e ∙ ap (map category_of) same ∙ found)
+
+pub returns-clause-damaged : goal.returns-clause-damaged
+returns-clause-damaged g c clean fits =
+    let same : c.deref.result.now ≡ c.in_ok-rows.rows.items = search rules in
+    let found = all_answer (state g.S.Store c.args.conn.now) (state g.S.Store c.rows_shown.new.conn) c.in_ok-rows.rows.items (c.rows_shown.ensures.house clean) (c.in_ok-rows.ensures.rows clean) in
+    c.all_of.ensures.damaged (subst (AllByRecursion CategoryFits) (sym (ap (map category_of) same ∙ found)) fits)

@@ -1,0 +1,131 @@
+-- What is handed out is of items whose rows are consistent.
+use Rattle.std.proofs.Common.{◌≡◌, ◌≤◌, ◌⊎◌, ◌||◌, refl, ℕ, Bool, true, false, not, List, [], ◌∷◌, map, filter, find, option_map, Option, Some, Result, Ok, Err, inl, inr, sym, subst}
+use Rattle.std.specs.Prelude.{◌==◌, IfOk, IfSome, OnOk}
+use Rattle.std.specs.List.{AllByRecursion, list_any}
+use Rattle.sqlite_trees.specs.Tree.{Trees}
+use Rattle.sqlite_keyed.proofs.ListLemmas.{all_both, all_unmap, all-filter}
+use Rattle.proxy.specs.Bids.{is_leader}
+use Rattle.settle.specs.Statement.{is_party}
+use Rattle.house_rows.specs.Changed.{is_item}
+use Rattle.house_rows.specs.Fits.{TermsFit}
+use Rattle.house_rows.specs.Keeping.{FitsBy, IsConsistentBy}
+use Rattle.house_rows.specs.Taken.{FitWhere, may_be_party}
+use Rattle.house_rows.specs.Pages.{sale_of}
+use Rattle.house_rows.specs.Tables.{ItemRow}
+use Rattle.house_rows.specs.Verdict.{was_sold}
+use Rattle.house_rows.specs.declared.item.Item.{Item}
+use Rattle.house_rows.specs.declared.item.Terms.{Terms}
+use Rattle.house_rows.specs.Editions.{BandTables}
+use Rattle.house_rows.proofs.Every.{every_as}
+use Rattle.house_rows.proofs.Put.{by_test}
+use Rattle.store_rows.specs.ItemRows.{items_in}
+use Rattle.store_rows.specs.Tables.{tables_in}
+use Rattle.store_items.specs.ConsistentRows.{HasStandingItem, RowsFit, RowsAreConsistent, ItemIsConsistent}
+use Rattle.store_items.proofs.PartySales.{all_kept, buyer_is}
+use Rattle.store_items.proofs.Rows.{whole}
+
+pub ok_so : {A E : Type 0} {P : Type 0} (r : Result A E) → P → OnOk r P
+ok_so (Ok a) so = so
+ok_so (Err e) so = tt
+
+pub ok_both : {A E : Type 0} {P Q : A → Type 0} {R : Type 0} (r : Result A E) → IfOk r P → IfOk r Q → ((a : A) → P a → Q a → R) → OnOk r R
+ok_both (Ok a) p q so = so a p q
+ok_both (Err e) p q so = tt
+
+-- ---- the rows that pass a test
+
+passed : {A : Type 0} (P : A → Type 0) (p : A → Bool) (xs : List A) → AllByRecursion (λ x. p x ≡ true → P x) xs → AllByRecursion P (filter p xs)
+passed P p [] report = tt
+passed P p (x ∷ xs) report =
+    let rest = passed P p xs report.1 in
+    elim (by_test (p x)) [ inl is ↦ rw is (report.0 is, rest) | inr not ↦ rw not rest ]
+
+pub terms_fit : (db : Trees) (test : ItemRow → Bool) (found : List Terms) → found ≡ map (λ (row : ItemRow). row.item.terms) (filter test (items_in db)) → AllByRecursion TermsFit found → RowsFit test db
+terms_fit db test found are fit = all_unmap TermsFit (λ (row : ItemRow). row.item.terms) (filter test (items_in db)) (rw are at fit)
+
+module _ (editions : BandTables) (db : Trees) where
+  abbrev IsConsistentRow : ItemRow → Type 0
+  IsConsistentRow row = IsConsistentBy editions row.item.terms
+
+  pub terms_are_consistent : (test : ItemRow → Bool) (found : List Terms) → found ≡ map (λ (row : ItemRow). row.item.terms) (filter test (items_in db)) → AllByRecursion (IsConsistentBy editions) found → RowsAreConsistent editions test db
+  terms_are_consistent test found are stand = all_unmap (IsConsistentBy editions) (λ (row : ItemRow). row.item.terms) (filter test (items_in db)) (rw are at stand)
+
+  pub items_are_consistent : (test : ItemRow → Bool) (items : List Item) → items ≡ map (λ (row : ItemRow). row.item) (items_in db) → AllByRecursion (λ (it : Item). IsConsistentBy editions it.terms) items → RowsAreConsistent editions test db
+  items_are_consistent test items are stand =
+      all-filter IsConsistentRow test (items_in db) (all_unmap (λ (it : Item). IsConsistentBy editions it.terms) (λ (row : ItemRow). row.item) (items_in db) (rw are at stand))
+
+  -- those that pass the test by which items were found
+  pub found_are_consistent : (test : ItemRow → Bool) (found : List Terms) → found ≡ map (λ (row : ItemRow). row.item.terms) (filter test (items_in db)) → AllByRecursion (IsConsistentBy editions) found
+      → AllByRecursion (λ row. test row ≡ true → IsConsistentRow row) (items_in db)
+  found_are_consistent test found are stand = all_kept IsConsistentRow test (items_in db) (terms_are_consistent test found are stand)
+
+  -- ---- sales
+
+  -- who is a party to the sale of an item sells or leads it
+  party_known : (member : ℕ) (t : Terms) → 1 ≤ member → list_any (is_party member) (sale_of t) ≡ true → ((t.seller == member) ≡ true) ⊎ (is_leader t.leader member ≡ true)
+  party_known member t some is =
+      elim (by_test (was_sold t.state)) [
+        | inl sold ↦ elim (by_test (t.seller == member)) [
+          | inl mine ↦ inl mine
+          | inr other ↦ elim (by_test (is_leader t.leader member)) [
+            | inl leads ↦ inr leads
+            | inr nor ↦ absurd (let e : false ≡ true = rw (sold, other, buyer_is t.leader member some, nor) at is in cc)
+          ]
+        ]
+        | inr not ↦ absurd (let e : false ≡ true = rw not at is in cc)
+      ]
+
+  pub sales_are_consistent : (member : ℕ) (sold led : List Terms) → 1 ≤ member → sold ≡ map (λ (row : ItemRow). row.item.terms) (filter (λ row. row.item.terms.seller == member) (items_in db))
+      → led ≡ map (λ (row : ItemRow). row.item.terms) (filter (λ row. is_leader row.item.terms.leader member) (items_in db)) → AllByRecursion (IsConsistentBy editions) sold → AllByRecursion (IsConsistentBy editions) led
+      → RowsAreConsistent editions (λ row. list_any (is_party member) (sale_of row.item.terms)) db
+  sales_are_consistent member sold led some sold_is led_is one other =
+      let mine : ItemRow → Bool = λ row. row.item.terms.seller == member in
+      let leads : ItemRow → Bool = λ row. is_leader row.item.terms.leader member in
+      let party : ItemRow → Bool = λ row. list_any (is_party member) (sale_of row.item.terms) in
+      passed IsConsistentRow party (items_in db)
+      (all_both (λ row. mine row ≡ true → IsConsistentRow row) (λ row. leads row ≡ true → IsConsistentRow row) (λ row. party row ≡ true → IsConsistentRow row)
+      (λ row by_seller by_leader is. elim (party_known member row.item.terms some is) [ inl sells' ↦ by_seller sells' | inr leads' ↦ by_leader leads' ])
+      (items_in db) (found_are_consistent mine sold sold_is one) (found_are_consistent leads led led_is other))
+
+  -- ---- what a member has bid
+
+  pub terms_in : (item : ℕ) (terms : Option Terms) → terms ≡ option_map (λ (row : ItemRow). row.item.terms) (find (is_item item) (items_in db)) → IfSome terms (IsConsistentBy editions) → ItemIsConsistent editions db item
+  unfolding tables_in
+  terms_in item terms are stand = rw are at stand
+
+  -- ---- an item that is looked up
+
+  pub has_standing_item : (item : ℕ) (t : Terms) → option_map (λ (row : ItemRow). row.item.terms) (find (is_item item) (items_in db)) ≡ Some t → TermsFit t → IsConsistentBy editions t → HasStandingItem editions db item
+  unfolding tables_in
+  has_standing_item item t found fits is_consistent =
+      let row = whole (λ (row : ItemRow). row.item.terms) (find (is_item item) (items_in db)) t found in
+      record { row = row.0; row_there = row.1; fits = subst TermsFit (sym row.2) fits; is_consistent = subst (IsConsistentBy editions) (sym row.2) is_consistent }
+
+-- ---- rows that a member's sales take
+
+sells_passes : (zero mine leads : Bool) → mine ≡ true → (zero || (mine || leads)) ≡ true
+sells_passes true mine leads is = refl
+sells_passes false true leads is = refl
+sells_passes false false leads is = absurd (let e : false ≡ true = is in cc)
+
+leads_passes : (zero mine leads : Bool) → leads ≡ true → (zero || (mine || leads)) ≡ true
+leads_passes true mine leads is = refl
+leads_passes false true leads is = refl
+leads_passes false false leads is = is
+
+zero_passes : (zero other : Bool) → zero ≡ true → (zero || other) ≡ true
+zero_passes true other is = refl
+zero_passes false other is = absurd (let e : false ≡ true = is in cc)
+
+module _ (editions : BandTables) (db : Trees) (member : ℕ) (fits : FitWhere (may_be_party member) (FitsBy editions) (items_in db)) where
+  pub sold_fit : FitWhere (λ row. row.item.terms.seller == member) (FitsBy editions) (items_in db)
+  sold_fit = every_as (λ (row : ItemRow). may_be_party member row ≡ true → FitsBy editions row) (λ (row : ItemRow). (row.item.terms.seller == member) ≡ true → FitsBy editions row) (items_in db)
+      (λ row fit is. fit (sells_passes (member == 0) (row.item.terms.seller == member) (is_leader row.item.terms.leader member) is)) fits
+
+  pub led_fit : FitWhere (λ row. is_leader row.item.terms.leader member) (FitsBy editions) (items_in db)
+  led_fit = every_as (λ (row : ItemRow). may_be_party member row ≡ true → FitsBy editions row) (λ (row : ItemRow). is_leader row.item.terms.leader member ≡ true → FitsBy editions row) (items_in db)
+      (λ row fit is. fit (leads_passes (member == 0) (row.item.terms.seller == member) (is_leader row.item.terms.leader member) is)) fits
+
+  pub all_fit : (member == 0) ≡ true → AllByRecursion (FitsBy editions) (items_in db)
+  all_fit zero = every_as (λ (row : ItemRow). may_be_party member row ≡ true → FitsBy editions row) (FitsBy editions) (items_in db)
+      (λ row fit. fit (zero_passes (member == 0) _ zero)) fits

@@ -1,0 +1,8 @@
+use Rattle.store_list.proofs.Fitting.{auction_fits, auction_is_consistent}
+use Rattle.store_list.proofs.keep.ListKeepKeep.auction.Goals as goal
+
+pub returns-clause-fits : goal.returns-clause-fits
+returns-clause-fits c = rw c.auction.ensures (auction_fits _ _ c.self.view_is c.self.invariant.sound c.args.item)
+
+pub returns-clause-is_consistent : goal.returns-clause-is_consistent
+returns-clause-is_consistent c = λ _. rw c.auction.ensures (auction_is_consistent _ _ c.self.view_is c.self.invariant.sound c.args.item)

@@ -1,5 +1,0 @@
-mod Meaning
-mod Lemmas
-mod Places
-pub mod Rising
-pub mod Serving

@@ -1,0 +1,101 @@
+//! The reserves of a house, as a keep holds them beside its file.
+ghost use Rattle.std.specs.Prelude.{◌≡◌, ◌++◌, ◌∷◌, [], IfErr, IfOk, IfSome, IsSome, OnErr, OnOk, IsErrOf};
+ghost use Rattle.house_rows.specs.declared.fault.KeepFault.TheVariants.{Damaged};
+ghost use Rattle.store_rows.specs.ItemRows.{amount_of};
+ghost use Rattle.store_rows.specs.Reserves.{AreRising, IsAt, IsGap};
+
+use crate::reserve::ReserveRow;
+use cents::Cents;
+use house_rows::KeepFault;
+use list_rows::push;
+use std::alloc::Global;
+use std::marker::Model;
+
+/// The reserves of a house, by item. Clauses see the rows. Their items rise, so that one is found by
+/// a binary search.
+#[derive(Drop)]
+pub struct Reserves {
+    rows: Vec<ReserveRow>,
+}
+
+impl Model for Reserves {
+    ghost use Rattle.std.specs.Prelude.{List};
+    ghost use Rattle.store_rows.specs.declared.reserve.ReserveRow.{ReserveRow};
+    ghost use Rattle.store_rows.specs.Reserves.{AreRising};
+
+    ghost Value = { List ReserveRow };
+
+    ghost view = { λ r. r.rows.items };
+
+    ghost invariant = { λ r. AreRising r.rows.items };
+}
+
+impl Reserves {
+    /// Those of a house that has none.
+    pub fn new(alloc: Global) -> Reserves
+        ensures { result ≡ [] }
+    {
+        Reserves {
+            rows: Vec::new(alloc),
+        }
+    }
+
+    /// Those that rows give, where the items rise.
+    pub fn from_rows(rows: Vec<ReserveRow>) -> Option<Reserves>
+        ensures value { IfSome result (λ r. r ≡ rows.items) }
+        ensures rising { AreRising rows.items → IsSome result }
+    {
+        if rows.is_sorted_by(|row, next| row.item < next.item) {
+            Some(Reserves { rows })
+        } else {
+            None
+        }
+    }
+
+    /// Makes room for one more.
+    pub fn make_room(&mut self) -> Result<(), KeepFault>
+        ensures same { self.new ≡ self.old }
+        ensures sound { ¬ (IsErrOf result Damaged) }
+    {
+        match self.rows.reserve(1) {
+            Ok(()) => Ok(()),
+            Err(_) => Err(KeepFault::Memory),
+        }
+    }
+
+    /// Adds that of an item as the last.
+    ///
+    /// `Damaged` where the item has a number under the last, or that of the last. After an error all
+    /// is as it was.
+    pub fn add(&mut self, item: u32, amount: Cents) -> Result<(), KeepFault>
+        ensures value { OnOk result (self.new ≡ self.old ++ record { item = item; amount = amount }
+            ∷ []) }
+        ensures left { OnErr result (self.new ≡ self.old) }
+        ensures sound { AreRising (self.old ++ record { item = item; amount = amount } ∷ [])
+            → ¬ (IsErrOf result Damaged) }
+    {
+        match self.rows.last() {
+            Some(last) if last.item >= item => Err(KeepFault::Damaged),
+            _ => push(&mut self.rows, ReserveRow { item, amount }),
+        }
+    }
+
+    // Where that of an item is, or where it would go.
+    fn search(&self, item: u64) -> Result<usize, usize>
+        ensures found { IfOk result (IsAt self.now item) }
+        ensures absent { IfErr result (IsGap self.now item) }
+    {
+        self.rows
+            .binary_search_by_key(&item, |row| u64::from(row.item))
+    }
+
+    /// The reserve of an item, if it has one.
+    pub fn amount(&self, item: u64) -> Option<Cents>
+        ensures { result ≡ amount_of self.now item }
+    {
+        match self.search(item) {
+            Ok(at) => Some(self.rows[at].amount),
+            Err(_) => None,
+        }
+    }
+}
