@@ -49,8 +49,31 @@ use Rattle.house.specs.Decided.{IsAccepted, of_terms}
 use Rattle.house.specs.Refused.{as_refusal}
 
 -- the rules of a bid up to its range, and those of the item's bids
-abbrev first_rules : ℕ → ℕ → ℕ → Terms → List Rule
+abbrev pub first_rules : ℕ → ℕ → ℕ → Terms → List Rule
 first_rules moment caller maximum terms = open_rules moment caller terms ++ (nat_lt most_cents maximum, Range) ∷ []
+
+-- an item that isn't open gives the reason
+pub unfit_item : (moment caller maximum : ℕ) (terms : Terms) (report : Refusal) → Some report ≡ first_failing (open_rules moment caller terms) → Some report ≡ first_failing (first_rules moment caller maximum terms)
+unfit_item moment caller maximum terms report is =
+    sym (first_some (open_rules moment caller terms) ((nat_lt most_cents maximum, Range) ∷ []) report (sym is))
+
+amount_judged : (moment caller maximum : ℕ) (terms : Terms) (large : Bool) → nat_lt most_cents maximum ≡ large → None ≡ first_failing (open_rules moment caller terms)
+    → first_failing (first_rules moment caller maximum terms) ≡ first_failing ((large, Range) ∷ [])
+amount_judged moment caller maximum terms large is free =
+    first_none (open_rules moment caller terms) ((nat_lt most_cents maximum, Range) ∷ []) (sym free)
+    ∙ ap (λ b. first_failing ((b, Range) ∷ [])) is
+
+-- on an open item a maximum over the limit is out of range
+pub unfit_maximum : (moment caller maximum : ℕ) (terms : Terms) → ¬ (maximum ≤ most_cents) → None ≡ first_failing (open_rules moment caller terms)
+    → Some Range ≡ first_failing (first_rules moment caller maximum terms)
+unfit_maximum moment caller maximum terms large free =
+    sym (amount_judged moment caller maximum terms true (grind (arith, nat_tests, large)) free)
+
+-- and another one breaks none of these rules
+pub fit_maximum : (moment caller maximum : ℕ) (terms : Terms) → maximum ≤ most_cents → None ≡ first_failing (open_rules moment caller terms)
+    → None ≡ first_failing (first_rules moment caller maximum terms)
+fit_maximum moment caller maximum terms small free =
+    sym (amount_judged moment caller maximum terms false (grind (arith, nat_tests, small)) free)
 
 abbrev later_rules : ℕ → ℕ → ℕ → Option ℕ → Terms → List Rule
 later_rules caller maximum own least terms =

@@ -1,24 +1,22 @@
 //! Bidding.
-ghost use Rattle.std.specs.Prelude.{◌≡◌, ◌++◌, ◌∷◌, [], List, IfOk, MatchResult, None, Some, nat_lt, option_map};
+ghost use Rattle.std.specs.Prelude.{◌≡◌, List, IfOk, MatchResult, None, Some, option_map};
 ghost use Rattle.proxy.specs.Kept.{opening_of};
 ghost use Rattle.proxy.specs.declared.bid.Bid.{Bid as TheBid};
 ghost use Rattle.proxy.specs.Bids.{one_more, refusal, standing_of};
-ghost use Rattle.proxy.specs.Rules.{first_failing};
 ghost use Rattle.house_rows.specs.declared.command.Command.TheVariants as command;
 ghost use Rattle.house_rows.specs.declared.settings.Settings.{Settings as TheSettings};
 ghost use Rattle.house_rows.specs.Asks.{ChangeFits};
 ghost use Rattle.house_rows.specs.History.{History};
 ghost use Rattle.house_rows.specs.Keeping.{AreSound, Faults, IsRead};
-ghost use Rattle.house_rows.specs.Limits.{most_cents};
 ghost use Rattle.house_rows.specs.Tables.{tables_of};
-ghost use Rattle.house_rows.specs.Verdict.{IsHistory, open_rules};
+ghost use Rattle.house_rows.specs.Verdict.{IsHistory};
 ghost use Rattle.house.specs.Decided.{IfAccepted, IsDecided};
 ghost use Rattle.house.specs.Own.{IsOf};
 ghost use Rattle.house.specs.Refused.{as_refusal};
 
 use crate::targets::{on_auction, open_refused};
 use cents::Cents;
-use house_rows::{Change, Keep, KeepFault, Refusal, Terms};
+use house_rows::{Change, Keep, KeepFault, Refusal};
 use proxy::{Bid, BidRefusal, Standing};
 use steps::Bands;
 
@@ -45,9 +43,11 @@ pub fn bid<'c, K: Keep>(
         Ok(on) => on,
         Err(refusal) => return Ok(Err(refusal)),
     };
-    let maximum = match open_maximum(moment, caller, maximum, &on.terms) {
-        Ok(maximum) => maximum,
-        Err(refusal) => return Ok(Err(refusal)),
+    if let Some(refusal) = open_refused(moment, caller, &on.terms) {
+        return Ok(Err(refusal));
+    }
+    let Some(maximum) = Cents::new(maximum) else {
+        return Ok(Err(Refusal::Range));
     };
     let bands = keep.editions()?.bands_for(item);
     match place_bid(on.standing, bands, on.member, maximum) {
@@ -63,17 +63,6 @@ pub fn bid<'c, K: Keep>(
             standing,
         })),
     }
-}
-
-// A maximum that may be bid on an open item, or why it may not.
-fn open_maximum(moment: u64, caller: u64, maximum: u64, terms: &Terms) -> Result<Cents, Refusal>
-    ensures { let report = first_failing (open_rules moment caller terms.now ++ (nat_lt most_cents maximum, Refusal.Range) ∷ []) in
-        MatchResult result (λ amount. (amount ≡ maximum) × (None ≡ report)) (λ refusal. Some refusal ≡ report) }
-{
-    if let Some(refusal) = open_refused(moment, caller, terms) {
-        return Err(refusal);
-    }
-    Cents::new(maximum).ok_or(Refusal::Range)
 }
 
 // The standing with one more bid, or why the bid is refused.

@@ -16,7 +16,7 @@ ghost use Rattle.office.specs.Tallies.{sum_of};
 
 use crate::column::Column;
 use crate::fault::ImportFault;
-use crate::lines::{print_fault, print_range, print_reported, print_totals};
+use crate::lines::{print_fault, print_outcome, print_range, print_totals};
 use crate::lot::{Lot, lot_of};
 use crate::order::{Lister, Room};
 use crate::outcome::{Outcome, outcome_of};
@@ -58,7 +58,7 @@ fn tell<W: Write>(reply: &[u8], number: u64, output: &mut W) -> Result<Outcome, 
         UnlessWrite fault (W.contents output.new ≡ W.contents output.old)) }
 {
     let outcome = outcome_of(reply)?;
-    print_reported(output, number, outcome, reply)?;
+    print_outcome(output, number, outcome, reply)?;
     Ok(outcome)
 }
 

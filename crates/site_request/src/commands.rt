@@ -157,20 +157,6 @@ fn without_fields(order: Order) -> Option<Command>
     }
 }
 
-// A bid by a body that is its maximum alone, as most are.
-#[tactic(auto, unfolding(crate::specs::Commands::command_of, crate::specs::Commands::object_at, crate::specs::Commands::bid_in, crate::specs::Commands::fields_in))]
-fn plain_bid(order: Order, bytes: &[u8]) -> Option<Command>
-    ensures { IfSome result (λ command. command_of order bytes.now ≡ Ok command) }
-{
-    match order {
-        Order::Bid { item } => match lone_whole(bytes, "maximum") {
-            Some(maximum) => Some(Command::Bid { item, maximum }),
-            None => None,
-        },
-        _ => None,
-    }
-}
-
 // The text of a body that is its order's one text alone, as most are.
 fn lone_field(order: Order, bytes: &[u8]) -> Option<&str>
     ensures { IfSome result (λ text. option_map Ok (text_in order text.now) ≡ Some (command_of order bytes.now)) }
@@ -211,9 +197,15 @@ fn plain(alloc: Global, order: Order, bytes: &[u8]) -> Result<Option<Command>, U
     ensures report { IfOk result (λ found. IfSome found (λ command. command_of order bytes.now ≡ Ok command)) }
     ensures memory { IfErr result (λ unread. unread ≡ Unread.Memory) }
 {
+    if let Order::Bid { item } = order {
+        return match lone_whole(bytes, "maximum") {
+            Some(maximum) => Ok(Some(Command::Bid { item, maximum })),
+            None => Ok(None),
+        };
+    }
     match lone_field(order, bytes) {
         Some(text) => Ok(of_text(order, Text::copy_of(alloc, text)?)),
-        None => Ok(plain_bid(order, bytes)),
+        None => Ok(None),
     }
 }
 

@@ -4,7 +4,7 @@ ghost use Rattle.house_rows.specs.declared.message.Message.TheVariants as messag
 ghost use Rattle.site_request.specs.Asked.{MayAsk, asked_of, asks_of, called, may_ask, message_of, ordered};
 ghost use Rattle.site_request.specs.Faults.{Gives};
 ghost use Rattle.site_request.specs.Reading.{IsRead, IsRequestRead};
-ghost use Rattle.site_request.specs.Heads.{caller_in, moment_in, numbered};
+ghost use Rattle.site_request.specs.Heads.{moment_in, numbered};
 
 use crate::asked::{Asked, NoMemory};
 use crate::commands::command;
@@ -89,7 +89,7 @@ fn asks(
 }
 
 /// What a whole message asks.
-#[tactic(auto, unfolding(crate::specs::Asked::asked_of, crate::specs::Asked::message_of))]
+#[tactic(auto, unfolding(crate::specs::Asked::asked_of, crate::specs::Asked::message_of, crate::specs::Heads::caller_in))]
 pub fn read_request(
     alloc: Global,
     routes: &Routes,
@@ -99,7 +99,7 @@ pub fn read_request(
     ensures { IsRequestRead request.now result }
 {
     let closes = request.closes();
-    let caller = caller(request);
+    let caller = number_of(request, b"x-member");
     match asks(alloc, routes, caller, request, scratch) {
         Ok(message) => Ok(Asked { closes, message }),
         Err(Unasked::Fault(fault)) => Ok(Asked {
@@ -142,17 +142,9 @@ fn number_of(request: &Request<'_>, name: &[u8]) -> Option<u64>
     }
 }
 
-/// Whose the message is.
-#[tactic(auto, unfolding(crate::specs::Heads::caller_in))]
-pub(crate) fn caller(request: &Request<'_>) -> Option<u64>
-    ensures { result ≡ caller_in request.now }
-{
-    number_of(request, b"x-member")
-}
-
-/// The moment of a command, in seconds since 1970.
+// The moment of a command, in seconds since 1970.
 #[tactic(auto, unfolding(crate::specs::Heads::moment_in))]
-pub(crate) fn moment(request: &Request<'_>) -> Option<u64>
+fn moment(request: &Request<'_>) -> Option<u64>
     ensures { result ≡ moment_in request.now }
 {
     let moment = number_of(request, b"x-moment")?;

@@ -1,7 +1,7 @@
 //! The routes of the house, with the numbers that are in a target.
 ghost use Rattle.std.specs.Prelude.{◌≡◌};
 ghost use Rattle.site_request.specs.Routes.{by_both, by_method, path_in, route_of};
-ghost use Rattle.site_request.specs.Table.{path_of, rows};
+ghost use Rattle.site_request.specs.Table.{rows};
 ghost use Rattle.site_request.specs.Numbers.{order_in, read_in};
 
 use crate::order::Order;
@@ -69,23 +69,15 @@ impl Routes {
         }
     }
 
-    // The path whose pattern a text fits.
-    #[tactic(auto, unfolding(crate::specs::Table::path_of))]
-    fn path_of(&self, text: &str) -> Option<Path>
-        ensures { result ≡ path_of text.now }
-    {
-        match self.router.at(text) {
-            Ok(found) => Some(*found.value),
-            Err(_) => None,
-        }
-    }
-
-    // The path of a target.
+    // The path whose pattern a target fits.
     fn path_in(&self, target: &[u8]) -> Option<Path>
         ensures { result ≡ path_in target.now }
     {
-        match from_utf8(target) {
-            Ok(text) => self.path_of(text),
+        let Ok(text) = from_utf8(target) else {
+            return None;
+        };
+        match self.router.at(text) {
+            Ok(found) => Some(*found.value),
             Err(_) => None,
         }
     }

@@ -6,9 +6,10 @@ ghost use Rattle.house_rows.specs.Found.{counts_of};
 ghost use Rattle.house_rows.specs.Limits.{most_editions};
 ghost use Rattle.house_rows.specs.Tables.{Tables};
 ghost use Rattle.house_rows.specs.declared.fault.KeepFault.TheVariants.{Damaged, Store};
-ghost use Rattle.store_rows.specs.Tables.{reserves_after};
+ghost use Rattle.store_rows.specs.Tables.{reserves_after, with_reserve};
 ghost use Rattle.store.specs.After.{IsSettable, bands_set, clock_after, counts_after, with_table};
 
+use cents::Cents;
 use house_rows::{
     Change, Counts, Editions, KeepFault, MOST_CATEGORIES, MOST_EDITIONS, MOST_ITEMS, MOST_MEMBERS,
 };
@@ -85,51 +86,44 @@ pub(crate) fn counts_after(counts: Counts, change: &Change<'_>) -> Option<Counts
     }
 }
 
-/// Makes room for one reserve more and one band table more.
-pub(crate) fn make_room(rules: &mut Rules) -> Result<(), KeepFault>
-    ensures same { rules.new ≡ rules.old }
-{
-    rules.reserves.make_room()?;
-    match rules.editions.make_room() {
-        Ok(()) => Ok(()),
-        Err(_) => Err(KeepFault::Memory),
-    }
-}
-
-// Adds the reserve of a listing, if it has one. The counts are those after the change.
-fn add_reserve(reserves: &mut Reserves, after: Counts, change: &Change<'_>) -> Result<(), KeepFault>
-    ensures value { OnOk result (reserves.new
-        ≡ reserves_after reserves.old after.items change.now) }
-{
-    match *change {
-        Change::List { ref item, .. } => match item.reserve {
-            Some(amount) => reserves.add(after.items, amount),
-            None => Ok(()),
-        },
-        _ => Ok(()),
-    }
-}
-
-/// The band table that a change sets, if it sets one; `Damaged` where it is none, or where there are as
-/// many as there may be.
-pub(crate) fn table_set(
+/// Makes room for the reserve or the band table that a change adds, and gives the table. `Damaged` where
+/// it is none, or where there are as many as there may be.
+pub(crate) fn prepare_rules(
     alloc: Global,
-    editions: &Editions,
+    rules: &mut Rules,
     change: &Change<'_>,
 ) -> Result<Option<Bands>, KeepFault>
     ensures value { IfOk result (λ table. table ≡ bands_set change.now) }
-    ensures settable { OnOk result (IsSettable editions.now change.now) }
-    ensures damaged { IsSettable editions.now change.now → ¬ (IsErrOf result Damaged) }
+    ensures settable { OnOk result (IsSettable rules.old.editions change.now) }
+    ensures same { rules.new ≡ rules.old }
+    ensures damaged { IsSettable rules.old.editions change.now → ¬ (IsErrOf result Damaged) }
     ensures working { ¬ (IsErrOf result Store) }
 {
     match *change {
+        Change::List { .. } => match rules.reserves.make_room() {
+            Ok(()) => Ok(None),
+            Err(_) => Err(KeepFault::Memory),
+        },
         Change::SetBands { bands, .. } => {
-            if editions.newest() >= MOST_EDITIONS {
+            if rules.editions.newest() >= MOST_EDITIONS {
                 return Err(KeepFault::Damaged);
             }
-            Ok(Some(table_of(alloc, bands)?))
+            match rules.editions.make_room() {
+                Ok(()) => Ok(Some(table_of(alloc, bands)?)),
+                Err(_) => Err(KeepFault::Memory),
+            }
         }
         _ => Ok(None),
+    }
+}
+
+// Adds the reserve of a listing, if it has one.
+fn add_reserve(reserves: &mut Reserves, item: u32, amount: Option<Cents>) -> Result<(), KeepFault>
+    ensures value { OnOk result (reserves.new ≡ with_reserve item amount reserves.old) }
+{
+    match amount {
+        Some(amount) => reserves.add(item, amount),
+        None => Ok(()),
     }
 }
 
@@ -158,11 +152,17 @@ pub(crate) fn add_rules(
     table: Option<Bands>,
 ) -> Result<(), KeepFault>
     requires room { IfSome table (λ _. length rules.old.editions.later + 1 < most_editions) }
+    requires set { table ≡ bands_set change.now }
     ensures reserves { OnOk result (rules.new.reserves
         ≡ reserves_after rules.old.reserves after.items change.now) }
     ensures editions { OnOk result (rules.new.editions
         ≡ with_table rules.old.editions after.items table) }
 {
-    add_reserve(&mut rules.reserves, after, change)?;
-    add_table(&mut rules.editions, after.items, table)
+    match *change {
+        Change::List { ref item, .. } => {
+            add_reserve(&mut rules.reserves, after.items, item.reserve)
+        }
+        Change::SetBands { .. } => add_table(&mut rules.editions, after.items, table),
+        _ => Ok(()),
+    }
 }

@@ -6,7 +6,7 @@ ghost use Rattle.house_rows.specs.Keeping.{AreSound, ChangeFaults};
 ghost use Rattle.house_rows.specs.Tables.{Tables};
 ghost use Rattle.store.specs.Kept.{IsHonest, MayLeave, content, is_failed};
 
-use crate::after::{add_rules, clock_after, counts_after, make_room, table_set};
+use crate::after::{add_rules, clock_after, counts_after, prepare_rules};
 use crate::change_rows::make_change;
 use crate::keep::SqlKeep;
 use crate::settled::reported_fault;
@@ -46,10 +46,7 @@ impl<S: Alter> SqlKeep<S> {
         let Some(counts) = counts_after(self.counts, change) else {
             return Err(KeepFault::Damaged);
         };
-        let table = table_set(self.alloc, &self.rules.editions, change)?;
-        if make_room(&mut self.rules).is_err() {
-            return Err(KeepFault::Memory);
-        }
+        let table = prepare_rules(self.alloc, &mut self.rules, change)?;
         match make_change(self.alloc, &mut self.conn, &self.rules, counts, change) {
             Ok(()) => {
                 self.counts = counts;

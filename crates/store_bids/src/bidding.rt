@@ -22,37 +22,11 @@ ghost use Rattle.store_rows.specs.Frames.{OnlyReads, WritesMany, WritesOnce};
 ghost use Rattle.store_rows.specs.Commits.{Commits};
 
 use crate::look_ups::has_bid;
-use cents::Cents;
 use house_rows::KeepFault;
 use proxy::{Bid, Standing};
 use sqlite::{Alter, Connection, Transaction, params};
-use steps::Bands;
-use store_items::{set_standing, terms_there};
+use store_items::{auction_there, set_standing};
 use store_rows::{Rules, commit, is_still_open, run, set_clock, stored_moment};
-
-// Whether a standing's values fit together, from that start and that reserve on.
-fn begins_at(standing: &Standing, bands: &Bands, start: Cents, reserve: Option<Cents>) -> bool
-    ensures begins { IsTrue result
-        → opening_of standing.now ≡ record { start = start; reserve = reserve } }
-    ensures led { IsTrue result → is_some standing.now.top ≡ is_some standing.now.leader }
-    ensures is_consistent { IsTrue result → is_standing bands.now standing.now ≡ true }
-    ensures all { opening_of standing.now ≡ record { start = start; reserve = reserve }
-        → is_standing bands.now standing.now ≡ true
-        → IsTrue result }
-{
-    let report = Standing::of_row(
-        start,
-        reserve,
-        bands,
-        standing.price(),
-        standing.leader(),
-        standing.top(),
-        standing.second(),
-        standing.count(),
-    );
-    // Only of_row gives the start and the reserve that a standing has.
-    report == Some(*standing)
-}
 
 // Whether a standing begins where the item's bids do; Damaged where it doesn't.
 fn check_standing<S: Alter>(
@@ -78,10 +52,21 @@ fn check_standing<S: Alter>(
         → ¬ (IsErrOf result Damaged) }
     ensures read { OnlyReads (state S.Store conn.old) (state S.Store conn.new) result }
 {
-    let terms = terms_there(conn, rules, item)?;
+    let terms = auction_there(conn, rules, item)?.terms;
     let bands = rules.editions.bands_for(u64::from(item));
     let reserve = rules.reserves.amount(u64::from(terms.item));
-    if begins_at(standing, bands, terms.start, reserve) {
+    let begun = Standing::of_row(
+        terms.start,
+        reserve,
+        bands,
+        standing.price(),
+        standing.leader(),
+        standing.top(),
+        standing.second(),
+        standing.count(),
+    );
+    // Only of_row gives the start and the reserve that a standing has.
+    if begun == Some(*standing) {
         Ok(())
     } else {
         Err(KeepFault::Damaged)

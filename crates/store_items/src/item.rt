@@ -80,7 +80,6 @@ pub(crate) fn put_item<S: Alter>(
     let text = stored_text(item.text);
     let start = stored_cents(item.start);
     let buy_now = stored_maybe_cents(item.buy_now);
-    let end = stored_number(end);
     run(
         tx,
         "INSERT INTO item (id, seller, category, lot, title, body, start, buy_now, ending, state, closed, price, leader, top, second, count) VALUES (?1, ?2, ?3, ?4, ?5, ?6, ?7, ?8, ?9, 0, NULL, ?7, NULL, NULL, NULL, 0)",
@@ -109,7 +108,7 @@ pub fn set_standing<S: Alter>(
     let leader = stored_maybe_number(standing.leader());
     let top = stored_maybe_cents(standing.top());
     let second = stored_maybe_cents(standing.second());
-    let count = stored_number(standing.count());
+    let count = standing.count();
     run(
         tx,
         "UPDATE item SET price = ?2, leader = ?3, top = ?4, second = ?5, count = ?6 WHERE id = ?1",

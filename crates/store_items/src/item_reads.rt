@@ -167,36 +167,9 @@ pub fn all_items<S: Alter>(
     item_list(alloc, rules, &rows)
 }
 
-/// An item without its texts; Damaged where there is none, or where its row isn't consistent with
-/// its band table.
-pub fn terms_there<S: Alter>(
-    conn: &mut Connection<S>,
-    rules: &Rules,
-    item: u32,
-) -> Result<Terms, KeepFault>
-    requires { ServesBy rules.now.reserves (state S.Store conn.old) }
-    ensures found { HasCleanDisk (state S.Store conn.new)
-        → IfOk result (λ t. option_map (λ (row : ItemRow). row.item.terms)
-        (find (is_item item) (items_in (state S.Store conn.old).now.trees)) ≡ Some t) }
-    ensures fits { IfOk result TermsFit }
-    ensures is_consistent { IfOk result (IsConsistentBy rules.now.editions) }
-    ensures damaged { HasCleanDisk (state S.Store conn.new)
-        → AreSound (tables_in (state S.Store conn.old).now.trees)
-        → rules.now.editions ≡ band_tables (tables_in (state S.Store conn.old).now.trees)
-        → HasItem (tables_in (state S.Store conn.old).now.trees) item
-        → ¬ (IsErrOf result Damaged) }
-    ensures read { OnlyReads (state S.Store conn.old) (state S.Store conn.new) result }
-{
-    match terms_at(conn, rules, item) {
-        Ok(Some(terms)) => Ok(terms),
-        Ok(None) => Err(KeepFault::Damaged),
-        Err(fault) => Err(fault),
-    }
-}
-
 /// An item without its texts, with the standing of its bids; Damaged where there is none, or where
 /// its row isn't consistent with its band table.
-pub(crate) fn auction_there<S: Alter>(
+pub fn auction_there<S: Alter>(
     conn: &mut Connection<S>,
     rules: &Rules,
     item: u32,

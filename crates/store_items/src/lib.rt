@@ -26,7 +26,7 @@ mod terms;
 pub use closure::close;
 pub use due_items::due;
 pub use item::set_standing;
-pub use item_reads::{all_items, auction_at, item_at, item_with_lot, terms_at, terms_there};
+pub use item_reads::{all_items, auction_at, auction_there, item_at, item_with_lot, terms_at};
 pub use listing::list;
 pub use own_reserves::reserves_of;
 pub use pages::items_in;

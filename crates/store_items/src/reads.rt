@@ -5,8 +5,8 @@ ghost use Rattle.house_rows.specs.Editions.{bands_in};
 ghost use Rattle.house_rows.specs.Fits.{ItemFits, StandingFits, TermsFit};
 ghost use Rattle.house_rows.specs.Keeping.{IsConsistentBy};
 ghost use Rattle.house_rows.specs.declared.fault.KeepFault.TheVariants.{Damaged};
-ghost use Rattle.store_rows.specs.ItemRows.{amount_of, auction_by, item_by, kept_from, met_with, terms_by, with_met};
-ghost use Rattle.store_items.specs.Standing.{ItemHolds, TermsHold, is_bought, is_reserve, is_consistent};
+ghost use Rattle.store_rows.specs.ItemRows.{amount_of, auction_by, item_by, kept_from, terms_by, with_met};
+ghost use Rattle.store_items.specs.Standing.{ItemHolds, TermsHold, is_bought, is_consistent};
 
 use cents::Cents;
 use house_rows::{Auction, Item, KeepFault, State, Terms};
@@ -29,21 +29,10 @@ fn is_bought(terms: &Terms) -> bool
     is_sold && terms.leader.is_some() && terms.count == 0 && is_at_once
 }
 
-// Whether an item may have such a reserve: over its start, and at most its buy-now price.
-fn is_reserve(terms: &Terms, reserve: &Option<Cents>) -> bool
-    ensures { result ≡ is_reserve terms.now reserve.now }
-{
-    match (reserve, terms.buy_now) {
-        (None, _) => true,
-        (Some(amount), None) => terms.start < *amount,
-        (Some(amount), Some(most)) => terms.start < *amount && *amount <= most,
-    }
-}
-
 // The standing that terms give where they are consistent, by the reserve and by what is sealed of
 // their bids; of a bought item that of no bids.
 #[tactic(auto, using(crate::proofs::IsConsistent::bought_reported, crate::proofs::IsConsistent::row_reported))]
-fn standing_reported(
+fn standing_from(
     bands: &Bands,
     terms: &Terms,
     reserve: Option<Cents>,
@@ -54,7 +43,13 @@ fn standing_reported(
     ensures value { IfSome result (λ s. s ≡ kept_from terms.now.start reserve terms.now.price
         terms.now.leader top second terms.now.count) }
 {
-    if !is_reserve(terms, &reserve) {
+    // A reserve is over the start, and at most the buy-now price.
+    let may_be = match (reserve, terms.buy_now) {
+        (None, _) => true,
+        (Some(amount), None) => terms.start < amount,
+        (Some(amount), Some(most)) => terms.start < amount && amount <= most,
+    };
+    if !may_be {
         return None;
     }
     if top.is_none() && second.is_none() && is_bought(terms) {
@@ -70,17 +65,6 @@ fn standing_reported(
         second,
         terms.count,
     )
-}
-
-// Whether the reserve is met, if there is one: what was bought at once meets it.
-fn met_with(reserve: &Option<Cents>, leader: Option<u32>, top: &Option<Cents>) -> Option<bool>
-    ensures { result ≡ met_with reserve.now leader top.now }
-{
-    match (reserve, top) {
-        (Some(reserve), Some(top)) => Some(*reserve <= *top),
-        (Some(_), None) => Some(leader.is_some()),
-        (None, _) => None,
-    }
 }
 
 // The auction of terms, with the reserve of their item, if it has one, where they are consistent
@@ -106,10 +90,17 @@ fn with_sealed(
     let item = u64::from(terms.item);
     let bands = rules.editions.bands_for(item);
     let reserve = rules.reserves.amount(item);
-    let Some(standing) = standing_reported(bands, &terms, reserve, top, second) else {
+    let Some(standing) = standing_from(bands, &terms, reserve, top, second) else {
         return Err(KeepFault::Damaged);
     };
-    terms.met = met_with(&reserve, terms.leader, &top);
+    // What was bought at once meets its reserve.
+    terms.met = match reserve {
+        Some(reserve) => Some(match top {
+            Some(top) => reserve <= top,
+            None => terms.leader.is_some(),
+        }),
+        None => None,
+    };
     Ok(Auction { terms, standing })
 }
 

@@ -17,7 +17,7 @@ ghost use Rattle.store_rows.specs.Frames.{OnlyReads, WritesMany};
 ghost use Rattle.store_rows.specs.Commits.{Commits};
 
 use crate::item::set_settled;
-use crate::item_reads::terms_there;
+use crate::item_reads::auction_there;
 use house_rows::KeepFault;
 use sqlite::{Alter, Connection, Transaction};
 use store_rows::{Rules, commit, set_clock, stored_moment};
@@ -40,7 +40,7 @@ fn check_terms<S: Alter>(
         → ¬ (IsErrOf result Damaged) }
     ensures read { OnlyReads (state S.Store conn.old) (state S.Store conn.new) result }
 {
-    terms_there(conn, rules, item)?;
+    auction_there(conn, rules, item)?;
     Ok(())
 }
 

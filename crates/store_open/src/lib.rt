@@ -5,7 +5,7 @@
 //! are. It is never `Damaged` of a sound house, which `specs/Opening.antt` of `store_house` defines.
 //! `upgrade_house` opens such a house as it is, and makes one of version 1 into it, whole or not at
 //! all. `set_bands` writes one band table more and a new clock, in one transaction.
-//! Read `open.rt` first, then `upgrade.rt` and `setting.rt`.
+//! Read `open.rt` first, then `upgrade.rt` and `new_bands.rt`.
 //!
 //! Everything is said wherever the disk was honest. An opening that fails gives the store back as it was.
 //! So does an upgrade, except that after `Store` a crash may find the house upgraded.

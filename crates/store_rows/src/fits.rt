@@ -1,6 +1,6 @@
 //! The tests of what is handed out.
 ghost use Rattle.std.specs.Prelude.{◌≡◌, ◌↔◌, true, IfSome, IsTrue};
-ghost use Rattle.house_rows.specs.Fits.{CategoryFits, FeedbackFits, IsWithin, MemberFits, QuestionFits, IsMoment, ItemFits, TermsFit};
+ghost use Rattle.house_rows.specs.Fits.{CategoryFits, FeedbackFits, IsWithin, MemberFits, QuestionFits, ItemFits, TermsFit};
 ghost use Rattle.house_rows.specs.Text.{has_length, is_text, is_lot, is_lot_byte};
 ghost use Rattle.store_rows.specs.Fitting.{BidFits, HouseRowFits};
 ghost use Rattle.std.specs.List.{list_all};
@@ -134,16 +134,6 @@ fn amounts_fit(terms: &Terms) -> bool
     is_amount(1, terms.start) && buy_now_fits && is_amount(0, terms.price)
 }
 
-// Whether it closed at a moment, if it did.
-fn closing_fits(closed: Option<u64>) -> bool
-    ensures { IsTrue result ↔ IfSome closed IsMoment }
-{
-    match closed {
-        None => true,
-        Some(moment) => moment <= LAST_MOMENT,
-    }
-}
-
 // Whether a member leads who does not sell, or nobody.
 fn leader_fits(terms: &Terms) -> bool
     ensures { IsTrue result ↔ LeaderFits terms.now }
@@ -168,10 +158,14 @@ fn sale_fits(terms: &Terms) -> bool
 pub(crate) fn terms_fit(terms: &Terms) -> bool
     ensures { IsTrue result ↔ TermsFit terms.now }
 {
+    let closing_fits = match terms.closed {
+        None => true,
+        Some(moment) => moment <= LAST_MOMENT,
+    };
     numbers_fit(terms)
         && amounts_fit(terms)
         && terms.end <= LAST_MOMENT
-        && closing_fits(terms.closed)
+        && closing_fits
         && leader_fits(terms)
         && sale_fits(terms)
 }

@@ -1,8 +1,8 @@
 //! The reserves of a house, as a keep holds them beside its file.
-ghost use Rattle.std.specs.Prelude.{◌≡◌, ◌++◌, ◌∷◌, [], IfErr, IfOk, IfSome, IsSome, OnErr, OnOk, IsErrOf};
+ghost use Rattle.std.specs.Prelude.{◌≡◌, ◌++◌, ◌∷◌, [], IfSome, IsSome, OnErr, OnOk, IsErrOf};
 ghost use Rattle.house_rows.specs.declared.fault.KeepFault.TheVariants.{Damaged};
 ghost use Rattle.store_rows.specs.ItemRows.{amount_of};
-ghost use Rattle.store_rows.specs.Reserves.{AreRising, IsAt, IsGap};
+ghost use Rattle.store_rows.specs.Reserves.{AreRising};
 
 use crate::reserve::ReserveRow;
 use cents::Cents;
@@ -80,20 +80,14 @@ impl Reserves {
         }
     }
 
-    // Where that of an item is, or where it would go.
-    fn search(&self, item: u64) -> Result<usize, usize>
-        ensures found { IfOk result (IsAt self.now item) }
-        ensures absent { IfErr result (IsGap self.now item) }
-    {
-        self.rows
-            .binary_search_by_key(&item, |row| u64::from(row.item))
-    }
-
     /// The reserve of an item, if it has one.
     pub fn amount(&self, item: u64) -> Option<Cents>
         ensures { result ≡ amount_of self.now item }
     {
-        match self.search(item) {
+        match self
+            .rows
+            .binary_search_by_key(&item, |row| u64::from(row.item))
+        {
             Ok(at) => Some(self.rows[at].amount),
             Err(_) => None,
         }

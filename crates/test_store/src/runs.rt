@@ -1,5 +1,5 @@
 //! The section of runs: lists of messages over new houses in memory and in databases, one by one,
-//! as one list and as a replay. `list` says what a line may be; read it first, and then `playing`.
+//! as one list and as a replay. `list` says what a line may be; read it first, and then `run_player`.
 use crate::list::{Script, Stage, tell_line};
 use house_script::Fault;
 use std::alloc::Global;

@@ -1,11 +1,19 @@
-use Rattle.std.proofs.Common.{◌≡◌, ℕ, List, refl, ◌∙◌, ap}
+use Rattle.std.proofs.Common.{◌≡◌, ℕ, List, None, refl, ◌∙◌, ap, sym, true≢false}
+use Rattle.proxy.specs.Rules.{first_failing}
 use Rattle.house_rows.specs.Editions.{BandTables, bands_in}
 use Rattle.house_rows.specs.Tables.{Tables, band_tables, bands_for}
 use Rattle.house.proofs.OnItems.{row_there}
-use Rattle.house.proofs.Placed.{bid_accepts, bid_fits, bid_refused, bid_unfit, bid_unknown}
+use Rattle.house_rows.specs.declared.refusal.Refusal.TheVariants.{Range}
+use Rattle.house.proofs.Placed.{bid_accepts, bid_fits, bid_refused, bid_unfit, bid_unknown, first_rules, fit_maximum, unfit_item, unfit_maximum}
 use Rattle.house.proofs.Unchanged.{still_there}
 use Rattle.house.proofs.bidding.bid.Goals as goal
-use Rattle.house.proofs.bidding.bid.Goals.{In_ok-editions}
+use Rattle.house.proofs.bidding.bid.Goals.{In_ok-editions, In-Some-new}
+
+-- an amount on an open item breaks none of the first rules
+is_fit : (g : _) (c : In-Some-new g) → None ≡ first_failing (first_rules c.args.moment c.args.caller c.args.maximum c.in-Ok.on.terms)
+is_fit g c =
+    fit_maximum c.args.moment c.args.caller c.args.maximum c.in-Ok.on.terms (c.in-Some-new.ensures.within.0 refl)
+    (sym c.in_default.is ∙ c.open_refused.ensures)
 
 -- the band table is that of the tables before the first read
 bands_are : (g : _) (c : In_ok-editions g) (bands : List (ℕ × ℕ)) → bands ≡ bands_in c.in_ok-editions.field-0.now c.args.item → g.K.Keep.is_honest c.on_auction.new.keep
@@ -19,41 +27,48 @@ pub returns-in-Err-clause-decided : goal.returns-in-Err-clause-decided
 returns-in-Err-clause-decided g c = λ honest settings h is e.
     bid_unknown (g.K.Keep.content c.args.keep.now) settings h c.args.moment c.args.caller c.args.item c.args.maximum c.in-Err.refusal e (rw c.in-Err.is at c.in_ok-on.ensures.value honest)
 
-pub returns-in-Err-open_maximum-clause-decided : goal.returns-in-Err-open_maximum-clause-decided
-returns-in-Err-open_maximum-clause-decided g c = λ honest settings h is e.
+pub returns-in-Some-clause-decided : goal.returns-in-Some-clause-decided
+returns-in-Some-clause-decided g c = λ honest settings h is e.
     let on = rw c.in-Ok.is at c.in_ok-on.ensures.value honest in
-    bid_unfit (g.K.Keep.content c.args.keep.now) settings h c.args.moment c.args.caller c.args.item c.args.maximum c.in-Ok.on.terms c.in-Err-open_maximum.refusal e on.1 on.3
-    c.in-Err-open_maximum.ensures
+    bid_unfit (g.K.Keep.content c.args.keep.now) settings h c.args.moment c.args.caller c.args.item c.args.maximum c.in-Ok.on.terms c.in-Some.refusal e on.1 on.3
+    (unfit_item c.args.moment c.args.caller c.args.maximum c.in-Ok.on.terms c.in-Some.refusal (sym c.in-Some.is ∙ c.open_refused.ensures))
+
+pub returns-in_default-new-clause-decided : goal.returns-in_default-new-clause-decided
+returns-in_default-new-clause-decided g c = λ honest settings h is e.
+    let on = rw c.in-Ok.is at c.in_ok-on.ensures.value honest in
+    bid_unfit (g.K.Keep.content c.args.keep.now) settings h c.args.moment c.args.caller c.args.item c.args.maximum c.in-Ok.on.terms Range e on.1 on.3
+    (unfit_maximum c.args.moment c.args.caller c.args.maximum c.in-Ok.on.terms (λ small. true≢false (sym (c.in_default-new.ensures.within.1 small)))
+    (sym c.in_default.is ∙ c.open_refused.ensures))
 
 pub returns-in-Err-place_bid-clause-decided : goal.returns-in-Err-place_bid-clause-decided
 returns-in-Err-place_bid-clause-decided g c = λ honest settings h is e.
     let on = rw c.in-Ok.is at c.in_ok-on.ensures.value honest in
-    let fits = c.in-Ok-open_maximum.ensures in
     let known = (goal.at.returns-in-Err-place_bid-clause-decided g c).In_ok-editions in
-    bid_refused (g.K.Keep.content c.args.keep.now) settings c.bands_for-bands.result.now h c.args.moment c.args.caller c.args.item c.args.maximum c.in-Ok.on.terms c.in-Ok.on.standing c.in-Ok.on.member c.in-Ok-open_maximum.maximum c.in-Err-place_bid.refusal e on.1 on.3
-    fits.1 on.2 (bands_are g known c.bands_for-bands.result.now c.bands_for-bands.ensures honest) on.0 fits.0 c.in-Err-place_bid.ensures
+    let fit = is_fit g (goal.at.returns-in-Err-place_bid-clause-decided g c).In-Some-new in
+    bid_refused (g.K.Keep.content c.args.keep.now) settings c.bands_for-bands.result.now h c.args.moment c.args.caller c.args.item c.args.maximum c.in-Ok.on.terms c.in-Ok.on.standing c.in-Ok.on.member c.in-Some-new.maximum c.in-Err-place_bid.refusal e on.1 on.3
+    fit on.2 (bands_are g known c.bands_for-bands.result.now c.bands_for-bands.ensures honest) on.0 c.in-Some-new.ensures.value c.in-Err-place_bid.ensures
 
 pub returns-in-Ok-place_bid-clause-decided : goal.returns-in-Ok-place_bid-clause-decided
 returns-in-Ok-place_bid-clause-decided g c = λ honest settings h is e.
     let on = rw c.in-Ok.is at c.in_ok-on.ensures.value honest in
-    let fits = c.in-Ok-open_maximum.ensures in
     let known = (goal.at.returns-in-Ok-place_bid-clause-decided g c).In_ok-editions in
-    bid_accepts (g.K.Keep.content c.args.keep.now) settings c.bands_for-bands.result.now h c.args.moment c.args.caller c.args.item c.args.maximum c.in-Ok.on.terms c.in-Ok.on.standing c.in-Ok-place_bid.standing c.in-Ok.on.member c.in-Ok-open_maximum.maximum c.count.result is e on.1 on.3
-    fits.1 on.2 (bands_are g known c.bands_for-bands.result.now c.bands_for-bands.ensures honest) on.0 fits.0 c.count.ensures c.in-Ok-place_bid.ensures
+    let fit = is_fit g (goal.at.returns-in-Ok-place_bid-clause-decided g c).In-Some-new in
+    bid_accepts (g.K.Keep.content c.args.keep.now) settings c.bands_for-bands.result.now h c.args.moment c.args.caller c.args.item c.args.maximum c.in-Ok.on.terms c.in-Ok.on.standing c.in-Ok-place_bid.standing c.in-Ok.on.member c.in-Some-new.maximum c.count.result is e on.1 on.3
+    fit on.2 (bands_are g known c.bands_for-bands.result.now c.bands_for-bands.ensures honest) on.0 c.in-Some-new.ensures.value c.count.ensures c.in-Ok-place_bid.ensures
 
 pub returns-in-Ok-place_bid-clause-fits : goal.returns-in-Ok-place_bid-clause-fits
 returns-in-Ok-place_bid-clause-fits g c = λ honest sound.
     let on = rw c.in-Ok.is at c.in_ok-on.ensures.value honest in
-    let fits = c.in-Ok-open_maximum.ensures in
     let known = (goal.at.returns-in-Ok-place_bid-clause-fits g c).In_ok-editions in
-    bid_fits (g.K.Keep.content c.args.keep.now) c.bands_for-bands.result.now c.args.moment c.args.caller c.args.item c.args.maximum c.in-Ok.on.terms c.in-Ok.on.standing c.in-Ok-place_bid.standing c.in-Ok.on.member c.in-Ok-open_maximum.maximum c.count.result sound on.1 on.3
-    fits.1 on.2 (bands_are g known c.bands_for-bands.result.now c.bands_for-bands.ensures honest) on.0 fits.0 c.count.ensures c.in-Ok-place_bid.ensures
+    let fit = is_fit g (goal.at.returns-in-Ok-place_bid-clause-fits g c).In-Some-new in
+    bid_fits (g.K.Keep.content c.args.keep.now) c.bands_for-bands.result.now c.args.moment c.args.caller c.args.item c.args.maximum c.in-Ok.on.terms c.in-Ok.on.standing c.in-Ok-place_bid.standing c.in-Ok.on.member c.in-Some-new.maximum c.count.result sound on.1 on.3
+    fit on.2 (bands_are g known c.bands_for-bands.result.now c.bands_for-bands.ensures honest) on.0 c.in-Some-new.ensures.value c.count.ensures c.in-Ok-place_bid.ensures
 
 pub returns-in-Ok-place_bid-clause-own : goal.returns-in-Ok-place_bid-clause-own
 returns-in-Ok-place_bid-clause-own g c = λ honest.
     let on = rw c.in-Ok.is at c.in_ok-on.ensures.value honest in
     record {
-      same_command = rw ((row_there (g.K.Keep.content c.args.keep.now) c.args.item c.in-Ok.on.terms on.1).numbered, c.in-Ok-open_maximum.ensures.0) refl;
+      same_command = rw ((row_there (g.K.Keep.content c.args.keep.now) c.args.item c.in-Ok.on.terms on.1).numbered, c.in-Some-new.ensures.value) refl;
       same_caller = on.0;
       same_moment = refl;
     }

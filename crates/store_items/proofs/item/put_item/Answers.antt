@@ -17,7 +17,7 @@ returns-clause-ok g c clean =
       category_low = c.stored_number-category.ensures.small;
       start_low = c.stored_cents-start.ensures.small;
       buy_now_low = c.stored_maybe_cents-buy_now.ensures.small;
-      end_low = c.stored_number-end.ensures.small;
+      end_low = omega (arith, c.ranges.end);
     } in
     ok_then c.run.result (rw (
       c.params-to_sql.ensures,
@@ -34,7 +34,6 @@ returns-clause-ok g c clean =
       c.stored_text-text.ensures,
       c.stored_number-seller.ensures.value,
       c.stored_number-category.ensures.value,
-      c.stored_number-end.ensures.value,
       c.stored_cents-start.ensures.value,
       c.stored_maybe_cents-buy_now.ensures.value,
       bound_maybe c.args.item.now.buy_now,

@@ -14,7 +14,7 @@ returns-clause-ok g c clean =
       leader_low = subst IsSmall c.leader.ensures c.stored_maybe_number-leader.ensures.small;
       top_low = subst IsSmall c.top.ensures c.stored_maybe_cents-top.ensures.small;
       second_low = subst IsSmall c.second.ensures c.stored_maybe_cents-second.ensures.small;
-      count_low = subst (λ n. n < 2 ^ 32) c.count.ensures c.stored_number-count.ensures.small;
+      count_low = subst (λ n. n < 2 ^ 32) c.count-count.ensures c.count-count.type_inv;
     } in
     ok_then c.run.result (rw (
       c.params-to_sql.ensures,
@@ -31,8 +31,7 @@ returns-clause-ok g c clean =
       c.top.ensures,
       c.stored_maybe_cents-second.ensures.value,
       c.second.ensures,
-      c.stored_number-count.ensures.value,
-      c.count.ensures,
+      c.count-count.ensures,
       bound_maybe k.leader,
       bound_maybe k.top,
       bound_maybe k.second,

@@ -13,7 +13,7 @@ use Rattle.store.specs.After.{IsSettable, bands_set, with_table}
 use Rattle.store.specs.Kept.{House, content}
 use Rattle.store.proofs.Moves.{fits_settable, known_after, left_after, not_err, room_of}
 use Rattle.store.proofs.keep.SqlKeep.change.Goals as goal
-use Rattle.store.proofs.keep.SqlKeep.change.Goals.{in-Some-2, in-None-2}
+use Rattle.store.proofs.keep.SqlKeep.change.Goals.{in-Some-1, in-None-1}
 
 pub returns-in_default-clause-faults : goal.returns-in_default-clause-faults
 returns-in_default-clause-faults g c = record {
@@ -28,22 +28,23 @@ pub returns-in_err-table-clause-faults : goal.returns-in_err-table-clause-faults
 returns-in_err-table-clause-faults g c = record {
   store = search rules;
   damaged = λ honest sound free is.
-      let fits = fits_settable (content g.S.Store c.args.self.now) c.args.change.now (c.requires.fits honest sound) in
+      let before : HasCleanDisk (state g.S.Store c.args.self.now.conn) = subst (λ (k : _). HasCleanDisk (state g.S.Store k.conn)) c.self.view_is honest in
+      let fits = fits_settable (content g.S.Store c.args.self.now) c.args.change.now (c.requires.fits before sound) in
       let known : band_tables (content g.S.Store c.args.self.now) ≡ c.self.inside.rules.editions =
-      subst (λ (k : _). HasCleanDisk (state g.S.Store k.conn) → band_tables (content g.S.Store k) ≡ c.self.inside.rules.editions) c.self.view_is (λ clean. (c.self.invariant.known c.if-self.false clean).editions_are) honest in
+      subst (λ (k : _). HasCleanDisk (state g.S.Store k.conn) → band_tables (content g.S.Store k) ≡ c.self.inside.rules.editions) c.self.view_is (λ clean. (c.self.invariant.known c.if-self.false clean).editions_are) before in
       let calm = c.in_err-table.ensures.damaged (subst (λ (b : BandTables). IsSettable b c.args.change.now) known fits) in
       search rules;
   taken = search rules;
 }
 
 pub make_change-requires-clause-editions : goal.make_change-requires-clause-editions
-make_change-requires-clause-editions g c clean = ap (λ (r : Rules). r.editions) c.make_room.ensures.same ∙ sym (c.self.invariant.known c.if-self.false clean).editions_are
+make_change-requires-clause-editions g c clean = ap (λ (r : Rules). r.editions) c.prepare_rules.ensures.same ∙ sym (c.self.invariant.known c.if-self.false clean).editions_are
 
 pub make_change-requires-clause-reserves : goal.make_change-requires-clause-reserves
-make_change-requires-clause-reserves g c clean = ap (λ (r : Rules). r.reserves) c.make_room.ensures.same ∙ (c.self.invariant.known c.if-self.false clean).reserves_are
+make_change-requires-clause-reserves g c clean = ap (λ (r : Rules). r.reserves) c.prepare_rules.ensures.same ∙ (c.self.invariant.known c.if-self.false clean).reserves_are
 
 pub make_change-requires-clause-settable : goal.make_change-requires-clause-settable
-make_change-requires-clause-settable g c = rw c.make_room.ensures.same c.in_ok-table.ensures.settable
+make_change-requires-clause-settable g c = rw c.prepare_rules.ensures.same c.in_ok-table.ensures.settable
 
 pub add_rules-requires : goal.add_rules-requires
 add_rules-requires g c =
@@ -51,23 +52,23 @@ add_rules-requires g c =
     let room = room_of (bands_set c.args.change.now) (length before.later + 1) c.in_ok-table.ensures.settable in
     let free : IfSome c.in_ok-table.table (λ _. length before.later + 1 < most_editions) =
     subst (λ (o : Option (List (ℕ × ℕ))). IfSome o (λ _. length before.later + 1 < most_editions)) (sym c.in_ok-table.ensures.value) room in
-    record { room = rw c.make_room.ensures.same free }
+    record { room = rw c.prepare_rules.ensures.same free; set = c.in_ok-table.ensures.value }
 
 -- without room nothing was changed
 pub invariant_of-self : goal.invariant_of-self
-invariant_of-self g c = rw c.make_room.ensures.same c.self.invariant
+invariant_of-self g c = rw c.prepare_rules.ensures.same c.self.invariant
 
 -- a keep that knows less than its tables has failed
-pub invariant_of-self-then-is_err-2 : goal.invariant_of-self-then-is_err-2
-invariant_of-self-then-is_err-2 g c = record {
+pub invariant_of-self-then-is_err : goal.invariant_of-self-then-is_err
+invariant_of-self-then-is_err g c = record {
   idle = c.in-Ok.ensures.commit.mode;
   moment = c.in-Some.ensures.fits;
   rests = λ going honest. absurd (true≢false going);
   known = λ going honest. absurd (true≢false going);
 }
 
-pub invariant_of-self-else-is_err-2 : goal.invariant_of-self-else-is_err-2
-invariant_of-self-else-is_err-2 g c = record {
+pub invariant_of-self-else-is_err : goal.invariant_of-self-else-is_err
+invariant_of-self-else-is_err g c = record {
   idle = c.in-Ok.ensures.commit.mode;
   moment = c.in-Some.ensures.fits;
   rests = λ going honest. let ok = c.in-Ok.ensures.commit.ok honest in record { is_open = ok.0; house = ok.2.house; settled = ok.1; numbered = ok.2.numbered };
@@ -77,16 +78,16 @@ invariant_of-self-else-is_err-2 g c = record {
       let change = c.args.change.now in
       let none : is_err c.add_rules.result ≡ false = search rules in
       let editions : c.add_rules.new.rules.editions ≡ with_table c.self.inside.rules.editions after.items (bands_set change) =
-      not_err c.add_rules.result none c.add_rules.ensures.editions ∙ ap (λ (r : Rules). with_table r.editions after.items c.in_ok-table.table) c.make_room.ensures.same
+      not_err c.add_rules.result none c.add_rules.ensures.editions ∙ ap (λ (r : Rules). with_table r.editions after.items c.in_ok-table.table) c.prepare_rules.ensures.same
       ∙ ap (with_table c.self.inside.rules.editions after.items) c.in_ok-table.ensures.value in
       let reserves : c.add_rules.new.rules.reserves ≡ reserves_after c.self.inside.rules.reserves after.items change =
-      not_err c.add_rules.result none c.add_rules.ensures.reserves ∙ ap (λ (r : Rules). reserves_after r.reserves after.items change) c.make_room.ensures.same in
+      not_err c.add_rules.result none c.add_rules.ensures.reserves ∙ ap (λ (r : Rules). reserves_after r.reserves after.items change) c.prepare_rules.ensures.same in
       rw (editions, reserves, c.in-Some-counts_after.ensures.value, c.in-Some.ensures.value)
       (known_after c.self.inside.rules.editions c.self.inside.rules.reserves c.self.inside.counts c.self.inside.clock change (state g.S.Store c.self.inside.conn).now _ (c.self.invariant.known c.if-self.false before) (c.in-Ok.ensures.commit.ok honest).2);
 }
 
-pub returns-then-is_err-2-clause-crash : goal.returns-then-is_err-2-clause-crash
-returns-then-is_err-2-clause-crash g c = rw (← c.self.view_is) (λ honest t left.
+pub returns-then-is_err-clause-crash : goal.returns-then-is_err-clause-crash
+returns-then-is_err-clause-crash g c = rw (← c.self.view_is) (λ honest t left.
     let made = (c.in-Ok.ensures.commit.ok honest).2 in
     let shown = c.in-Ok.ensures.commit.only honest left.0 left.1 in
     inr (c.if-self.false, refl, left.2 ∙ ap tables_in shown ∙ made.tables))
@@ -94,10 +95,10 @@ returns-then-is_err-2-clause-crash g c = rw (← c.self.view_is) (λ honest t le
 -- whether a table was to be set or not, the keep has what the fault left
 pub returns-in-Err-clause-crash : goal.returns-in-Err-clause-crash
 returns-in-Err-clause-crash g c = λ honest t left.
-    let conn_is : c.match-table-2.self.conn ≡ c.reported_fault.new.conn =
-    elim c.match-table-2.branch [ in-Some-2 w ↦ ap (λ (k : House _). k.conn) w.self-is | in-None-2 w ↦ ap (λ (k : House _). k.conn) w.self-is ] in
-    let failed_is : c.match-table-2.self.failed ≡ c.reported_fault.new.failed =
-    elim c.match-table-2.branch [ in-Some-2 w ↦ ap (λ (k : House _). k.failed) w.self-is | in-None-2 w ↦ ap (λ (k : House _). k.failed) w.self-is ] in
+    let conn_is : c.match-table.self.conn ≡ c.reported_fault.new.conn =
+    elim c.match-table.branch [ in-Some-1 w ↦ ap (λ (k : House _). k.conn) w.self-is | in-None-1 w ↦ ap (λ (k : House _). k.conn) w.self-is ] in
+    let failed_is : c.match-table.self.failed ≡ c.reported_fault.new.failed =
+    elim c.match-table.branch [ in-Some-1 w ↦ ap (λ (k : House _). k.failed) w.self-is | in-None-1 w ↦ ap (λ (k : House _). k.failed) w.self-is ] in
     let old = state g.S.Store c.self.inside.conn in
     let mid = state g.S.Store c.make_change.new.conn in
     let report = state g.S.Store c.reported_fault.new.conn in
