@@ -75,8 +75,8 @@ fn place<S: Alter>(conn: &mut Connection<S>, number: u32) -> Result<(), Error> {
 // Places so many bids, and gives how many the item then has.
 fn place_all<S: Alter>(conn: &mut Connection<S>, bids: u32) -> Result<u32, Error> {
     let before = bid_count(conn)?;
-    for place_of in 0..bids {
-        place(conn, before.saturating_add(place_of).saturating_add(1))?;
+    for made in 0..bids {
+        place(conn, before.saturating_add(made).saturating_add(1))?;
     }
     bid_count(conn)
 }
