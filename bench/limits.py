@@ -19,6 +19,7 @@ from measured import in_turn
 from served import PRESET, Program
 
 HOUSE, COPY = "house", "copy"
+BOTH = {name: name for name in ("ours", "kit")}
 
 
 def ran(bench, folder, bids):
@@ -53,12 +54,14 @@ def bids(program, bench, folder):
     def once(name):
         copy(folder)
         if name == "kit":
-            base, _ = ran(bench, folder, 0), copy(folder)
-            return [1e3 * (with_bids - without) / serve.BIDS for with_bids, without in zip(ran(bench, folder, serve.BIDS)[:2], base)]
+            start = ran(bench, folder, 0)
+            copy(folder)
+            whole = ran(bench, folder, serve.BIDS)
+            return [1e3 * (whole[place] - start[place]) / serve.BIDS for place in (0, 1)]
         with program.serving(COPY, 1, 600) as server:
             a_second, spent = serve.bid_in_turn(server)
         return [1e6 / a_second, spent]
-    return in_turn({name: name for name in ("ours", "kit")}, once, serve.RUNS)
+    return in_turn(BOTH, once, serve.RUNS)
 
 
 def starts(program, bench, folder):
@@ -72,7 +75,7 @@ def starts(program, bench, folder):
             found = [1e3 * (time.monotonic() - began), 1e3 * serve.seconds_of(server.process), serve.most_held(server.process)]
             serve.exchanged(server.port, PRESET[:1])
         return found
-    return in_turn({name: name for name in ("ours", "kit")}, once, serve.RUNS)
+    return in_turn(BOTH, once, serve.RUNS)
 
 
 def show(what, found):
