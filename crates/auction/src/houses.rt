@@ -11,14 +11,14 @@ use store_list::ListKeep;
 /// A keep in memory.
 pub trait KeepInMemory: Sized + Keep + Drop {
     /// That of a new house.
-    fn create(alloc: Global, settings: Settings) -> Result<Self, KeepFault>
+    fn create(rt: &HostRuntime, alloc: Global, settings: Settings) -> Result<Self, KeepFault>
         ensures empty { IfOk result (λ keep. Self.content keep ≡ tables_of settings []) }
         ensures memory { IfErr result (λ fault. fault ≡ KeepFault.Memory) };
 }
 
 impl KeepInMemory for ListKeep {
-    fn create(alloc: Global, settings: Settings) -> Result<ListKeep, KeepFault> {
-        ListKeep::create(alloc, settings)
+    fn create(rt: &HostRuntime, alloc: Global, settings: Settings) -> Result<ListKeep, KeepFault> {
+        ListKeep::create(alloc, rt, settings)
     }
 }
 

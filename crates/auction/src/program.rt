@@ -214,7 +214,7 @@ fn new_house<K: KeepInMemory>(
     ensures fault { IfErr result (IsOfSettings words.now) }
 {
     let settings = read_settings(rt, alloc, words)?;
-    Ok(K::create(alloc, settings)?)
+    Ok(K::create(rt, alloc, settings)?)
 }
 
 // Answers standard input over a new house in memory.
@@ -365,8 +365,8 @@ fn new_houses<K: KeepInMemory>(
 {
     let settings = read_settings(rt, alloc, words)?;
     let same = same_settings(alloc, &settings)?;
-    let left = K::create(alloc, settings)?;
-    let right = K::create(alloc, same)?;
+    let left = K::create(rt, alloc, settings)?;
+    let right = K::create(rt, alloc, same)?;
     Ok((left, right))
 }
 

@@ -4,36 +4,49 @@ ghost use Rattle.house_rows.specs.Text.{is_plain};
 
 use std::alloc::{AllocError, Global};
 use std::marker::Model;
+use std::rc::RcStr;
 
-/// A text. Clauses see its bytes, which are UTF-8.
+/// A text, whose clones share its bytes. Clauses see these, which are UTF-8.
 #[derive(Drop)]
 pub struct Text {
-    inner: String,
+    inner: RcStr,
 }
 
 impl Model for Text {
-    ghost use Rattle.std.specs.Prelude.{List, ℕ, string_bytes};
+    ghost use Rattle.std.specs.Prelude.{List, ℕ};
+    ghost use Rattle.std.specs.Rc.{rc_str_bytes};
 
     ghost Value = { List ℕ };
 
-    ghost view = { λ t. string_bytes t.inner };
+    ghost view = { λ t. rc_str_bytes t.inner };
 }
 
 impl Text {
     /// The text of a string.
-    pub fn new(inner: String) -> Text
-        ensures { result ≡ string_bytes inner }
+    pub fn from_string(inner: String) -> Result<Text, AllocError>
+        ensures { IfOk result (λ t. t ≡ string_bytes inner) }
     {
-        Text { inner }
+        Ok(Text {
+            inner: RcStr::from_string(inner)?,
+        })
     }
 
     /// A copy of a text.
     pub fn copy_of(alloc: Global, text: &str) -> Result<Text, AllocError>
         ensures { IfOk result (λ t. t ≡ text.now) }
     {
-        let mut inner = String::new(alloc);
-        inner.push_str(text)?;
-        Ok(Text { inner })
+        Ok(Text {
+            inner: RcStr::from_str(alloc, text)?,
+        })
+    }
+
+    /// The same text, with one more owner.
+    pub fn try_clone(&self) -> Result<Text, AllocError>
+        ensures { IfOk result (λ t. t ≡ self.now) }
+    {
+        Ok(Text {
+            inner: self.inner.clone()?,
+        })
     }
 
     /// The text.

@@ -5,6 +5,7 @@ ghost use Rattle.house_rows.specs.Tables.{tables_of};
 ghost use Rattle.house_script.specs.Housed.{IsHoused, LeadTo, set_up};
 
 use crate::fault::Fault;
+use crate::fixed_bytes::FixedBytes;
 use crate::makes::Makes;
 use crate::order::Order;
 use house::fill;
@@ -43,7 +44,7 @@ pub(crate) fn fill_at_once<K: Keep + Drop, M: Makes<K>>(
 fn accept_all<'o>(alloc: Global, orders: &'o [Order]) -> Result<Vec<Change<'o>>, Fault>
     ensures { IfOk result (λ changes. LeadTo changes.items (after (tables_of set_up []) changes.items)) }
 {
-    let mut keep = ListKeep::create(alloc, settings(alloc)?)?;
+    let mut keep = ListKeep::create(alloc, &FixedBytes, settings(alloc)?)?;
     given(alloc, &mut keep, orders)
 }
 

@@ -7,6 +7,7 @@
 
 mod fault;
 mod filled_keep;
+mod fixed_bytes;
 mod makes;
 mod order;
 mod played;
@@ -18,6 +19,7 @@ mod words;
 
 pub use fault::Fault;
 pub use filled_keep::settings;
+pub use fixed_bytes::FixedBytes;
 pub use makes::Makes;
 pub use order::Order;
 pub use player::{ask, play, read_script};

@@ -102,7 +102,7 @@ impl<'l> Words<'l> {
                 push(&mut text, part)?;
             }
         }
-        Ok(Text::new(text))
+        Ok(Text::from_string(text)?)
     }
 }
 

@@ -23,7 +23,7 @@ use crate::closure::{close_sells, ended_by, is_due, next_due};
 use crate::entry::ItemEntry;
 use crate::groups::{add, numbers_of, reserve};
 use crate::listing::new_entry;
-use crate::lots::{add_lot, number_at};
+use crate::lots::{Lots, add_lot, number_at};
 use crate::numbers::{make_rising, merge, numbers_from};
 use crate::sale::sale;
 use cents::Cents;
@@ -33,6 +33,7 @@ use proxy::Standing;
 use settle::Sold;
 use std::alloc::Global;
 use std::collections::{BTreeMap, BTreeSet};
+use std::hash::RandomState;
 use std::marker::Model;
 
 /// The items by number, with their standings. Clauses see the list of their rows.
@@ -41,7 +42,9 @@ pub struct Items {
     // The item of number n is at place n - 1.
     rows: Vec<ItemEntry>,
     // By seller, then by lot.
-    lots: BTreeMap<u64, BTreeMap<String, u32>>,
+    lots: BTreeMap<u64, Lots>,
+    // Of the hashes of lots: sellers choose these, and could make them fall together.
+    keys: RandomState,
     // By category, and by seller. An item's number is once in each.
     categories: BTreeMap<u64, Vec<u32>>,
     sellers: BTreeMap<u64, Vec<u32>>,
@@ -67,12 +70,15 @@ impl Model for Items {
 
 impl Items {
     /// A table with no items.
-    pub fn new(alloc: Global) -> Items
+    ///
+    /// The keys are those of the hashes by which lots are found; no result depends on them.
+    pub fn new(alloc: Global, keys: RandomState) -> Items
         ensures { result ≡ [] }
     {
         Items {
             rows: Vec::new(alloc),
             lots: BTreeMap::new(alloc),
+            keys,
             categories: BTreeMap::new(alloc),
             sellers: BTreeMap::new(alloc),
             purchases: BTreeMap::new(alloc),
@@ -191,7 +197,7 @@ impl Items {
         let count = self.rows.len();
         let mut found = Vec::with_capacity(alloc, count)?;
         for row in &self.rows {
-            push_copy(alloc, &mut found, &row.item)?;
+            push_copy(&mut found, &row.item)?;
         }
         Ok(found)
     }
@@ -222,7 +228,7 @@ impl Items {
             }
             if let Some(item) = self.item(u64::from(*number)) {
                 if passes(item) {
-                    push_copy(alloc, &mut found, item)?;
+                    push_copy(&mut found, item)?;
                 }
             }
         }
@@ -396,7 +402,7 @@ impl Items {
         };
         reserve(alloc, &mut self.categories, category)?;
         reserve(alloc, &mut self.sellers, seller)?;
-        add_lot(alloc, &mut self.lots, seller, item.lot, number)?;
+        add_lot(alloc, self.keys, &mut self.lots, seller, item.lot, number)?;
         let Ok(_) = self.ends.insert((item.end, number)) else {
             return Err(KeepFault::Memory);
         };

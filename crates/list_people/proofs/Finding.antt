@@ -1,9 +1,10 @@
 -- Rows by their number and by the place of their name.
-use Rattle.std.proofs.Common.{◌≡◌, ℕ, ◌+◌, ◌-◌, ◌≤◌, ◌<◌, List, [], ◌∷◌, ◌++◌, length, Bool, true, false, refl, ◌∙◌, ap, sym, arith, inl, inr, Some, None, zero, suc, length-append}
-use Rattle.std.specs.Prelude.{Option, if◌then◌else◌, ◌==◌, nat_lt, find, position, slice_get, is_some}
+use Rattle.std.proofs.Common.{◌≡◌, ℕ, ◌+◌, ◌-◌, ◌≤◌, ◌<◌, List, [], ◌∷◌, ◌++◌, length, Bool, true, false, refl, ◌∙◌, ap, sym, arith, inl, inr, Some, None, Ok, Err, zero, suc, length-append}
+use Rattle.std.specs.Prelude.{Option, if◌then◌else◌, ◌==◌, nat_lt, find, position, slice_get}
 use Rattle.std.specs.Borrow.{Bor}
 use Rattle.std.specs.List.{position_or_len}
 use Rattle.std.specs.Option.{option_copied}
+use Rattle.std.specs.Map.{update}
 use Rattle.std.specs.Slice.{IsItemAt}
 use Rattle.std.proofs.lemmas.Bool.Decides.{nat_tests}
 use Rattle.std.proofs.lemmas.List.Folds.{find_at, position_or_len_push}
@@ -14,7 +15,9 @@ use Rattle.house_rows.specs.Text.{same_text}
 use Rattle.house_rows.proofs.InTurn.{turn_more}
 use Rattle.house_rows.proofs.Put.{by_test}
 use Rattle.list_people.specs.declared.names.Names.{Names}
-use Rattle.list_people.specs.Named.{AreNamed, place_in}
+use Rattle.house_rows.specs.declared.fault.KeepFault.{KeepFault}
+use Rattle.list_rows.specs.Makes.{Makes}
+use Rattle.list_people.specs.Named.{AreNamed, fault_of, place_in}
 
 -- no row has a number before the first
 turn_below : {A : Type 0} (number : A → ℕ) (next : ℕ) (rows : List A) (n : ℕ) → AreInTurn number next rows → n < next → find (λ row. number row == n) rows ≡ None
@@ -125,11 +128,6 @@ name_unknown {A = A} number name kept seen names wanted place are has none view 
     let nowhere : position (λ row. same_text (name row) wanted) kept ≡ None = sym (are.places wanted) ∙ sym has ∙ none in
     sym (ap (λ (xs : List A). find (λ row. same_text (name row) wanted) xs) view) ∙ at_none (λ row. same_text (name row) wanted) kept nowhere
 
--- a look-up that finds nothing
-pub nothing : {A : Type 0} (o : Option (Bor A)) (found : Option A) → option_copied o ≡ found → is_some o ≡ false → found ≡ None
-nothing None found is not = sym is
-nothing (Some x) found is not = absurd (let e : true ≡ false = not in cc)
-
 -- one more row, with the next number and a name that none has, and the index that has its place besides
 pub named_more : {A : Type 0} (number : A → ℕ) (name : A → List ℕ) (rows seen more : List A) (names after : Names) (row : A) → AreNamed number name rows names → rows ≡ seen → number row ≡ length rows + 1
     → find (λ other. same_text (name other) (name row)) seen ≡ None → more ≡ rows ++ row ∷ []
@@ -141,4 +139,59 @@ named_more number name rows seen more names after row are view next free is plac
         rw same (sym (place_new (λ other. same_text (name other) wanted) rows row (rw (← e, view) free) same)))
     | inr not ↦ rw not (are.places wanted ∙ sym (place_same (λ other. same_text (name other) wanted) rows row not))
   ]);
+}
+
+-- a value that is put where it is already changes nothing
+pub put_again : (values : List ℕ → Option ℕ) (key : List ℕ) (value : Option ℕ) (other : List ℕ) → values key ≡ value → update same_text values key value other ≡ values other
+put_again values key value other is =
+    elim (by_test (same_text key other)) [
+      | inl same ↦ (let e : key ≡ other = (bytes_eq-Decides key other).0 same in rw same (rw (← e) (sym is)))
+      | inr not ↦ rw not refl
+    ]
+
+-- where no row has the name, the index has no place for it
+place_unknown : {A : Type 0} (number : A → ℕ) (name : A → List ℕ) (kept seen : List A) (names : Names) (wanted : List ℕ) → AreNamed number name kept names → kept ≡ seen
+    → find (λ row. same_text (name row) wanted) seen ≡ None → place_in names wanted ≡ None
+place_unknown {A = A} number name kept seen names wanted are view none =
+    let free : find (λ row. same_text (name row) wanted) kept ≡ None = ap (λ (xs : List A). find (λ row. same_text (name row) wanted) xs) view ∙ none in
+    let past = past_all (λ row. same_text (name row) wanted) kept free in
+    are.places wanted ∙ position_past (λ row. same_text (name row) wanted) kept (omega arith)
+
+-- a row that isn't made, whose fault goes by its name
+unmade : {A : Type 0} (place : Option ℕ) (fault : KeepFault) (old new wanted : List A) (free : Type 0) → fault ≡ fault_of place → (place ≡ None → free) → (free → place ≡ None) → new ≡ old
+    → Makes (Err fault) old new wanted free
+unmade None fault old new wanted free is unknown known same = record {
+  ok = tt;
+  err = same;
+  free = tt;
+  damaged = λ damaged taken. cc;
+  taken = λ taken. absurd (taken (unknown refl));
+  store = λ store. cc;
+}
+unmade (Some i) fault old new wanted free is unknown known same = record {
+  ok = tt;
+  err = same;
+  free = tt;
+  damaged = λ damaged taken. (let some = known taken in cc);
+  taken = λ taken. rw is refl;
+  store = λ store. cc;
+}
+
+-- the same by what the index has
+pub unmade_named : {A : Type 0} (number : A → ℕ) (name : A → List ℕ) (kept seen new wanted : List A) (names : Names) (text : List ℕ) (fault : KeepFault) → AreNamed number name kept names → kept ≡ seen
+    → fault ≡ fault_of (place_in names text) → new ≡ seen → Makes (Err fault) seen new wanted (find (λ row. same_text (name row) text) seen ≡ None)
+unmade_named number name kept seen new wanted names text fault are view is same =
+    unmade (place_in names text) fault seen new wanted (find (λ row. same_text (name row) text) seen ≡ None) is
+    (λ none. name_unknown number name kept seen names text (place_in names text) are refl none view)
+    (place_unknown number name kept seen names text are view) same
+
+-- a row that is made
+pub made_new : {A : Type 0} (old new wanted : List A) (free : Type 0) → new ≡ wanted → free → Makes (Ok tt) old new wanted free
+made_new old new wanted free same is = record {
+  ok = same;
+  err = tt;
+  free = is;
+  damaged = λ damaged. cc;
+  taken = λ taken. absurd (taken is);
+  store = λ store. cc;
 }

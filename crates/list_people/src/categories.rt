@@ -9,6 +9,7 @@ use crate::names::{Names, row_at};
 use house_rows::{Category, KeepFault};
 use list_rows::text_of;
 use std::alloc::Global;
+use std::hash::RandomState;
 use std::marker::Model;
 
 /// The categories. Clauses see the list of them, in the order in which they were added.
@@ -33,12 +34,14 @@ impl Model for Categories {
 
 impl Categories {
     /// No categories.
-    pub fn new(alloc: Global) -> Categories
+    ///
+    /// The keys are those of the hashes by which names are found; no result depends on them.
+    pub fn new(alloc: Global, keys: RandomState) -> Categories
         ensures { result ≡ [] }
     {
         Categories {
             rows: Vec::new(alloc),
-            names: Names::new(alloc),
+            names: Names::new(alloc, keys),
         }
     }
 
@@ -73,12 +76,12 @@ impl Categories {
             (self.old ++ record { category = length self.old + 1; name = name.now } ∷ [])
             (find (λ k. same_text k.name name.now) self.old ≡ None) }
     {
-        if self.by_name(name).is_some() {
-            return Err(KeepFault::Damaged);
-        }
+        let Ok(text) = text_of(alloc, name) else {
+            return Err(self.names.fault(name));
+        };
         let category = Category {
             category: self.rows.len() as u32 + 1,
-            name: text_of(alloc, name)?,
+            name: text,
         };
         self.names.push(alloc, &mut self.rows, name, category)?;
         Ok(())

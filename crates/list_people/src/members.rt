@@ -10,6 +10,7 @@ use crate::names::{Names, row_at};
 use house_rows::{KeepFault, Member};
 use list_rows::text_of;
 use std::alloc::Global;
+use std::hash::RandomState;
 use std::marker::Model;
 
 /// The members. Clauses see the list of them, in order of registration.
@@ -34,12 +35,14 @@ impl Model for Members {
 
 impl Members {
     /// No members.
-    pub fn new(alloc: Global) -> Members
+    ///
+    /// The keys are those of the hashes by which names are found; no result depends on them.
+    pub fn new(alloc: Global, keys: RandomState) -> Members
         ensures { result ≡ [] }
     {
         Members {
             rows: Vec::new(alloc),
-            names: Names::new(alloc),
+            names: Names::new(alloc, keys),
         }
     }
 
@@ -74,12 +77,12 @@ impl Members {
             (self.old ++ record { member = length self.old + 1; name = name.now } ∷ [])
             (find (λ m. same_text m.name name.now) self.old ≡ None) }
     {
-        if self.by_name(name).is_some() {
-            return Err(KeepFault::Damaged);
-        }
+        let Ok(text) = text_of(alloc, name) else {
+            return Err(self.names.fault(name));
+        };
         let member = Member {
             member: self.rows.len() as u32 + 1,
-            name: text_of(alloc, name)?,
+            name: text,
         };
         self.names.push(alloc, &mut self.rows, name, member)?;
         Ok(())

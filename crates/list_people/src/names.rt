@@ -2,28 +2,28 @@
 ghost use Rattle.std.specs.Prelude.{if◌then◌else◌, ◌≡◌, ◌<◌, ◌-◌, ◌^◌, ◌++◌, ◌∷◌, [], ◌==◌, ℕ, List, Some, None, length, slice_get, IfErr, OnOk, OnErr};
 ghost use Rattle.std.specs.Option.{option_copied};
 ghost use Rattle.house_rows.specs.Text.{same_text};
-ghost use Rattle.house_rows.specs.declared.fault.KeepFault.TheVariants as fault;
-ghost use Rattle.list_people.specs.Named.{place_in};
+ghost use Rattle.list_people.specs.Named.{fault_of, place_in};
 
 use house_rows::KeepFault;
 use std::alloc::Global;
-use std::collections::BTreeMap;
+use std::collections::HashMap;
+use std::collections::hash_map::Entry;
+use std::hash::RandomState;
 
 /// For each name the place of its row, counted from 0.
-// A tree and not a table of hashes: the hashes of std have a fixed seed, and a stranger who
-// chooses names could make them fall together.
+// The hashes have keys of their own: strangers choose the names, and could make them fall together.
 #[derive(Drop)]
 pub(crate) struct Names {
-    places: BTreeMap<String, u32>,
+    places: HashMap<String, u32, RandomState>,
 }
 
 impl Names {
     /// The index of no rows.
-    pub(crate) fn new(alloc: Global) -> Names
+    pub(crate) fn new(alloc: Global, keys: RandomState) -> Names
         ensures { (name : List ℕ) → place_in result name ≡ None }
     {
         Names {
-            places: BTreeMap::new(alloc),
+            places: HashMap::with_hasher(alloc, keys),
         }
     }
 
@@ -36,7 +36,8 @@ impl Names {
 
     /// Puts a row after the others, and its name into the index.
     ///
-    /// The only error is `KeepFault::Memory`, and rows and index are then as they were.
+    /// `KeepFault::Damaged` comes where the index has the name, and `KeepFault::Memory` is the only
+    /// other error. Rows and index are then as they were.
     pub(crate) fn push<R: Drop>(
         &mut self,
         alloc: Global,
@@ -50,23 +51,40 @@ impl Names {
             ≡ (if same_text name.now other then Some (length rows.old.items) else place_in self.old other)) }
         ensures rows_left { OnErr result (rows.new.items ≡ rows.old.items) }
         ensures places_left { OnErr result ((other : List ℕ) → place_in self.new other ≡ place_in self.old other) }
-        ensures memory { IfErr result (λ e. e ≡ fault.Memory) }
+        ensures free { OnOk result (place_in self.old name.now ≡ None) }
+        ensures fault { IfErr result (λ e. e ≡ fault_of (place_in self.old name.now)) }
     {
         let place = rows.len() as u32;
-        let Ok(name) = String::from_str(alloc, name) else {
-            return Err(KeepFault::Memory);
-        };
         // The row's room comes first, so that after the index nothing can fail.
         let Ok(()) = rows.try_reserve(1) else {
-            return Err(KeepFault::Memory);
+            return Err(self.fault(name));
         };
-        let Ok(_) = self.places.insert(name, place) else {
-            return Err(KeepFault::Memory);
+        let Ok(key) = String::from_str(alloc, name) else {
+            return Err(self.fault(name));
         };
-        let Ok(()) = rows.push(row) else {
-            return Err(KeepFault::Memory);
-        };
+        match self.places.entry(key) {
+            Ok(Entry::Vacant(entry)) => {
+                let _ = entry.insert(place);
+            }
+            Ok(Entry::Occupied(entry)) => {
+                // Gives the table back, for the proof.
+                let _ = entry.into_mut();
+                return Err(KeepFault::Damaged);
+            }
+            Err(_) => return Err(KeepFault::Memory),
+        }
+        let _ = rows.push(row);
         Ok(())
+    }
+
+    /// The fault of a row that isn't made: `Damaged` where the index has its name, or else `Memory`.
+    pub(crate) fn fault(&self, name: &str) -> KeepFault
+        ensures { result ≡ fault_of (place_in self.now name.now) }
+    {
+        match self.place(name) {
+            Some(_) => KeepFault::Damaged,
+            None => KeepFault::Memory,
+        }
     }
 }
 

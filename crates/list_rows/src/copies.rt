@@ -9,70 +9,70 @@ use std::alloc::{AllocError, Global};
 /// A row that can be copied.
 pub trait Copied {
     /// A copy of it.
-    fn try_clone(&self, alloc: Global) -> Result<Self, AllocError>
+    fn try_clone(&self) -> Result<Self, AllocError>
     where
         Self: Sized,
         ensures { IfOk result (λ copy. copy ≡ self.now) };
 }
 
 impl Copied for Member {
-    fn try_clone(&self, alloc: Global) -> Result<Member, AllocError> {
+    fn try_clone(&self) -> Result<Member, AllocError> {
         Ok(Member {
             member: self.member,
-            name: Text::copy_of(alloc, self.name.as_str())?,
+            name: self.name.try_clone()?,
         })
     }
 }
 
 impl Copied for Category {
-    fn try_clone(&self, alloc: Global) -> Result<Category, AllocError> {
+    fn try_clone(&self) -> Result<Category, AllocError> {
         Ok(Category {
             category: self.category,
-            name: Text::copy_of(alloc, self.name.as_str())?,
+            name: self.name.try_clone()?,
         })
     }
 }
 
 impl Copied for Item {
-    fn try_clone(&self, alloc: Global) -> Result<Item, AllocError> {
+    fn try_clone(&self) -> Result<Item, AllocError> {
         Ok(Item {
             terms: self.terms,
-            lot: Text::copy_of(alloc, self.lot.as_str())?,
-            title: Text::copy_of(alloc, self.title.as_str())?,
-            text: Text::copy_of(alloc, self.text.as_str())?,
+            lot: self.lot.try_clone()?,
+            title: self.title.try_clone()?,
+            text: self.text.try_clone()?,
         })
     }
 }
 
 impl Copied for Question {
-    fn try_clone(&self, alloc: Global) -> Result<Question, AllocError> {
+    fn try_clone(&self) -> Result<Question, AllocError> {
         let answer = match &self.answer {
-            Some(text) => Some(Text::copy_of(alloc, text.as_str())?),
+            Some(text) => Some(text.try_clone()?),
             None => None,
         };
         Ok(Question {
             item: self.item,
             asker: self.asker,
             number: self.number,
-            text: Text::copy_of(alloc, self.text.as_str())?,
+            text: self.text.try_clone()?,
             answer,
         })
     }
 }
 
 impl Copied for Feedback {
-    fn try_clone(&self, alloc: Global) -> Result<Feedback, AllocError> {
+    fn try_clone(&self) -> Result<Feedback, AllocError> {
         Ok(Feedback {
             item: self.item,
             from: self.from,
             to: self.to,
             rating: self.rating,
-            text: Text::copy_of(alloc, self.text.as_str())?,
+            text: self.text.try_clone()?,
         })
     }
 }
 
-/// A copy of a text.
+/// A copy of a text, which its clones share.
 pub fn text_of(alloc: Global, text: &str) -> Result<Text, KeepFault>
     ensures value { IfOk result (λ copy. copy ≡ text.now) }
     ensures memory { IfErr result (λ e. e ≡ fault.Memory) }
@@ -84,12 +84,12 @@ pub fn text_of(alloc: Global, text: &str) -> Result<Text, KeepFault>
 }
 
 /// A copy of what was found.
-pub fn clone_found<R: Copied>(alloc: Global, row: Option<&R>) -> Result<Option<R>, KeepFault>
+pub fn clone_found<R: Copied>(row: Option<&R>) -> Result<Option<R>, KeepFault>
     ensures value { IfOk result (λ copy. copy ≡ option_copied row.entry) }
     ensures memory { IfErr result (λ e. e ≡ fault.Memory) }
 {
     match row {
-        Some(row) => match row.try_clone(alloc) {
+        Some(row) => match row.try_clone() {
             Ok(copy) => Ok(Some(copy)),
             Err(_) => Err(KeepFault::Memory),
         },
@@ -110,15 +110,11 @@ pub fn push<R: Drop>(rows: &mut Vec<R>, row: R) -> Result<(), KeepFault>
 }
 
 /// A copy of one more row.
-pub fn push_copy<R: Copied + Drop>(
-    alloc: Global,
-    rows: &mut Vec<R>,
-    row: &R,
-) -> Result<(), KeepFault>
+pub fn push_copy<R: Copied + Drop>(rows: &mut Vec<R>, row: &R) -> Result<(), KeepFault>
     ensures ok { OnOk result (rows.new.items ≡ rows.old.items ++ row.now ∷ []) }
     ensures memory { IfErr result (λ e. e ≡ fault.Memory) }
 {
-    match row.try_clone(alloc) {
+    match row.try_clone() {
         Ok(copy) => push(rows, copy),
         Err(_) => Err(KeepFault::Memory),
     }
@@ -131,7 +127,7 @@ pub fn copies_of<R: Copied + Drop>(alloc: Global, rows: &[R]) -> Result<Vec<R>, 
 {
     let mut found = Vec::new(alloc);
     for row in rows {
-        push_copy(alloc, &mut found, row)?;
+        push_copy(&mut found, row)?;
     }
     Ok(found)
 }
@@ -153,7 +149,7 @@ pub fn chosen<R: Copied + Drop, F: Fn(&R) -> bool + Drop>(
         let wanted = passes(row);
         let room = found.len() < most;
         if wanted && room {
-            push_copy(alloc, &mut found, row)?;
+            push_copy(&mut found, row)?;
         }
     }
     Ok(found)

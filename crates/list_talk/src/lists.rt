@@ -21,7 +21,7 @@ pub(crate) fn push_passing<R: Copied + Drop, F: Fn(&R) -> bool + Drop>(
 {
     for row in rows {
         if passes(row) {
-            push_copy(alloc, found, row)?;
+            push_copy(found, row)?;
         }
     }
     Ok(())
@@ -45,7 +45,7 @@ pub(crate) fn push_shown<R: Copied + Drop, F: Fn(&R) -> bool + Drop>(
             return Ok(());
         }
         if passes(row) {
-            push_copy(alloc, found, row)?;
+            push_copy(found, row)?;
         }
     }
     Ok(())

@@ -18,7 +18,9 @@ use list_watches::Watches;
 use proxy::Standing;
 use settle::Sold;
 use std::alloc::Global;
+use std::hash::RandomState;
 use std::marker::Model;
+use std::random::RandomSource;
 use steps::Bands;
 
 /// The tables of a house, each in the order of its keys. Clauses see the `Tables`, which are sound.
@@ -74,19 +76,27 @@ impl Model for ListKeep {
 impl ListKeep {
     /// The keep of a house to which nothing has happened yet.
     ///
-    /// The only error is `KeepFault::Memory`.
+    /// The random bytes are keys of the hashes by which names and lots are found. No result depends
+    /// on them. The only error is `KeepFault::Memory`, also where there are no random bytes.
     #[tactic(auto, unfolding(house_rows::specs::Tables::tables_of, house_rows::specs::Questions::questions))]
-    pub fn create(alloc: Global, settings: Settings) -> Result<ListKeep, KeepFault>
+    pub fn create(
+        alloc: Global,
+        random: &impl RandomSource,
+        settings: Settings,
+    ) -> Result<ListKeep, KeepFault>
         ensures empty { IfOk result (λ keep. keep ≡ tables_of settings []) }
         ensures memory { IfErr result (λ e. e ≡ fault.Memory) }
     {
+        let Ok(keys) = RandomState::new(random) else {
+            return Err(KeepFault::Memory);
+        };
         Ok(ListKeep {
             alloc,
             editions: Editions::new(alloc, settings),
             clock: 0,
-            members: Members::new(alloc),
-            categories: Categories::new(alloc),
-            items: Items::new(alloc),
+            members: Members::new(alloc, keys),
+            categories: Categories::new(alloc, keys),
+            items: Items::new(alloc, keys),
             bids: Bids::new(alloc),
             watches: Watches::new(alloc),
             questions: Questions::new(alloc),
@@ -137,7 +147,7 @@ impl Keep for ListKeep {
     }
 
     fn member(&mut self, member: u64) -> Result<Option<Member>, KeepFault> {
-        clone_found(self.alloc, self.members.member(member))
+        clone_found(self.members.member(member))
     }
 
     fn has_member(&mut self, member: u64) -> Result<bool, KeepFault> {
@@ -145,11 +155,11 @@ impl Keep for ListKeep {
     }
 
     fn member_named(&mut self, name: &str) -> Result<Option<Member>, KeepFault> {
-        clone_found(self.alloc, self.members.by_name(name))
+        clone_found(self.members.by_name(name))
     }
 
     fn category(&mut self, category: u64) -> Result<Option<Category>, KeepFault> {
-        clone_found(self.alloc, self.categories.category(category))
+        clone_found(self.categories.category(category))
     }
 
     fn has_category(&mut self, category: u64) -> Result<bool, KeepFault> {
@@ -157,11 +167,11 @@ impl Keep for ListKeep {
     }
 
     fn category_named(&mut self, name: &str) -> Result<Option<Category>, KeepFault> {
-        clone_found(self.alloc, self.categories.by_name(name))
+        clone_found(self.categories.by_name(name))
     }
 
     fn item(&mut self, item: u64) -> Result<Option<Item>, KeepFault> {
-        clone_found(self.alloc, self.items.item(item))
+        clone_found(self.items.item(item))
     }
 
     fn terms(&mut self, item: u64) -> Result<Option<Terms>, KeepFault> {
@@ -202,7 +212,7 @@ impl Keep for ListKeep {
         asker: u64,
         number: u64,
     ) -> Result<Option<Question>, KeepFault> {
-        clone_found(self.alloc, self.questions.question(item, asker, number))
+        clone_found(self.questions.question(item, asker, number))
     }
 
     fn given(&mut self, item: u64, giver: u64) -> Result<bool, KeepFault> {

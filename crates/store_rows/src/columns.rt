@@ -1,8 +1,8 @@
 //! The values of a shown row, each as its type. A value is damaged only where it is none of its type.
-ghost use Rattle.std.specs.Prelude.{◌≡◌, ◌≢◌, ◌≤◌, ◌<◌, ◌^◌, IfOk, IfSome, IsErrOf, length, option_map, string_bytes};
+ghost use Rattle.std.specs.Prelude.{◌≡◌, ◌≢◌, ◌≤◌, ◌<◌, ◌^◌, IfErr, IfOk, IfSome, IsErrOf, length, option_map, string_bytes};
 ghost use Rattle.sqlite_value.specs.Order.{column};
 ghost use Rattle.house_rows.specs.Limits.{most_cents};
-ghost use Rattle.house_rows.specs.declared.fault.KeepFault.TheVariants.{Damaged};
+ghost use Rattle.house_rows.specs.declared.fault.KeepFault.TheVariants.{Damaged, Memory};
 ghost use Rattle.store_rows.specs.Counts.{count_in};
 ghost use Rattle.store_rows.specs.Rows.{maybe_number_in, maybe_text_in, no_text, number_in, text_in};
 
@@ -85,7 +85,8 @@ pub(crate) fn text_at(row: &Row, at: usize) -> Result<Text, KeepFault>
     ensures damaged { text_in (column row.now at) ≢ no_text → ¬ (IsErrOf result Damaged) }
 {
     let text = value_at(row, at)?;
-    Ok(Text::new(text))
+    let shared = text_of(text)?;
+    Ok(shared)
 }
 
 /// A text that may be missing.
@@ -96,15 +97,28 @@ pub(crate) fn maybe_text_at(row: &Row, at: usize) -> Result<Option<Text>, KeepFa
         → ¬ (IsErrOf result Damaged) }
 {
     let text = value_at(row, at)?;
-    Ok(text_of(text))
+    let shared = maybe_text_of(text)?;
+    Ok(shared)
+}
+
+// A text of the house.
+fn text_of(text: String) -> Result<Text, KeepFault>
+    ensures value { IfOk result (λ t. t ≡ string_bytes text) }
+    ensures memory { IfErr result (λ fault. fault ≡ Memory) }
+{
+    match Text::from_string(text) {
+        Ok(text) => Ok(text),
+        Err(_) => Err(KeepFault::Memory),
+    }
 }
 
 // A text of the house, if there is one.
-fn text_of(text: Option<String>) -> Option<Text>
-    ensures { result ≡ option_map string_bytes text }
+fn maybe_text_of(text: Option<String>) -> Result<Option<Text>, KeepFault>
+    ensures value { IfOk result (λ t. t ≡ option_map string_bytes text) }
+    ensures memory { IfErr result (λ fault. fault ≡ Memory) }
 {
     match text {
-        None => None,
-        Some(text) => Some(Text::new(text)),
+        None => Ok(None),
+        Some(text) => Ok(Some(text_of(text)?)),
     }
 }

@@ -13,6 +13,7 @@
 mod bodies;
 mod failures;
 mod fault;
+mod fixed_bytes;
 mod message;
 mod page_script;
 mod player;

@@ -1,6 +1,7 @@
 //! A house in memory, and what becomes of a message to it.
 use crate::bodies::{page_text, record_text};
 use crate::fault::Fault;
+use crate::fixed_bytes::FixedBytes;
 use house::decide;
 use house_rows::{Command, Keep, Message, Rate, Settings, Text};
 use settle::Zone;
@@ -42,7 +43,7 @@ fn change<K: Keep>(keep: &mut K, moment: u64, caller: u64, command: &Command) ->
 impl House {
     /// A house without members.
     pub(crate) fn new(alloc: Global, zone: &str) -> Result<House, Fault> {
-        let keep = ListKeep::create(alloc, settings(alloc, zone)?)?;
+        let keep = ListKeep::create(alloc, &FixedBytes, settings(alloc, zone)?)?;
         match Zone::read(zone) {
             Ok(zone) => Ok(House { zone, keep }),
             Err(_) => Err(Fault::Script),

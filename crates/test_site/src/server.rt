@@ -1,5 +1,6 @@
 //! A new house in memory, and a stream served over it.
 use crate::fault::Fault;
+use crate::fixed_bytes::FixedBytes;
 use crate::player::settings;
 use crate::stream::Stream;
 use crate::stream_script::Stage;
@@ -21,7 +22,7 @@ pub(crate) struct Left {
 
 /// A new house, of the zone UTC0.
 pub(crate) fn new_site(alloc: Global) -> Result<Site<ListKeep>, Fault> {
-    let keep = ListKeep::create(alloc, settings(alloc, "UTC0")?)?;
+    let keep = ListKeep::create(alloc, &FixedBytes, settings(alloc, "UTC0")?)?;
     Ok(Site::new(alloc, keep)?)
 }
 

@@ -1,6 +1,6 @@
 //! How houses are made, in memory and in databases, and where a database lies.
 use house_rows::{Keep, KeepFault, Settings};
-use house_script::Makes;
+use house_script::{FixedBytes, Makes};
 use site::Site;
 use sqlite::{Alter, Connection, Error, ErrorCode, File, FileStore, MemStore};
 use std::alloc::Global;
@@ -13,7 +13,7 @@ pub(crate) struct Lists;
 
 impl Makes<ListKeep> for Lists {
     fn empty(&self, alloc: Global, settings: Settings) -> Result<ListKeep, KeepFault> {
-        ListKeep::create(alloc, settings)
+        ListKeep::create(alloc, &FixedBytes, settings)
     }
 }
 

@@ -6,7 +6,7 @@ use Rattle.store_rows.proofs.TextLemmas.{text_back}
 use Rattle.store_rows.proofs.columns.text_at.Goals as goal
 
 pub returns-clause-value : goal.returns-clause-value
-returns-clause-value c = c.new.ensures ∙ sym (ap text_in c.in_ok-text.ensures.value ∙ text_back _ (IsUtf8-string_bytes c.in_ok-text.text))
+returns-clause-value c = c.in_ok-shared.ensures.value ∙ sym (ap text_in c.in_ok-text.ensures.value ∙ text_back _ (IsUtf8-string_bytes c.in_ok-text.text))
 
 pub returns-in_err-text-clause-damaged : goal.returns-in_err-text-clause-damaged
 returns-in_err-text-clause-damaged c there = let is = text_there c.args.row.now c.args.at there in λ was. c.in_err-text.ensures.damaged is.0 is.1 (search rules)

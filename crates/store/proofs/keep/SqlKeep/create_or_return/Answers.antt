@@ -1,4 +1,4 @@
-use Rattle.std.proofs.Common.{arith, rules}
+use Rattle.std.proofs.Common.{Err, ap, arith, rules}
 use Rattle.store.proofs.Begins.{known_new}
 use Rattle.store.proofs.keep.SqlKeep.create_or_return.Goals as goal
 
@@ -17,3 +17,6 @@ returns-in-Err-clause-left g c = record {
   back = c.in-Err.ensures.err;
   survives = c.make_house.ensures.crash;
 }
+
+pub returns-in-Err-clause-damaged : goal.returns-in-Err-clause-damaged
+returns-in-Err-clause-damaged g c = (λ is. c.in-Err.ensures.damaged.0 (ap Err is), λ unfit. let is = c.in-Err.ensures.damaged.1 unfit in cc)
