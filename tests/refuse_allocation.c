@@ -1,8 +1,10 @@
 /* Refuses the allocation whose number is in REFUSE, counted from 1, of the program that this is
    loaded before. With REFUSE=0 it refuses none, and tells how many there were. Allocations of as many
-   bytes as REFUSE_SIZE says are refused too, and do not count. */
+   bytes as REFUSE_SIZE says are refused too, and do not count. With REFUSE_RANDOM there are no random
+   bytes. */
 #define _GNU_SOURCE
 #include <dlfcn.h>
+#include <errno.h>
 #include <stdio.h>
 #include <stdlib.h>
 #include <string.h>
@@ -44,6 +46,18 @@ void *aligned_alloc(size_t align, size_t size)
     if (!real)
         real = (void *(*)(size_t, size_t))dlsym(RTLD_NEXT, "aligned_alloc");
     return refuse(size) ? NULL : real(align, size);
+}
+
+int getentropy(void *bytes, size_t size)
+{
+    static int (*real)(void *, size_t);
+    if (!real)
+        real = (int (*)(void *, size_t))dlsym(RTLD_NEXT, "getentropy");
+    if (getenv("REFUSE_RANDOM")) {
+        errno = EIO;
+        return -1;
+    }
+    return real(bytes, size);
 }
 
 __attribute__((destructor)) static void tell(void)

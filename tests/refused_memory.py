@@ -4,7 +4,8 @@
 The run is two bids and a read, by the example table and by one of a file, and with the public record.
 Each message has to be answered 503, and has then not acted, or as in the run of the messages that were
 not answered 503, whose record follows; or the run ends with `auction: memory`, and has written nothing,
-or these answers and no record. It needs a C compiler, `cc`. The last line is 'N runs, M wrong'.
+or these answers and no record. A run without random bytes ends so too, and has written nothing. It needs
+a C compiler, `cc`. The last line is 'N runs, M wrong'.
 """
 import itertools
 import pathlib
@@ -12,7 +13,7 @@ import re
 import sys
 import tempfile
 
-from refusal import built_library, refused_runs, run
+from refusal import built_library, ended, refused_runs, run
 
 REFUSED = (b"HTTP/1.1 503 Service Unavailable\r\ncontent-type: application/json\r\n"
            b'content-length: 18\r\n\r\n{"error":"memory"}')
@@ -46,17 +47,26 @@ def refuse_each(command, library):
     done = {(0, answers + record, b"") for answers, record in allowed}
     stopped = {(1, output, b"auction: memory\n")
                for output in [b"", *(answers for answers, record in allowed if record)]}
-    runs = wrong = unavailable = ended = 0
+    runs = wrong = unavailable = stops = 0
     for number, result in refused_runs(command, library, b"".join(MESSAGES)):
         runs += 1
         unavailable += REFUSED in result.stdout
-        ending = (result.returncode, result.stdout, result.stderr)
-        ended += ending in stopped
+        ending = ended(result)
+        stops += ending in stopped
         if ending not in done | stopped:
             wrong += 1
             print(f"allocation {number}: {result}")
-    print(f"{unavailable} answered 503, {ended} ended with auction: memory")
+    print(f"{unavailable} answered 503, {stops} ended with auction: memory")
     return runs, wrong + (unavailable == 0)
+
+
+def refuse_random(command, library):
+    """Refuses a command its random bytes: one run, and whether it was wrong."""
+    result = run(command, b"".join(MESSAGES), LD_PRELOAD=library, REFUSE_RANDOM="1")
+    is_wrong = ended(result) != (1, b"", b"auction: memory\n")
+    if is_wrong:
+        print(f"random bytes: {result}")
+    return 1, is_wrong
 
 
 def main():
@@ -66,6 +76,7 @@ def main():
         table.flush()
         results = [refuse_each([program, "replay", "--preset", *more], library)
                    for more in ([], ["--bands", table.name], ["--record"])]
+        results.append(refuse_random([program, "replay", "--preset"], library))
     runs, wrong = (sum(column) for column in zip(*results))
     print(f"{runs} runs, {wrong} wrong")
     return 1 if wrong else 0
