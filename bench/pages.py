@@ -5,7 +5,7 @@ items. A page is what `auction replay` takes for a message more, by the differen
 takes with `--record` more than without. Beside it is what a house in plain Rust takes for the same message (PLAIN, which takes
 the words `replay --preset`, and has no record). The text alone is a page less an empty one; beside it is
 what `bench/plain`, by `serde_json` and `derive`, takes to make the same text from the same rows, which it reads from the
-record. All texts are compared. Times are medians of runs of both in turn by processor time; of the record of the smaller house
+record. Each makes the record once, and writes it. All texts are compared. Times are medians of runs of both in turn by processor time; of the record of the smaller house
 none is shown, since it is within a run's noise. It needs `valgrind`, and `cargo` with Debian's packages, as `wire.sh` says.
 """
 import dataclasses
@@ -129,8 +129,9 @@ def pages(programs, items, stream, record):
 
 
 def records(program, items, stream, record):
-    plain = by_plain(("record",), record, 1)
-    same(seconds(*plain.few)[1], record)
+    # Made and written once, as ours is.
+    plain = More(([PAGES, "record", 0], record), ([PAGES, "record", 1], record), 1)
+    same(seconds(*plain.many)[1], record)
     runs = {"ours": More(([program, *WORDS], stream), ([program, *WORDS, "--record"], stream), 1), "plain": plain}
     costs = instructions(runs)
     shown(f"{items} items: record", costs, "instructions")

@@ -19,7 +19,7 @@ from sent import answers_in, command, compact, read  # noqa: E402
 
 MORE = 1_000
 # By stream, of how many messages times are shown and instructions are counted.
-STREAMS = {"bids": (200_000, 3_000), "mixed": (100_000, 3_000)}
+STREAMS = {"bids": (200_000, 3_000), "mixed": (100_000, 10_000)}
 OPEN_TO, MOMENT = 4_000_000_000, 1_001
 
 

@@ -1,7 +1,7 @@
 -- A listing: the verdict by the tables, and the tables after it.
 use Rattle.proxy.proofs.Prices.{price-none}
 use Rattle.house_rows.proofs.Ranged.{reserve_within}
-use Rattle.std.proofs.Common.{Bor, ◌≡◌, ℕ, ◌+◌, ◌≤◌, ◌<◌, List, [], ◌∷◌, ◌++◌, map, length, Bool, true, false, not, refl, ◌∙◌, ap, sym, arith, inl, inr, Option, Some, None}
+use Rattle.std.proofs.Common.{◌≡◌, ℕ, ◌+◌, ◌≤◌, ◌<◌, List, [], ◌∷◌, ◌++◌, map, length, Bool, true, false, not, refl, ◌∙◌, ap, sym, arith, inl, inr, Option, Some, None}
 use Rattle.std.specs.Prelude.{◌==◌, ◌&&◌, find, nat_le, nat_lt, IfSome}
 use Rattle.std.specs.List.{AllByRecursion, list_any}
 use Rattle.std.proofs.lemmas.Bool.Decides.{nat_tests}
@@ -131,15 +131,14 @@ pub record IsOffered (caller : ℕ) (offer : Offer) (item : NewItem) : Type 0 wh
   pub end : item.end ≡ offer.end
   pub reserve : item.reserve ≡ offer.reserve
 
-pub offered : (caller : ℕ) (offer : Offer) (lot title text : Bor (List ℕ)) (taken : ℕ × Prices)
-    → lot.now ≡ offer.lot.now → title.now ≡ offer.title.now → text.now ≡ offer.text.now → AreOf offer taken
-    → IsOffered caller offer (record { seller = caller; category = taken.0; lot = lot; title = title; text = text; start = taken.1.start; buy_now = taken.1.buy_now; end = offer.end; reserve = taken.1.reserve })
-offered caller offer lot title text taken same_lot same_title same_text same = record {
+pub offered : (caller : ℕ) (offer : Offer) (taken : ℕ × Prices) → AreOf offer taken
+    → IsOffered caller offer (record { seller = caller; category = taken.0; lot = offer.lot; title = offer.title; text = offer.text; start = taken.1.start; buy_now = taken.1.buy_now; end = offer.end; reserve = taken.1.reserve })
+offered caller offer taken same = record {
   seller = refl;
   category = same.category;
-  lot = same_lot;
-  title = same_title;
-  text = same_text;
+  lot = refl;
+  title = refl;
+  text = refl;
   start = same.start;
   buy_now = same.buy_now;
   end = refl;

@@ -48,7 +48,7 @@ pub fn answer<'c, K: Keep>(
             item: question.item,
             asker: question.asker,
             number: question.number,
-            text: text.as_str(),
+            text,
         })),
     }
 }

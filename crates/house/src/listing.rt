@@ -75,9 +75,9 @@ pub fn list<'c, K: Keep>(
     let item = NewItem {
         seller: caller as u32,
         category,
-        lot: offer.lot.as_str(),
-        title: offer.title.as_str(),
-        text: offer.text.as_str(),
+        lot: offer.lot,
+        title: offer.title,
+        text: offer.text,
         start: prices.start,
         buy_now: prices.buy_now,
         end: offer.end,

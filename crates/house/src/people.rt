@@ -34,10 +34,7 @@ pub fn register<'c, K: Keep>(
 {
     match register_refused(keep, moment, caller, name)? {
         Some(refusal) => Ok(Err(refusal)),
-        None => Ok(Ok(Change::Register {
-            moment,
-            name: name.as_str(),
-        })),
+        None => Ok(Ok(Change::Register { moment, name })),
     }
 }
 
@@ -98,10 +95,7 @@ pub fn add_category<'c, K: Keep>(
 {
     match add_category_refused(keep, moment, caller, name)? {
         Some(refusal) => Ok(Err(refusal)),
-        None => Ok(Ok(Change::AddCategory {
-            moment,
-            name: name.as_str(),
-        })),
+        None => Ok(Ok(Change::AddCategory { moment, name })),
     }
 }
 

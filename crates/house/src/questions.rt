@@ -42,7 +42,7 @@ pub fn ask<'c, K: Keep>(
             item: on.terms.item,
             asker: on.member,
             number,
-            text: text.as_str(),
+            text,
         })),
     }
 }

@@ -47,7 +47,7 @@ pub fn feedback<'c, K: Keep>(
             from: on.member,
             to: other_party(&on.terms, caller),
             rating,
-            text: text.as_str(),
+            text,
         })),
     }
 }

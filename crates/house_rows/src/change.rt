@@ -1,5 +1,6 @@
 //! What an accepted command changes.
 use crate::rating::Rating;
+use crate::text::Text;
 use cents::Cents;
 use proxy::{Bid, Standing};
 
@@ -11,11 +12,11 @@ pub struct NewItem<'c> {
     /// The number of its category.
     pub category: u32,
     /// The seller's own code for it.
-    pub lot: &'c str,
+    pub lot: &'c Text,
     /// The title.
-    pub title: &'c str,
+    pub title: &'c Text,
     /// The description.
-    pub text: &'c str,
+    pub text: &'c Text,
     /// The price that bidding begins with.
     pub start: Cents,
     /// The price for which it may be bought at once.
@@ -33,12 +34,12 @@ pub enum Change<'c> {
     /// A member comes, with the next number.
     Register {
         moment: u64,
-        name: &'c str,
+        name: &'c Text,
     },
     /// A category comes, with the next number.
     AddCategory {
         moment: u64,
-        name: &'c str,
+        name: &'c Text,
     },
     /// An item comes, with the next number.
     List {
@@ -83,7 +84,7 @@ pub enum Change<'c> {
         item: u32,
         asker: u32,
         number: u32,
-        text: &'c str,
+        text: &'c Text,
     },
     /// A question was answered.
     Answer {
@@ -91,7 +92,7 @@ pub enum Change<'c> {
         item: u32,
         asker: u32,
         number: u32,
-        text: &'c str,
+        text: &'c Text,
     },
     /// A party of a sale rated the other.
     Feedback {
@@ -100,7 +101,7 @@ pub enum Change<'c> {
         from: u32,
         to: u32,
         rating: Rating,
-        text: &'c str,
+        text: &'c Text,
     },
     /// A band table comes, as the next edition. Each row is (at, step) in cents.
     SetBands {

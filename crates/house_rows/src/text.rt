@@ -1,5 +1,6 @@
 //! A text of the house.
 ghost use Rattle.std.specs.Prelude.{◌≡◌, length, string_bytes, IfOk};
+ghost use Rattle.std.specs.Rc.{rc_str_bytes};
 ghost use Rattle.house_rows.specs.Text.{is_plain};
 
 use std::alloc::{AllocError, Global};
@@ -47,6 +48,13 @@ impl Text {
         Ok(Text {
             inner: self.inner.clone()?,
         })
+    }
+
+    /// Its bytes, with one more owner.
+    pub fn to_shared(&self) -> Result<RcStr, AllocError>
+        ensures { IfOk result (λ s. rc_str_bytes s ≡ self.now) }
+    {
+        self.inner.clone()
     }
 
     /// The text.

@@ -1,6 +1,6 @@
 -- What the tallies say, as bids are placed.
 use Rattle.std.proofs.Common.{◌≡◌, ◌<◌, ◌≤◌, ◌+◌, ◌^◌, ℕ, zero, suc, List, [], ◌∷◌, map, filter, length, max, Bool, true, false, refl, ap, sym, subst, ◌∙◌, arith, inl, inr, Option, Some, None, Result, Ok, Err, Bor}
-use Rattle.std.specs.Prelude.{Vec, ◌&&◌, ◌||◌, IfErr, OnOk, find, is_some, option_map, ◌==◌}
+use Rattle.std.specs.Prelude.{Vec, ◌&&◌, ◌||◌, OnOk, find, is_some, option_map, ◌==◌}
 use Rattle.std.specs.List.{AllByRecursion, list_any}
 use Rattle.std.specs.Option.{option_copied}
 use Rattle.std.proofs.lemmas.Bool.Decides.{nat_tests}
@@ -10,7 +10,6 @@ use Rattle.house_rows.specs.Found.{best_of}
 use Rattle.house_rows.specs.History.{Key, is_less, put_by}
 use Rattle.house_rows.specs.Tables.{Tables}
 use Rattle.house_rows.specs.declared.fault.KeepFault.{KeepFault}
-use Rattle.house_rows.specs.declared.fault.KeepFault.TheVariants.{Memory}
 use Rattle.house_rows.specs.declared.item.OwnBest.{OwnBest}
 use Rattle.house_rows.proofs.Every.{every_both, found_is}
 use Rattle.house_rows.proofs.Put.{IsInOrder, by_test, filter_put, filter_put_other}
@@ -18,11 +17,11 @@ use Rattle.list_rows.specs.Blocks.{IsBlocked, IsRising, rows_of, same_key}
 use Rattle.list_rows.specs.Makes.{Makes}
 use Rattle.list_rows.proofs.Blocked.{block_at, block_is, rows_rise}
 use Rattle.list_rows.proofs.Keys.{any_by_find, find_put, find_put_other, there_found}
-use Rattle.list_rows.proofs.Making.{changed_at, fault_is_memory}
+use Rattle.list_rows.proofs.Making.{changed_at}
 use Rattle.list_rows.proofs.Placed.{every_by_places}
 use Rattle.list_rows.proofs.Order.{rising_filter, same_is, same_self}
 use Rattle.list_bids.specs.declared.tally.Tally.{Tally}
-use Rattle.list_bids.specs.Tallies.{AreRisingFrom, AreTallied, AreTallies, numbers_in, best_among, is_own, is_tally, no_best, pair_key, tally_best, tally_in, tally_key}
+use Rattle.list_bids.specs.Tallies.{AreRisingFrom, AreTallied, AreTallies, fault_of, numbers_in, best_among, is_own, is_tally, no_best, pair_key, tally_best, tally_in, tally_key}
 
 -- how many bids there are
 
@@ -162,9 +161,9 @@ opened_same member item ts none m i =
 opened_there : (member item : ℕ) (ts : List Tally) → find (is_tally member item) ts ≡ None → is_some (find (is_tally member item) (put_by tally_key (opening member item) ts)) ≡ true
 opened_there member item ts none = rw (find_put tally_key (is_tally member item) (opening member item) ts (same_self (pair_key member item)) (any_by_find (is_tally member item) ts none)) refl
 
-pub none_by_test : {A : Type 0} (o : Option A) → is_some o ≡ false → o ≡ None
-none_by_test None test = refl
-none_by_test (Some x) test = absurd (let e : true ≡ false = test in cc)
+pub none_mapped : (found : Option Tally) → option_map (λ (tally : Tally). tally.best) found ≡ None → found ≡ None
+none_mapped None none = refl
+none_mapped (Some tally) none = absurd (let e : Some tally.best ≡ None = none in cc)
 
 -- with a tally of no bid more the tallies say what they said
 pub opened_reported : (r : Result (Unit {0}) KeepFault) (ts new : List Tally) (member item : ℕ) (is_free : Type 0) → find (is_tally member item) ts ≡ None → Makes r ts new (put_by tally_key (opening member item) ts) is_free → (m i : ℕ) → tally_in new m i ≡ tally_in ts m i
@@ -174,10 +173,6 @@ opened_reported (Err e) ts new member item is_free none made m i = ap (λ (xs : 
 pub opened_found : (r : Result (Unit {0}) KeepFault) (ts new : List Tally) (member item : ℕ) (is_free : Type 0) → find (is_tally member item) ts ≡ None → Makes r ts new (put_by tally_key (opening member item) ts) is_free → OnOk r (is_some (find (is_tally member item) new) ≡ true)
 opened_found (Ok u) ts new member item is_free none made = ap (λ (xs : List Tally). is_some (find (is_tally member item) xs)) made.ok ∙ opened_there member item ts none
 opened_found (Err e) ts new member item is_free none made = tt
-
-pub opened_memory : (r : Result (Unit {0}) KeepFault) (ts new wanted : List Tally) (member item : ℕ) → find (is_tally member item) ts ≡ None → Makes r ts new wanted (list_any (is_tally member item) ts ≡ false) → IfErr r (λ e. e ≡ Memory)
-opened_memory (Ok u) ts new wanted member item none made = tt
-opened_memory (Err e) ts new wanted member item none made = fault_is_memory ts new wanted (list_any (is_tally member item) ts ≡ false) e (any_by_find (is_tally member item) ts none) made
 
 -- a bid is named by its item and number
 
@@ -191,6 +186,19 @@ found_any item number (b ∷ rows) =
       | inl is ↦ rw (named item number b, is) refl
       | inr other ↦ rw (named item number b, other) (found_any item number rows)
     ]
+
+pub any_named : (item number : ℕ) (rows : List BidRow) → list_any (λ b. same_key (bid_key b) (pair_key item number)) rows ≡ list_any (λ b. (b.item == item) && (b.bid.no == number)) rows
+any_named item number [] = refl
+any_named item number (b ∷ rows) =
+    elim (by_test ((b.item == item) && (b.bid.no == number))) [
+      | inl is ↦ rw (named item number b, is) refl
+      | inr other ↦ rw (named item number b, other) (any_named item number rows)
+    ]
+
+-- a bid that isn't placed, whose fault goes by whether its number is taken
+pub unplaced : (taken : Bool) (fault : KeepFault) (old new wanted : List BidRow) → fault ≡ fault_of taken → new ≡ old → Makes (Err fault) old new wanted (taken ≡ false)
+unplaced true fault old new wanted is same = record { ok = tt; err = same; free = tt; damaged = λ damaged free. cc; taken = λ taken. rw is refl; store = λ store. cc }
+unplaced false fault old new wanted is same = record { ok = tt; err = same; free = tt; damaged = λ damaged free. cc; taken = λ taken. absurd (taken refl); store = λ store. cc }
 
 -- what is there after a reference is there
 pub some_copied : {A : Type 0} (o : Option (Bor A)) → is_some o ≡ is_some (option_copied o)

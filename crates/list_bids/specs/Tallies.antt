@@ -1,11 +1,13 @@
 -- What each member has bid on each item, kept beside the bids.
-use Rattle.std.specs.Prelude.{◌≡◌, ◌<◌, ◌≤◌, ◌+◌, [], ◌∷◌, ◌==◌, ◌&&◌, ℕ, List, Vec, Bool, true, filter, find, length, map, Option, Some, None}
+use Rattle.std.specs.Prelude.{◌≡◌, ◌<◌, ◌≤◌, ◌+◌, [], ◌∷◌, ◌==◌, ◌&&◌, ℕ, List, Vec, Bool, true, false, filter, find, length, map, Option, Some, None}
 use Rattle.std.specs.List.{AllByRecursion, list_any}
 use Rattle.proxy.specs.Bids.{greatest_of}
 use Rattle.house_rows.specs.Bids.{BidRow, bid_key}
 use Rattle.house_rows.specs.Found.{best_of}
 use Rattle.house_rows.specs.History.{Key}
 use Rattle.house_rows.specs.Tables.{Tables}
+use Rattle.house_rows.specs.declared.fault.KeepFault.{KeepFault}
+use Rattle.house_rows.specs.declared.fault.KeepFault.TheVariants.{Damaged, Memory}
 use Rattle.house_rows.specs.declared.item.OwnBest.{OwnBest}
 use Rattle.list_rows.specs.Blocks.{IsBlocked, rows_of, same_key}
 use Rattle.list_bids.specs.declared.tally.Tally.{Tally}
@@ -64,3 +66,8 @@ pub record AreTallies (t : Tables) (member : ℕ) (tallies : List Tally) : Type 
   pub rising : AreRisingFrom 0 (numbers_in tallies)
   pub report : AllByRecursion (λ tally. tally.best ≡ best_of t member tally.item) tallies
   pub complete : (item : ℕ) → 0 < (best_of t member item).mine → list_any (λ n. n == item) (numbers_in tallies) ≡ true
+
+-- why a bid isn't placed: its number is taken, or memory was refused
+abbrev pub fault_of : Bool → KeepFault
+fault_of true = Damaged
+fault_of false = Memory

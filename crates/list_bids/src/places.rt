@@ -1,12 +1,12 @@
 //! Where a bid goes: to the bids of its item and to the tally of its bidder there.
-ghost use Rattle.std.specs.Prelude.{◌≡◌, ◌+◌, ◌<◌, ◌^◌, ◌==◌, ◌&&◌, IfErr, OnOk, find, is_some, max, false, true};
+ghost use Rattle.std.specs.Prelude.{◌≡◌, ◌+◌, ◌<◌, ◌^◌, ◌==◌, ◌&&◌, IfOk, OnOk, find, is_some, max, option_map, false, true};
 ghost use Rattle.std.specs.List.{list_any};
 ghost use Rattle.house_rows.specs.Bids.{bid_key};
 ghost use Rattle.house_rows.specs.History.{put_by};
-ghost use Rattle.house_rows.specs.declared.fault.KeepFault.TheVariants as fault;
 ghost use Rattle.list_rows.specs.Blocks.{IsBlocked, rows_of};
 ghost use Rattle.list_rows.specs.Makes.{Makes};
-ghost use Rattle.list_bids.specs.Tallies.{AreTallied, is_tally, no_best, tally_in, tally_key};
+ghost use Rattle.list_bids.specs.declared.tally.Tally.{Tally};
+ghost use Rattle.list_bids.specs.Tallies.{AreTallied, fault_of, is_tally, no_best, tally_in, tally_key};
 
 use crate::tally::{Better, Tally};
 use cents::Cents;
@@ -20,9 +20,20 @@ pub(crate) fn best_at(tallies: &[Vec<Tally>], member: u64, item: u64) -> OwnBest
     requires { IsBlocked tally_key tallies.now }
     ensures { result ≡ tally_in (rows_of tallies.now) member item }
 {
-    match row(tallies, RowKey::new(member, item, 0)) {
-        Some(tally) => tally.best,
+    match best_there(tallies, member, item) {
+        Some(best) => best,
         None => none(),
+    }
+}
+
+// The same, if there is a tally of them.
+fn best_there(tallies: &[Vec<Tally>], member: u64, item: u64) -> Option<OwnBest>
+    requires { IsBlocked tally_key tallies.now }
+    ensures { result ≡ option_map (λ (tally : Tally). tally.best) (find (is_tally member item) (rows_of tallies.now)) }
+{
+    match row(tallies, RowKey::new(member, item, 0)) {
+        Some(tally) => Some(tally.best),
+        None => None,
     }
 }
 
@@ -50,33 +61,29 @@ pub(crate) fn place(
         (list_any (λ b. (b.item == item) && (b.bid.no == bid.no)) (rows_of bids.old.items) ≡ false) }
     ensures tallied { AreTallied bids.new.items tallies.new.items }
 {
-    // The look-up comes first: where the number is taken, no memory is asked for.
-    if is_taken(bids, item, bid.no) {
-        return Err(KeepFault::Damaged);
-    }
     let (member, maximum) = (bid.member, bid.maximum);
-    // A tally of no bid may stay, where memory is then wanting.
-    let Ok(()) = open(alloc, tallies, member, item) else {
-        return Err(KeepFault::Memory);
+    // A tally of no bid may stay, where the bid is then not put.
+    let Ok(best) = open_tally(alloc, tallies, member, item) else {
+        return Err(fault(bids, item, bid.no));
     };
-    let best = better(
-        best_at(tallies, u64::from(member), u64::from(item)),
-        maximum,
-    );
-    let Ok(()) = put(alloc, bids, BidEntry { item, bid }) else {
-        return Err(KeepFault::Memory);
-    };
+    let best = better(best, maximum);
+    if let Err(fault) = put(alloc, bids, BidEntry { item, bid }) {
+        return Err(fault);
+    }
     let key = RowKey::new(u64::from(member), u64::from(item), 0);
     update(tallies, key, Better { best });
     Ok(())
 }
 
-// Whether an item has a bid of that number.
-fn is_taken(bids: &[Vec<BidEntry>], item: u32, no: u32) -> bool
+// The fault of a bid for which memory was refused: `Damaged` where its item has a bid of its number.
+fn fault(bids: &[Vec<BidEntry>], item: u32, no: u32) -> KeepFault
     requires { IsBlocked bid_key bids.now }
-    ensures { result ≡ list_any (λ b. (b.item == item) && (b.bid.no == no)) (rows_of bids.now) }
+    ensures { result ≡ fault_of (list_any (λ b. (b.item == item) && (b.bid.no == no)) (rows_of bids.now)) }
 {
-    row(bids, RowKey::new(u64::from(item), u64::from(no), 0)).is_some()
+    match row(bids, RowKey::new(u64::from(item), u64::from(no), 0)) {
+        Some(_) => KeepFault::Damaged,
+        None => KeepFault::Memory,
+    }
 }
 
 // What a member has bid with one bid more.
@@ -90,30 +97,23 @@ fn better(best: OwnBest, maximum: Cents) -> OwnBest
     }
 }
 
-// Whether there is a tally of a member and an item.
-fn is_reported(tallies: &[Vec<Tally>], member: u64, item: u64) -> bool
-    requires { IsBlocked tally_key tallies.now }
-    ensures { result ≡ is_some (find (is_tally member item) (rows_of tallies.now)) }
-{
-    row(tallies, RowKey::new(member, item, 0)).is_some()
-}
-
-// Puts a tally of no bid, where a member and an item have none.
-fn open(
+// What the tallies say of a member and an item; where these have none, a tally of no bid is put.
+fn open_tally(
     alloc: Global,
     tallies: &mut Vec<Vec<Tally>>,
     member: u32,
     item: u32,
-) -> Result<(), KeepFault>
+) -> Result<OwnBest, KeepFault>
     requires { IsBlocked tally_key tallies.old.items }
+    ensures value { IfOk result (λ best. best ≡ tally_in (rows_of tallies.old.items) member item) }
     ensures blocked { IsBlocked tally_key tallies.new.items }
     ensures same { (m i : _) → tally_in (rows_of tallies.new.items) m i ≡ tally_in (rows_of tallies.old.items) m i }
     ensures there { OnOk result (is_some (find (is_tally member item) (rows_of tallies.new.items)) ≡ true) }
-    ensures memory { IfErr result (λ e. e ≡ fault.Memory) }
 {
-    if is_reported(tallies, u64::from(member), u64::from(item)) {
-        return Ok(());
+    if let Some(best) = best_there(tallies, u64::from(member), u64::from(item)) {
+        return Ok(best);
     }
     let best = none();
-    put(alloc, tallies, Tally { member, item, best })
+    put(alloc, tallies, Tally { member, item, best })?;
+    Ok(none())
 }

@@ -1,8 +1,7 @@
 -- What the indexes know stays true as rows change and come.
-use Rattle.std.proofs.Common.{◌≡◌, ℕ, ◌+◌, ◌≤◌, List, [], ◌∷◌, ◌++◌, length, map, Bool, true, false, refl, ◌∙◌, sym, arith, inl, inr, Option, Some, None}
-use Rattle.std.specs.Prelude.{if◌then◌else◌, ◌==◌, ◌&&◌, find}
+use Rattle.std.proofs.Common.{◌≡◌, ℕ, ◌+◌, ◌≤◌, List, [], ◌∷◌, ◌++◌, length, map, Bool, true, false, refl, ◌∙◌, ap, sym, arith, inl, inr, Option, Some, None}
+use Rattle.std.specs.Prelude.{if◌then◌else◌, ◌==◌, ◌&&◌, find, option_map}
 use Rattle.std.specs.List.{AllByRecursion}
-use Rattle.std.proofs.lemmas.Bool.Decides.{nat_tests, same_from_decides}
 use Rattle.std.proofs.lemmas.List.{length-append, length-map}
 use Rattle.std.specs.Cmp.Lexicographic.{bytes_decides}
 use Rattle.house_rows.specs.Items.{is_open}
@@ -11,11 +10,11 @@ use Rattle.house_rows.specs.Text.{same_text}
 use Rattle.house_rows.proofs.Every.{every_as, every_map, every_more}
 use Rattle.house_rows.proofs.InTurn.{turn_map, turn_more}
 use Rattle.house_rows.proofs.Put.{by_test}
-use Rattle.list_items.specs.Indexed.{AreGrouped, IsIndexed, IsNoted, category_of, number_of, seller_of}
+use Rattle.list_items.specs.Indexed.{AreGrouped, IsIndexed, IsNoted, category_of, has_lot, lot_in, number_of, seller_of}
 use Rattle.list_items.specs.Rising.{IsRisingFrom, is_among}
 use Rattle.list_items.proofs.Alike.{IsLike}
 use Rattle.list_items.proofs.Among.{among_last, among_more}
-use Rattle.list_items.proofs.Joined.{is_number}
+use Rattle.list_items.proofs.Joined.{both_ways, is_number, same_number}
 
 -- of rows that change alike
 pub grouped_changed : (shared : ItemRow → ℕ) (numbers : ℕ → List ℕ) (f : ItemRow → ItemRow) (rows : List ItemRow) → ((row : ItemRow) → shared (f row) ≡ shared row) → ((row : ItemRow) → number_of (f row) ≡ number_of row)
@@ -28,14 +27,21 @@ grouped_changed shared numbers f rows alike named is = record {
       (λ row here. rw (alike row, named row) here) is.complete);
 }
 
+lot_changed : (f : ItemRow → ItemRow) (rows : List ItemRow) → ((row : ItemRow) → IsLike row (f row)) → (seller : ℕ) (lot : List ℕ) → lot_in rows seller lot ≡ lot_in (map f rows) seller lot
+lot_changed f [] like seller lot = refl
+lot_changed f (row ∷ rows) like seller lot =
+    let same : has_lot seller lot (f row) ≡ has_lot seller lot row = rw ((like row).seller, (like row).lot) refl in
+    elim (by_test (has_lot seller lot row)) [
+      | inl is ↦ (let still : has_lot seller lot (f row) ≡ true = same ∙ is in rw (is, still) (ap Some (sym (like row).number)))
+      | inr not ↦ (let still : has_lot seller lot (f row) ≡ false = same ∙ not in rw (not, still) (lot_changed f rows like seller lot))
+    ]
+
 pub indexed_changed : (f : ItemRow → ItemRow) (rows : List ItemRow) (at_lot : ℕ → List ℕ → Option ℕ) (in_category sold_by bought_by new_bought : ℕ → List ℕ) (ends_at : ℕ → ℕ → Bool) → ((row : ItemRow) → IsLike row (f row))
     → ((row : ItemRow) → IsNoted bought_by row → IsNoted new_bought (f row))
     → IsIndexed rows at_lot in_category sold_by bought_by ends_at → IsIndexed (map f rows) at_lot in_category sold_by new_bought ends_at
 indexed_changed f rows at_lot in_category sold_by bought_by new_bought ends_at like noted is = record {
   in_turn = turn_map number_of number_of f 1 rows (λ row. (like row).number) is.in_turn;
-  lots = every_map f (λ row. at_lot row.item.terms.seller row.item.lot ≡ Some (number_of row)) rows
-      (every_as (λ row. at_lot row.item.terms.seller row.item.lot ≡ Some (number_of row)) (λ row. at_lot (f row).item.terms.seller (f row).item.lot ≡ Some (number_of (f row))) rows
-      (λ row here. rw ((like row).seller, (like row).lot, (like row).number) here) is.lots);
+  lots = λ seller lot. is.lots seller lot ∙ lot_changed f rows like seller lot;
   categories = grouped_changed category_of in_category f rows (λ row. (like row).category) (λ row. (like row).number) is.categories;
   sellers = grouped_changed seller_of sold_by f rows (λ row. (like row).seller) (λ row. (like row).number) is.sellers;
   purchases = every_map f (IsNoted new_bought) rows (every_as (IsNoted bought_by) (λ row. IsNoted new_bought (f row)) rows noted is.purchases);
@@ -49,8 +55,7 @@ pub lots_as : (rows : List ItemRow) (at_lot new_lot : ℕ → List ℕ → Optio
     → IsIndexed rows at_lot in_category sold_by bought_by ends_at → IsIndexed rows new_lot in_category sold_by bought_by ends_at
 lots_as rows at_lot new_lot in_category sold_by bought_by ends_at same is = record {
   in_turn = is.in_turn;
-  lots = every_as (λ row. at_lot row.item.terms.seller row.item.lot ≡ Some (number_of row)) (λ row. new_lot row.item.terms.seller row.item.lot ≡ Some (number_of row)) rows
-      (λ row here. same row.item.terms.seller row.item.lot ∙ here) is.lots;
+  lots = λ seller lot. same seller lot ∙ is.lots seller lot;
   categories = is.categories;
   sellers = is.sellers;
   purchases = is.purchases;
@@ -104,43 +109,44 @@ ends_added rows at_lot in_category sold_by bought_by ends_at new_ends stays is =
       (λ row here opened. stays row.item.terms.end (number_of row) (here opened)) is.ends;
 }
 
--- nothing that is found nowhere passes
-none_passes : {A : Type 0} (p : A → Bool) (xs : List A) → find p xs ≡ None → AllByRecursion (λ x. p x ≡ false) xs
-none_passes p [] none = tt
-none_passes p (x ∷ xs) none =
-    elim (by_test (p x)) [
-      | inl is ↦ absurd (something x (find p (x ∷ xs)) (rw is refl) none)
-      | inr not ↦ (not, none_passes p xs (rw not at none))
+-- what is looked for among rows and one more
+found_last : (p : ItemRow → Bool) (rows : List ItemRow) (row : ItemRow) → find p rows ≡ None → p row ≡ true → find p (rows ++ row ∷ []) ≡ Some row
+found_last p [] row none is = rw is refl
+found_last p (first ∷ rows) row none is =
+    elim (by_test (p first)) [
+      | inl here ↦ absurd (some_none first (find p (first ∷ rows)) (rw here refl) none)
+      | inr not ↦ rw not (found_last p rows row (rw not at none) is)
     ] where
-      something : {A : Type 0} (x : A) (o : Option A) → o ≡ Some x → o ≡ None → ⊥
-      something x o some none = cc
+      some_none : (x : ItemRow) (o : Option ItemRow) → o ≡ Some x → o ≡ None → ⊥
+      some_none x o some none = cc
 
-pub text_swap : (a b : List ℕ) → same_text a b ≡ same_text b a
-text_swap a b = same_from_decides (same_text a b) (same_text b a) (bytes_decides a b) (λ t. sym ((bytes_decides b a).0 t), λ e. (bytes_decides b a).1 (sym e))
+found_before : (p : ItemRow → Bool) (rows : List ItemRow) (row : ItemRow) → p row ≡ false → find p (rows ++ row ∷ []) ≡ find p rows
+found_before p [] row not = rw not refl
+found_before p (first ∷ rows) row not =
+    elim (by_test (p first)) [
+      | inl here ↦ rw here refl
+      | inr other ↦ rw other (found_before p rows row not)
+    ]
 
-number_swap : (a b : ℕ) → (a == b) ≡ (b == a)
-number_swap a b = grind (arith, nat_tests)
+both : (a b : Bool) → (a && b) ≡ true → (a ≡ true) × (b ≡ true)
+both true true is = (refl, refl)
+both true false is = absurd (both_ways false is refl)
+both false b is = absurd (both_ways false is refl)
 
--- a lot that no row has
-pub lot_added : (rows : List ItemRow) (at_lot new_lot : ℕ → List ℕ → Option ℕ) (in_category sold_by bought_by : ℕ → List ℕ) (ends_at : ℕ → ℕ → Bool) (seller number : ℕ) (lot : List ℕ)
-    → find (λ row. (row.item.terms.seller == seller) && same_text row.item.lot lot) rows ≡ None
-    → ((s : ℕ) (l : List ℕ) → new_lot s l ≡ (if (seller == s) && same_text lot l then Some number else at_lot s l))
-    → IsIndexed rows at_lot in_category sold_by bought_by ends_at → IsIndexed rows new_lot in_category sold_by bought_by ends_at
-lot_added rows at_lot new_lot in_category sold_by bought_by ends_at seller number lot free made is = record {
-  in_turn = is.in_turn;
-  lots = every_pair (λ (row : ItemRow). ((row.item.terms.seller == seller) && same_text row.item.lot lot) ≡ false) (λ row. at_lot row.item.terms.seller row.item.lot ≡ Some (number_of row)) (λ row. new_lot row.item.terms.seller row.item.lot ≡ Some (number_of row)) rows
-      (λ row other here.
-      let apart : ((seller == row.item.terms.seller) && same_text lot row.item.lot) ≡ false = rw (number_swap seller row.item.terms.seller, text_swap lot row.item.lot) other in
-      (rw apart at (made row.item.terms.seller row.item.lot)) ∙ here)
-      (none_passes (λ row. (row.item.terms.seller == seller) && same_text row.item.lot lot) rows free) is.lots;
-  categories = is.categories;
-  sellers = is.sellers;
-  purchases = is.purchases;
-  ends = is.ends;
-} where
-  every_pair : {A : Type 0} (P Q R : A → Type 0) (xs : List A) → ((x : A) → P x → Q x → R x) → AllByRecursion P xs → AllByRecursion Q xs → AllByRecursion R xs
-  every_pair P Q R [] both all also = tt
-  every_pair P Q R (x ∷ xs) both all also = (both x all.0 also.0, every_pair P Q R xs both all.1 also.1)
+-- a row with a lot that no row has
+lot_added : (rows : List ItemRow) (row : ItemRow) (at_lot new_lot : ℕ → List ℕ → Option ℕ) → find (has_lot row.item.terms.seller row.item.lot) rows ≡ None
+    → ((s : ℕ) (l : List ℕ) → new_lot s l ≡ (if (row.item.terms.seller == s) && same_text row.item.lot l then Some (number_of row) else at_lot s l))
+    → ((s : ℕ) (l : List ℕ) → at_lot s l ≡ lot_in rows s l) → (s : ℕ) (l : List ℕ) → new_lot s l ≡ lot_in (rows ++ row ∷ []) s l
+lot_added rows row at_lot new_lot free made is s l =
+    elim (by_test (has_lot s l row)) [
+      | inl here ↦ (
+          let same = both (row.item.terms.seller == s) (same_text row.item.lot l) here in
+          let seller : row.item.terms.seller ≡ s = same_number row.item.terms.seller s same.0 in
+          let lot : row.item.lot ≡ l = (bytes_decides row.item.lot l).0 same.1 in
+          let none : find (has_lot s l) rows ≡ None = rw (seller, lot) at free in
+          rw (made s l, here) (sym (ap (option_map number_of) (found_last (has_lot s l) rows row none here))))
+      | inr other ↦ rw (made s l, other) (is s l ∙ sym (ap (option_map number_of) (found_before (has_lot s l) rows row other)))
+    ]
 
 -- rising numbers, with one above them all
 rising_more : (least n : ℕ) (ks : List ℕ) → IsRisingFrom least ks → AllByRecursion (λ k. k ≤ n) ks → least ≤ n + 1 → IsRisingFrom least (ks ++ (n + 1) ∷ [])
@@ -173,15 +179,16 @@ group_added shared numbers new rows row next made is =
           (rw (made (shared row), is_number (shared row) (shared row) refl) (among_last (numbers (shared row)) (number_of row)));
     }
 
-pub row_added : (rows : List ItemRow) (row : ItemRow) (at_lot : ℕ → List ℕ → Option ℕ) (in_category new_category sold_by new_sold bought_by : ℕ → List ℕ) (ends_at : ℕ → ℕ → Bool) → number_of row ≡ length rows + 1
-    → at_lot row.item.terms.seller row.item.lot ≡ Some (number_of row)
+pub row_added : (rows : List ItemRow) (row : ItemRow) (at_lot new_lot : ℕ → List ℕ → Option ℕ) (in_category new_category sold_by new_sold bought_by : ℕ → List ℕ) (ends_at : ℕ → ℕ → Bool) → number_of row ≡ length rows + 1
+    → find (has_lot row.item.terms.seller row.item.lot) rows ≡ None
+    → ((s : ℕ) (l : List ℕ) → new_lot s l ≡ (if (row.item.terms.seller == s) && same_text row.item.lot l then Some (number_of row) else at_lot s l))
     → ((category : ℕ) → new_category category ≡ (if category_of row == category then in_category category ++ number_of row ∷ [] else in_category category))
     → ((seller : ℕ) → new_sold seller ≡ (if seller_of row == seller then sold_by seller ++ number_of row ∷ [] else sold_by seller))
     → IsNoted bought_by row → ends_at row.item.terms.end (number_of row) ≡ true
-    → IsIndexed rows at_lot in_category sold_by bought_by ends_at → IsIndexed (rows ++ row ∷ []) at_lot new_category new_sold bought_by ends_at
-row_added rows row at_lot in_category new_category sold_by new_sold bought_by ends_at next lot categories sellers noted ended is = record {
+    → IsIndexed rows at_lot in_category sold_by bought_by ends_at → IsIndexed (rows ++ row ∷ []) new_lot new_category new_sold bought_by ends_at
+row_added rows row at_lot new_lot in_category new_category sold_by new_sold bought_by ends_at next free lots categories sellers noted ended is = record {
   in_turn = turn_more number_of 1 rows row is.in_turn next;
-  lots = every_more (λ r. at_lot r.item.terms.seller r.item.lot ≡ Some (number_of r)) rows row is.lots lot;
+  lots = lot_added rows row at_lot new_lot free lots is.lots;
   categories = group_added category_of in_category new_category rows row next categories is.categories;
   sellers = group_added seller_of sold_by new_sold rows row next sellers is.sellers;
   purchases = every_more (IsNoted bought_by) rows row is.purchases noted;

@@ -4,7 +4,6 @@ mod Parties
 mod Placed
 mod Alike
 mod Known
-mod ByLot
 pub mod Fronts
 pub mod Reserves
 mod Closed

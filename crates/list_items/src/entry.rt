@@ -34,13 +34,6 @@ impl ItemEntry {
         &self.item
     }
 
-    /// Whether a seller has it under a lot.
-    pub(crate) fn has_lot(&self, seller: u64, lot: &str) -> bool
-        ensures { result ≡ ((self.now.item.terms.seller == seller) && same_text self.now.item.lot lot.now) }
-    {
-        u64::from(self.item.terms.seller) == seller && self.item.lot.as_str() == lot
-    }
-
     /// The reserve on it, where the member sells it and its number is not below another.
     pub(crate) fn reserve_with(&self, member: u64, from: u64) -> Option<OwnReserve>
         ensures { result ≡ reserve_with member from self.now }

@@ -14,7 +14,7 @@ ghost use Rattle.house_rows.specs.declared.fault.KeepFault.TheVariants as fault;
 ghost use Rattle.list_rows.specs.Makes.{Makes};
 ghost use Rattle.house_rows.specs.Keeping.{AreInTurn};
 ghost use Rattle.list_items.specs.Closing.{close_at, is_due_with};
-ghost use Rattle.list_items.specs.Indexed.{number_of};
+ghost use Rattle.list_items.specs.Indexed.{lot_in, number_of};
 ghost use Rattle.list_items.specs.Rising.{HasAll, IsRising, is_among};
 ghost use Rattle.list_items.specs.Sales.{is_sold_with, sale_of_row};
 ghost use Rattle.list_items.specs.Reserves.{reserve_with};
@@ -151,9 +151,7 @@ impl Items {
         ensures { result ≡ option_map (λ (row : ItemRow). row.item.terms.item)
             (find (λ row. (row.item.terms.seller == seller) && same_text row.item.lot lot.now) self.now) }
     {
-        let number = number_at(&self.lots, seller, lot)?;
-        let row = self.entry(u64::from(number))?;
-        row.has_lot(seller, lot).then_some(number)
+        number_at(&self.lots, seller, lot)
     }
 
     /// Whether a member sells an item.
@@ -322,11 +320,13 @@ impl Items {
             (option_map (λ (row : ItemRow). row.item.terms.item)
             (find (λ row. (row.item.terms.seller == item.now.seller) && same_text row.item.lot item.now.lot.now) self.old) ≡ None) }
     {
-        let seller = u64::from(item.seller);
-        if self.number_with_lot(seller, item.lot).is_some() {
-            return Err(KeepFault::Damaged);
-        }
-        self.append(alloc, item)
+        let Ok(()) = self.append(alloc, item) else {
+            return match self.number_with_lot(u64::from(item.seller), item.lot.as_str()) {
+                Some(_) => Err(KeepFault::Damaged),
+                None => Err(KeepFault::Memory),
+            };
+        };
+        Ok(())
     }
 
     /// The standing of the item of that number is now that of its bids.
@@ -384,28 +384,27 @@ impl Items {
         }
     }
 
-    // An item comes whose lot is new to its seller.
+    // An item comes, unless its seller has its lot.
     fn append(&mut self, alloc: Global, item: &NewItem<'_>) -> Result<(), KeepFault>
         requires room { length self.old < most_items }
-        requires free { find (λ (row : ItemRow). (row.item.terms.seller == item.now.seller) && same_text row.item.lot item.now.lot.now) self.old ≡ None }
         ensures listed { OnOk result (self.new ≡ self.old ++ new_item (length self.old + 1) item.now ∷ []) }
+        ensures free { OnOk result (lot_in self.old item.now.seller item.now.lot.now ≡ None) }
         ensures err { OnErr result (self.new ≡ self.old) }
-        ensures memory { IfErr result (λ e. e ≡ fault.Memory) }
     {
         let seller = u64::from(item.seller);
         let category = u64::from(item.category);
         let number = self.rows.len() as u32 + 1;
-        let entry = new_entry(alloc, number, item)?;
-        // With room everywhere, no index of numbers ever has one with no item.
+        let entry = new_entry(number, item)?;
+        // With room everywhere, the lot's index is the last that can refuse.
         let Ok(()) = self.rows.try_reserve(1) else {
             return Err(KeepFault::Memory);
         };
         reserve(alloc, &mut self.categories, category)?;
         reserve(alloc, &mut self.sellers, seller)?;
-        add_lot(alloc, self.keys, &mut self.lots, seller, item.lot, number)?;
         let Ok(_) = self.ends.insert((item.end, number)) else {
             return Err(KeepFault::Memory);
         };
+        add_lot(alloc, self.keys, &mut self.lots, seller, item.lot, number)?;
         add(&mut self.categories, category, number);
         add(&mut self.sellers, seller, number);
         let Ok(()) = self.rows.push(entry) else {

@@ -5,16 +5,11 @@ ghost use Rattle.house_rows.specs.declared.fault.KeepFault.TheVariants as fault;
 
 use crate::entry::ItemEntry;
 use house_rows::{Item, KeepFault, NewItem, State, Terms};
-use list_rows::text_of;
+use list_rows::share_text;
 use proxy::Standing;
-use std::alloc::Global;
 
 /// The entry of a new item.
-pub(crate) fn new_entry(
-    alloc: Global,
-    number: u32,
-    item: &NewItem<'_>,
-) -> Result<ItemEntry, KeepFault>
+pub(crate) fn new_entry(number: u32, item: &NewItem<'_>) -> Result<ItemEntry, KeepFault>
     ensures value { IfOk result (λ entry. entry ≡ new_item number item.now) }
     ensures memory { IfErr result (λ e. e ≡ fault.Memory) }
 {
@@ -34,9 +29,9 @@ pub(crate) fn new_entry(
         count: 0,
         met: standing.is_reserve_met(),
     };
-    let lot = text_of(alloc, item.lot)?;
-    let title = text_of(alloc, item.title)?;
-    let text = text_of(alloc, item.text)?;
+    let lot = share_text(item.lot)?;
+    let title = share_text(item.title)?;
+    let text = share_text(item.text)?;
     Ok(ItemEntry {
         item: Item {
             terms,

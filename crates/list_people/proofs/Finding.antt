@@ -141,14 +141,6 @@ named_more number name rows seen more names after row are view next free is plac
   ]);
 }
 
--- a value that is put where it is already changes nothing
-pub put_again : (values : List ℕ → Option ℕ) (key : List ℕ) (value : Option ℕ) (other : List ℕ) → values key ≡ value → update same_text values key value other ≡ values other
-put_again values key value other is =
-    elim (by_test (same_text key other)) [
-      | inl same ↦ (let e : key ≡ other = (bytes_eq-Decides key other).0 same in rw same (rw (← e) (sym is)))
-      | inr not ↦ rw not refl
-    ]
-
 -- where no row has the name, the index has no place for it
 place_unknown : {A : Type 0} (number : A → ℕ) (name : A → List ℕ) (kept seen : List A) (names : Names) (wanted : List ℕ) → AreNamed number name kept names → kept ≡ seen
     → find (λ row. same_text (name row) wanted) seen ≡ None → place_in names wanted ≡ None

@@ -1,15 +1,15 @@
 -- Rows that are found by number and by name.
 use Rattle.std.specs.Prelude.{◌≡◌, ℕ, List, Option, Some, None, position}
-use Rattle.std.specs.HashMap.{get_by_text}
 use Rattle.house_rows.specs.declared.fault.KeepFault.{KeepFault}
 use Rattle.house_rows.specs.declared.fault.KeepFault.TheVariants.{Damaged, Memory}
 use Rattle.house_rows.specs.Keeping.{AreInTurn}
 use Rattle.house_rows.specs.Text.{same_text}
+use Rattle.list_rows.specs.Shared.{get_by_shared}
 use Rattle.list_people.specs.declared.names.Names.{Names}
 
 -- the place that an index has for a name
 abbrev pub place_in : Names → List ℕ → Option ℕ
-place_in names name = get_by_text names.places name
+place_in names name = get_by_shared names.places name
 
 -- why a row isn't made: its name has a place, or memory was refused
 abbrev pub fault_of : Option ℕ → KeepFault

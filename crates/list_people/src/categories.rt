@@ -6,8 +6,7 @@ ghost use Rattle.house_rows.specs.Text.{same_text};
 ghost use Rattle.list_rows.specs.Makes.{Makes};
 
 use crate::names::{Names, row_at};
-use house_rows::{Category, KeepFault};
-use list_rows::text_of;
+use house_rows::{Category, KeepFault, Text};
 use std::alloc::Global;
 use std::hash::RandomState;
 use std::marker::Model;
@@ -70,20 +69,20 @@ impl Categories {
     /// A category comes, with the next number.
     ///
     /// `KeepFault::Damaged` comes where the name is taken, and `KeepFault::Memory` is the only other error.
-    pub fn add(&mut self, alloc: Global, name: &str) -> Result<(), KeepFault>
+    pub fn add(&mut self, name: &Text) -> Result<(), KeepFault>
         requires room { length self.old < most_categories }
         ensures { Makes result self.old self.new
             (self.old ++ record { category = length self.old + 1; name = name.now } ∷ [])
             (find (λ k. same_text k.name name.now) self.old ≡ None) }
     {
-        let Ok(text) = text_of(alloc, name) else {
+        let Ok(text) = name.try_clone() else {
             return Err(self.names.fault(name));
         };
         let category = Category {
             category: self.rows.len() as u32 + 1,
             name: text,
         };
-        self.names.push(alloc, &mut self.rows, name, category)?;
+        self.names.push(&mut self.rows, name, category)?;
         Ok(())
     }
 }

@@ -7,8 +7,7 @@ ghost use Rattle.house_rows.specs.Text.{same_text};
 ghost use Rattle.list_rows.specs.Makes.{Makes};
 
 use crate::names::{Names, row_at};
-use house_rows::{KeepFault, Member};
-use list_rows::text_of;
+use house_rows::{KeepFault, Member, Text};
 use std::alloc::Global;
 use std::hash::RandomState;
 use std::marker::Model;
@@ -71,20 +70,20 @@ impl Members {
     /// A member comes, with the next number.
     ///
     /// `KeepFault::Damaged` comes where the name is taken, and `KeepFault::Memory` is the only other error.
-    pub fn register(&mut self, alloc: Global, name: &str) -> Result<(), KeepFault>
+    pub fn register(&mut self, name: &Text) -> Result<(), KeepFault>
         requires room { length self.old < most_members }
         ensures { Makes result self.old self.new
             (self.old ++ record { member = length self.old + 1; name = name.now } ∷ [])
             (find (λ m. same_text m.name name.now) self.old ≡ None) }
     {
-        let Ok(text) = text_of(alloc, name) else {
+        let Ok(text) = name.try_clone() else {
             return Err(self.names.fault(name));
         };
         let member = Member {
             member: self.rows.len() as u32 + 1,
             name: text,
         };
-        self.names.push(alloc, &mut self.rows, name, member)?;
+        self.names.push(&mut self.rows, name, member)?;
         Ok(())
     }
 }

@@ -4,17 +4,18 @@ ghost use Rattle.std.specs.Option.{option_copied};
 ghost use Rattle.house_rows.specs.Text.{same_text};
 ghost use Rattle.list_people.specs.Named.{fault_of, place_in};
 
-use house_rows::KeepFault;
+use house_rows::{KeepFault, Text};
 use std::alloc::Global;
 use std::collections::HashMap;
 use std::collections::hash_map::Entry;
 use std::hash::RandomState;
+use std::rc::RcStr;
 
 /// For each name the place of its row, counted from 0.
 // The hashes have keys of their own: strangers choose the names, and could make them fall together.
 #[derive(Drop)]
 pub(crate) struct Names {
-    places: HashMap<String, u32, RandomState>,
+    places: HashMap<RcStr, u32, RandomState>,
 }
 
 impl Names {
@@ -40,9 +41,8 @@ impl Names {
     /// other error. Rows and index are then as they were.
     pub(crate) fn push<R: Drop>(
         &mut self,
-        alloc: Global,
         rows: &mut Vec<R>,
-        name: &str,
+        name: &Text,
         row: R,
     ) -> Result<(), KeepFault>
         requires room { length rows.old.items < 2 ^ 32 }
@@ -59,7 +59,7 @@ impl Names {
         let Ok(()) = rows.try_reserve(1) else {
             return Err(self.fault(name));
         };
-        let Ok(key) = String::from_str(alloc, name) else {
+        let Ok(key) = name.to_shared() else {
             return Err(self.fault(name));
         };
         match self.places.entry(key) {
@@ -78,10 +78,10 @@ impl Names {
     }
 
     /// The fault of a row that isn't made: `Damaged` where the index has its name, or else `Memory`.
-    pub(crate) fn fault(&self, name: &str) -> KeepFault
+    pub(crate) fn fault(&self, name: &Text) -> KeepFault
         ensures { result ≡ fault_of (place_in self.now name.now) }
     {
-        match self.place(name) {
+        match self.place(name.as_str()) {
             Some(_) => KeepFault::Damaged,
             None => KeepFault::Memory,
         }

@@ -4,3 +4,4 @@ pub mod Placed
 pub mod Blocked
 pub mod Making
 pub mod Keys
+pub mod Shared

@@ -72,13 +72,13 @@ impl Copied for Feedback {
     }
 }
 
-/// A copy of a text, which its clones share.
-pub fn text_of(alloc: Global, text: &str) -> Result<Text, KeepFault>
-    ensures value { IfOk result (λ copy. copy ≡ text.now) }
+/// The same text, with one more owner.
+pub fn share_text(text: &Text) -> Result<Text, KeepFault>
+    ensures value { IfOk result (λ shared. shared ≡ text.now) }
     ensures memory { IfErr result (λ e. e ≡ fault.Memory) }
 {
-    match Text::copy_of(alloc, text) {
-        Ok(copy) => Ok(copy),
+    match text.try_clone() {
+        Ok(shared) => Ok(shared),
         Err(_) => Err(KeepFault::Memory),
     }
 }

@@ -12,6 +12,6 @@ mod keyed;
 mod places;
 
 pub use blocks::{Changes, block, cut, put, row, update};
-pub use copies::{Copied, chosen, clone_found, copies_of, push, push_copy, text_of};
+pub use copies::{Copied, chosen, clone_found, copies_of, push, push_copy, share_text};
 pub use entries::{BidEntry, WatchEntry};
 pub use keyed::{Keyed, RowKey};

@@ -11,8 +11,8 @@ ghost use Rattle.list_talk.specs.Rated.{unrated, with_rating};
 
 use crate::concerns::Concerns;
 use crate::lists::{push_passing, push_shown};
-use house_rows::{Feedback, KeepFault, MOST_SHOWN, Rating, Ratings};
-use list_rows::{RowKey, block, put, row, text_of};
+use house_rows::{Feedback, KeepFault, MOST_SHOWN, Rating, Ratings, Text};
+use list_rows::{RowKey, block, put, row, share_text};
 use std::alloc::Global;
 use std::marker::Model;
 
@@ -89,7 +89,7 @@ impl FeedbackTable {
                 return Ok(found);
             }
             let rows = block(&self.blocks, u64::from(concern.item));
-            push_shown(alloc, &mut found, rows, |row| {
+            push_shown(&mut found, rows, |row| {
                 u64::from(row.to) == member && from <= u64::from(row.item)
             })?;
         }
@@ -103,7 +103,7 @@ impl FeedbackTable {
     {
         let mut found = Vec::new(alloc);
         for block in &self.blocks {
-            push_passing(alloc, &mut found, block, |_| true)?;
+            push_passing(&mut found, block, |_| true)?;
         }
         Ok(found)
     }
@@ -116,7 +116,7 @@ impl FeedbackTable {
         from: u32,
         to: u32,
         rating: Rating,
-        text: &str,
+        text: &Text,
     ) -> Result<(), KeepFault>
         ensures { Makes result self.old self.new
             (put_by feedback_key (record { item = item; from = from; to = to; rating = rating; text = text.now }) self.old)
@@ -125,7 +125,7 @@ impl FeedbackTable {
         if self.is_given(u64::from(item), u64::from(from)) {
             return Err(KeepFault::Damaged);
         }
-        let Ok(text) = text_of(alloc, text) else {
+        let Ok(text) = share_text(text) else {
             return Err(KeepFault::Memory);
         };
         let row = Feedback {

@@ -5,11 +5,9 @@ ghost use Rattle.house_rows.specs.declared.fault.KeepFault.TheVariants as fault;
 
 use house_rows::{KeepFault, MOST_SHOWN};
 use list_rows::{Copied, push_copy};
-use std::alloc::Global;
 
 /// Copies of the rows that pass go after what was found.
 pub(crate) fn push_passing<R: Copied + Drop, F: Fn(&R) -> bool + Drop>(
-    alloc: Global,
     found: &mut Vec<R>,
     rows: &[R],
     passes: F,
@@ -29,7 +27,6 @@ pub(crate) fn push_passing<R: Copied + Drop, F: Fn(&R) -> bool + Drop>(
 
 /// Copies of the rows that pass go after what was found, up to fifty in all.
 pub(crate) fn push_shown<R: Copied + Drop, F: Fn(&R) -> bool + Drop>(
-    alloc: Global,
     found: &mut Vec<R>,
     rows: &[R],
     passes: F,

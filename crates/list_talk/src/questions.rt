@@ -13,7 +13,7 @@ ghost use Rattle.list_talk.specs.Sorted.{AreRisen, AreSorted};
 use crate::concerns::Concerns;
 use crate::lists::{push_passing, push_shown};
 use house_rows::{KeepFault, MOST_SHOWN, Question, Text};
-use list_rows::{Changes, RowKey, block, chosen, put, row, text_of, update};
+use list_rows::{Changes, RowKey, block, chosen, put, row, share_text, update};
 use std::alloc::Global;
 use std::marker::Model;
 
@@ -96,7 +96,7 @@ impl Questions {
     {
         let mut found = Vec::new(alloc);
         for block in &self.blocks {
-            push_passing(alloc, &mut found, block, |row| row.answer.is_some())?;
+            push_passing(&mut found, block, |row| row.answer.is_some())?;
         }
         Ok(found)
     }
@@ -118,7 +118,7 @@ impl Questions {
                 return Ok(found);
             }
             let rows = of_asker(block(&self.blocks, u64::from(concern.item)), member);
-            push_shown(alloc, &mut found, rows, |row| from <= u64::from(row.item))?;
+            push_shown(&mut found, rows, |row| from <= u64::from(row.item))?;
         }
         Ok(found)
     }
@@ -143,7 +143,7 @@ impl Questions {
             let item = u64::from(*number);
             if passes(item) {
                 let rows = block(&self.blocks, item);
-                push_passing(alloc, &mut found, rows, |row| row.answer.is_none())?;
+                push_passing(&mut found, rows, |row| row.answer.is_none())?;
             }
         }
         Ok(found)
@@ -171,7 +171,7 @@ impl Questions {
             let item = u64::from(*number);
             if passes(item) {
                 let rows = block(&self.blocks, item);
-                push_shown(alloc, &mut found, rows, |row| row.answer.is_none())?;
+                push_shown(&mut found, rows, |row| row.answer.is_none())?;
             }
         }
         Ok(found)
@@ -184,7 +184,7 @@ impl Questions {
         item: u32,
         asker: u32,
         number: u32,
-        text: &str,
+        text: &Text,
     ) -> Result<(), KeepFault>
         ensures { Makes result self.old self.new
             (put_by question_key (record { item = item; asker = asker; number = number; text = text.now; answer = None }) self.old)
@@ -194,7 +194,7 @@ impl Questions {
         if asked.is_some() {
             return Err(KeepFault::Damaged);
         }
-        let text = text_of(alloc, text)?;
+        let text = share_text(text)?;
         self.asked.note(alloc, asker, item)?;
         let row = Question {
             item,
@@ -209,15 +209,14 @@ impl Questions {
     /// A question was answered.
     pub fn answer(
         &mut self,
-        alloc: Global,
         item: u32,
         asker: u32,
         number: u32,
-        text: &str,
+        text: &Text,
     ) -> Result<(), KeepFault>
         ensures { Makes result self.old self.new (map (with_answer item asker number text.now) self.old) ⊤ }
     {
-        let text = text_of(alloc, text)?;
+        let text = share_text(text)?;
         let key = RowKey::new(u64::from(item), u64::from(asker), u64::from(number));
         update(&mut self.blocks, key, Answer { text });
         Ok(())

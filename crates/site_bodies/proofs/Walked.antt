@@ -2,12 +2,12 @@
 use Rattle.std.proofs.Common.{◌≡◌, ℕ, ℤ, negsuc, suc, zero, ◌<◌, ◌≤◌, ◌+◌, ◌-◌, ◌^◌, List, [], ◌∷◌, ◌++◌, length, length-drop, get_or, set, take_all, take-append-drop, Bool, true, false, refl, sym, ap, ap₂, ◌∙◌, ◌==◌, subst, arith, take, drop, append_assoc, decimal, Option, None, Some, inl, inr, bytes_eq, cond}
 use Rattle.std.specs.Borrow.{Bor}
 use Rattle.std.specs.Fmt.{signed_decimal}
-use Rattle.std.specs.Prelude.{if◌then◌else◌, IsUtf8, option_and_then, option_map, ⊤}
+use Rattle.std.specs.Prelude.{if◌then◌else◌, IsAscii, IsUtf8, option_and_then, option_map, ⊤}
 use Rattle.std.proofs.lemmas.Bool.{cases_Bool, eqb-true}
 use Rattle.std.proofs.lemmas.Fmt.{IsAscii-decimal, decimal_digit}
 use Rattle.std.proofs.lemmas.List.{drop_more, take_more, take_more_set}
 use Rattle.std.proofs.lemmas.Slice.Eq.{bytes_eq-Decides}
-use Rattle.std.proofs.lemmas.Str.{IsUtf8-append, IsUtf8-from_ascii}
+use Rattle.std.proofs.lemmas.Str.{IsAscii-append, IsUtf8-append, IsUtf8-from_ascii}
 use Rattle.std.proofs.lemmas.Str.Ascii.{IsAscii-cons, IsAscii-nil}
 use Rattle.json.specs.Ascii.{null_text}
 use Rattle.json.specs.Json as json
@@ -87,6 +87,12 @@ text_passed s rest own utf8 = record {
       ∙ ap₂ (λ o l. token (string_token o) ∷ l) (content-escape s rest) (lex-escape s rest);
   utf8 = λ u. one_utf8 34 _ (omega arith) (IsUtf8-append s _ utf8 (one_utf8 34 rest (omega arith) u));
 }
+
+-- one byte more that is ASCII
+pub ascii_step : (bytes : List ℕ) (i : ℕ) → i < length bytes → IsAscii (take i bytes) → get_or bytes i 0 < 128 → IsAscii (take (i + 1) bytes)
+ascii_step bytes i inside before is =
+    subst IsAscii (sym (take_more bytes i 0 inside))
+    (IsAscii-append (take i bytes) (get_or bytes i 0 ∷ []) before (IsAscii-cons (get_or bytes i 0) [] is IsAscii-nil))
 
 pub quoted_passed : {bytes inside after : List ℕ} (end : ℕ) (s : List ℕ) → bytes ≡ 34 ∷ inside
     → escape (take end inside) ≡ take end inside → take (length inside - end) (drop end inside) ≡ 34 ∷ after

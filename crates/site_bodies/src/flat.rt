@@ -1,10 +1,11 @@
 //! Objects of a few texts, whole numbers and nulls, read in one walk over their bytes.
-ghost use Rattle.std.specs.Prelude.{◌≡◌, ◌≤◌, [], ◌∷◌, IfSome, IsTrue, Some, length, option_map, take, true};
-ghost use Rattle.std.specs.Str.{bytes_eq};
+ghost use Rattle.std.specs.Prelude.{◌≡◌, ◌<◌, ◌≤◌, [], ◌∷◌, IfSome, IsTrue, Some, length, option_map, take, true};
+ghost use Rattle.std.specs.Str.{IsAscii, bytes_eq};
 ghost use Rattle.json.specs.Lex.{comma, token};
 ghost use Rattle.json.specs.Print.{escape};
 ghost use Rattle.json.specs.Token.{begin_object, end_object, string};
 ghost use Rattle.json.specs.Word.{ends_word};
+ghost use Rattle.json_plain.specs.Plain.{IsPlainByte};
 ghost use Rattle.serde_json.specs.Data.{no_members};
 ghost use Rattle.serde_json.specs.Find.{get_member};
 ghost use Rattle.site_bodies.specs.Flat.{IsFlat, flat_fields};
@@ -44,6 +45,39 @@ fn text(bytes: &[u8]) -> Option<(&str, &[u8])>
     let after = rest_after(&inside[end..], b"\"")?;
     let text = text_of(&inside[..end])?;
     Some((text, after))
+}
+
+// Whether a byte is a small letter or `_`.
+#[inline(always)]
+fn is_name_byte(byte: u8) -> bool
+    ensures plain { IsTrue result → IsPlainByte byte }
+    ensures ascii { IsTrue result → byte < 128 }
+{
+    byte.is_ascii_lowercase() || byte == b'_'
+}
+
+// How many small letters and `_` are in front.
+fn name_length(bytes: &[u8]) -> usize
+    ensures plain { escape (take result bytes.now) ≡ take result bytes.now }
+    ensures ascii { IsAscii (take result bytes.now) }
+    ensures within { result ≤ length bytes.now }
+{
+    let mut end = 0;
+    while end < bytes.len() && is_name_byte(bytes[end]) {
+        end += 1;
+    }
+    end
+}
+
+// The name between quotes in front, and what comes after. As bytes it is not tested for UTF-8. Names
+// of fields are of small letters and `_`; what has others is read as a tree.
+fn name(bytes: &[u8]) -> Option<(&[u8], &[u8])>
+    ensures { IfSome result (λ p. Passes bytes.now (token (string p.0.now) ∷ []) p.1.now) }
+{
+    let inside = rest_after(bytes, b"\"")?;
+    let end = name_length(inside);
+    let after = rest_after(&inside[end..], b"\"")?;
+    Some((&inside[..end], after))
 }
 
 // How many digits are in front.
@@ -151,7 +185,7 @@ fn value(bytes: &[u8]) -> Option<(Plain<'_>, &[u8])>
 fn member(bytes: &[u8]) -> Option<(Slot<'_>, &[u8])>
     ensures { IfSome result (λ p. IsMember bytes.now p.0 p.1.now) }
 {
-    let (name, after_name) = text(bytes)?;
+    let (name, after_name) = name(bytes)?;
     let colon = rest_after(after_spaces(after_name), b":")?;
     let (value, after) = value(after_spaces(colon))?;
     Some((Slot { name, value }, after))
@@ -254,7 +288,7 @@ impl<'a> Plain<'a> {
 fn is_named(slot: &Slot<'_>, name: &str) -> bool
     ensures { result ≡ bytes_eq slot.now.name.now name.now }
 {
-    slot.name == name
+    slot.name == name.as_bytes()
 }
 
 // The last value of that name, which is looked for from the end.

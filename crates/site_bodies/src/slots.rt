@@ -20,7 +20,7 @@ pub(crate) enum Plain<'a> {
 /// A member of an object.
 #[derive(Clone, Copy)]
 pub(crate) struct Slot<'a> {
-    pub(crate) name: &'a str,
+    pub(crate) name: &'a [u8],
     pub(crate) value: Plain<'a>,
 }
 
@@ -35,6 +35,6 @@ pub(crate) struct Flat<'a> {
 
 /// No member yet.
 pub(crate) const EMPTY: Slot<'static> = Slot {
-    name: "",
+    name: &[],
     value: Plain::Whole(0),
 };

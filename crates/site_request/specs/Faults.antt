@@ -1,5 +1,5 @@
 -- What a message is answered that asks for nothing.
-use Rattle.std.specs.Prelude.{◌≡◌, ℕ, List, ◌++◌, codes, Bool, true, false, Option, Some, None, Result, Ok, Err}
+use Rattle.std.specs.Prelude.{List, ℕ, ◌++◌, codes, Bool, true, false, Option, Some, None, Result, Ok, Err}
 use Rattle.site_request.specs.Fields.{name_of}
 use Rattle.site_request.specs.declared.field.Field.{Field}
 use Rattle.status.specs.declared.Status.{Status}
@@ -10,8 +10,6 @@ use Rattle.wire.specs.declared.fault.WireFault.{WireFault}
 use Rattle.wire.specs.declared.methods.Methods.{Methods}
 use Rattle.site_request.specs.declared.fault.Fault.{Fault}
 use Rattle.site_request.specs.declared.fault.Fault.TheVariants as fault
-use Rattle.site_request.specs.declared.reading.Unasked.{Unasked}
-use Rattle.site_request.specs.declared.reading.Unasked.TheVariants as unasked
 
 -- the status
 abbrev pub status_of : Fault → Status
@@ -57,9 +55,3 @@ is_of_body _ = false
 abbrev pub or_fault : {A : Type 0} → Fault → Option A → Result A Fault
 or_fault f None = Err f
 or_fault f (Some x) = Ok x
-
--- what was read is what is meant, unless memory was refused
-abbrev pub Gives : {A : Type 0} → Result A Unasked → Result A Fault → Type 0
-Gives (Ok x) meant = meant ≡ Ok x
-Gives (Err (unasked.Fault f)) meant = meant ≡ Err f
-Gives (Err unasked.Memory) meant = Unit {0}

@@ -1,10 +1,8 @@
 //! The days of a statement.
-ghost use Rattle.std.specs.Prelude.{◌≡◌, IsErrOf};
+ghost use Rattle.std.specs.Prelude.{◌≡◌};
 ghost use Rattle.site_request.specs.Days.{day_in, period_of};
-ghost use Rattle.site_request.specs.Faults.{Gives};
 
 use crate::fault::Fault;
-use crate::reading::Unasked;
 use house_rows::Query;
 use settle::Day;
 use std::str::from_utf8;
@@ -24,18 +22,17 @@ fn day(text: &[u8]) -> Option<Day>
 
 /// The read of a statement from one day to another.
 #[tactic(auto, unfolding(crate::specs::Days::period_of))]
-pub(crate) fn period(from: &[u8], to: &[u8]) -> Result<Query, Unasked>
-    ensures gives { Gives result (period_of from.now to.now) }
-    ensures sound { ¬ (IsErrOf result Unasked.Memory) }
+pub(crate) fn period(from: &[u8], to: &[u8]) -> Result<Query, Fault>
+    ensures { result ≡ period_of from.now to.now }
 {
     let Some(from) = day(from) else {
-        return Err(Unasked::Fault(Fault::Date));
+        return Err(Fault::Date);
     };
     let Some(to) = day(to) else {
-        return Err(Unasked::Fault(Fault::Date));
+        return Err(Fault::Date);
     };
     if to.number() < from.number() {
-        return Err(Unasked::Fault(Fault::Order));
+        return Err(Fault::Order);
     }
     Ok(Query::MyStatement { from, to })
 }

@@ -1,9 +1,8 @@
 //! Reading a message.
-ghost use Rattle.std.specs.Prelude.{◌≡◌, IfOk, IsErrOf, Some, true};
+ghost use Rattle.std.specs.Prelude.{◌≡◌, Some, Ok, Err};
 ghost use Rattle.house_rows.specs.declared.message.Message.TheVariants as message;
-ghost use Rattle.site_request.specs.Asked.{MayAsk, asked_of, asks_of, called, may_ask, message_of, ordered};
-ghost use Rattle.site_request.specs.Faults.{Gives};
-ghost use Rattle.site_request.specs.Reading.{IsRead, IsRequestRead};
+ghost use Rattle.site_request.specs.Asked.{asked_of, asks_of, called, message_of, ordered};
+ghost use Rattle.site_request.specs.Reading.{IsRead, IsReadAs, IsRequestRead};
 ghost use Rattle.site_request.specs.Heads.{moment_in, numbered};
 
 use crate::asked::{Asked, NoMemory};
@@ -15,76 +14,95 @@ use crate::route::Route;
 use crate::routes::Routes;
 use crate::unread::{Unread, Wrong};
 use crate::unrouted::RouteFault;
-use house_rows::Message;
+use house_rows::{Message, Query};
 use json::Scratch;
 use settle::LAST_MOMENT;
 use site_digits::count;
 use std::alloc::Global;
 use wire::{Request, whole};
 
-/// Why nothing was read.
-#[derive(Clone, Copy)]
-pub(crate) enum Unasked {
-    /// Nothing is asked.
-    Fault(Fault),
-    /// Memory was refused.
-    Memory,
+// What a message asks that asks for nothing.
+fn broken(closes: bool, caller: Option<u64>, fault: Fault) -> Result<Asked, NoMemory>
+    ensures { IsReadAs closes caller (Err fault) result }
+{
+    Ok(Asked {
+        closes,
+        message: Message::Broken { caller, fault },
+    })
 }
 
-// The command that a caller gives.
+// What a read of a caller asks.
+fn read_page(closes: bool, caller: u64, query: Query) -> Result<Asked, NoMemory>
+    ensures { IsReadAs closes (Some caller) (Ok (message.Read caller query)) result }
+{
+    Ok(Asked {
+        closes,
+        message: Message::Read { caller, query },
+    })
+}
+
+// What a command of a caller asks.
 #[tactic(auto, unfolding(crate::specs::Asked::ordered))]
 fn read_order(
     alloc: Global,
+    closes: bool,
     caller: u64,
     order: Order,
     request: &Request<'_>,
     scratch: &mut Scratch,
-) -> Result<Message<Fault>, Unasked>
-    ensures gives { Gives result (ordered caller order request.now) }
-    ensures unread { IsErrOf result Unasked.Memory → MayAsk (ordered caller order request.now) }
+) -> Result<Asked, NoMemory>
+    ensures { IsReadAs closes (Some caller) (ordered caller order request.now) result }
 {
     let Some(moment) = moment(request) else {
-        return Err(Unasked::Fault(Fault::Moment));
+        return broken(closes, Some(caller), Fault::Moment);
     };
     match command(alloc, order, request.body(), scratch) {
-        Ok(command) => Ok(Message::Order {
-            moment,
-            caller,
-            command,
+        Ok(command) => Ok(Asked {
+            closes,
+            message: Message::Order {
+                moment,
+                caller,
+                command,
+            },
         }),
-        Err(Unread::Wrong(Wrong::NoObject)) => Err(Unasked::Fault(Fault::Json)),
-        Err(Unread::Wrong(Wrong::Field(field))) => Err(Unasked::Fault(Fault::Field(field))),
-        Err(Unread::Memory) => Err(Unasked::Memory),
+        Err(Unread::Wrong(Wrong::NoObject)) => broken(closes, Some(caller), Fault::Json),
+        Err(Unread::Wrong(Wrong::Field(field))) => {
+            broken(closes, Some(caller), Fault::Field(field))
+        }
+        Err(Unread::Memory) => Err(NoMemory { closes }),
     }
 }
 
-// What a whole message asks, once its caller is known, or that it has none.
+// What a whole message asks, once its caller is known, or that it has none. Each part makes the
+// whole result: a command is large, and is moved with each wrapping.
 #[tactic(auto, unfolding(crate::specs::Asked::asks_of, crate::specs::Asked::called))]
 fn asks(
     alloc: Global,
     routes: &Routes,
+    closes: bool,
     caller: Option<u64>,
     request: &Request<'_>,
     scratch: &mut Scratch,
-) -> Result<Message<Fault>, Unasked>
-    ensures gives { Gives result (asks_of caller request.now) }
-    ensures unread { IsErrOf result Unasked.Memory → MayAsk (asks_of caller request.now) }
+) -> Result<Asked, NoMemory>
+    ensures { IsReadAs closes caller (asks_of caller request.now) result }
 {
     let route = match routes.find(request.method(), request.target()) {
         Ok(route) => route,
-        Err(RouteFault::Path) => return Err(Unasked::Fault(Fault::Path)),
-        Err(RouteFault::Method(methods)) => return Err(Unasked::Fault(Fault::Method(methods))),
+        Err(RouteFault::Path) => return broken(closes, caller, Fault::Path),
+        Err(RouteFault::Method(methods)) => {
+            return broken(closes, caller, Fault::Method(methods));
+        }
     };
     let Some(caller) = caller else {
-        return Err(Unasked::Fault(Fault::Member));
+        return broken(closes, None, Fault::Member);
     };
     match route {
-        Route::Order(order) => read_order(alloc, caller, order, request, scratch),
-        Route::Read(query) => Ok(Message::Read { caller, query }),
-        Route::Statement { from, to } => {
-            let query = period(from.bytes(), to.bytes())?;
-            Ok(Message::Read { caller, query })
-        }
+        Route::Order(order) => read_order(alloc, closes, caller, order, request, scratch),
+        Route::Read(query) => read_page(closes, caller, query),
+        Route::Statement { from, to } => match period(from.bytes(), to.bytes()) {
+            Ok(query) => read_page(closes, caller, query),
+            Err(fault) => broken(closes, Some(caller), fault),
+        },
     }
 }
 
@@ -98,16 +116,8 @@ pub fn read_request(
 ) -> Result<Asked, NoMemory>
     ensures { IsRequestRead request.now result }
 {
-    let closes = request.closes();
     let caller = number_of(request, b"x-member");
-    match asks(alloc, routes, caller, request, scratch) {
-        Ok(message) => Ok(Asked { closes, message }),
-        Err(Unasked::Fault(fault)) => Ok(Asked {
-            closes,
-            message: Message::Broken { caller, fault },
-        }),
-        Err(Unasked::Memory) => Err(NoMemory { closes }),
-    }
+    asks(alloc, routes, request.closes(), caller, request, scratch)
 }
 
 /// What a text asks that is to be one message.
@@ -131,7 +141,8 @@ pub fn read(
     }
 }
 
-// The number of a field that occurs exactly once.
+// The number of a field that occurs exactly once. The look-up of a constant name is a compare.
+#[inline(always)]
 #[tactic(auto, unfolding(crate::specs::Heads::numbered))]
 fn number_of(request: &Request<'_>, name: &[u8]) -> Option<u64>
     ensures { result ≡ numbered name.now request.now }
@@ -143,6 +154,7 @@ fn number_of(request: &Request<'_>, name: &[u8]) -> Option<u64>
 }
 
 // The moment of a command, in seconds since 1970.
+#[inline(always)]
 #[tactic(auto, unfolding(crate::specs::Heads::moment_in))]
 fn moment(request: &Request<'_>) -> Option<u64>
     ensures { result ≡ moment_in request.now }

@@ -14,7 +14,7 @@ ghost use Rattle.store_rows.specs.Commits.{Commits};
 
 use crate::categories::{category_named, put_category};
 use crate::members::{member_named, put_member};
-use house_rows::KeepFault;
+use house_rows::{KeepFault, Text};
 use sqlite::{Alter, Connection, Transaction};
 use store_rows::{fault_of, set_clock, stored_moment};
 
@@ -23,7 +23,7 @@ fn register_within<S: Alter>(
     tx: &mut Transaction<'_, S>,
     number: u32,
     moment: u32,
-    name: &str,
+    name: &Text,
 ) -> Result<(), KeepFault>
     requires begun { IsBegun (state S.Store tx.old.conn.now) }
     requires numbered { HasCleanDisk (state S.Store tx.old.conn.now)
@@ -38,7 +38,7 @@ fn register_within<S: Alter>(
     ensures write { WritesMany (state S.Store tx.old.conn.now)
         (state S.Store tx.new.conn.now) result }
 {
-    put_member(tx, number, name)?;
+    put_member(tx, number, name.as_str())?;
     set_clock(tx, moment)
 }
 
@@ -47,7 +47,7 @@ fn commit_register<S: Alter>(
     conn: &mut Connection<S>,
     number: u32,
     moment: u32,
-    name: &str,
+    name: &Text,
 ) -> Result<(), KeepFault>
     requires rests { Rests (state S.Store conn.old) }
     requires mode { conn.old.in_transaction ≡ false }
@@ -71,7 +71,7 @@ pub fn register<S: Alter>(
     conn: &mut Connection<S>,
     number: u32,
     moment: u64,
-    name: &str,
+    name: &Text,
 ) -> Result<(), KeepFault>
     requires rests { Rests (state S.Store conn.old) }
     requires mode { conn.old.in_transaction ≡ false }
@@ -90,7 +90,7 @@ pub fn register<S: Alter>(
         → ¬ (IsErrOf result Damaged) }
 {
     let moment = stored_moment(moment)?;
-    if member_named(conn, name)?.is_some() {
+    if member_named(conn, name.as_str())?.is_some() {
         return Err(KeepFault::Damaged);
     }
     commit_register(conn, number, moment, name)
@@ -101,7 +101,7 @@ fn add_category_within<S: Alter>(
     tx: &mut Transaction<'_, S>,
     number: u32,
     moment: u32,
-    name: &str,
+    name: &Text,
 ) -> Result<(), KeepFault>
     requires begun { IsBegun (state S.Store tx.old.conn.now) }
     requires numbered { HasCleanDisk (state S.Store tx.old.conn.now)
@@ -116,7 +116,7 @@ fn add_category_within<S: Alter>(
     ensures write { WritesMany (state S.Store tx.old.conn.now)
         (state S.Store tx.new.conn.now) result }
 {
-    put_category(tx, number, name)?;
+    put_category(tx, number, name.as_str())?;
     set_clock(tx, moment)
 }
 
@@ -125,7 +125,7 @@ fn commit_add_category<S: Alter>(
     conn: &mut Connection<S>,
     number: u32,
     moment: u32,
-    name: &str,
+    name: &Text,
 ) -> Result<(), KeepFault>
     requires rests { Rests (state S.Store conn.old) }
     requires mode { conn.old.in_transaction ≡ false }
@@ -149,7 +149,7 @@ pub fn add_category<S: Alter>(
     conn: &mut Connection<S>,
     number: u32,
     moment: u64,
-    name: &str,
+    name: &Text,
 ) -> Result<(), KeepFault>
     requires rests { Rests (state S.Store conn.old) }
     requires mode { conn.old.in_transaction ≡ false }
@@ -168,7 +168,7 @@ pub fn add_category<S: Alter>(
         → ¬ (IsErrOf result Damaged) }
 {
     let moment = stored_moment(moment)?;
-    if category_named(conn, name)?.is_some() {
+    if category_named(conn, name.as_str())?.is_some() {
         return Err(KeepFault::Damaged);
     }
     commit_add_category(conn, number, moment, name)

@@ -9,7 +9,7 @@ ghost use Rattle.store_items.specs.Items.{AddsItem, SetsBought, SetsClosed, Sets
 ghost use Rattle.store_rows.specs.Frames.{WritesOnce};
 
 use cents::Cents;
-use house_rows::{KeepFault, NewItem};
+use house_rows::{KeepFault, NewItem, Text};
 use proxy::Standing;
 use sqlite::{Alter, Transaction, params};
 use store_rows::run;
@@ -50,10 +50,10 @@ fn stored_maybe_number(number: Option<u32>) -> Option<u32>
 }
 
 // A text as a parameter.
-fn stored_text(text: &str) -> &str
+fn stored_text(text: &Text) -> &str
     ensures { result.now ≡ text.now }
 {
-    text
+    text.as_str()
 }
 
 /// Adds an item with a number and an end, open, with no bid and without its reserve, within a

@@ -124,7 +124,7 @@ pub fn list<S: Alter>(
 {
     let moment = stored_moment(moment)?;
     let end = stored_moment(item.end)?;
-    if item_with_lot(conn, item.seller, item.lot)?.is_some() {
+    if item_with_lot(conn, item.seller, item.lot.as_str())?.is_some() {
         return Err(KeepFault::Damaged);
     }
     commit_list(conn, number, moment, item, end)

@@ -7,7 +7,7 @@ ghost use Rattle.list_rows.specs.Makes.{Applies};
 use crate::keep::ListKeep;
 use crate::tables::set_table;
 use cents::Cents;
-use house_rows::{Change, KeepFault, NewItem, Rating};
+use house_rows::{Change, KeepFault, NewItem, Rating, Text};
 use proxy::{Bid, Standing};
 
 impl ListKeep {
@@ -62,20 +62,20 @@ impl ListKeep {
         }
     }
 
-    fn register(&mut self, moment: u64, name: &str) -> Result<(), KeepFault>
+    fn register(&mut self, moment: u64, name: &Text) -> Result<(), KeepFault>
         requires fits { AreSound self.old → ChangeFits self.old (change.Register moment name) }
         ensures { Applies result self.old self.new (change.Register moment name.entry) }
     {
-        self.members.register(self.alloc, name)?;
+        self.members.register(name)?;
         self.clock = moment;
         Ok(())
     }
 
-    fn add_category(&mut self, moment: u64, name: &str) -> Result<(), KeepFault>
+    fn add_category(&mut self, moment: u64, name: &Text) -> Result<(), KeepFault>
         requires fits { AreSound self.old → ChangeFits self.old (change.AddCategory moment name) }
         ensures { Applies result self.old self.new (change.AddCategory moment name.entry) }
     {
-        self.categories.add(self.alloc, name)?;
+        self.categories.add(name)?;
         self.clock = moment;
         Ok(())
     }
@@ -151,7 +151,7 @@ impl ListKeep {
         Ok(())
     }
 
-    fn ask(&mut self, item: u32, asker: u32, number: u32, text: &str) -> Result<(), KeepFault>
+    fn ask(&mut self, item: u32, asker: u32, number: u32, text: &Text) -> Result<(), KeepFault>
         requires fits { AreSound self.old
             → ChangeFits self.old (change.Ask item asker number text) }
         ensures { Applies result self.old self.new (change.Ask item asker number text.entry) }
@@ -165,15 +165,14 @@ impl ListKeep {
         item: u32,
         asker: u32,
         number: u32,
-        text: &str,
+        text: &Text,
     ) -> Result<(), KeepFault>
         requires fits { AreSound self.old
             → ChangeFits self.old (change.Answer moment item asker number text) }
         ensures { Applies result self.old self.new
             (change.Answer moment item asker number text.entry) }
     {
-        self.questions
-            .answer(self.alloc, item, asker, number, text)?;
+        self.questions.answer(item, asker, number, text)?;
         self.clock = moment;
         Ok(())
     }
@@ -185,7 +184,7 @@ impl ListKeep {
         from: u32,
         to: u32,
         rating: Rating,
-        text: &str,
+        text: &Text,
     ) -> Result<(), KeepFault>
         requires fits { AreSound self.old
             → ChangeFits self.old (change.Feedback moment item from to rating text) }

@@ -11,7 +11,7 @@ ghost use Rattle.store_rows.specs.Frames.{WritesMany};
 ghost use Rattle.store_rows.specs.Commits.{Commits};
 
 use crate::questions::set_answer;
-use house_rows::KeepFault;
+use house_rows::{KeepFault, Text};
 use sqlite::{Alter, Connection, Transaction};
 use store_rows::{fault_of, set_clock, stored_moment};
 
@@ -22,7 +22,7 @@ fn answer_within<S: Alter>(
     item: u32,
     asker: u32,
     number: u32,
-    text: &str,
+    text: &Text,
 ) -> Result<(), KeepFault>
     requires begun { IsBegun (state S.Store tx.old.conn.now) }
     requires numbered { HasCleanDisk (state S.Store tx.old.conn.now)
@@ -35,7 +35,7 @@ fn answer_within<S: Alter>(
     ensures write { WritesMany (state S.Store tx.old.conn.now)
         (state S.Store tx.new.conn.now) result }
 {
-    set_answer(tx, item, asker, number, text)?;
+    set_answer(tx, item, asker, number, text.as_str())?;
     set_clock(tx, moment)
 }
 
@@ -46,7 +46,7 @@ fn commit_answer<S: Alter>(
     item: u32,
     asker: u32,
     number: u32,
-    text: &str,
+    text: &Text,
 ) -> Result<(), KeepFault>
     requires rests { Rests (state S.Store conn.old) }
     requires mode { conn.old.in_transaction ≡ false }
@@ -70,7 +70,7 @@ pub fn answer<S: Alter>(
     item: u32,
     asker: u32,
     number: u32,
-    text: &str,
+    text: &Text,
 ) -> Result<(), KeepFault>
     requires rests { Rests (state S.Store conn.old) }
     requires mode { conn.old.in_transaction ≡ false }

@@ -15,7 +15,7 @@ ghost use Rattle.store_talk.specs.Taken.{has_feedback_key};
 
 use crate::feedback::put_feedback;
 use crate::given::is_given;
-use house_rows::{KeepFault, Rating};
+use house_rows::{KeepFault, Rating, Text};
 use sqlite::{Alter, Connection, Transaction};
 use store_rows::{fault_of, set_clock, stored_moment};
 
@@ -27,7 +27,7 @@ fn give_within<S: Alter>(
     from: u32,
     to: u32,
     rating: Rating,
-    text: &str,
+    text: &Text,
 ) -> Result<(), KeepFault>
     requires begun { IsBegun (state S.Store tx.old.conn.now) }
     requires numbered { HasCleanDisk (state S.Store tx.old.conn.now)
@@ -40,7 +40,7 @@ fn give_within<S: Alter>(
     ensures write { WritesMany (state S.Store tx.old.conn.now)
         (state S.Store tx.new.conn.now) result }
 {
-    put_feedback(tx, item, from, to, rating, text)?;
+    put_feedback(tx, item, from, to, rating, text.as_str())?;
     set_clock(tx, moment)
 }
 
@@ -52,7 +52,7 @@ fn commit_feedback<S: Alter>(
     from: u32,
     to: u32,
     rating: Rating,
-    text: &str,
+    text: &Text,
 ) -> Result<(), KeepFault>
     requires rests { Rests (state S.Store conn.old) }
     requires mode { conn.old.in_transaction ≡ false }
@@ -78,7 +78,7 @@ pub fn give_feedback<S: Alter>(
     from: u32,
     to: u32,
     rating: Rating,
-    text: &str,
+    text: &Text,
 ) -> Result<(), KeepFault>
     requires rests { Rests (state S.Store conn.old) }
     requires mode { conn.old.in_transaction ≡ false }

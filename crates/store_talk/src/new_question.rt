@@ -12,7 +12,7 @@ ghost use Rattle.store_rows.specs.Frames.{WritesMany};
 ghost use Rattle.store_rows.specs.Commits.{Commits};
 
 use crate::questions::{put_question, question_at};
-use house_rows::KeepFault;
+use house_rows::{KeepFault, Text};
 use sqlite::{Alter, Connection, Transaction};
 use store_rows::fault_of;
 
@@ -22,7 +22,7 @@ fn ask_within<S: Alter>(
     item: u32,
     asker: u32,
     number: u32,
-    text: &str,
+    text: &Text,
 ) -> Result<(), KeepFault>
     requires begun { IsBegun (state S.Store tx.old.conn.now) }
     requires numbered { HasCleanDisk (state S.Store tx.old.conn.now)
@@ -35,7 +35,7 @@ fn ask_within<S: Alter>(
     ensures write { WritesMany (state S.Store tx.old.conn.now)
         (state S.Store tx.new.conn.now) result }
 {
-    put_question(tx, item, asker, number, text)
+    put_question(tx, item, asker, number, text.as_str())
 }
 
 // The same, committed.
@@ -44,7 +44,7 @@ fn commit_ask<S: Alter>(
     item: u32,
     asker: u32,
     number: u32,
-    text: &str,
+    text: &Text,
 ) -> Result<(), KeepFault>
     requires rests { Rests (state S.Store conn.old) }
     requires mode { conn.old.in_transaction ≡ false }
@@ -66,7 +66,7 @@ pub fn ask<S: Alter>(
     item: u32,
     asker: u32,
     number: u32,
-    text: &str,
+    text: &Text,
 ) -> Result<(), KeepFault>
     requires rests { Rests (state S.Store conn.old) }
     requires mode { conn.old.in_transaction ≡ false }

@@ -232,6 +232,12 @@ unfolding fields_in field_in
 no_fields lf = refl
 no_fields crlf = refl
 
+-- what is left of a line at its end has no field
+pub end_more : (end : LineEnd) (rest : List ℕ) → fields_in (print_end end ++ rest) ≡ fields_in rest
+unfolding field_in
+end_more lf rest = line_more [] rest (lacks_none 10)
+end_more crlf rest = line_more (13 ∷ []) rest return_lacks
+
 -- the fields of a section are those of its lines
 pub section_fields : (fields : List Field) (last : LineEnd) → All IsField fields
     → fields_in (print_section fields last) ≡ map name_and_value fields

@@ -1,10 +1,9 @@
 -- What the bytes of a stream say so far.
-use Rattle.std.specs.Prelude.{◌≡◌, ℕ, ◌<◌, ◌≤◌, List, ◌++◌, length, drop, Result, Ok, Err, codes}
+use Rattle.std.specs.Prelude.{◌≡◌, ℕ, ◌<◌, ◌≤◌, List, ◌++◌, length, drop, Result, Ok, Err}
 use Rattle.httparse.specs.Grammar.{RequestHead, MayBecomeRequest, print_request}
 use Rattle.wire.specs.Frame.{IsFront, IsMessageAt, fields_of}
 use Rattle.wire.specs.Head.{BeginsHead, NeverHead, NoHead, most_bytes}
-use Rattle.wire.specs.Fields.{values_of}
-use Rattle.wire.specs.Known.{IsCount, IsKnown}
+use Rattle.wire.specs.Known.{IsKnown}
 use Rattle.wire.specs.Message.{Message}
 use Rattle.wire.specs.declared.fault.WireFault.{WireFault}
 use Rattle.wire.specs.declared.fault.WireFault.TheVariants as fault
@@ -34,8 +33,6 @@ pub record ArePartsOf (h : RequestHead) (parts : Parts) : Type 0 where
   pub target : parts.target.now ≡ h.target
   pub minor : parts.minor ≡ h.minor
   pub known : IsKnown (fields_of h) parts.known
-  pub member : IsCount (values_of (codes "x-member") (fields_of h)) parts.member
-  pub moment : IsCount (values_of (codes "x-moment") (fields_of h)) parts.moment
   pub len : parts.len ≡ length (print_request h)
 
 -- the result of the search for a head

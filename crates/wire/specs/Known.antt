@@ -12,9 +12,11 @@ IsCount values Absent = values ≡ []
 IsCount values (One value) = values ≡ value.now ∷ []
 IsCount values Many = (first second : List ℕ) × (others : List (List ℕ)) × (values ≡ first ∷ second ∷ others)
 
--- k is what the frame asks of the fields
+-- k is what is asked of the fields
 pub record IsKnown (fields : List Pair) (k : Known) : Type 0 where
   pub hosts : IsCount (values_of (codes "host") fields) k.hosts
   pub transfer : k.transfer ≡ has_transfer fields
   pub lengths : IsCount (values_of (codes "content-length") fields) k.length
   pub closes : k.closes ≡ list_any names_close (values_of (codes "connection") fields)
+  pub member : IsCount (values_of (codes "x-member") fields) k.member
+  pub moment : IsCount (values_of (codes "x-moment") fields) k.moment

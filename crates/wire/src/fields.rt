@@ -1,5 +1,5 @@
 //! The values that are under a name.
-ghost use Rattle.std.specs.Prelude.{◌≡◌, ◌++◌, ◌∷◌, [], List, ℕ, if◌then◌else◌};
+ghost use Rattle.std.specs.Prelude.{◌≡◌, ◌++◌, ◌∷◌, [], List, ℕ, if◌then◌else◌, length, true};
 ghost use Rattle.std.specs.Str.{str_eq_ignore_ascii_case};
 ghost use Rattle.httparse.specs.Grammar.{is_ows, trim_ows};
 ghost use Rattle.wire.specs.Fields.{is_close, names_close};
@@ -35,9 +35,19 @@ impl<'b> Values<'b> {
 pub(crate) fn is_same(name: &[u8], wanted: &[u8]) -> bool
     ensures { result ≡ str_eq_ignore_ascii_case name.now wanted.now }
 {
-    // Most names come in the case in which they are asked for. At a constant, `starts_with` is a
-    // compare or two, where `==` is a call.
-    name.len() == wanted.len() && (name.starts_with(wanted) || name.eq_ignore_ascii_case(wanted))
+    // Most names come in the case in which they are asked for.
+    name.len() == wanted.len() && (is_exact(name, wanted) || name.eq_ignore_ascii_case(wanted))
+}
+
+// Whether a name is another of its length. At a constant, `starts_with` of eight bytes is one
+// compare, where `==` is a call.
+#[inline(always)]
+fn is_exact(name: &[u8], wanted: &[u8]) -> bool
+    requires { length name.now ≡ length wanted.now }
+    ensures { result ≡ true → name.now ≡ wanted.now }
+{
+    let front = wanted.len().min(8);
+    name.starts_with(&wanted[..front]) && name[front..].starts_with(&wanted[front..])
 }
 
 // Whether a byte is a space or a tab.

@@ -1,8 +1,8 @@
 //! What is at the front of the bytes of a stream.
-ghost use Rattle.wire.specs.Front.{IsFrontSoFar};
+ghost use Rattle.wire.specs.Front.{IsFound, IsFrontSoFar};
 
 use crate::fault::WireFault;
-use crate::head::{Head, head_at};
+use crate::head::{Head, crowded_head_at, head_at};
 use crate::lines::field_lines;
 use crate::request::Request;
 
@@ -20,11 +20,13 @@ pub(crate) enum Missing {
     Fault(WireFault),
 }
 
-/// The message at the front of the bytes.
-pub(crate) fn front<'b>(bytes: &'b [u8]) -> Result<Request<'b>, Missing>
+// The message whose head was looked for.
+#[inline(always)]
+fn message_at<'b>(bytes: &'b [u8], head: Head<'b>) -> Result<Request<'b>, Missing>
+    requires { IsFound bytes.now head }
     ensures { IsFrontSoFar bytes.now result }
 {
-    let head = match head_at(bytes) {
+    let head = match head {
         Head::Found(head) => head,
         Head::More => return Err(Missing::Head),
         Head::Never => return Err(Missing::Fault(WireFault::Head)),
@@ -47,8 +49,28 @@ pub(crate) fn front<'b>(bytes: &'b [u8]) -> Result<Request<'b>, Missing>
         ),
         body: &after[..size],
         closes: head.known.ends_connection(head.minor),
-        member: head.member,
-        moment: head.moment,
+        member: head.known.member,
+        moment: head.known.moment,
         size: head.len + size,
     })
+}
+
+// The message at the front of the bytes, where its head has many fields. It is a function of its own,
+// so that others clear no room for so many, and keep the parts of a head out of memory.
+#[inline(never)]
+fn crowded_front<'b>(bytes: &'b [u8]) -> Result<Request<'b>, Missing>
+    ensures { IsFrontSoFar bytes.now result }
+{
+    message_at(bytes, crowded_head_at(bytes))
+}
+
+/// The message at the front of the bytes.
+#[inline(always)]
+pub(crate) fn front<'b>(bytes: &'b [u8]) -> Result<Request<'b>, Missing>
+    ensures { IsFrontSoFar bytes.now result }
+{
+    match head_at(bytes) {
+        Some(head) => message_at(bytes, head),
+        None => crowded_front(bytes),
+    }
 }

@@ -3,8 +3,7 @@ ghost use Rattle.std.specs.Prelude.{◌≤◌, length, IfSome, IsNone};
 ghost use Rattle.httparse.specs.Spans.{RequestOverflows};
 ghost use Rattle.wire.specs.Front.{IsFound};
 
-use crate::fields::Values;
-use crate::known::{Known, known_of, note_field};
+use crate::known::{Known, known_of};
 use httparse::spans::{EMPTY_HEADER_SPAN, HeaderSpan, parse_request};
 use httparse::{Error, Status};
 
@@ -24,10 +23,6 @@ pub(crate) struct Parts<'b> {
     pub(crate) target: &'b [u8],
     pub(crate) minor: u8,
     pub(crate) known: Known<'b>,
-    /// The values of `x-member`, which every message is asked for.
-    pub(crate) member: Values<'b>,
-    /// The values of `x-moment`, which every command is asked for.
-    pub(crate) moment: Values<'b>,
     /// The length of the head, where the body begins.
     pub(crate) len: usize,
 }
@@ -58,8 +53,6 @@ fn head_in<'b>(bytes: &'b [u8], room: &mut [HeaderSpan]) -> Option<Head<'b>>
                     target: spans.path.of(bytes),
                     minor: spans.version,
                     known: known_of(bytes, &room[..spans.headers]),
-                    member: note_field(bytes, &room[..spans.headers], b"x-member"),
-                    moment: note_field(bytes, &room[..spans.headers], b"x-moment"),
                     len: spans.len,
                 }))
             } else {
@@ -78,27 +71,22 @@ fn head_in<'b>(bytes: &'b [u8], room: &mut [HeaderSpan]) -> Option<Head<'b>>
     }
 }
 
-// Finds a head of many fields at the front. It is a function of its own, so that others clear no
-// room for it.
-#[inline(never)]
-fn crowded_head_at<'b>(bytes: &'b [u8]) -> Head<'b>
+/// Finds the head at the front, unless it has more fields than most heads have.
+#[inline(always)]
+pub(crate) fn head_at<'b>(bytes: &'b [u8]) -> Option<Head<'b>>
+    ensures { IfSome result (IsFound bytes.now) }
+{
+    let mut room = [EMPTY_HEADER_SPAN; FEW_FIELDS];
+    head_in(bytes, room.as_mut_slice())
+}
+
+/// Finds the head at the front, within the limits.
+pub(crate) fn crowded_head_at<'b>(bytes: &'b [u8]) -> Head<'b>
     ensures { IsFound bytes.now result }
 {
     let mut room = [EMPTY_HEADER_SPAN; MOST_FIELDS];
     match head_in(bytes, room.as_mut_slice()) {
         Some(head) => head,
         None => Head::Never,
-    }
-}
-
-/// Finds the head at the front, within the limits.
-#[inline(always)]
-pub(crate) fn head_at<'b>(bytes: &'b [u8]) -> Head<'b>
-    ensures { IsFound bytes.now result }
-{
-    let mut room = [EMPTY_HEADER_SPAN; FEW_FIELDS];
-    match head_in(bytes, room.as_mut_slice()) {
-        Some(head) => head,
-        None => crowded_head_at(bytes),
     }
 }

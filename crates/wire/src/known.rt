@@ -1,25 +1,29 @@
-//! What a frame asks of the fields of a head, picked on one walk over them.
+//! What is asked of the fields of a head, picked on one walk over them.
 ghost use Rattle.std.specs.Prelude.{◌≡◌, ◌≤◌, ◌<◌, ◌++◌, ◌∷◌, [], List, length, map, All, IfOk, ◌&&◌, codes};
 ghost use Rattle.std.specs.Str.{str_eq_ignore_ascii_case};
 ghost use Rattle.httparse.specs.Spans.{IsHeaderWithin, header_bytes};
-ghost use Rattle.wire.specs.Fields.{Pair, ends_connection, names_close, values_of, body_length};
+ghost use Rattle.wire.specs.Fields.{Pair, ends_connection, names_close, body_length};
 ghost use Rattle.wire.specs.Frame.{announced};
-ghost use Rattle.wire.specs.Known.{IsCount, IsKnown};
+ghost use Rattle.wire.specs.Known.{IsKnown};
 
 use crate::fault::WireFault;
 use crate::fields::{Values, has_close, is_same};
 use httparse::spans::HeaderSpan;
 
-/// What a frame asks of the fields.
+/// What a frame asks of the fields, and what every message and every command is asked for.
 #[derive(Clone, Copy)]
 pub(crate) struct Known<'b> {
     pub(crate) hosts: Values<'b>,
     pub(crate) transfer: bool,
     pub(crate) length: Values<'b>,
     pub(crate) closes: bool,
+    /// The values of `x-member`, which every message is asked for.
+    pub(crate) member: Values<'b>,
+    /// The values of `x-moment`, which every command is asked for.
+    pub(crate) moment: Values<'b>,
 }
 
-/// Reads what the frame asks off the fields.
+/// Reads what is asked off the fields.
 #[inline(always)]
 pub(crate) fn known_of<'b>(bytes: &'b [u8], spans: &[HeaderSpan]) -> Known<'b>
     requires { All (IsHeaderWithin (length bytes.now)) spans.now }
@@ -30,6 +34,8 @@ pub(crate) fn known_of<'b>(bytes: &'b [u8], spans: &[HeaderSpan]) -> Known<'b>
         transfer: false,
         length: Values::Absent,
         closes: false,
+        member: Values::Absent,
+        moment: Values::Absent,
     };
     for span in spans {
         known.add(span.name.of(bytes), span.value.of(bytes));
@@ -37,37 +43,27 @@ pub(crate) fn known_of<'b>(bytes: &'b [u8], spans: &[HeaderSpan]) -> Known<'b>
     known
 }
 
-// These values, and that of one more field, if it has the name. Most fields have another, and their
-// values are not looked at.
+// Whether a name is `x-member`, and whether it is `x-moment`. Most names come in the case in which
+// they are asked for: then neither is compared without case. The last byte, which parts the two, is
+// looked at first: else the compiler compares a name with both at once.
 #[inline(always)]
-fn and_field<'b>(
-    values: Values<'b>,
-    bytes: &'b [u8],
-    span: &HeaderSpan,
-    wanted: &[u8],
-) -> Values<'b>
-    requires { IsHeaderWithin (length bytes.now) span.now }
-    ensures { (fields : List Pair) → IsCount (values_of wanted.now fields) values.entry
-        → IsCount (values_of wanted.now (fields ++ header_bytes bytes.now span.now ∷ [])) result }
+fn are_asked(name: &[u8]) -> (bool, bool)
+    ensures member { result.0 ≡ str_eq_ignore_ascii_case name.now (codes "x-member") }
+    ensures moment { result.1 ≡ str_eq_ignore_ascii_case name.now (codes "x-moment") }
 {
-    if !is_same(span.name.of(bytes), wanted) {
-        return values;
+    if name.len() != 8 {
+        return (false, false);
     }
-    values.and(true, span.value.of(bytes))
-}
-
-/// The values of the fields of that name: a short walk of its own for each name that every message
-/// is asked for.
-#[inline(always)]
-pub(crate) fn note_field<'b>(bytes: &'b [u8], spans: &[HeaderSpan], wanted: &[u8]) -> Values<'b>
-    requires { All (IsHeaderWithin (length bytes.now)) spans.now }
-    ensures { IsCount (values_of wanted.now (map (header_bytes bytes.now) spans.now)) result }
-{
-    let mut values = Values::Absent;
-    for span in spans {
-        values = and_field(values, bytes, span, wanted);
+    if name[7] == b'r' && name.starts_with(b"x-member") {
+        return (true, false);
     }
-    values
+    if name[7] == b't' && name.starts_with(b"x-moment") {
+        return (false, true);
+    }
+    (
+        name.eq_ignore_ascii_case(b"x-member"),
+        name.eq_ignore_ascii_case(b"x-moment"),
+    )
 }
 
 // Whether a field is a `connection` that names `close`.
@@ -88,6 +84,9 @@ impl<'b> Known<'b> {
         self.transfer |= is_same(name, b"transfer-encoding");
         self.length = self.length.and(is_same(name, b"content-length"), value);
         self.closes |= is_closing(name, value);
+        let (is_member, is_moment) = are_asked(name);
+        self.member = self.member.and(is_member, value);
+        self.moment = self.moment.and(is_moment, value);
     }
 
     /// The length of the body, or the first rule that the fields break.

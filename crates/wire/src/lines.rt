@@ -10,25 +10,14 @@ ghost use Rattle.wire.specs.Lines.{field_in, fields_in, request_line};
 use crate::fields::{Values, is_same, trim};
 use memchr::memchr;
 
-// What comes after the end of a line.
-fn after_end(text: &[u8]) -> &[u8]
-    ensures { (end : LineEnd) (rest : List ℕ) → text.now ≡ print_end end ++ rest → result.now ≡ rest }
-{
-    match text {
-        [b'\n', rest @ ..] => rest,
-        [_, _, rest @ ..] => rest,
-        _ => &[],
-    }
-}
-
 /// The lines of the fields of a head: those after the line of the request, which has that length
-/// without its end.
+/// without its end. What is left of that line is its end, in which no field is.
 pub(crate) fn field_lines(head: &[u8], line: usize) -> &[u8]
     ensures { (h : RequestHead) → IsRequestHead h → head.now ≡ print_request h → line ≡ length (request_line h) → fields_in result.now ≡ fields_of h }
 {
     // Empty lines may come before that of the request.
     match head.trim_ascii_start().get(line..) {
-        Some(text) => after_end(text),
+        Some(text) => text,
         None => &[],
     }
 }

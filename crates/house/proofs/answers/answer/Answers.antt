@@ -41,18 +41,18 @@ pub returns-in-Ok-waiting-clause-decided : goal.returns-in-Ok-waiting-clause-dec
 returns-in-Ok-waiting-clause-decided g c = λ honest settings h is e.
     let on = rw c.in-Ok.is at c.in_ok-on.ensures.value (c.in_ok-question.ensures.read.honest honest) in
     let asked = rw (found g (goal.at.returns-in-Ok-waiting-clause-decided g c).In_ok-question honest) at c.in-Ok-waiting.ensures in
-    answer_accepts (g.K.Keep.content c.args.keep.now) settings h c.args.moment c.args.caller c.args.item c.args.asker c.args.number c.args.text.now c.in-Ok.on.terms c.in-Ok-waiting.question c.as_str.result
-    e c.as_str.ensures on.1 on.2 (sells c.from.result c.in-Ok.on.terms.seller c.args.caller c.from.ensures c.if-from-caller.false) asked.0 asked.1
+    answer_accepts (g.K.Keep.content c.args.keep.now) settings h c.args.moment c.args.caller c.args.item c.args.asker c.args.number c.args.text.now c.in-Ok.on.terms c.in-Ok-waiting.question c.args.text
+    e refl on.1 on.2 (sells c.from.result c.in-Ok.on.terms.seller c.args.caller c.from.ensures c.if-from-caller.false) asked.0 asked.1
 
 pub returns-in-Ok-waiting-clause-fits : goal.returns-in-Ok-waiting-clause-fits
 returns-in-Ok-waiting-clause-fits g c = λ honest sound.
     let on = rw c.in-Ok.is at c.in_ok-on.ensures.value (c.in_ok-question.ensures.read.honest honest) in
     let asked = rw (found g (goal.at.returns-in-Ok-waiting-clause-fits g c).In_ok-question honest) at c.in-Ok-waiting.ensures in
-    answer_fits (g.K.Keep.content c.args.keep.now) c.args.moment c.args.caller c.args.item c.args.asker c.args.number c.args.text.now c.in-Ok-waiting.question c.as_str.result
-    c.as_str.ensures on.2 asked.0 asked.1
+    answer_fits (g.K.Keep.content c.args.keep.now) c.args.moment c.args.caller c.args.item c.args.asker c.args.number c.args.text.now c.in-Ok-waiting.question c.args.text
+    refl on.2 asked.0 asked.1
 
 pub returns-in-Ok-waiting-clause-own : goal.returns-in-Ok-waiting-clause-own
 returns-in-Ok-waiting-clause-own g c = λ honest.
     let asked = rw (found g (goal.at.returns-in-Ok-waiting-clause-own g c).In_ok-question honest) at c.in-Ok-waiting.ensures in
     let named = question_named (g.K.Keep.content c.args.keep.now) c.args.item c.args.asker c.args.number c.in-Ok-waiting.question asked.0 in
-    record { same_command = rw (named.same_item, named.same_asker, named.same_number, c.as_str.ensures) refl; same_caller = tt; same_moment = refl }
+    record { same_command = rw (named.same_item, named.same_asker, named.same_number) refl; same_caller = tt; same_moment = refl }

@@ -10,12 +10,12 @@ pub returns-clause-decided : goal.returns-clause-decided
 returns-clause-decided g c = λ honest settings h is e.
     let same = rw c.in-Ok.is at (c.in_ok-taken.ensures.same honest) in
     list_accepts (g.K.Keep.content c.args.keep.now) settings h c.args.moment c.args.caller c.args.offer.now _ is
-    (offered c.args.caller c.args.offer.now c.as_str.result c.as_str-2.result c.as_str-3.result c.in-Ok.taken c.as_str.ensures c.as_str-2.ensures c.as_str-3.ensures same) e
+    (offered c.args.caller c.args.offer.now c.in-Ok.taken same) e
     (rw c.in-Ok.is at (c.in_ok-taken.ensures.value honest))
 
 pub returns-clause-fits : goal.returns-clause-fits
 returns-clause-fits g c = λ honest sound.
     let same = rw c.in-Ok.is at (c.in_ok-taken.ensures.same honest) in
     listing_fits (g.K.Keep.content c.args.keep.now) c.args.moment c.args.caller c.args.offer.now _
-    (offered c.args.caller c.args.offer.now c.as_str.result c.as_str-2.result c.as_str-3.result c.in-Ok.taken c.as_str.ensures c.as_str-2.ensures c.as_str-3.ensures same)
+    (offered c.args.caller c.args.offer.now c.in-Ok.taken same)
     (rw c.in-Ok.is at (c.in_ok-taken.ensures.value honest))

@@ -1,4 +1,4 @@
-use Rattle.std.proofs.Common.{◌∙◌, sym}
+use Rattle.std.proofs.Common.{◌∙◌, refl, sym}
 use Rattle.house.proofs.NewNames.{category_accepts, category_fits, category_refusal}
 use Rattle.house.proofs.people.add_category.Goals as goal
 
@@ -8,8 +8,8 @@ returns-in-Some-clause-decided g c = λ honest settings h is e.
 
 pub returns-in-None-clause-decided : goal.returns-in-None-clause-decided
 returns-in-None-clause-decided g c = λ honest settings h is e.
-    category_accepts (g.K.Keep.content c.args.keep.now) settings h c.args.moment c.args.caller c.args.name.now c.as_str.result c.as_str.ensures e (sym c.in-None.is ∙ c.in_ok-refusal.ensures.value honest)
+    category_accepts (g.K.Keep.content c.args.keep.now) settings h c.args.moment c.args.caller c.args.name.now c.args.name refl e (sym c.in-None.is ∙ c.in_ok-refusal.ensures.value honest)
 
 pub returns-in-None-clause-fits : goal.returns-in-None-clause-fits
 returns-in-None-clause-fits g c = λ honest sound.
-    category_fits (g.K.Keep.content c.args.keep.now) c.args.moment c.args.caller c.args.name.now c.as_str.result c.as_str.ensures (sym c.in-None.is ∙ c.in_ok-refusal.ensures.value honest)
+    category_fits (g.K.Keep.content c.args.keep.now) c.args.moment c.args.caller c.args.name.now c.args.name refl (sym c.in-None.is ∙ c.in_ok-refusal.ensures.value honest)

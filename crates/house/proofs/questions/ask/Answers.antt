@@ -26,17 +26,17 @@ pub returns-in-Ok-next_number-clause-decided : goal.returns-in-Ok-next_number-cl
 returns-in-Ok-next_number-clause-decided g c = λ honest settings h is e.
     let on = rw c.in-Ok.is at c.in_ok-on.ensures.value (c.in_ok-count.ensures.read.honest honest) in
     let next = rw (counted g (goal.at.returns-in-Ok-next_number-clause-decided g c).In_ok-count honest) at c.in-Ok-next_number.ensures in
-    ask_accepts (g.K.Keep.content c.args.keep.now) settings h c.args.moment c.args.caller c.args.item c.args.text.now c.in-Ok.on.terms c.in-Ok.on.member c.in-Ok-next_number.number c.as_str.result
-    is e c.as_str.ensures on.0 next.0 on.1 on.2 next.1
+    ask_accepts (g.K.Keep.content c.args.keep.now) settings h c.args.moment c.args.caller c.args.item c.args.text.now c.in-Ok.on.terms c.in-Ok.on.member c.in-Ok-next_number.number c.args.text
+    is e refl on.0 next.0 on.1 on.2 next.1
 
 pub returns-in-Ok-next_number-clause-fits : goal.returns-in-Ok-next_number-clause-fits
 returns-in-Ok-next_number-clause-fits g c = λ honest sound.
     let on = rw c.in-Ok.is at c.in_ok-on.ensures.value (c.in_ok-count.ensures.read.honest honest) in
     let next = rw (counted g (goal.at.returns-in-Ok-next_number-clause-fits g c).In_ok-count honest) at c.in-Ok-next_number.ensures in
-    ask_fits (g.K.Keep.content c.args.keep.now) c.args.moment c.args.caller c.args.item c.args.text.now c.in-Ok.on.terms c.in-Ok.on.member c.in-Ok-next_number.number c.as_str.result
-    c.as_str.ensures on.0 next.0 on.1 on.2 next.1
+    ask_fits (g.K.Keep.content c.args.keep.now) c.args.moment c.args.caller c.args.item c.args.text.now c.in-Ok.on.terms c.in-Ok.on.member c.in-Ok-next_number.number c.args.text
+    refl on.0 next.0 on.1 on.2 next.1
 
 pub returns-in-Ok-next_number-clause-own : goal.returns-in-Ok-next_number-clause-own
 returns-in-Ok-next_number-clause-own g c = λ honest.
     let on = rw c.in-Ok.is at c.in_ok-on.ensures.value (c.in_ok-count.ensures.read.honest honest) in
-    record { same_command = rw ((row_there (g.K.Keep.content c.args.keep.now) c.args.item c.in-Ok.on.terms on.1).numbered, c.as_str.ensures) refl; same_caller = on.0; same_moment = tt }
+    record { same_command = rw (row_there (g.K.Keep.content c.args.keep.now) c.args.item c.in-Ok.on.terms on.1).numbered refl; same_caller = on.0; same_moment = tt }

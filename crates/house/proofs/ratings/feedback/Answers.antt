@@ -26,21 +26,21 @@ pub returns-in-Ok-taken_rating-clause-decided : goal.returns-in-Ok-taken_rating-
 returns-in-Ok-taken_rating-clause-decided g c = λ honest settings h is e.
     let on = rw c.in-Ok.is at c.in_ok-on.ensures.value (c.in_ok-is_given.ensures.read.honest honest) in
     let taken = rw (given g (goal.at.returns-in-Ok-taken_rating-clause-decided g c).In_ok-is_given honest) at c.in-Ok-taken_rating.ensures in
-    feedback_accepts (g.K.Keep.content c.args.keep.now) settings h c.args.moment c.args.caller c.args.item c.args.rating c.args.text.now c.in-Ok.on.terms c.in-Ok.on.member c.other_party.result c.in-Ok-taken_rating.rating c.as_str.result
-    e c.as_str.ensures on.0 c.other_party.ensures taken.0 on.1 on.2 taken.1
+    feedback_accepts (g.K.Keep.content c.args.keep.now) settings h c.args.moment c.args.caller c.args.item c.args.rating c.args.text.now c.in-Ok.on.terms c.in-Ok.on.member c.other_party.result c.in-Ok-taken_rating.rating c.args.text
+    e refl on.0 c.other_party.ensures taken.0 on.1 on.2 taken.1
 
 pub returns-in-Ok-taken_rating-clause-fits : goal.returns-in-Ok-taken_rating-clause-fits
 returns-in-Ok-taken_rating-clause-fits g c = λ honest sound.
     let on = rw c.in-Ok.is at c.in_ok-on.ensures.value (c.in_ok-is_given.ensures.read.honest honest) in
     let taken = rw (given g (goal.at.returns-in-Ok-taken_rating-clause-fits g c).In_ok-is_given honest) at c.in-Ok-taken_rating.ensures in
-    feedback_fits (g.K.Keep.content c.args.keep.now) c.args.moment c.args.caller c.args.item c.args.rating c.args.text.now c.in-Ok.on.terms c.in-Ok.on.member c.other_party.result c.as_str.result
-    c.as_str.ensures on.0 c.other_party.ensures on.1 on.2 taken.1
+    feedback_fits (g.K.Keep.content c.args.keep.now) c.args.moment c.args.caller c.args.item c.args.rating c.args.text.now c.in-Ok.on.terms c.in-Ok.on.member c.other_party.result c.args.text
+    refl on.0 c.other_party.ensures on.1 on.2 taken.1
 
 pub returns-in-Ok-taken_rating-clause-own : goal.returns-in-Ok-taken_rating-clause-own
 returns-in-Ok-taken_rating-clause-own g c = λ honest.
     let on = rw c.in-Ok.is at c.in_ok-on.ensures.value (c.in_ok-is_given.ensures.read.honest honest) in
     record {
-      same_command = rw ((row_there (g.K.Keep.content c.args.keep.now) c.args.item c.in-Ok.on.terms on.1).numbered, c.as_str.ensures, c.in-Ok-taken_rating.ensures.0) refl;
+      same_command = rw ((row_there (g.K.Keep.content c.args.keep.now) c.args.item c.in-Ok.on.terms on.1).numbered, c.in-Ok-taken_rating.ensures.0) refl;
       same_caller = on.0;
       same_moment = refl;
     }

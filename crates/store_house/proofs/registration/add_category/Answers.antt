@@ -16,13 +16,13 @@ pub returns-then-is_some-clause-damaged : goal.returns-then-is_some-clause-damag
 unfolding tables_in
 returns-then-is_some-clause-damaged g c clean sound fits free is =
     let there : is_some c.in_ok-category_named.field-0 ≡ true = search rules in
-    some_there c.in_ok-category_named.field-0 _ there (c.in_ok-category_named.ensures.found clean) free
+    some_there c.in_ok-category_named.field-0 _ there (rw c.as_str.ensures at (c.in_ok-category_named.ensures.found clean)) free
 
 pub returns-clause-taken : goal.returns-clause-taken
 unfolding tables_in
 returns-clause-taken g c clean =
     let there : is_some c.in_ok-category_named.field-0 ≡ false = search rules in
-    on_ok c.commit_add_category.result (none_there c.in_ok-category_named.field-0 _ there (c.in_ok-category_named.ensures.found (omega (arith, c.commit_add_category.ensures.commit.crash.clean))))
+    on_ok c.commit_add_category.result (none_there c.in_ok-category_named.field-0 _ there (rw c.as_str.ensures at (c.in_ok-category_named.ensures.found (omega (arith, c.commit_add_category.ensures.commit.crash.clean)))))
 
 pub returns-clause-commit : goal.returns-clause-commit
 returns-clause-commit g c =

@@ -7,4 +7,4 @@ pub returns-clause-ok : goal.returns-clause-ok
 returns-clause-ok g c clean =
     ok_then c.set_clock.result (c.set_clock.ensures.ok clean) (λ _ w.
     registers _ _ c.args.name _ _ _ (c.requires.numbered (omega (arith, c.set_clock.ensures.write.crash.clean, c.put_member.ensures.write.crash.clean))) (c.requires.next (omega (arith, c.set_clock.ensures.write.crash.clean, c.put_member.ensures.write.crash.clean)))
-    (c.in_ok-put_member.ensures.ok (omega (arith, c.set_clock.ensures.write.crash.clean))) w)
+    (rw c.as_str.ensures at (c.in_ok-put_member.ensures.ok (omega (arith, c.set_clock.ensures.write.crash.clean)))) w)

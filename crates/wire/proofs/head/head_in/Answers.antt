@@ -1,10 +1,10 @@
-use Rattle.std.proofs.Common.{◌≡◌, ◌≤◌, ◌<◌, codes, length, drop, map, take, subst, ap, ◌∙◌, arith, ℕ, List}
+use Rattle.std.proofs.Common.{◌≡◌, ◌≤◌, ◌<◌, length, drop, map, take, subst, ap, ◌∙◌, arith, ℕ, List}
 use Rattle.std.proofs.lemmas.List.{length-map, length-take-le}
 use Rattle.httparse.specs.declared.spans.HeaderSpan.{HeaderSpan}
-use Rattle.wire.specs.Fields.{Pair, values_of}
+use Rattle.wire.specs.Fields.{Pair}
 use Rattle.httparse.specs.Grammar.{RequestHead, print_request, HasNoRequest}
 use Rattle.httparse.specs.Spans.{IsRequestOf, header_bytes, name_and_value}
-use Rattle.wire.specs.Known.{IsCount, IsKnown}
+use Rattle.wire.specs.Known.{IsKnown}
 use Rattle.wire.specs.Head.{BeginsHead, most_bytes}
 use Rattle.wire.proofs.HeadLemmas.{full_never, long_never}
 use Rattle.wire.proofs.head.head_in.Goals as goal
@@ -46,8 +46,6 @@ returns-then-spans-le-MOST_BYTES-clause-found c =
         target = c.of-then-spans-le-MOST_BYTES.ensures ∙ is.path;
         minor = is.version;
         known = subst (λ fs. IsKnown fs c.known_of.result) fields c.known_of.ensures;
-        member = subst (λ fs. IsCount (values_of (codes "x-member") fs) c.note_field.result) fields c.note_field.ensures;
-        moment = subst (λ fs. IsCount (values_of (codes "x-moment") fs) c.note_field-then-spans-le-MOST_BYTES.result) fields c.note_field-then-spans-le-MOST_BYTES.ensures;
         len = is.len;
       },
       begins,

@@ -13,6 +13,8 @@ loop-span-init c = record {
   transfer = transfer_none;
   lengths = values_of-none _;
   closes = sym (ap (list_any names_close) (values_of-none _));
+  member = values_of-none _;
+  moment = values_of-none _;
 }
 
 pub loop-span-preserved : goal.loop-span-preserved

@@ -4,7 +4,7 @@ use Rattle.std.specs.Str.{IsTrimAsciiStart}
 use Rattle.std.proofs.lemmas.List.{take_rest}
 use Rattle.httparse.specs.Grammar.{print_section}
 use Rattle.wire.specs.Lines.{fields_in}
-use Rattle.wire.proofs.LineLemmas.{after_request_line, section_fields}
+use Rattle.wire.proofs.LineLemmas.{after_request_line, end_more, section_fields}
 use Rattle.wire.proofs.lines.field_lines.Goals as goal
 
 pub returns-in-Some : goal.returns-in-Some
@@ -13,7 +13,7 @@ returns-in-Some c = λ h is e line.
     let (fits, rest_after) = after_request_line h text is (subst (λ t. IsTrimAsciiStart t text) e c.trim_ascii_start.ensures.value) in
     let cut = c.in-Some.ensures.lookup.0 in
     let rest = cut.2 ∙ take_rest text c.args.line ∙ ap (λ n. drop n text) line ∙ rest_after in
-    ap fields_in (c.after_end.ensures h.line_end (print_section h.fields h.last) rest) ∙ section_fields h.fields h.last is.fields
+    ap fields_in rest ∙ end_more h.line_end (print_section h.fields h.last) ∙ section_fields h.fields h.last is.fields
 
 pub returns-in-None : goal.returns-in-None
 returns-in-None c = λ h is e line.

@@ -1,16 +1,13 @@
-use Rattle.std.proofs.Common.{refl}
-use Rattle.list_rows.proofs.Making.{makes_damaged}
-use Rattle.list_items.proofs.Listed.{lot_free, lot_taken, lot_unreported, made_or_memory}
+use Rattle.std.proofs.Common.{◌≡◌, sym, refl, ◌∙◌}
+use Rattle.list_rows.proofs.Making.{makes_memory, makes_ok}
+use Rattle.list_items.specs.Indexed.{lot_in}
 use Rattle.list_items.proofs.items.Items.list.Goals as goal
 
-pub append-requires-clause-free : goal.append-requires-clause-free
-append-requires-clause-free c =
-    lot_free c.args.self.now c.args.item.now.seller c.from-seller.result c.args.item.now.lot.now c.number_with_lot.result c.is_some.result c.from-seller.ensures c.number_with_lot.ensures c.is_some.ensures c.if-is_some.false
-
-pub returns-then-is_some-clause-whole : goal.returns-then-is_some-clause-whole
-returns-then-is_some-clause-whole c =
-    makes_damaged _ _ _ _ (lot_taken c.args.self.now c.args.item.now.seller c.from-seller.result c.args.item.now.lot.now c.number_with_lot.result c.is_some.result c.from-seller.ensures c.number_with_lot.ensures c.is_some.ensures c.if-is_some.true) refl
+pub returns-in-None-clause-whole : goal.returns-in-None-clause-whole
+returns-in-None-clause-whole c =
+    let found : c.number_with_lot.result ≡ lot_in c.args.self.now c.args.item.now.seller c.args.item.now.lot.now =
+    rw (c.in_default.ensures.err, c.from.ensures, c.as_str.ensures) at c.number_with_lot.ensures in
+    makes_memory _ _ _ _ (sym found ∙ c.in-None.is) c.in_default.ensures.err
 
 pub returns-clause-whole : goal.returns-clause-whole
-returns-clause-whole c =
-    made_or_memory c.append.result _ _ _ (lot_unreported c.args.self.now c.args.item.now.seller c.from-seller.result c.args.item.now.lot.now c.number_with_lot.result c.is_some.result c.from-seller.ensures c.number_with_lot.ensures c.is_some.ensures c.if-is_some.false) c.append.ensures.err c.append.ensures.memory
+returns-clause-whole c = makes_ok _ _ _ _ c.in-Ok.ensures.free refl

@@ -20,4 +20,8 @@ returns c = λ fields known.
           ap (λ t. t || c.is_closing.result) known.closes
           ∙ ap (λ t. list_any names_close (values_of (codes "connection") fields) || t) c.is_closing.ensures
           ∙ sym (any_more names_close (codes "connection") fields f);
+      member = count_more (codes "x-member") fields f.0 f.1 c.are_asked-is_member.result.0 c.and-self-3.result c.are_asked-is_member.ensures.member
+          (c.and-self-3.ensures (values_of (codes "x-member") fields) known.member);
+      moment = count_more (codes "x-moment") fields f.0 f.1 c.are_asked-is_member.result.1 c.and-self-4.result c.are_asked-is_member.ensures.moment
+          (c.and-self-4.ensures (values_of (codes "x-moment") fields) known.moment);
     }

@@ -3,27 +3,33 @@ use Rattle.std.proofs.Common.{◌≡◌, ◌<◌, ◌≤◌, ◌-◌, ◌+◌, �
 use Rattle.std.proofs.lemmas.List.{drop-drop, length-drop, take_at, take_rest}
 use Rattle.httparse.specs.Grammar.{RequestHead, print_request}
 use Rattle.wire.specs.Frame.{IsMessageAt, announced, fields_of, message_of}
-use Rattle.wire.specs.Front.{ArePartsOf}
+use Rattle.wire.specs.Front.{ArePartsOf, IsFound}
+use Rattle.wire.specs.Head.{NeverHead}
 use Rattle.wire.specs.Lines.{fields_in, request_line}
 use Rattle.wire.specs.Message.{Message}
+use Rattle.wire.specs.declared.head.Head.TheVariants.{Found}
 use Rattle.wire.specs.declared.head.Parts.{Parts}
 use Rattle.wire.proofs.Fronts.{ends_in_body, known_fault, message_here, never_head, same_message}
 use Rattle.wire.proofs.LineLemmas.{request_line_long}
-use Rattle.wire.proofs.front.front.Goals as goal
+use Rattle.wire.proofs.front.message_at.Goals as goal
 
 pub returns-in-Never : goal.returns-in-Never
-returns-in-Never c = never_head c.args.bytes.now c.in-Never.ensures
+returns-in-Never c =
+    let never : NeverHead c.args.bytes.now = rw c.in-Never.is at c.requires in
+    never_head c.args.bytes.now never
 
 pub returns-in-Err : goal.returns-in-Err
 returns-in-Err c =
-    let (h, parts, begins, fits) = c.in-Found.ensures in
+    let found : IsFound c.args.bytes.now (Found c.in-Found.head) = rw c.in-Found.is at c.requires in
+    let (h, parts, begins, fits) = found in
     let e : Err c.in-Err.fault ≡ announced h.minor (fields_of h) = c.in-Err.ensures.value (fields_of h) parts.known ∙ ap (λ v. announced v
     (fields_of h)) parts.minor in
     known_fault c.args.bytes.now h _ c.in-Err.fault begins e
 
 pub returns-then-after-size : goal.returns-then-after-size
 returns-then-after-size c =
-    let (h, parts, begins, fits) = c.in-Found.ensures in
+    let found : IsFound c.args.bytes.now (Found c.in-Found.head) = rw c.in-Found.is at c.requires in
+    let (h, parts, begins, fits) = found in
     let bytes = c.args.bytes.now in
     let after = drop c.in-Found.head.len bytes in
     let e : Ok c.in-Ok.size ≡ announced h.minor (fields_of h) = c.in-Ok.ensures.value (fields_of h) parts.known ∙ ap (λ v. announced v
@@ -48,12 +54,14 @@ line_is h parts are = omega (
 
 pub overflow_add-head-2 : goal.overflow_add-head-2
 overflow_add-head-2 c =
-    let (h, parts, begins, fits) = c.in-Found.ensures in
+    let found : IsFound c.args.bytes.now (Found c.in-Found.head) = rw c.in-Found.is at c.requires in
+    let (h, parts, begins, fits) = found in
     omega (arith, line_is h c.in-Found.head parts, (request_line_long h).1, begins.size)
 
 pub returns : goal.returns
 returns c =
-    let (h, parts, begins, inside) = c.in-Found.ensures in
+    let found : IsFound c.args.bytes.now (Found c.in-Found.head) = rw c.in-Found.is at c.requires in
+    let (h, parts, begins, inside) = found in
     let bytes = c.args.bytes.now in
     let head = c.in-Found.head in
     let len = head.len in
