@@ -69,6 +69,7 @@ fn put_text(alloc: Global, out: &mut Vec<u8>, text: &str) -> Result<(), AllocErr
 }
 
 // Appends one value.
+#[inline(always)]
 #[tactic(auto, unfolding(crate::specs::Words::text_of))]
 pub(crate) fn put_value(
     alloc: Global,

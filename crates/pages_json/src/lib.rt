@@ -15,7 +15,7 @@ mod tree;
 pub use entry::{Shows, append, finish, put_array};
 pub use field::Field;
 pub use object::{
-    end_object, put_list, put_member_list, put_members, put_object, put_object_around,
+    end_object, put_list, put_member, put_member_list, put_members, put_object, put_object_around,
 };
 pub use tree::{
     Grows, grow_array, grow_list, grow_member_list, grow_members, grow_object, grow_object_around,

@@ -4,7 +4,7 @@
 //! place of the first comma.
 ghost use Rattle.std.specs.Prelude.{◌≡◌, ◌++◌, ◌∷◌, ◌≤◌, [], IsTrue, OnOk, drop, length, map, take};
 ghost use Rattle.std.specs.Io.{StartsWith};
-ghost use Rattle.pages_json.specs.Fields.{are_keys, member_of};
+ghost use Rattle.pages_json.specs.Fields.{are_keys, field_tree, member_of};
 ghost use Rattle.pages_json.specs.Words.{array_of, enclosed, is_key, members_text, name_in, object_of, text_of};
 
 use crate::entry::{Shows, put_array};
@@ -68,6 +68,26 @@ pub fn put_members(
         out.extend_from_slice(field.0.as_bytes())?;
         put_value(alloc, out, &field.1)?;
     }
+    Ok(())
+}
+
+/// Appends a member of an object, after a comma. After an `Err` a part of it may be there. Where the
+/// key and the kind of the value are constants, nothing is asked of them while it runs.
+#[inline(always)]
+#[tactic(auto, using(crate::proofs::Texts::one_member, crate::proofs::Texts::front_then))]
+pub fn put_member(
+    alloc: Global,
+    out: &mut Vec<u8>,
+    key: &str,
+    value: Field<'_>,
+) -> Result<(), AllocError>
+    requires { IsTrue (is_key key.now) }
+    ensures text { OnOk result (out.new.items ≡ out.old.items
+        ++ members_text ((name_in key.now, field_tree value.entry) ∷ [])) }
+    ensures front { StartsWith out.new.items out.old.items }
+{
+    out.extend_from_slice(key.as_bytes())?;
+    put_value(alloc, out, &value)?;
     Ok(())
 }
 

@@ -1,10 +1,9 @@
 -- A period that ends before it begins.
-use Rattle.std.proofs.Common.{◌≡◌, ◌<◌, ℕ, ℤ, pos, negsuc, List, [], ◌∷◌, Bool, true, false, filter, refl, ap, ◌∙◌, arith}
-use Rattle.std.specs.Prelude.{◌&&◌, int_le, nat_le, map}
+use Rattle.std.proofs.Common.{◌≡◌, ◌<◌, ℕ, ℤ, pos, negsuc, List, [], ◌∷◌, Bool, true, false, filter, refl, ap, arith}
+use Rattle.std.specs.Prelude.{◌&&◌, int_le, map}
 use Rattle.std.proofs.lemmas.Bool.Decides.{nat_tests}
-use Rattle.settle.specs.Statement.{in_order, is_party, is_within, line_of, lines_of, rows_of}
+use Rattle.settle.specs.Statement.{in_order, is_party, line_of, lines_of, rows_of}
 use Rattle.settle.specs.Zoned.{day_at}
-use Rattle.settle.specs.declared.line.Line.{Line}
 use Rattle.settle.specs.declared.sale.Sold.{Sold}
 use Rattle.settle.specs.declared.zone.Zone.{Zone}
 

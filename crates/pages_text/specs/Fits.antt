@@ -1,5 +1,5 @@
 -- What a page has, so that it can be shown.
-use Rattle.std.specs.Prelude.{ℕ, ◌≢◌, ◌≤◌, ◌<◌, ◌^◌, List, All, AllPairs, length}
+use Rattle.std.specs.Prelude.{◌≢◌, ◌≤◌, ◌<◌, ◌^◌, List, All, AllPairs, length}
 use Rattle.settle.specs.Lines.{MOST}
 use Rattle.settle.specs.Statement.{IsSale}
 use Rattle.settle.specs.declared.sale.Sold.{Sold}
