@@ -5,8 +5,9 @@ items. A page is what `auction replay` takes for a message more, by the differen
 takes with `--record` more than without. Beside it is what a house in plain Rust takes for the same message (PLAIN, which takes
 the words `replay --preset`, and has no record). The text alone is a page less an empty one; beside it is
 what `bench/plain`, by `serde_json` and `derive`, takes to make the same text from the same rows, which it reads from the
-record. Each makes the record once, and writes it. All texts are compared. Times are medians of runs of both in turn by processor time; of the record of the smaller house
-none is shown, since it is within a run's noise. It needs `valgrind`, and `cargo` with Debian's packages, as `wire.sh` says.
+record. Each makes the record once, and writes it. All texts are compared. Times are medians of runs of both in turn by
+processor time; of the record of the smaller house none is shown, since it is within a run's noise. It needs `valgrind`, and
+`cargo` with Debian's packages, as `wire.sh` says.
 """
 import dataclasses
 import os
