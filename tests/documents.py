@@ -3,11 +3,10 @@
 
 Each link leads to a file and a heading that are there. Each file that is named between backticks is there, by its path
 or the end of it. Each name of code in PROMISES.md, DEFINITIONS.md and GLOSSARY.md is a word of some source, and each
-wrong body there has its file. README.md and the pages of docs/ and examples/ have no sentence over 30 words, and no
-line over 100 columns outside tables; of bench/README.md these are counted. docs/ has at most 18,000 words outside
-blocks of code, a word being what has a letter or a digit. The manual docs/auction.1 has no line over 80 columns, and no
-fault that mandoc finds, where mandoc is there. It has each command of PROGRAM with all its files, options and ranges,
-as the help tells them, and no other. The last line is 'N checks, M wrong'.
+wrong body there has its file. README.md and the pages of docs/ and examples/ have no line over 100 columns outside
+tables. figures.py, where it is there, finds no wrong figure. The manual docs/auction.1 has no line over 80 columns, and
+no fault that mandoc finds, where mandoc is there. It has each command of PROGRAM with all its files, options and
+ranges, as the help tells them, and no other. The last line is 'N checks, M wrong'.
 """
 import pathlib
 import re
@@ -20,7 +19,8 @@ PAGES = [ROOT / "README.md", ROOT / "bench" / "README.md", *sorted((ROOT / "docs
          *sorted((ROOT / "examples").glob("*/*.md"))]
 OF_CODE = ["docs/PROMISES.md", "docs/DEFINITIONS.md", "docs/GLOSSARY.md"]
 MANUAL = ROOT / "docs" / "auction.1"
-MOST_WORDS, MOST_IN_SENTENCE, MOST_COLUMNS, MOST_IN_MANUAL = 18_000, 30, 100, 80
+FIGURES = ROOT / "tests" / "figures.py"
+MOST_COLUMNS, MOST_IN_MANUAL = 100, 80
 
 LINK = re.compile(r"\]\(([^)#\s]*)(?:#([^)\s]*))?\)")
 FENCED = re.compile(r"^```.*?^```$", re.M | re.S)
@@ -82,23 +82,16 @@ def wrong_bodies(page, text, there):
         check(f"{named(page)}: no wrong body {name}", name in edits)
 
 
-def sentences(text):
-    """The sentences of a page: of paragraphs, of items of lists, and of cells of tables."""
-    text = re.sub(r"^(#.*|\|[-|: ]*)$", "", FENCED.sub("", text), flags=re.M)
-    text = LINK.sub("]", QUOTED.sub("code", text))
-    text = re.sub(r"^\s*(?:-|[0-9]+\.) ", "\n", text, flags=re.M)
-    for part in re.split(r"\n\s*\n|\|", text):
-        yield from re.split(r"(?<=[.!?])\s+", " ".join(part.split()))
+def columns(page, text):
+    wide = [line for line in text.splitlines() if len(line) > MOST_COLUMNS and not line.startswith("|")]
+    check("\n".join([f"{named(page)}: over {MOST_COLUMNS} columns:", *wide]), not wide)
 
 
-def long_parts(text):
-    """The sentences and the lines of a page that are too long."""
-    lines = [line for line in text.splitlines() if len(line) > MOST_COLUMNS and not line.startswith("|")]
-    return [part for part in sentences(text) if len(part.split()) > MOST_IN_SENTENCE], lines
-
-
-def words_of(text):
-    return sum(any(letter.isalnum() for letter in word) for word in FENCED.sub("", text).split())
+def figures():
+    """Fails where figures.py does, with what it printed."""
+    if FIGURES.exists():
+        found = subprocess.run([sys.executable, FIGURES], capture_output=True, text=True, timeout=60)
+        check(f"{FIGURES.name}: {found.stdout}{found.stderr}", found.returncode == 0)
 
 
 def helps(program):
@@ -172,24 +165,17 @@ def main():
     words = {word for file in there if file.endswith((".rt", ".antt"))
              for word in re.findall(r"\w+", (ROOT / file).read_text())}
     words.update(part for file in there for part in pathlib.Path(file).parts)
-    total = 0
     for page in PAGES:
         text = page.read_text()
         links(page, text)
         files(page, text, there)
+        if page.parent.name != "bench":
+            columns(page, text)
         if named(page) in OF_CODE:
             code(page, text, words)
             wrong_bodies(page, text, there)
-        long, wide = long_parts(text)
-        if page.parent.name != "bench":
-            for part in [*long, *wide]:
-                check(f"{named(page)}: too long: {part}", False)
-        total += words_of(text) if page.parent.name == "docs" else 0
-        print(f"{named(page)}: {words_of(text)} words, {len(long)} sentences over {MOST_IN_SENTENCE} words, "
-              f"{len(wide)} lines over {MOST_COLUMNS} columns")
+    figures()
     manual(sys.argv[1] if len(sys.argv) > 1 else None)
-    print(f"docs/: {total} words")
-    check(f"docs/ has over {MOST_WORDS} words", total <= MOST_WORDS)
     print(f"{len(CHECKS)} checks, {CHECKS.count(False)} wrong")
     return 1 if not all(CHECKS) else 0
 
