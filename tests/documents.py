@@ -3,10 +3,11 @@
 
 Each link leads to a file and a heading that are there. Each file that is named between backticks is there, by its path
 or the end of it. Each name of code in PROMISES.md, DEFINITIONS.md and GLOSSARY.md is a word of some source, and each
-wrong body there has its file. README.md and the pages of docs/ and examples/ have no line over 100 columns outside
-tables. figures.py, where it is there, finds no wrong figure. The manual docs/auction.1 has no line over 80 columns, and
-no fault that mandoc finds, where mandoc is there. It has each command of PROGRAM with all its files, options and
-ranges, as the help tells them, and no other. The last line is 'N checks, M wrong'.
+wrong body there has its file. Each block of Rust is text of some source. README.md and the pages of docs/ and examples/
+have no line over 100 columns outside tables and Rust. figures.py, where it is there, finds no wrong figure. The manual
+docs/auction.1 has no line over 80 columns, and no fault that mandoc finds, where mandoc is there. It has each command
+of PROGRAM with all its files, options and ranges, as the help tells them, and no other. The last line is
+'N checks, M wrong'.
 """
 import pathlib
 import re
@@ -24,6 +25,7 @@ MOST_COLUMNS, MOST_IN_MANUAL = 100, 80
 
 LINK = re.compile(r"\]\(([^)#\s]*)(?:#([^)\s]*))?\)")
 FENCED = re.compile(r"^```.*?^```$", re.M | re.S)
+RUST = re.compile(r"^```rust\n(.*?)^```$", re.M | re.S)
 QUOTED = re.compile(r"`([^`\n]+)`")
 FILE = re.compile(r"[\w./*-]+\.(?:py|rt|antt|md|csv|http|c|sh|edit|txt|yaml)")
 NAME = re.compile(r"(?:\w+::)*([A-Za-z_]\w*)")
@@ -82,8 +84,14 @@ def wrong_bodies(page, text, there):
         check(f"{named(page)}: no wrong body {name}", name in edits)
 
 
+def quotes(page, text, sources):
+    """Each block of Rust is there in a source, whatever the spaces between words."""
+    for block in RUST.findall(text):
+        check(f"{named(page)}: in no source:\n{block}", any(" ".join(block.split()) in source for source in sources))
+
+
 def columns(page, text):
-    wide = [line for line in text.splitlines() if len(line) > MOST_COLUMNS and not line.startswith("|")]
+    wide = [line for line in RUST.sub("", text).splitlines() if len(line) > MOST_COLUMNS and not line.startswith("|")]
     check("\n".join([f"{named(page)}: over {MOST_COLUMNS} columns:", *wide]), not wide)
 
 
@@ -162,13 +170,15 @@ def main():
     there = subprocess.run(["git", "ls-files", "--cached", "--others", "--exclude-standard"], cwd=ROOT, text=True,
                            capture_output=True, check=True).stdout.splitlines()
     there = [file for file in there if (ROOT / file).exists()]
-    words = {word for file in there if file.endswith((".rt", ".antt"))
-             for word in re.findall(r"\w+", (ROOT / file).read_text())}
+    sources = [(ROOT / file).read_text() for file in there if file.endswith((".rt", ".antt"))]
+    words = {word for source in sources for word in re.findall(r"\w+", source)}
+    lines = [" ".join(source.split()) for source in sources]
     words.update(part for file in there for part in pathlib.Path(file).parts)
     for page in PAGES:
         text = page.read_text()
         links(page, text)
         files(page, text, there)
+        quotes(page, text, lines)
         if page.parent.name != "bench":
             columns(page, text)
         if named(page) in OF_CODE:
