@@ -3,11 +3,11 @@
 
 Each link leads to a file and a heading that are there. Each file that is named between backticks is there, by its path
 or the end of it. Each name of code in PROMISES.md, DEFINITIONS.md and GLOSSARY.md is a word of some source, and each
-wrong body there has its file. Each block of Rust is text of some source. CLAUSES.md is what clauses.py makes. README.md
-and the pages of docs/ and examples/ have no line over 100 columns outside tables and Rust. figures.py, where it is
-there, finds no wrong figure. The manual docs/auction.1 has no line over 80 columns, and no fault that mandoc finds,
-where mandoc is there. It has each command of PROGRAM with all its files, options and ranges, as the help tells them,
-and no other. The last line is 'N checks, M wrong'.
+wrong body there has its file. Each block of Rust is text of some source. CLAUSES.md is what clauses.py makes, and
+PROMISES.md lists the ported crates as ported.py does. README.md and the pages of docs/ and examples/ have no line over
+100 columns outside tables and Rust. figures.py, where it is there, finds no wrong figure. The manual docs/auction.1 has
+no line over 80 columns, and no fault that mandoc finds, where mandoc is there. It has each command of PROGRAM with all
+its files, options and ranges, as the help tells them, and no other. The last line is 'N checks, M wrong'.
 """
 import pathlib
 import re
@@ -16,9 +16,10 @@ import subprocess
 import sys
 
 import clauses
+import ported
 
 ROOT = pathlib.Path(__file__).resolve().parent.parent
-PAGES = [ROOT / "README.md", ROOT / "bench" / "README.md", *sorted((ROOT / "docs").glob("*.md")),
+PAGES = [*(ROOT / name for name in ("README.md", "bench/README.md")), *sorted((ROOT / "docs").glob("*.md")),
          *sorted((ROOT / "examples").glob("*/*.md"))]
 OF_CODE = ["docs/PROMISES.md", "docs/DEFINITIONS.md", "docs/GLOSSARY.md"]
 MANUAL = ROOT / "docs" / "auction.1"
@@ -187,6 +188,8 @@ def main():
             code(page, text, words)
             wrong_bodies(page, text, there)
     check("docs/CLAUSES.md is older than the code: run tests/clauses.py", clauses.PAGE.read_text() == clauses.page())
+    promises = " ".join((ROOT / "docs" / "PROMISES.md").read_text().split())
+    check("docs/PROMISES.md: the ported crates are those that tests/ported.py prints", ported.listed() in promises)
     figures()
     manual(sys.argv[1] if len(sys.argv) > 1 else None)
     print(f"{len(CHECKS)} checks, {CHECKS.count(False)} wrong")
