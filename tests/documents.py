@@ -19,7 +19,7 @@ import clauses
 import ported
 
 ROOT = pathlib.Path(__file__).resolve().parent.parent
-PAGES = [*(ROOT / name for name in ("README.md", "bench/README.md")), *sorted((ROOT / "docs").glob("*.md")),
+PAGES = [*(ROOT / name for name in ("README.md", "CHANGELOG.md", "bench/README.md")), *sorted((ROOT / "docs").glob("*.md")),
          *sorted((ROOT / "examples").glob("*/*.md"))]
 OF_CODE = ["docs/PROMISES.md", "docs/DEFINITIONS.md", "docs/GLOSSARY.md"]
 MANUAL = ROOT / "docs" / "auction.1"
