@@ -39,7 +39,7 @@ DEB_PACKAGES = lintian debootstrap systemd-container
 
 help:
 	@echo "For a newcomer"
-	@echo "  make demo      answers examples/first-bid.http, without waiting for the proofs, in three to four minutes"
+	@echo "  make demo      answers examples/bids.http, without waiting for the proofs, in three to four minutes"
 	@echo "  make auction   proves and builds the program, as bin/auction, and says how far it is"
 	@echo "  make session   plays the README's sessions on bin/auction: a house in a file with curl"
 	@echo
@@ -118,7 +118,7 @@ documents: has-curl
 
 demo:
 	@echo "This builds the program without proofs, so its last line has proved=no. It takes three to four minutes."
-	@bash -o pipefail -c "cd crates/auction && rt try -- replay --preset < ../../examples/first-bid.http \
+	@bash -o pipefail -c "cd crates/auction && rt try -- replay --preset < ../../examples/bids.http \
 		| sed 's/}HTTP/}\n\nHTTP/; \$$ s/\$$/\n/'"
 
 test:
