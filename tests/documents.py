@@ -2,12 +2,13 @@
 """Reads the documents of the repository: `documents.py [PROGRAM]`.
 
 Each link leads to a file and a heading that are there. Each file that is named between backticks is there, by its path
-or the end of it. Each name of code in PROMISES.md, LAYERS.md, DEFINITIONS.md and GLOSSARY.md is a word of some source, and each
-wrong body there has its file. Each block of Rust is text of some source. CLAUSES.md is what clauses.py makes, and
-PROMISES.md lists the ported crates as ported.py does. README.md and the pages of docs/ and examples/ have no line over
-100 columns outside tables and Rust. figures.py, where it is there, finds no wrong figure. The manual docs/auction.1 has
-no line over 80 columns, and no fault that mandoc finds, where mandoc is there. It has each command of PROGRAM with all
-its files, options and ranges, as the help tells them, and no other. The last line is 'N checks, M wrong'.
+or the end of it. Each name of code in the pages on promises, definitions, crates and changes and in GLOSSARY.md is a
+word of some source, and each wrong body there has its file. Each block of Rust is text of some source. CLAUSES.md is
+what clauses.py makes, and PROMISES.md lists the ported crates as ported.py does. README.md and the pages of docs/ and
+examples/ have no line over 100 columns outside tables and Rust. figures.py, where it is there, finds no wrong figure.
+The manual docs/auction.1 has no line over 80 columns, and no fault that mandoc finds, where mandoc is there. It has
+each command of PROGRAM with all its files, options and ranges, as the help tells them, and no other. The last line is
+'N checks, M wrong'.
 """
 import pathlib
 import re
@@ -21,7 +22,7 @@ import ported
 ROOT = pathlib.Path(__file__).resolve().parent.parent
 PAGES = [*(ROOT / name for name in ("README.md", "CHANGELOG.md", "bench/README.md")), *sorted((ROOT / "docs").glob("*.md")),
          *sorted((ROOT / "examples").glob("*/*.md"))]
-OF_CODE = ["docs/PROMISES.md", "docs/LAYERS.md", "docs/DEFINITIONS.md", "docs/GLOSSARY.md"]
+OF_CODE = [f"docs/{name}.md" for name in ("ARCHITECTURE", "CHANGING", "DEFINITIONS", "GLOSSARY", "LAYERS", "PROMISES")]
 MANUAL = ROOT / "docs" / "auction.1"
 FIGURES = ROOT / "tests" / "figures.py"
 MOST_COLUMNS, MOST_IN_MANUAL = 100, 80
