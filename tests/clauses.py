@@ -122,14 +122,20 @@ def wrong_bodies(edits):
     return ", ".join([*named, *([f"{'and ' if named else ''}{more}"] if more else [])])
 
 
+def row(function):
+    """The line of a function, whose name leads to its file."""
+    name = f"[`{function.shown()}`](../{function.file.relative_to(ROOT)})"
+    says = function.says.replace("|", "\\|")
+    return f"| {name} | {says} | {', '.join(function.clauses)} | {wrong_bodies(function.edits)} |"
+
+
 def section(crate):
     folder = ROOT / "crates" / crate
     functions = [function for path in sorted(folder.glob("src/**/*.rt")) for function in functions_of(crate, path)]
     left = place_edits(crate, functions)
     shown = [function for function in functions if function.public and function.clauses]
     left += [path for function in functions if function not in shown for path in function.edits]
-    rows = [f"| `{function.shown()}` | {function.says.replace('|', chr(92) + '|')} | {', '.join(function.clauses)} | "
-            f"{wrong_bodies(function.edits)} |" for function in shown]
+    rows = [row(function) for function in shown]
     if left:
         rows.append(f"| | In private functions, definitions and types | | {wrong_bodies(left)} |")
     if not rows:
