@@ -2,9 +2,9 @@
 """Makes docs/CLAUSES.md, the index of what public functions promise: `clauses.py [--check]`.
 
 A line is a public function of a crate that has a contract: what it gives, by the first sentence over it; the names of
-its clauses, `-` being the one that needs none; and its wrong bodies, which are the edits in must-fail/ by name and those
-in wrong/ by number. A program's functions are all public here. Crates of tests and benches are left out. With --check
-nothing is written, and the status is 1 where the page is not the one that is made.
+its clauses, `-` being the one that needs none; and its wrong bodies, which are the edits in must-fail/ by name and
+those in wrong/ by number. A program's functions are all public here. Crates of tests and benches are left out. With
+--check nothing is written, and the status is 1 where the page is not the one that is made.
 """
 import pathlib
 import re
@@ -17,7 +17,7 @@ PROGRAM = "auction"
 
 ITEM = re.compile(r"(?:pub(?:\(crate\))? )?(?:impl|trait)\b.*\{$")
 FUNCTION = re.compile(r"( *)(pub |pub\(crate\) )?(?:unsafe |const )?fn (\w+)")
-CLAUSE = re.compile(r"\s+(?:requires|ensures)(?: (\w+))? \{")
+CLAUSE = re.compile(r"\s+(?:requires|ensures)\*?(?: (\w+))? \{")
 HEAD = """# The clauses, by function
 
 An index for whoever proves or reviews, made by `tests/clauses.py`: after a change of a contract, a

@@ -20,8 +20,8 @@ import clauses
 import ported
 
 ROOT = pathlib.Path(__file__).resolve().parent.parent
-PAGES = [*(ROOT / name for name in ("README.md", "CHANGELOG.md", "bench/README.md")), *sorted((ROOT / "docs").glob("*.md")),
-         *sorted((ROOT / "examples").glob("*/*.md"))]
+PAGES = [*(ROOT / name for name in ("README.md", "CHANGELOG.md", "bench/README.md")),
+         *sorted((ROOT / "docs").glob("*.md")), *sorted((ROOT / "examples").glob("*/*.md"))]
 OF_CODE = [f"docs/{name}.md" for name in ("ARCHITECTURE", "CHANGING", "DEFINITIONS", "GLOSSARY", "LAYERS", "PROMISES")]
 MANUAL = ROOT / "docs" / "auction.1"
 FIGURES = ROOT / "tests" / "figures.py"
