@@ -224,6 +224,7 @@ stalls:
 	python3 tests/stalls.py crates/auction/out/auction
 
 documents:
+	python3 tests/figures.py
 	python3 tests/documents.py crates/auction/out/auction
 	python3 tests/http_doc.py crates/auction/out/auction
 	python3 tests/running_doc.py crates/auction/out/auction

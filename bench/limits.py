@@ -16,6 +16,7 @@ import time
 
 import serve
 from measured import in_turn
+from published import times_ahead
 from served import PRESET, Program
 
 HOUSE, COPY = "house", "copy"
@@ -81,7 +82,8 @@ def starts(program, bench, folder):
 def show(what, found):
     for place, (kind, unit) in enumerate(what):
         ours, kit = (statistics.median(run[place] for run in found[name]) for name in ("ours", "kit"))
-        print(f"{kind:40} {ours:10,.1f} {unit}, {kit:10,.1f} by the kit alone, ratio {ours / kit:.2f}", flush=True)
+        ahead = times_ahead({"ours": ours, "kit": kit}, unit)
+        print(f"{kind:40} {ours:10,.1f} {unit}, {kit:10,.1f} by the kit alone, {ahead} times ahead", flush=True)
 
 
 def main(path, bench):

@@ -6,6 +6,8 @@ import statistics
 import subprocess
 import tempfile
 
+from published import times_ahead
+
 RUNS = 7
 
 # What plain Rust's answers lack: an item's edition, whether its reserve is met, and so the same lengths.
@@ -51,9 +53,9 @@ def medians(found):
 
 
 def shown(what, found, unit, digits=0):
-    """A line: ours, plain Rust's where it is there, and ours over plain Rust's."""
+    """A line: ours, and plain Rust's where it is there, with how many times ours is ahead."""
     FIGURES.append((what, found, unit))
     line = f"{what:28} {found['ours']:12,.{digits}f} {unit}"
     if "plain" in found:
-        line += f", {found['plain']:12,.{digits}f} by plain Rust, ratio {found['ours'] / found['plain']:.2f}"
+        line += f", {found['plain']:12,.{digits}f} by plain Rust, {times_ahead(found, unit)} times ahead"
     print(line, flush=True)

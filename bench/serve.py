@@ -180,6 +180,7 @@ def large(programs, folder, items):
 
 
 def main(path, *plain):
+    """Shows all figures; gives how many commits of a row a second Python's `sqlite3` made on the same disk."""
     with tempfile.TemporaryDirectory() as name:
         folder = pathlib.Path(name)
         programs = {name: Program(str(pathlib.Path(path).resolve()), folder)
@@ -187,14 +188,16 @@ def main(path, *plain):
         found = served(programs)
         for place, (what, unit, digits) in enumerate((
                 ("bids, each in its turn", "a second", 0), ("the server's time of one", "us", 1),
-                ("reads at once", "a second", 0), ("by the server's time", "a second", 0),
-                ("mixed at once", "a second", 0), ("by the server's time", "a second", 0), ("memory", "MB", 1))):
+                ("reads at once", "a second", 0), ("reads, by the server's time", "a second", 0),
+                ("mixed at once", "a second", 0), ("mixed, by the server's time", "a second", 0), ("memory", "MB", 1))):
             shown(what, {name: figures[place] for name, figures in found.items()}, unit, digits)
-        print(f"{statistics.median(commits(folder) for _ in range(RUNS)):,.0f} commits of a row a second by Python's sqlite3")
+        made = statistics.median(commits(folder) for _ in range(RUNS))
+        print(f"{made:,.0f} commits of a row a second by Python's sqlite3")
         for items in SIZES:
             found = large(programs, folder, items)
             for place, (what, unit) in enumerate((("to listening", "ms"), ("its processor time", "ms"), ("memory", "MB"))):
                 shown(f"{items} items, {what}", {name: figures[place] for name, figures in found.items()}, unit, 1)
+    return made
 
 
 if __name__ == "__main__":

@@ -1,8 +1,8 @@
-"""Measures all that bench/README.md sets beside plain Rust, in one run, and writes it as a table.
+"""Measures all that bench/README.md sets beside plain Rust, in one run, and writes it down.
 
-`table.py PROGRAM PLAIN [FILE]` runs `replay.py`, `pages.py` and `serve.py`, which say what they measure and what they need. FILE,
-or `bench/TABLE.md`, has a row for each figure: ours, plain Rust's, and plain Rust's over ours, turned round where more is better,
-so that more than 1 is ahead. Above them are the commit, the processor and how busy it was.
+`table.py PROGRAM` builds the house in plain Rust, `bench/plain/house`, and runs `replay.py`, `pages.py` and `serve.py`, which say what
+they measure and what they need. The run takes the place of the last in `bench/figures.json`, where the pages' figures come from, and
+`bench/TABLE.md` shows all of it. Where another page still shows the run before, `tests/figures.py` says so.
 """
 import os
 import pathlib
@@ -10,46 +10,45 @@ import subprocess
 import sys
 
 import pages
+import published
 import replay
 import serve
 from measured import FIGURES
 
 ROOT = pathlib.Path(__file__).resolve().parent.parent
+HOUSE = ROOT / "bench" / "plain" / "house"
 PARTS = (("A message, and streams of them", replay), ("Pages", pages), ("A house that is served", serve))
 
 
-def ahead(found, unit):
-    """By how much ours is ahead of plain Rust's."""
-    if "plain" not in found:
-        return ""
-    ratio = found["plain"] / found["ours"]
-    return f"{1 / ratio if 'a second' in unit else ratio:.2f}"
-
-
-def number(value):
-    return f"{value:,.1f}" if value < 100 else f"{value:,.0f}"
-
-
-def row(what, found, unit):
-    plain = number(found["plain"]) if "plain" in found else ""
-    return f"| {what} | {unit} | {number(found['ours'])} | {plain} | {ahead(found, unit)} |"
+def commit():
+    """The commit that is measured."""
+    words = ["git", "rev-parse", "--short", "HEAD"]
+    return subprocess.run(words, cwd=ROOT, capture_output=True, text=True, check=True).stdout.strip()
 
 
 def machine():
-    """Which commit was measured, on which processor, beside how much other work."""
-    commit = subprocess.run(["git", "rev-parse", "--short", "HEAD"], cwd=ROOT, capture_output=True, text=True, check=True)
+    """The processor, and how much other work it has."""
     names = [line.split(": ")[1] for line in pathlib.Path("/proc/cpuinfo").read_text().splitlines() if line.startswith("model name")]
-    return f"Commit `{commit.stdout.strip()}`, {len(names)} processors ({names[0]}), load {os.getloadavg()[0]:.1f} at the start."
+    return f"{len(names)} processors ({names[0]}), load {os.getloadavg()[0]:.1f} at the start"
 
 
-def main(program, plain, file=ROOT / "bench" / "TABLE.md"):
-    lines = ["# Ours beside plain Rust", "", machine(), ""]
+def plain_house():
+    """The house in plain Rust, as cargo builds it of Debian's packages."""
+    subprocess.run(["cargo", "build", "--release", "--offline", "--quiet"], cwd=HOUSE, check=True)
+    return pathlib.Path(os.environ.get("CARGO_TARGET_DIR", HOUSE / "target")) / "release" / "house"
+
+
+def main(program):
+    plain = plain_house()
+    beside, parts, commits = machine(), {}, None
     for title, part in PARTS:
         FIGURES.clear()
-        part.main(program, plain)
-        lines += [f"## {title}", "", "| What | Unit | Ours | Plain Rust | Ahead |", "|---|---|---|---|---|"]
-        lines += [row(*figure) for figure in FIGURES] + [""]
-    pathlib.Path(file).write_text("\n".join(lines))
+        # The last part gives how many commits a second the disk makes.
+        commits = part.main(program, plain)
+        parts[title] = [published.figure(*found) for found in FIGURES]
+    run = {"by": "bench/table.py", "commit": commit(), "machine": beside, "commits": round(commits), "parts": parts}
+    published.keep("table", run)
+    published.TABLE.write_text(published.table(run))
 
 
 if __name__ == "__main__":

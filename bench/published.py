@@ -1,0 +1,73 @@
+"""The figures that pages show, which `bench/figures.json` has.
+
+They are kept by run. A run has the script that measured it, the commit, the machine, and, where files were written, how many commits
+of a row a second Python's `sqlite3` made on the same disk. Its figures stand by part, each with what was measured, the unit, ours,
+and another's beside it. A page names the figure that it shows by a comment, `<!-- figure: RUN: WHAT, UNIT -->`, and
+`tests/figures.py` compares the two.
+"""
+import json
+import pathlib
+import re
+
+FILE = pathlib.Path(__file__).with_name("figures.json")
+TABLE = pathlib.Path(__file__).with_name("TABLE.md")
+# Whose figures stand beside ours, as columns of a table name them.
+OTHERS = {"plain": "Plain Rust", "kit": "The kit alone"}
+
+
+def read():
+    """The runs by name."""
+    return json.loads(FILE.read_text())
+
+
+def keep(name, run):
+    """Puts a run in the place of the one of this name."""
+    text = json.dumps({**(read() if FILE.exists() else {}), name: run}, indent=1)
+    # A figure takes one line.
+    FILE.write_text(re.sub(r"\{\s+([^{}]*?)\s+\}", lambda figure: "{" + " ".join(figure[1].split()) + "}", text) + "\n")
+
+
+def figure(what, found, unit):
+    """A figure as it is kept."""
+    return {"what": what, "unit": unit, **{whose: round(value, 3) for whose, value in found.items()}}
+
+
+def number(value):
+    """A number as pages show it."""
+    return f"{value:,}" if isinstance(value, int) else f"{value:,.1f}" if value < 100 else f"{value:,.0f}"
+
+
+def times_ahead(found, unit):
+    """How many times ours is ahead of the other, so that more than 1 is better whatever the unit; or nothing."""
+    other = next((found[whose] for whose in OTHERS if whose in found), None)
+    if other is None:
+        return ""
+    ratio = found["ours"] / other if "a second" in unit else other / found["ours"]
+    return f"{ratio:.2f}" if ratio >= 0.1 else f"{ratio:.2g}"
+
+
+def shown_by_name(runs):
+    """What pages may show of each figure: by its name, by column, each as it is spelled."""
+    names = {}
+    for run_name, run in runs.items():
+        if "commits" in run:
+            names[f"{run_name}: commits, a second"] = {"ours": number(run["commits"])}
+        for found in sum(run["parts"].values(), []):
+            columns = {whose: number(found[whose]) for whose in ("ours", *OTHERS) if whose in found}
+            names[f"{run_name}: {found['what']}, {found['unit']}"] = {**columns, "ahead": times_ahead(found, found["unit"])}
+    return names
+
+
+def row(found):
+    plain = number(found["plain"]) if "plain" in found else ""
+    return f"| {found['what']} | {found['unit']} | {number(found['ours'])} | {plain} | {times_ahead(found, found['unit'])} |"
+
+
+def table(run):
+    """The page that shows all figures of a run."""
+    lines = ["# Ours beside plain Rust", "", f"Commit `{run['commit']}`, {run['machine']}. On the disk of this run Python's `sqlite3` "
+             f"made {number(run['commits'])} commits of a row a second.", "",
+             "The last column says how many times ours is ahead: over 1 it is better than plain Rust, under 1 worse.", ""]
+    for title, figures in run["parts"].items():
+        lines += [f"## {title}", "", "| What | Unit | Ours | Plain Rust | Ahead |", "|---|---|---|---|---|", *map(row, figures), ""]
+    return "\n".join(lines)
