@@ -45,7 +45,7 @@ help:
 	@echo
 	@echo "The gate"
 	@echo "  make test      proves everything, runs the crates' tests and the wrong bodies in must-fail/ (rt ci), and says how far"
-	@echo "                 it is; out/ has all lines, and the minutes by crate and step"
+	@echo "                 it is and when it should end; out/ has all lines, and the minutes by crate and step"
 	@echo "  make wrong     tries the wrong bodies that make test leaves out, of the crates CRATES=\"a b\" or of all"
 	@echo "  make giving    puts in bodies that give up, those named in BODIES=\"a b\", and looks whether the tests find them"
 	@echo "  make documents reads the documents, and plays what they show on the program"
@@ -125,9 +125,7 @@ test:
 	python3 tests/progress.py rt ci
 
 auction:
-	cd crates/auction && python3 ../../tests/progress.py rt run -- replay --preset < /dev/null
-	mkdir -p bin
-	cp crates/auction/out/auction bin/auction
+	python3 tests/build_program.py auction
 
 session:
 	python3 tests/readme.py bin/auction

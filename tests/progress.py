@@ -1,11 +1,15 @@
 #!/usr/bin/env python3
 """Runs a command of `rt` and says how far it is: `progress.py COMMAND..`, as `progress.py rt ci`.
 
-Of what the command writes the lines pass that matter: one for each crate, with its number of so many and the minutes
-since the start; each failure whole; what is run in the end; and the last line, alone. Where nothing has come for a
-minute a line says what is worked on. All that the command writes is in out/COMMAND.log, whose end is shown where
-it fails, and what it took by crate and step in out/COMMAND.times. The script ends as the command does.
+Of what the command writes the lines pass that matter: one for each crate; each failure whole; what is run in the end; and the last
+line, alone. Where nothing has come for a minute a line says what is worked on. In front of each stands how much of the work is
+done, the minutes since the start, and when it should end. Work is counted in the processor minutes that an earlier run took by
+crate and step: tests/rt-ci.times, a copy of what a run of `rt ci` from nothing has left. A crate that is not in it counts as much as
+the others on average, and one that an earlier run here has proved for nothing. All that the command writes is in
+out/COMMAND.log, whose end is shown where it fails, and what it took by crate and step in out/COMMAND.times. The script ends as
+the command does.
 """
+import os
 import pathlib
 import queue
 import re
@@ -15,10 +19,15 @@ import sys
 import threading
 import time
 
-from times import ROOT, Times, file_of, minutes_of_children, start_command, status_of
+from times import ROOT, STEPS, Times, file_of, minutes_of_children, start_command, status_of
 
+EARLIER = ROOT / "tests" / "rt-ci.times"
 QUIET_SECONDS = 60
 TAIL = 40
+# The steps that are done once a crate is said to be proved, and once its tests are; and those of its wrong bodies.
+OF_PROOF, OF_TESTS, OF_EDITS = ("proof", "build"), ("tests",), ("seed", "edits")
+# How busy a run keeps the processors, and for how many minutes that guess counts as much as what is seen.
+BUSY, MINUTES_OF_GUESS = 0.9, 5
 PROVED = re.compile(r"rt: (\w+)(: its tests are)? proved$")
 UNPROVED = re.compile(r"rt: (\w+)(: its tests are)? NOT PROVED")
 KEPT = re.compile(r"rt: (\w+) is kept: ")
@@ -31,47 +40,83 @@ LAST = re.compile(r"[0-9]+ passed, [0-9]+ failed")
 IN_ORDER = re.compile(r"fn \S+: proved$|statements \S+: |rt: chose |rt: \w+: begins with what a check kept")
 
 
-def crates_of(words):
-    """The crates that a command goes through: of `rt ci` all, or those that are named with what is below; else those
-    up to the one whose folder this is. A crate's line names all below it, in order."""
-    rows = (line.split(":") for line in (ROOT / "crates.txt").read_text().splitlines() if re.match(r"\w+:", line))
-    below = {name: row.split() for name, row in rows}
-    named = [word for word in words[2:] if word in below] if words[1:2] == ["ci"] else [pathlib.Path.cwd().name]
-    if words[1:2] == ["ci"] and not named:
-        return list(below)
-    return list(dict.fromkeys(crate for name in named if name in below
-                              for crate in [*(dep for dep in below[name] if dep in below), name]))
+def dependencies(folder):
+    """By crate of a repository, lowest first, the crates of the repository that it stands on, all the way down."""
+    lines = (folder / "crates.txt").read_text().splitlines()
+    rows = dict(line.split(":") for line in lines if re.match(r"\w+:", line))
+    return {crate: [below for below in row.split() if below in rows] for crate, row in rows.items()}
 
 
-class Built:
-    """Which libraries a command builds that says nothing of them: each leaves a stamp."""
+def crates_of(words, folder):
+    """The crates that `rt ci` goes through, each with those below it: all, or those that are named with what is below."""
+    below = dependencies(folder)
+    named = [word for word in words[2:] if word in below] or list(below)
+    wanted = {crate for name in named for crate in [name, *below[name]]}
+    return {crate: below[crate] for crate in below if crate in wanted}
 
-    def __init__(self, crates):
-        self.stamps = {crate: ROOT / "crates" / crate / "out/rlib/stamp" for crate in crates}
-        self.marks = {crate: self.mark(crate) for crate in crates}
 
-    def mark(self, crate):
-        try:
-            stat = self.stamps[crate].stat()
-            return stat.st_ino, stat.st_mtime_ns
-        except OSError:
-            return None
+def earlier_minutes():
+    """The processor minutes that an earlier run took, by crate and step."""
+    minutes = {}
+    for line in EARLIER.read_text().splitlines()[1:]:
+        crate, *numbers = line.split()
+        if len(numbers) == len(STEPS) + 1 and crate != "sum":
+            minutes[crate] = {step: float(number) for step, number in zip(STEPS, numbers) if number != "-"}
+    return minutes
 
-    def new(self):
-        """The crates whose libraries have been built since this was last asked."""
-        for crate in self.stamps:
-            mark = self.mark(crate)
-            if mark != self.marks[crate]:
-                self.marks[crate] = mark
-                if mark is not None:
-                    yield crate
+
+class Work:
+    """What is to be done, in processor minutes of an earlier run, and how much of it is done."""
+
+    def __init__(self, crates, folder):
+        earlier = earlier_minutes()
+        average = sum(sum(steps.values()) for steps in earlier.values()) / len(earlier)
+        self.below, self.ended, self.begun = crates, set(), time.monotonic()
+        self.expected = {crate: dict(earlier.get(crate, {"proof": average})) for crate in crates}
+        for crate in crates:
+            if not (folder / "crates" / crate / "must-fail").is_dir():
+                self.drop(crate, OF_EDITS)
+
+    def drop(self, crate, steps=tuple(STEPS)):
+        """Takes that these steps of a crate aren't to be done."""
+        for step in steps:
+            self.expected.get(crate, {}).pop(step, None)
+
+    def end(self, crate, steps):
+        """Takes that these steps of a crate are done."""
+        self.ended.update((crate, step) for step in steps)
+
+    def left(self, spent):
+        """By crate and step the minutes that are left, where so many were spent."""
+        return {crate: {step: 0.0 if (crate, step) in self.ended else max(0.0, minutes - spent.get((crate, step), 0.0))
+                        for step, minutes in steps.items()} for crate, steps in self.expected.items()}
+
+    def longest_chain(self, left):
+        """The minutes that are left of crates of which each is proved after the one before."""
+        chains = {}
+        for crate, below in sorted(self.below.items(), key=lambda row: len(row[1])):
+            own = sum(left[crate].get(step, 0.0) for step in OF_PROOF)
+            chains[crate] = own + max((chains[other] for other in below), default=0.0)
+        return max(chains.values(), default=0.0)
+
+    def told(self, spent):
+        """How much is done, and when all should be, as words."""
+        left = self.left(spent)
+        whole = sum(sum(steps.values()) for steps in self.expected.values())
+        to_do = sum(sum(steps.values()) for steps in left.values())
+        elapsed = (time.monotonic() - self.begun) / 60
+        guess = BUSY * len(os.sched_getaffinity(0))
+        speed = (whole - to_do + guess * MINUTES_OF_GUESS) / (elapsed + MINUTES_OF_GUESS)
+        end = time.localtime(time.time() + 60 * max(to_do / speed, self.longest_chain(left)))
+        share = 100 * (whole - to_do) / whole if whole else 100
+        return f"{share:.0f} %, {elapsed:.1f} min, ends about {time.strftime('%H:%M', end)}"
 
 
 class Progress:
     """What a command has said, and how far it is."""
 
-    def __init__(self, crates):
-        self.crates, self.done, self.begun, self.last_said = crates, set(), time.monotonic(), time.monotonic()
+    def __init__(self, work, spent):
+        self.work, self.spent, self.last_said = work, spent, time.monotonic()
         # Lines that matter only if a failure follows, and whether a crate's own are coming, or more of a failure.
         self.held, self.is_in_block, self.goes_on = [], False, False
         # How many edits of a crate were refused, until that is said.
@@ -80,8 +125,7 @@ class Progress:
 
     def say(self, text):
         self.last_said = time.monotonic()
-        minutes = (self.last_said - self.begun) / 60
-        print(f"[{len(self.done)} of {len(self.crates)}] {minutes:.1f} min: {text}", flush=True)
+        print(f"[{self.work.told(self.spent())}] {text}", flush=True)
 
     def take(self, line):
         """Takes the next line of the command's."""
@@ -122,8 +166,12 @@ class Progress:
     def take_verdict(self, line, crate, of_tests=None, has_failed=False):
         if has_failed:
             self.show_held()
-        if not of_tests:
-            self.done.add(crate)
+        if of_tests:
+            self.work.end(crate, OF_TESTS)
+        elif KEPT.match(line) or has_failed:
+            self.work.drop(crate)
+        else:
+            self.work.end(crate, OF_PROOF)
         self.held, self.is_in_block, self.goes_on = [], False, False
         self.say(line.removeprefix("rt: ").split(": an earlier run")[0])
 
@@ -137,30 +185,26 @@ class Progress:
             self.say(f"{crate}: {count} must-fail edits refused")
         self.refused = {}
 
-    def take_built(self, crate):
-        """Takes that a library was built; those below it were there before."""
-        self.done.update(self.crates[:self.crates.index(crate) + 1])
-        self.say(f"{crate} built")
-
     def wait(self, in_work):
         """Says what is worked on where nothing else was said for long."""
         if time.monotonic() - self.last_said >= QUIET_SECONDS:
             self.say(f"in work: {in_work() or 'rt alone'}")
 
 
-def lines_of(command, log, lines):
-    """Hands on each line that a process writes, and keeps it, until its output ends."""
+def lines_of(command, folder, log, lines):
+    """Hands on each line that a process writes, and keeps it, until its output ends. Paths are those of this repository, also where
+    the command works on a copy, which is gone when they are read."""
     for line in command.stdout:
+        line = line.replace(os.fsencode(folder), os.fsencode(ROOT))
         log.write(line)
         log.flush()
         lines.put(line.decode(errors="replace").rstrip("\n"))
     lines.put(None)
 
 
-def follow(command, log, progress, kept, built):
-    """Follows a process to the end of its output."""
-    lines, times, looked, wrote = queue.Queue(), Times(command.pid), 0, time.monotonic()
-    threading.Thread(target=lines_of, args=(command, log, lines), daemon=True).start()
+def follow(lines, progress, times, kept):
+    """Follows the lines that a process writes to their end."""
+    looked, wrote = 0, time.monotonic()
     line = ""
     while line is not None:
         try:
@@ -173,26 +217,26 @@ def follow(command, log, progress, kept, built):
         if now - looked >= 1:
             times.look()
             looked = now
-            for crate in built.new() if built else ():
-                progress.take_built(crate)
         if now - wrote >= 60:
             kept.write_text(times.table())
             wrote = now
         progress.wait(times.in_work)
     progress.end_edits()
-    return times
 
 
-def main():
-    words = sys.argv[1:]
-    crates, kept, path = crates_of(words), file_of(words, "times"), file_of(words, "log")
-    progress = Progress(crates)
+def run(words, folder=ROOT):
+    """Runs a command of `rt` in a repository, and gives the status that it ends with."""
+    kept, path = file_of(words, "times"), file_of(words, "log")
     with open(path, "wb") as log:
-        command = start_command(words, stdout=subprocess.PIPE, stderr=subprocess.STDOUT)
+        command = start_command(words, cwd=folder, stdout=subprocess.PIPE, stderr=subprocess.STDOUT)
         # The command is ended where this is, and says what it has to.
         for number in (signal.SIGINT, signal.SIGTERM):
             signal.signal(number, lambda number, _: command.send_signal(number))
-        times = follow(command, log, progress, kept, None if words[1:2] == ["ci"] else Built(crates))
+        times = Times(command.pid)
+        progress = Progress(Work(crates_of(words, folder), folder), times.minutes)
+        lines = queue.Queue()
+        threading.Thread(target=lines_of, args=(command, folder, log, lines), daemon=True).start()
+        follow(lines, progress, times, kept)
         status = status_of(command.wait())
     kept.write_text(times.table(minutes_of_children()))
     if status:
@@ -205,4 +249,4 @@ def main():
 
 
 if __name__ == "__main__":
-    sys.exit(main())
+    sys.exit(run(sys.argv[1:]))

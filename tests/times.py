@@ -108,12 +108,18 @@ class Times:
         work = collections.Counter(process.work for process in self.seen.values() if process.is_there and process.work)
         return ", ".join(sorted({f"{crate} ({step})" for crate, step in work}))
 
+    def minutes(self):
+        """The minutes by crate and step; what is on no crate counts as of rt."""
+        minutes = collections.defaultdict(float)
+        for process in self.seen.values():
+            minutes[process.work or ("rt", "")] += process.seconds / 60
+        return minutes
+
     def table(self, whole=None):
         """The minutes by crate and step, and those of the whole run where it has ended."""
         minutes = collections.defaultdict(collections.Counter)
-        for process in self.seen.values():
-            crate, step = process.work or ("rt", "")
-            minutes[crate][step] += process.seconds / 60
+        for (crate, step), spent in self.minutes().items():
+            minutes[crate][step] += spent
         own = sum(minutes.pop("rt", collections.Counter()).values())
         crates = sorted(minutes, key=lambda crate: -sum(minutes[crate].values()))
         width = max(map(len, ["processor minutes", *crates])) + 1
