@@ -122,6 +122,7 @@ demo:
 		| sed 's/}HTTP/}\n\nHTTP/; \$$ s/\$$/\n/'"
 
 test:
+	python3 tests/giving_up.py --texts
 	python3 tests/progress.py rt ci
 
 auction:

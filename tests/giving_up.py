@@ -6,7 +6,7 @@ any call, and a contract shows no cause. So only tests find it. Each is put into
 proofs, by `rt try`; then a section of the stored run of `test_site` or `test_store` has to come out otherwise, or
 tests/office.py has to fail on the program. With nothing put in they have to pass. NAMEs choose among the bodies, `all`
 takes all, none those that are MAIN. It needs the kit, with its `rt` on the path. The last line is 'N bodies, M not
-found'.
+found'. With `--texts` nothing is built: each text that a body takes the place of has to be in its file once.
 """
 import contextlib
 import dataclasses
@@ -66,13 +66,13 @@ BODIES = [
     Body("everything-503", ENGINE, ACT, MEMORY, STREAMS),
     Body("everything-500", ENGINE, ACT, STORE, STREAMS),
     Body("record", ENGINE, RECORD, f"{RECORD}\n        if !text.is_empty() {{\n            return {MEMORY};\n        }}", STREAMS),
-    Body("look-up", KEEP, "told!(self, item_at(&mut self.conn, &self.rules, item))", STORE, RUNS),
+    Body("look-up", KEEP, "report!(self, item_at(&mut self.conn, &self.rules, item))", STORE, RUNS),
     Body("statement", ACCOUNT, "Ok(statement) => Ok(statement),", "Ok(_) => Err(StatementFault::Memory),", OFFICE),
     Body("import", IMPORTS, "Ok(lot) => list(room, site, by, &lot, number, output),", "Ok(_) => Err(ImportFault::Memory),",
          OFFICE),
     Body("replay", REPLAY, "answer_over(alloc, source, sink, &mut site, asked)", REPLAYED, RUNS),
     Body("replay-record", REPLAY, "append_record(sink, site)\n", f"{REPLAYED}\n", RUNS),
-    Body("replay-setup", SETUP, "taken(&site.answer(message.as_bytes()))", REPLAYED, RUNS),
+    Body("replay-setup", SETUP, "check_answer(&site.answer(message.as_bytes()))", REPLAYED, RUNS),
     *(Body(f"command-{name}", DECIDING, call, with_arrow(call, MEMORY), RUNS if name == "unwatch" else SHOWN)
       for name, call in CALLS.items()),
     *(Body(f"page-{name}", READING, call, with_arrow(call, MEMORY), SHOWN) for name, call in PAGES.items()),
@@ -80,12 +80,28 @@ BODIES = [
 MAIN = ["everything-503", "everything-500", "command-bid", "page-items", "look-up", "record", "statement", "import"]
 
 
+def times_there(root, body):
+    """How often the text that a body takes the place of is in its file."""
+    path = root / "crates" / body.file
+    return path.read_text().count(body.old) if path.exists() else 0
+
+
 def put_in(copy, body):
+    count = times_there(copy, body)
+    if count != 1:
+        sys.exit(f"{body.name}: its text is there {count} times in {body.file}")
     path = copy / "crates" / body.file
-    text = path.read_text()
-    if text.count(body.old) != 1:
-        sys.exit(f"{body.name}: its text is there {text.count(body.old)} times in {body.file}")
-    path.write_text(text.replace(body.old, body.new))
+    path.write_text(path.read_text().replace(body.old, body.new))
+
+
+def count_texts():
+    """Whether each body can be put in."""
+    counts = {body.name: times_there(ROOT, body) for body in BODIES}
+    wrong = [name for name, count in counts.items() if count != 1]
+    for name in wrong:
+        print(f"{name}: its text is there {counts[name]} times")
+    print(f"{len(counts)} bodies that give up, {len(wrong)} of which can't be put in")
+    return 1 if wrong else 0
 
 
 def passes(copy, finder):
@@ -172,6 +188,8 @@ def finder_in_words(finder):
 
 
 def main():
+    if sys.argv[1:] == ["--texts"]:
+        return count_texts()
     names = sys.argv[1:] or MAIN
     bodies = [body for body in BODIES if body.name in names or names == ["all"]]
     unknown = set(names) - {body.name for body in BODIES} - {"all"}
