@@ -1,8 +1,8 @@
 #!/usr/bin/env python3
 """Does what docs/RUNNING.md says: `running_doc.py PROGRAM`.
 
-The sessions of the page print what it shows. The table of lines has each line of the program's faults, as the help
-has, and names scripts that have these lines. Causes that no other script has are brought about: a port that the user
+The sessions of the page print what it shows; a comment in front of one, `<!-- after: COMMAND -->`, has what was done before. The
+table of lines has each line of the program's faults, as the help has, and a comment in each row names scripts that have the line. Causes that no other script has are brought about: a port that the user
 may not use, too many open files, standard error that takes nothing, a sale whose row is spoiled. A server that gets a
 signal leaves both files with all that it answered, which an opening takes; then a statement makes one file of two, of
 which a backup is a copy. Needs curl and sqlite3. The last line is 'N checks, M wrong'.
@@ -26,6 +26,7 @@ from served import CHECKS, PRESET, Program, check, exchange, fault, message, ser
 
 ROOT = pathlib.Path(__file__).resolve().parent.parent
 PAGE = (ROOT / "docs" / "RUNNING.md").read_text()
+BEFORE = re.compile(r"^<!-- after: (.*) -->\n```text\n", re.M)
 INIT = ["--bands", "bands.csv", "--rate", "1000", "--zone", "UTC0"]
 DAYS = ["--from", "1970-01-01", "--to", "1970-01-01"]
 ITEM = message("GET", "/items/1", 2)
@@ -36,7 +37,7 @@ FILES = range(5, 9)
 
 def pages(program):
     """The sessions of the page."""
-    for command, printed, wanted in played(PAGE, program):
+    for command, printed, wanted in played(BEFORE.sub(r"```text\n$ \1 > /dev/null\n", PAGE), program):
         check(f"$ {command}", trimmed(printed), trimmed(wanted))
 
 
@@ -48,11 +49,11 @@ def lines(program):
     """The table and the help have each line of the faults, and each script that the table names has the line."""
     help_text = subprocess.run([program, "--help"], capture_output=True, text=True, timeout=60).stdout
     source = (ROOT / "crates" / "auction_runs" / "src" / "fault.rt").read_text()
-    rows = re.findall(r"^\|([^|]*)\|[^|]*\|[^|]*\|([^|]*)\|$", PAGE, re.M)
+    rows = re.findall(r"^\|([^|]*)\|[^|]*\|[^|]*<!--([^|]*)--> \|$", PAGE, re.M)
     named, line = {}, ""
     for first, scripts in rows:
         line = first.strip(" `") or line
-        named.setdefault(line, set()).update(re.findall(r"[a-z_]+\.py", scripts))
+        named.setdefault(line, set()).update(scripts.split())
     texts = {re.sub(r"\{.*?\}", "..", text).replace("LEFT", "..")
             for text in re.findall(r'"(auction: [^"]*)"', source)}
     for text in sorted(texts):
