@@ -10,7 +10,7 @@ import pathlib
 import subprocess
 import sys
 
-from measured import counted, in_turn, medians, seconds, shown
+from measured import counted, in_turn, kept, medians, seconds, shown
 
 ROOT = pathlib.Path(__file__).resolve().parent.parent
 ASKS = ROOT / "bench" / "plain" / "target" / "release" / "asks"
@@ -80,13 +80,18 @@ def nanoseconds(programs, what, message):
 def main(program):
     subprocess.run(["cargo", "build", "--release", "--offline", "--quiet"], cwd=ROOT / "bench" / "plain", check=True)
     programs = runs(str(pathlib.Path(program).resolve()))
-    for message in MESSAGES:
-        counts = {what: {name: instructions(run, what, message) for name, run in programs.items()} for what in LINES}
-        shown(f"{message}: frame", counts["frames"], "instructions")
-        shown(f"{message}: what it asks", {name: counts["asks"][name] - counts["frames"][name] for name in programs},
-              "instructions")
-        shown(f"{message}: both", counts["asks"], "instructions")
-        shown(f"{message}: both", nanoseconds(programs, "asks", message), "ns", 1)
+    with kept("asks", "bench/asks.py"):
+        for message in MESSAGES:
+            show(programs, message)
+
+
+def show(programs, message):
+    """What a message costs: its frame, what it asks, and both."""
+    counts = {what: {name: instructions(run, what, message) for name, run in programs.items()} for what in LINES}
+    shown(f"{message}: frame", counts["frames"], "instructions")
+    shown(f"{message}: what it asks", {name: counts["asks"][name] - counts["frames"][name] for name in programs}, "instructions")
+    shown(f"{message}: both", counts["asks"], "instructions")
+    shown(f"{message}: both", nanoseconds(programs, "asks", message), "ns", 1)
 
 
 if __name__ == "__main__":

@@ -1,44 +1,43 @@
-"""Medians of user time of two programs in interleaved runs, and their ratio; and how many
-instructions each takes, where valgrind is there: these do not hang on what else the machine does."""
-import os
-import re
-import shutil
-import statistics
-import subprocess
+"""What reading a message and writing an answer cost on the wire, beside plain Rust, on the same bytes.
+
+`compare.py PROGRAM PLAIN` measures the program `bench_wire` and that of `bench/plain`: messages read, messages read of which two fields
+are asked for by name, and answers written into a kept buffer. Instructions of one are those of a thousand rounds more. Times are
+medians of runs of both in turn, by processor time. Both have to print the same. It needs `valgrind`.
+"""
 import sys
 
-ROUNDS = {"frames": 200000, "asks": 200000, "answers": 2000000}
-AT_A_TIME = 16
+from measured import counted, in_turn, kept, medians, seconds, shown
 
-
-def seconds(program, what, rounds):
-    before = os.times().children_user
-    text = subprocess.run([program, what, str(rounds)], check=True, capture_output=True).stdout
-    return os.times().children_user - before, text
+ROUNDS = {"frames": 200_000, "asks": 200_000, "answers": 2_000_000}
+MORE, AT_A_TIME = 1_000, 16
 
 
 def instructions(program, what):
-    """Of one message or answer: what 1000 rounds more take."""
-    counts = []
-    for rounds in (1000, 2000):
-        command = ["valgrind", "--tool=callgrind", "--callgrind-out-file=/dev/null", program, what, str(rounds)]
-        report = subprocess.run(command, check=True, capture_output=True, text=True).stderr
-        counts.append(int(re.search(r"Collected : (\d+)", report).group(1)))
-    return (counts[1] - counts[0]) / 1000 / AT_A_TIME
+    few, many = (counted([program, what, rounds]) for rounds in (MORE, 2 * MORE))
+    return (many - few) / MORE / AT_A_TIME
 
 
-ours, plain = sys.argv[1:]
-for what, rounds in ROUNDS.items():
-    times = {ours: [], plain: []}
+def nanoseconds(programs, what, rounds):
     texts = set()
-    for _ in range(7):
-        for program in (ours, plain):
-            time, text = seconds(program, what, rounds)
-            times[program].append(time)
-            texts.add(text)
-    assert len(texts) == 1, texts
-    mine, other = (statistics.median(times[p]) / rounds / AT_A_TIME * 1e9 for p in (ours, plain))
-    print(f"{what:8} {mine:6.1f} ns ours, {other:6.1f} ns plain Rust, ratio {mine / other:.2f}")
-    if shutil.which("valgrind"):
-        mine, other = (instructions(p, what) for p in (ours, plain))
-        print(f"{what:8} {mine:6.0f} instructions ours, {other:6.0f} plain Rust, ratio {mine / other:.2f}")
+
+    def once(program):
+        time, text = seconds([program, what, rounds])
+        texts.add(text)
+        return time / rounds / AT_A_TIME * 1e9
+
+    found = medians(in_turn(programs, once))
+    if len(texts) != 1:
+        sys.exit("compare.py: the programs print different texts")
+    return found
+
+
+def main(program, plain):
+    programs = {"ours": program, "plain": plain}
+    with kept("wire", "bench/wire.sh"):
+        for what, rounds in ROUNDS.items():
+            shown(what, {name: instructions(path, what) for name, path in programs.items()}, "instructions")
+            shown(what, nanoseconds(programs, what, rounds), "ns", 1)
+
+
+if __name__ == "__main__":
+    main(*sys.argv[1:])

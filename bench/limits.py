@@ -15,8 +15,7 @@ import tempfile
 import time
 
 import serve
-from measured import in_turn
-from published import times_ahead
+from measured import in_turn, kept, shown
 from served import PRESET, Program
 
 HOUSE, COPY = "house", "copy"
@@ -81,14 +80,12 @@ def starts(program, bench, folder):
 
 def show(what, found):
     for place, (kind, unit) in enumerate(what):
-        ours, kit = (statistics.median(run[place] for run in found[name]) for name in ("ours", "kit"))
-        ahead = times_ahead({"ours": ours, "kit": kit}, unit)
-        print(f"{kind:40} {ours:10,.1f} {unit}, {kit:10,.1f} by the kit alone, {ahead} times ahead", flush=True)
+        shown(kind, {name: statistics.median(run[place] for run in found[name]) for name in BOTH}, unit, 1)
 
 
 def main(path, bench):
     bench = str(pathlib.Path(bench).resolve())
-    with tempfile.TemporaryDirectory() as name:
+    with kept("kit", "bench/limits.py"), tempfile.TemporaryDirectory() as name:
         folder = pathlib.Path(name)
         program = Program(str(pathlib.Path(path).resolve()), folder)
         make_house(program, [PRESET])

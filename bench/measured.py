@@ -1,4 +1,5 @@
 """Instructions and processor time of runs of a program, and two programs side by side."""
+import contextlib
 import pathlib
 import re
 import resource
@@ -6,7 +7,7 @@ import statistics
 import subprocess
 import tempfile
 
-from published import times_ahead
+import published
 
 RUNS = 7
 
@@ -53,9 +54,20 @@ def medians(found):
 
 
 def shown(what, found, unit, digits=0):
-    """A line: ours, and plain Rust's where it is there, with how many times ours is ahead."""
+    """A line: ours, and another's where it is there, with how many times ours is ahead."""
     FIGURES.append((what, found, unit))
     line = f"{what:28} {found['ours']:12,.{digits}f} {unit}"
-    if "plain" in found:
-        line += f", {found['plain']:12,.{digits}f} by plain Rust, {times_ahead(found, unit)} times ahead"
+    for whose, name in published.OTHERS.items():
+        if whose in found:
+            line += f", {found[whose]:12,.{digits}f} by {name}, {published.times_ahead(found, unit)} times ahead"
     print(line, flush=True)
+
+
+@contextlib.contextmanager
+def kept(name, by):
+    """Keeps all that is shown meanwhile as a run of this name."""
+    machine = published.machine()
+    yield
+    run = {"by": by, "commit": published.commit(), "machine": machine,
+           "parts": {by: [published.figure(*found) for found in FIGURES]}}
+    published.keep(name, run)

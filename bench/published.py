@@ -6,13 +6,27 @@ and another's beside it. A page names the figure that it shows by a comment, `<!
 `tests/figures.py` compares the two.
 """
 import json
+import os
 import pathlib
 import re
+import subprocess
 
 FILE = pathlib.Path(__file__).with_name("figures.json")
 TABLE = pathlib.Path(__file__).with_name("TABLE.md")
-# Whose figures stand beside ours, as columns of a table name them.
-OTHERS = {"plain": "Plain Rust", "kit": "The kit alone"}
+# Whose figures stand beside ours.
+OTHERS = {"plain": "plain Rust", "kit": "the kit alone"}
+
+
+def commit():
+    """The commit that is measured."""
+    words = ["git", "rev-parse", "--short", "HEAD"]
+    return subprocess.run(words, cwd=FILE.parent, capture_output=True, text=True, check=True).stdout.strip()
+
+
+def machine():
+    """The processor, and how much other work it has."""
+    names = [line.split(": ")[1] for line in pathlib.Path("/proc/cpuinfo").read_text().splitlines() if line.startswith("model name")]
+    return f"{len(names)} processors ({names[0]}), load {os.getloadavg()[0]:.1f} at the start"
 
 
 def read():

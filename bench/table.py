@@ -15,21 +15,8 @@ import replay
 import serve
 from measured import FIGURES
 
-ROOT = pathlib.Path(__file__).resolve().parent.parent
-HOUSE = ROOT / "bench" / "plain" / "house"
+HOUSE = pathlib.Path(__file__).resolve().parent / "plain" / "house"
 PARTS = (("A message, and streams of them", replay), ("Pages", pages), ("A house that is served", serve))
-
-
-def commit():
-    """The commit that is measured."""
-    words = ["git", "rev-parse", "--short", "HEAD"]
-    return subprocess.run(words, cwd=ROOT, capture_output=True, text=True, check=True).stdout.strip()
-
-
-def machine():
-    """The processor, and how much other work it has."""
-    names = [line.split(": ")[1] for line in pathlib.Path("/proc/cpuinfo").read_text().splitlines() if line.startswith("model name")]
-    return f"{len(names)} processors ({names[0]}), load {os.getloadavg()[0]:.1f} at the start"
 
 
 def plain_house():
@@ -40,13 +27,13 @@ def plain_house():
 
 def main(program):
     plain = plain_house()
-    beside, parts, commits = machine(), {}, None
+    machine, parts, commits = published.machine(), {}, None
     for title, part in PARTS:
         FIGURES.clear()
         # The last part gives how many commits a second the disk makes.
         commits = part.main(program, plain)
         parts[title] = [published.figure(*found) for found in FIGURES]
-    run = {"by": "bench/table.py", "commit": commit(), "machine": beside, "commits": round(commits), "parts": parts}
+    run = {"by": "bench/table.py", "commit": published.commit(), "machine": machine, "commits": round(commits), "parts": parts}
     published.keep("table", run)
     published.TABLE.write_text(published.table(run))
 

@@ -1,8 +1,7 @@
 #!/bin/sh
-# Compares the wire with a plain Rust program over the crate httparse on the same bytes, in
-# interleaved runs: medians of user time, and their ratio; and instructions, where valgrind is there.
-# Needs cargo, and Debian's packages librust-httparse-dev, librust-itoa-dev, librust-serde-dev and
-# librust-serde-json-dev. From any folder: sh bench/wire.sh
+# Compares the wire with a plain Rust program over the crate httparse on the same bytes, by
+# compare.py. Needs valgrind, cargo, and Debian's packages librust-httparse-dev, librust-itoa-dev,
+# librust-serde-dev and librust-serde-json-dev. From any folder: sh bench/wire.sh
 set -e
 cd "$(dirname "$0")/.."
 

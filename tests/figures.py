@@ -19,7 +19,7 @@ PAGES = [ROOT / "README.md", ROOT / "bench" / "README.md", *sorted((ROOT / "docs
 SHOWING = ["README.md", "bench/README.md", "docs/RUNNING.md", "examples/gateway/GROWTH.md"]
 COMMENT = re.compile(r"<!--\s+figure:\s+(.*?)\s+-->", re.S)
 NUMBER_BEFORE = re.compile(r"([0-9][0-9.,]*)\s*" + COMMENT.pattern, re.S)
-COLUMNS = {"Ours": "ours", "Ahead": "ahead", **{title: whose for whose, title in published.OTHERS.items()}}
+COLUMNS = {"Ours": "ours", "Ahead": "ahead", **{name[0].upper() + name[1:]: whose for whose, name in published.OTHERS.items()}}
 CHECKS = []
 
 
