@@ -5,13 +5,15 @@ A body that always tells want of memory, or that the store failed, is proved und
 any call, and a contract shows no cause. So only tests find it. Each is put into a copy of the checkout and built without
 proofs, by `rt try`; then a section of the stored run of `test_site` or `test_store` has to come out otherwise, or
 tests/office.py has to fail on the program. With nothing put in they have to pass. NAMEs choose among the bodies, `all`
-takes all, none those that are MAIN. It needs the kit, with its `rt` on the path. The last line is 'N bodies, M not
-found'. With `--texts` nothing is built: each text that a body takes the place of has to be in its file once.
+takes all, none those that are MAIN. As many are built at once as there are processors, and memory for. It needs the
+kit, with its `rt` on the path. The last line is 'N bodies, M not found'. With `--texts` nothing is built: each text that
+a body takes the place of has to be in its file once.
 """
 import contextlib
 import dataclasses
 import os
 import pathlib
+import re
 import shutil
 import subprocess
 import sys
@@ -22,6 +24,8 @@ from refusal import in_turn
 from transcript import SECTION, section
 
 ROOT = pathlib.Path(__file__).resolve().parent.parent
+# The most memory that a build takes, in kB.
+BUILD = 7_000_000
 ENGINE, DECIDING, READING = "site/src/engine.rt", "house/src/decision.rt", "pages/src/reading.rt"
 KEEP, ACCOUNT, IMPORTS = "store/src/keep.rt", "office/src/account.rt", "office/src/imports.rt"
 REPLAY, SETUP = "auction_runs/src/replay.rt", "auction_runs/src/setup.rt"
@@ -183,6 +187,12 @@ def tried(body):
         return body, passes(copy, body.finder), time.monotonic() - begun
 
 
+def builds_at_once():
+    """How many builds there are processors and memory for."""
+    free = int(re.search(r"^MemAvailable: +([0-9]+) kB$", pathlib.Path("/proc/meminfo").read_text(), re.M)[1])
+    return max(1, min(os.cpu_count(), free // BUILD))
+
+
 def finder_in_words(finder):
     return finder if finder == OFFICE else " ".join(finder)
 
@@ -197,7 +207,8 @@ def main():
         sys.exit(f"no body: {' '.join(sorted(unknown))}")
     finders = dict.fromkeys(body.finder for body in bodies)
     missed = 0
-    for body, passed, seconds in in_turn(tried, [*(Body("nothing", "", "", "", finder) for finder in finders), *bodies]):
+    every = [*(Body("nothing", "", "", "", finder) for finder in finders), *bodies]
+    for body, passed, seconds in in_turn(tried, every, builds_at_once()):
         is_right = passed is (not body.file)
         missed += not is_right
         end = {True: "passes", False: "is found", None: "can't be built"}[passed]

@@ -26,9 +26,9 @@ def built_library():
         yield library
 
 
-def in_turn(call, numbers):
-    """What a call gives for each number, in their order; as many are called at once as there are processors."""
-    with concurrent.futures.ThreadPoolExecutor(os.cpu_count()) as pool:
+def in_turn(call, numbers, at_once=os.cpu_count()):
+    """What a call gives for each number, in their order; so many are called at once, or as many as there are processors."""
+    with concurrent.futures.ThreadPoolExecutor(at_once) as pool:
         yield from pool.map(call, numbers)
 
 
