@@ -43,12 +43,14 @@ def keep(name, run):
 
 def figure(what, found, unit):
     """A figure as it is kept."""
-    return {"what": what, "unit": unit, **{whose: round(value, 3) for whose, value in found.items()}}
+    return {"what": what, "unit": unit, **{whose: round(value, 4) for whose, value in found.items()}}
 
 
 def number(value):
     """A number as pages show it."""
-    return f"{value:,}" if isinstance(value, int) else f"{value:,.1f}" if value < 100 else f"{value:,.0f}"
+    if isinstance(value, int):
+        return f"{value:,}"
+    return f"{value:,.{0 if value >= 100 else 1 if value >= 1 else 2}f}"
 
 
 def times_ahead(found, unit):
