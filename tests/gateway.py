@@ -7,7 +7,7 @@ signed-in clients show what the page of the gateway says:
 - who doesn't sign in gets 401, and who does can't speak for another by any spelling of the two headers
 - odd messages have each their status: two lengths, a length and a coding, chunks, HEAD, too large ones
 - pages of other sites bid for nobody; in Chromium too, where chromedriver is there
-- another user of the machine reaches neither the house nor its queue
+- another user of the machine reaches neither the house nor its queue; a house that was made open to others is shut
 - 50 clients for SECONDS (60 where none are given), and 300 for a third of them, lose nothing and see no MomentBehind
 - 60 clients that dribble hold nobody up
 - RESTARTS restarts (20 where none are given) under 50 clients, one of them by SIGKILL, lose no answer
@@ -22,6 +22,7 @@ import sys
 import browser
 from gateway_cases import CASES, MINE, NAMES, fault
 from gateway_crowds import crowds, dribblers, restarts
+from gateway_files import open_houses
 from gateway_form import foreign_form
 from gateway_run import folder_of_nobody, missing_packages, reply, running
 from served import CHECKS, check
@@ -84,6 +85,8 @@ def main():
         restarts(gateway, count)
     with folder_of_nobody() as folder:
         two_houses(program, folder)
+    with folder_of_nobody() as folder:
+        open_houses(program, folder)
     print(f"{len(CHECKS)} checks, {CHECKS.count(False)} wrong")
     return 1 if not all(CHECKS) else 0
 

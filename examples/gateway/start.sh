@@ -27,9 +27,18 @@ make_certificate() {
         -addext "subjectAltName=${names%,}" 2> /dev/null
 }
 
+# What members sealed is in the files of a house, so its user alone may read them. A house that others could read is
+# shut; one that can't be shut, since another user owns it, isn't served.
+shut_house() {
+    [ -n "$(find "houses/$1" ! -type l -perm /077)" ] || return 0
+    chmod -R go= "houses/$1" || fail "others may read houses/$1, and its owner alone can shut it: it isn't served"
+    echo "start.sh: other users could read files in houses/$1 until now" >&2
+}
+
 # Makes the files of a house that are missing. The house of the host is served and reached by them.
 make_house() {
     mkdir -p "houses/$1/run"
+    shut_house "$1"
     [ -e "houses/$1/page" ] || cp -r "$here/page" "houses/$1/"
     sed -e "s/HOST/$1/g" -e "s/PORT/$port/g" "$here/site.conf" > "houses/$1/site.conf"
     cp "$here/queue.cfg" "houses/$1/"
@@ -61,12 +70,12 @@ add_first_members() {
 
 [ $# -ge 2 ] || fail "its words are PROGRAM FOLDER [HOST...]"
 [ "$(id -u)" != 0 ] || fail "run it as a user other than root"
+umask 077
 program=$(realpath "$1")
 mkdir -p "$2"
 cd "$2"
 shift 2
 [ $# -gt 0 ] || set -- localhost
-umask 077
 mkdir -p run logs tmp
 check_needs
 PATH=$PATH:/usr/sbin:/sbin

@@ -1,0 +1,53 @@
+"""Houses that other users of the machine could read: start.sh shuts them, or doesn't serve them."""
+import os
+import stat
+import subprocess
+
+from bad_files import NOBODY, as_nobody
+from gateway_cases import as_another_user
+from gateway_run import Gateway
+from served import check, held_port
+
+OPENED = "start.sh: other users could read files in houses/localhost until now"
+REFUSED = "start.sh: others may read houses/localhost, and its owner alone can shut it: it isn't served"
+
+
+def make_open(gateway):
+    """A house that its user made without a umask, where start.sh looks for it."""
+    house = gateway.house()
+    words = ["--bands", gateway.examples / "bands.csv", "--rate", "1000", "--zone", "UTC0"]
+    for command in (["mkdir", "-p", house], [gateway.program, "init", house / "house", *words]):
+        subprocess.run(command, check=True, preexec_fn=as_nobody, umask=0o022, stdout=subprocess.DEVNULL)
+    return house
+
+
+def open_to_others(folder):
+    """The files of a folder for which others than its user have any right."""
+    return [file.name for file in folder.rglob("*") if not file.is_symlink() and stat.S_IMODE(file.stat().st_mode) & 0o077]
+
+
+def open_houses(program, folder):
+    """A house that others could read is shut before it is served. One of another owner isn't served."""
+    with held_port() as port, held_port() as house_port:
+        gateway = Gateway(program, folder, port, house_port)
+        house = make_open(gateway)
+        check("made open", sorted(open_to_others(house)), ["house", "house-wal"])
+        try:
+            status, _, error = gateway.start()
+            check("an open house is served", (status, error.strip()), (0, OPENED))
+            check("and is shut", open_to_others(house), [])
+        finally:
+            gateway.stop()
+        if os.geteuid() == 0:
+            of_another_owner(gateway, house)
+
+
+def of_another_owner(gateway, house):
+    """Who runs the gateway can't shut the house that is another's."""
+    os.chown(house / "house", 0, 0)
+    os.chmod(house / "house", 0o644)
+    os.chown(house, NOBODY, NOBODY)
+    status, _, error = gateway.start()
+    check("another's open house", (status, error.splitlines()[-1:]), (1, [REFUSED]))
+    with as_another_user():
+        check("another user", os.access(house / "house", os.R_OK, effective_ids=True), False)
