@@ -29,7 +29,7 @@ PICTURES ?=
 
 # Debian's packages of these four: nginx to util-linux are needed, the others are left out where they aren't there. The page
 # needs chromium-driver too.
-GATEWAY_PACKAGES = nginx-light haproxy openssl curl iproute2 procps util-linux chromium-driver
+GATEWAY_PACKAGES = nginx-light haproxy apache2-bin apache2-utils sqlite3 openssl curl iproute2 procps util-linux chromium-driver
 PAGE_PACKAGES = $(GATEWAY_PACKAGES)
 BACKUP_PACKAGES = sqlite3 btrfs-progs
 DEB_PACKAGES = lintian debootstrap systemd-container

@@ -1,10 +1,12 @@
 #!/usr/bin/env python3
 """Runs the gateway of examples/gateway over the program, and drives it: `gateway.py PROGRAM [SECONDS] [RESTARTS]`.
 
-start.sh, first_bids.sh, add_member.sh and stop.sh run as an ordinary user: as nobody where a superuser runs this. Then
+start.sh, first_bids.sh, account.sh and stop.sh run as an ordinary user: as nobody where a superuser runs this. Then
 signed-in clients show what the page of the gateway says:
 
-- who doesn't sign in gets 401, and who does can't speak for another by any spelling of the two headers
+- who isn't signed in gets 401, and who is can't speak for another by any spelling of the two headers
+- members sign in by the form and out again, choose a password, and are kept out by account.sh; a run of it that was
+  killed is ended by the next; on a phone's width too, where chromedriver is there
 - odd messages have each their status: two lengths, a length and a coding, chunks, HEAD, too large ones
 - pages of other sites bid for nobody; in Chromium too, where chromedriver is there
 - another user of the machine reaches neither the house nor its queue; a house that was made open to others is shut
@@ -20,11 +22,14 @@ import socket
 import sys
 
 import browser
+from gateway_accounts import ACCOUNTS
 from gateway_cases import CASES, MINE, NAMES, fault
 from gateway_crowds import crowds, dribblers, restarts
 from gateway_files import open_houses
 from gateway_form import foreign_form
 from gateway_run import folder_of_nobody, missing_packages, reply, running
+from gateway_sign_in import SIGN_IN, WRONG, asked, leads_to
+from gateway_visit import visit
 from served import CHECKS, check
 
 
@@ -41,23 +46,22 @@ def stop_and_start(gateway):
 
 
 def two_houses(program, folder):
-    """Two houses behind one gateway: names, numbers and items of one are nothing in the other."""
+    """Two houses behind one gateway: names, numbers, items and sessions of one are nothing in the other."""
     with running(program, folder, hosts=("lindow.localhost", "tarn.localhost")) as gateway:
-        passwords = {}
+        shown, passwords = {}, {}
         for host in gateway.hosts:
-            gateway.host = host
-            gateway.know((gateway.house() / "passwords").read_text().splitlines())
-            passwords[host] = dict(gateway.passwords)
+            gateway.visit(host)
             check(f"{host}: a category", gateway.ask("house", "POST", "/api/categories", {"name": host}).status, 201)
             answer = gateway.ask("ana", "GET", "/api/categories").value
             check(f"{host}: its own categories", answer, {"categories": [{"category": 1, "name": host}]})
-        gateway.host, gateway.passwords = "lindow.localhost", passwords["tarn.localhost"]
-        check("a password of the other house", gateway.ask("ana", "GET", MINE).status, 401)
-        gateway.passwords = passwords["lindow.localhost"]
-        check("added in one", gateway.add("dora")[0], 0)
-        gateway.host = "tarn.localhost"
-        check("not in the other", gateway.ask("dora", "GET", MINE).status, 401)
-        gateway.host, gateway.passwords = "lindow.localhost", passwords["lindow.localhost"]
+            shown[host], passwords[host] = [gateway.field("ana"), gateway.sign_in("ana")[1]], gateway.passwords["ana"]
+        gateway.visit("lindow.localhost")
+        check("added in one", gateway.account("add", "dora", "Dora")[0], 0)
+        shown["lindow.localhost"].append(gateway.field("dora"))
+        for host, other in (gateway.hosts, gateway.hosts[::-1]):
+            gateway.visit(other)
+            check(f"a password of {host}", leads_to(gateway.sign_in("ana", passwords[host])[0]), WRONG)
+            check(f"what shows who it is at {host}", {asked(gateway, field).status for field in shown[host]}, {401})
         text = gateway.head("ana", f"GET {MINE} HTTP/1.1", ["Connection: close"])
         check("the other's host", reply(gateway.raw(text.replace("lindow", "tarn", 1))).status, 401)
         check("nobody's host", reply(gateway.raw(text.replace("lindow", "other", 1)))[::2], (421, fault("host")))
@@ -70,18 +74,22 @@ def main():
         print(f"Debian's packages that are missing: {' '.join(missing)}")
         return 1
     with folder_of_nobody() as folder, running(program, folder) as gateway:
-        for case in CASES:
+        # Wrong passwords count by address, so each case has its own.
+        for place, case in enumerate((*CASES, *ACCOUNTS, *SIGN_IN), 1):
+            gateway.address = f"127.0.0.{place}"
             case(gateway)
+        gateway.enrol(*NAMES)
         crowds(gateway, length)
         dribblers(gateway, length / 3)
         stop_and_start(gateway)
         if browser.is_there():
             foreign_form(gateway)
+            visit(gateway)
         else:
-            print("no chromedriver, so no browser sent the form of another site")
+            print("no chromedriver, so no browser signed in, and none sent the form of another site")
     with folder_of_nobody() as folder, running(program, folder, count=500) as gateway:
         check("a category", gateway.ask("house", "POST", "/api/categories", {"name": "Books"}).status, 201)
-        check("members added", gateway.add(*NAMES)[0], 0)
+        gateway.enrol(*NAMES)
         restarts(gateway, count)
     with folder_of_nobody() as folder:
         two_houses(program, folder)

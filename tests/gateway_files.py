@@ -22,8 +22,9 @@ def make_open(gateway):
 
 
 def open_to_others(folder):
-    """The files of a folder for which others than its user have any right."""
-    return [file.name for file in folder.rglob("*") if not file.is_symlink() and stat.S_IMODE(file.stat().st_mode) & 0o077]
+    """A folder and the files in it for which others than its user have any right."""
+    files = [folder, *folder.iterdir()]
+    return sorted(file.name for file in files if not file.is_symlink() and stat.S_IMODE(file.stat().st_mode) & 0o077)
 
 
 def open_houses(program, folder):
@@ -31,7 +32,7 @@ def open_houses(program, folder):
     with held_port() as port, held_port() as house_port:
         gateway = Gateway(program, folder, port, house_port)
         house = make_open(gateway)
-        check("made open", sorted(open_to_others(house)), ["house", "house-wal"])
+        check("made open", open_to_others(house), ["house", "house-wal", "localhost"])
         try:
             status, _, error = gateway.start()
             check("an open house is served", (status, error.strip()), (0, OPENED))

@@ -1,17 +1,19 @@
 """A gateway of examples/gateway that runs in a folder, as an ordinary user, and what it answers to who is signed in."""
-import base64
 import collections
 import contextlib
 import json
 import os
 import pathlib
+import re
 import shutil
 import signal
 import socket
+import sqlite3
 import ssl
 import subprocess
 import tempfile
 import time
+import urllib.parse
 
 from bad_files import NOBODY, as_nobody
 from sent import PATIENCE
@@ -19,8 +21,9 @@ from served import held_port
 
 ROOT = pathlib.Path(__file__).resolve().parent.parent
 # Commands that the gateway needs, with the Debian packages that have them.
-NEEDED = {"nginx": "nginx-light", "haproxy": "haproxy", "openssl": "openssl", "curl": "curl", "ip": "iproute2",
-          "setsid": "util-linux", "unshare": "util-linux"}
+NEEDED = {"nginx": "nginx-light", "haproxy": "haproxy", "apache2": "apache2-bin", "htpasswd": "apache2-utils",
+          "sqlite3": "sqlite3", "openssl": "openssl", "curl": "curl", "ip": "iproute2", "setsid": "util-linux",
+          "unshare": "util-linux"}
 PATH = os.environ["PATH"] + ":/usr/sbin:/sbin"
 
 Reply = collections.namedtuple("Reply", "status head value")
@@ -59,6 +62,8 @@ class Gateway:
             shutil.copy(program, self.program)
             self.program.chmod(0o755)
         self.numbers, self.passwords, self.tls = {}, {}, None
+        # The fields by which members show who they are, and the address from which clients come.
+        self.shown, self.address = {}, "127.0.0.1"
 
     def script(self, name, *words):
         return script(self.examples / "gateway" / name, *words, PORT=str(self.port), HOUSE_PORT=str(self.house_port),
@@ -77,18 +82,51 @@ class Gateway:
     def house(self):
         return self.folder / "houses" / self.host
 
+    def visit(self, host):
+        """Goes on at another of the hosts, as its first members."""
+        self.host, self.passwords, self.shown = host, {}, {}
+        self.know((self.house() / "passwords").read_text().splitlines())
+
     def know(self, lines):
-        """Notes members as add_member.sh prints them."""
+        """Notes members as account.sh prints them."""
         for name, number, password in map(str.split, lines):
             self.numbers[name], self.passwords[name] = int(number), password
 
-    def add(self, *names):
-        """Adds members, and waits until the gateway knows the last of them."""
-        ending = self.script("add_member.sh", self.house(), *names)
-        if ending[0] == 0:
+    def account(self, command, *words):
+        """What account.sh prints. Members that it lets in are noted."""
+        ending = self.script("account.sh", command, self.house(), *words)
+        if ending[0] == 0 and command in ("add", "adopt", "password"):
             self.know(ending[1])
-            self.wait(lambda: self.ask(names[-1], "GET", "/api/me/bids/1").status == 200)
         return ending
+
+    def enrol(self, *names):
+        """Has the house register members, and gives each a token, without the time that a password takes."""
+        registered = {name: self.ask("house", "POST", "/api/members", {"name": name}).value["member"] for name in names}
+        with contextlib.closing(sqlite3.connect(self.house() / "accounts", timeout=PATIENCE)) as accounts, accounts:
+            accounts.executemany("INSERT INTO account (login, member, hash) VALUES (?, ?, '')", registered.items())
+        self.numbers.update(registered)
+
+    def token(self, name):
+        status, lines, error = self.account("token", name)
+        if status != 0:
+            raise OSError(f"account.sh: {error}")
+        return lines[0].split()[2]
+
+    def sign_in(self, name, password=None):
+        """The answer to the form, and the cookie that it gives, or None."""
+        form = urllib.parse.urlencode({"httpd_username": name, "httpd_password": password or self.passwords[name]})
+        answer = self.send_form("/sign-in", form)
+        return answer, cookie_of(answer)
+
+    def send_form(self, path, form="", fields=()):
+        head = self.head(None, f"POST {path} HTTP/1.1", [f"Content-Length: {len(form)}", "Connection: close", *fields])
+        return reply(self.raw(head + form))
+
+    def field(self, name):
+        """The field by which a member shows who it is: its token, where nothing else was noted."""
+        if name not in self.shown:
+            self.shown[name] = f"Authorization: Bearer {self.token(name)}"
+        return self.shown[name]
 
     @staticmethod
     def wait(holds):
@@ -100,7 +138,7 @@ class Gateway:
 
     def head(self, name, first, fields=()):
         """A head that begins with this line: a sign-in, where there is a name, and more fields."""
-        signed = [f"Authorization: Basic {encoded(name, self.passwords[name])}"] if name else []
+        signed = [self.field(name)] if name else []
         return "\r\n".join([first, f"Host: {self.host}:{self.port}", *signed, *fields, "", ""])
 
     def ask(self, name, method, path, value=None, fields=()):
@@ -121,6 +159,7 @@ class Gateway:
         plain.settimeout(PATIENCE)
         if room is not None:
             plain.setsockopt(socket.SOL_SOCKET, socket.SO_RCVBUF, room)
+        plain.bind((self.address, 0))
         plain.connect(("127.0.0.1", self.port))
         return self.tls.wrap_socket(plain, server_hostname=self.host)
 
@@ -157,8 +196,10 @@ def read_all(connection):
     return received
 
 
-def encoded(name, password):
-    return base64.b64encode(f"{name}:{password}".encode()).decode()
+def cookie_of(answer):
+    """The field that a browser sends after this answer, or None."""
+    found = re.search(r"^set-cookie: (__host-house=([^;]*));", answer.head, re.M)
+    return found and f"Cookie: __Host-house={found[2]}"
 
 
 def reply(text):

@@ -2,7 +2,7 @@
 # start.sh PROGRAM FOLDER [HOST...]: serves a house for each host name, at https://HOST:8443, without root.
 # Each house lies in FOLDER/houses/HOST. One that isn't there is made, with members ana, ben and cid, by the
 # settings of the examples. Without a name there is one house, at localhost. PORT may be another port, COUNT the
-# connections after which a house is started anew, and HOUSE_PORT the first of the ports of the houses.
+# connections after which a house is started anew, and HOUSE_PORT the first of the ports of the houses, two for each.
 set -eu
 here=$(cd "$(dirname "$0")" && pwd)
 port=${PORT:-8443} count=${COUNT:-1000000}
@@ -13,7 +13,7 @@ fail() {
 }
 
 check_needs() {
-    for command in nginx haproxy openssl curl setsid unshare ip; do
+    for command in nginx haproxy apache2 htpasswd sqlite3 openssl curl setsid unshare ip; do
         PATH=$PATH:/usr/sbin:/sbin command -v "$command" > /dev/null || fail "no $command: README.md has the packages"
     done
     if [ -e run/nginx.pid ] && kill -0 "$(cat run/nginx.pid)" 2> /dev/null; then
@@ -30,7 +30,7 @@ make_certificate() {
 # What members sealed is in the files of a house, so its user alone may read them. A house that others could read is
 # shut; one that can't be shut, since another user owns it, isn't served.
 shut_house() {
-    [ -n "$(find "houses/$1" ! -type l -perm /077)" ] || return 0
+    [ -n "$(find "houses/$1" -maxdepth 1 ! -type l -perm /077)" ] || return 0
     chmod -R go= "houses/$1" || fail "others may read houses/$1, and its owner alone can shut it: it isn't served"
     echo "start.sh: other users could read files in houses/$1 until now" >&2
 }
@@ -41,17 +41,15 @@ make_house() {
     shut_house "$1"
     [ -e "houses/$1/page" ] || cp -r "$here/page" "houses/$1/"
     sed -e "s/HOST/$1/g" -e "s/PORT/$port/g" "$here/site.conf" > "houses/$1/site.conf"
-    cp "$here/queue.cfg" "houses/$1/"
-    touch "houses/$1/users" "houses/$1/members.map"
-    echo "$1" > "houses/$1/host"
-    ln -sf ../../run/nginx.pid "houses/$1/nginx.pid"
+    cp "$here/queue.cfg" "$here/sign_in.conf" "houses/$1/"
+    sqlite3 -bail "houses/$1/accounts" < "$here/accounts.sql" > /dev/null
     [ -e "houses/$1/house" ] ||
         "$program" init "houses/$1/house" --bands "$here/../bands.csv" --rate 1000 --zone UTC0 > /dev/null
 }
 
 # Serves the house of a host on a port, in a network of its own where the machine lets a user make one.
 serve_house() {
-    rm -f "houses/$1/run/queue.sock"
+    rm -f "houses/$1/run/"*.sock
     (cd "houses/$1" && exec setsid $own_network sh "$here/house.sh" "$program" "$2" "$count") \
         > "logs/$1.log" 2>&1 &
     echo $! > "houses/$1/run/house.pid"
@@ -64,8 +62,16 @@ wait_for() {
     done
 }
 
+account() {
+    sh "$here/account.sh" "$@"
+}
+
 add_first_members() {
-    [ -s "houses/$1/users" ] || sh "$here/add_member.sh" "houses/$1" house ana ben cid > "houses/$1/passwords"
+    [ -z "$(account list "houses/$1")" ] || return 0
+    account adopt "houses/$1" house 0 > "houses/$1/passwords"
+    for name in Ana Ben Cid; do
+        account add "houses/$1" "$(echo "$name" | tr A-Z a-z)" "$name" >> "houses/$1/passwords"
+    done
 }
 
 [ $# -ge 2 ] || fail "its words are PROGRAM FOLDER [HOST...]"
@@ -85,14 +91,14 @@ $own_network true 2> /dev/null || {
     echo "start.sh: no network of its own, so any user of this machine can speak for the house" >&2
 }
 sed -e "s/PORT/$port/g" "$here/nginx.conf" > nginx.conf
-cp "$here/maps.conf" "$here/server.conf" .
+cp "$here/maps.conf" "$here/server.conf" "$here/errors.conf" "$here/form.conf" .
 [ -e cert.pem ] || make_certificate "$@"
 trap 'sh "$here/stop.sh" "$PWD"' EXIT
 house_port=${HOUSE_PORT:-18080}
 for host in "$@"; do
     make_house "$host"
     serve_house "$host" "$house_port"
-    house_port=$((house_port + 1))
+    house_port=$((house_port + 2))
 done
 for host in "$@"; do
     wait_for "$host"
