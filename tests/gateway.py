@@ -11,7 +11,8 @@ signed-in clients show what the page of the gateway says:
 - pages of other sites bid for nobody; in Chromium too, where chromedriver is there
 - another user of the machine reaches neither the house nor its queue; a house that was made open to others is shut
 - 50 clients for SECONDS (60 where none are given), and 300 for a third of them, lose nothing and see no MomentBehind
-- 60 clients that dribble hold nobody up
+- 60 clients that dribble hold nobody up; nor do 4,000 connections that say nothing, 50,000 wrong passwords of a member
+  from its own address, wrong ones from 200 addresses, and a member that asks as fast as it can from 40
 - RESTARTS restarts (20 where none are given) under 50 clients, one of them by SIGKILL, lose no answer
 - two houses behind one gateway are distinguished by host name
 - what was taken is there after stop.sh and start.sh
@@ -23,6 +24,7 @@ import sys
 
 import browser
 from gateway_accounts import ACCOUNTS
+from gateway_attacks import attacks
 from gateway_cases import CASES, MINE, NAMES, fault
 from gateway_crowds import crowds, dribblers, restarts
 from gateway_files import open_houses
@@ -81,6 +83,7 @@ def main():
         gateway.enrol(*NAMES)
         crowds(gateway, length)
         dribblers(gateway, length / 3)
+        attacks(gateway)
         stop_and_start(gateway)
         if browser.is_there():
             foreign_form(gateway)

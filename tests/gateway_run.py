@@ -5,6 +5,7 @@ import json
 import os
 import pathlib
 import re
+import resource
 import shutil
 import signal
 import socket
@@ -25,6 +26,7 @@ NEEDED = {"nginx": "nginx-light", "haproxy": "haproxy", "apache2": "apache2-bin"
           "sqlite3": "sqlite3", "openssl": "openssl", "curl": "curl", "ip": "iproute2", "setsid": "util-linux",
           "unshare": "util-linux"}
 PATH = os.environ["PATH"] + ":/usr/sbin:/sbin"
+FILES = 1024
 
 Reply = collections.namedtuple("Reply", "status head value")
 
@@ -43,9 +45,15 @@ def folder_of_nobody():
         yield pathlib.Path(name)
 
 
+def as_a_user():
+    """Makes a process that of an ordinary user, who may open as many files as a shell of Debian lets it."""
+    resource.setrlimit(resource.RLIMIT_NOFILE, (FILES, resource.getrlimit(resource.RLIMIT_NOFILE)[1]))
+    as_nobody()
+
+
 def script(name, *words, **environment):
     """The lines that one of the examples' scripts prints."""
-    result = subprocess.run(["sh", name, *map(str, words)], preexec_fn=as_nobody, capture_output=True, text=True,
+    result = subprocess.run(["sh", name, *map(str, words)], preexec_fn=as_a_user, capture_output=True, text=True,
                           timeout=PATIENCE, env={**os.environ, "PATH": PATH, **environment})
     return result.returncode, result.stdout.splitlines(), result.stderr
 
