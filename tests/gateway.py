@@ -14,7 +14,8 @@ signed-in clients show what the page of the gateway says:
 - 60 clients that dribble hold nobody up; nor do 4,000 connections that say nothing, 50,000 wrong passwords of a member
   from its own address, wrong ones from 200 addresses, and a member that asks as fast as it can from 40
 - RESTARTS restarts (20 where none are given) under 50 clients, one of them by SIGKILL, lose no answer
-- two houses behind one gateway are distinguished by host name
+- houses behind one gateway are distinguished by host name, and each comes and goes alone: one whose file is damaged
+  keeps none of the others down, and haproxy and Apache are begun again when they end
 - what was taken is there after stop.sh and start.sh
 
 It needs nginx, haproxy, openssl, curl, ip, setsid and unshare. The last line is 'N checks, M wrong'.
@@ -25,12 +26,13 @@ import sys
 import browser
 from gateway_accounts import ACCOUNTS
 from gateway_attacks import attacks
-from gateway_cases import CASES, MINE, NAMES, fault
+from gateway_cases import CASES, MINE, NAMES
+from gateway_cities import cities
 from gateway_crowds import crowds, dribblers, restarts
 from gateway_files import open_houses
 from gateway_form import foreign_form
-from gateway_run import folder_of_nobody, missing_packages, reply, running
-from gateway_sign_in import SIGN_IN, WRONG, asked, leads_to
+from gateway_run import folder_of_nobody, missing_packages, running
+from gateway_sign_in import SIGN_IN
 from gateway_visit import visit
 from served import CHECKS, check
 
@@ -45,28 +47,6 @@ def stop_and_start(gateway):
         check("nobody listens", probe.connect_ex(("127.0.0.1", gateway.port)) != 0, True)
     check("started again", gateway.start()[0], 0)
     check("it is all there", [gateway.ask("cid", "GET", page).value for page in pages], before)
-
-
-def two_houses(program, folder):
-    """Two houses behind one gateway: names, numbers, items and sessions of one are nothing in the other."""
-    with running(program, folder, hosts=("lindow.localhost", "tarn.localhost")) as gateway:
-        shown, passwords = {}, {}
-        for host in gateway.hosts:
-            gateway.visit(host)
-            check(f"{host}: a category", gateway.ask("house", "POST", "/api/categories", {"name": host}).status, 201)
-            answer = gateway.ask("ana", "GET", "/api/categories").value
-            check(f"{host}: its own categories", answer, {"categories": [{"category": 1, "name": host}]})
-            shown[host], passwords[host] = [gateway.field("ana"), gateway.sign_in("ana")[1]], gateway.passwords["ana"]
-        gateway.visit("lindow.localhost")
-        check("added in one", gateway.account("add", "dora", "Dora")[0], 0)
-        shown["lindow.localhost"].append(gateway.field("dora"))
-        for host, other in (gateway.hosts, gateway.hosts[::-1]):
-            gateway.visit(other)
-            check(f"a password of {host}", leads_to(gateway.sign_in("ana", passwords[host])[0]), WRONG)
-            check(f"what shows who it is at {host}", {asked(gateway, field).status for field in shown[host]}, {401})
-        text = gateway.head("ana", f"GET {MINE} HTTP/1.1", ["Connection: close"])
-        check("the other's host", reply(gateway.raw(text.replace("lindow", "tarn", 1))).status, 401)
-        check("nobody's host", reply(gateway.raw(text.replace("lindow", "other", 1)))[::2], (421, fault("host")))
 
 
 def main():
@@ -95,7 +75,7 @@ def main():
         gateway.enrol(*NAMES)
         restarts(gateway, count)
     with folder_of_nobody() as folder:
-        two_houses(program, folder)
+        cities(program, folder)
     with folder_of_nobody() as folder:
         open_houses(program, folder)
     print(f"{len(CHECKS)} checks, {CHECKS.count(False)} wrong")

@@ -178,7 +178,7 @@ def another_user(gateway):
         return
     for name in ("queue", "session", "password"):
         check(f"the socket of {name}", hindrance(socket.AF_UNIX, str(gateway.house() / "run" / f"{name}.sock")), PermissionError)
-    for file in ("key.pem", "houses/localhost/house", "houses/localhost/accounts", "houses/localhost/passwords"):
+    for file in ("houses/localhost/key.pem", "houses/localhost/house", "houses/localhost/accounts", "houses/localhost/passwords"):
         with as_another_user():
             check(f"reads {file}", os.access(gateway.folder / file, os.R_OK, effective_ids=True), False)
 

@@ -33,7 +33,7 @@ class OtherSite:
 
         self.server = http.server.ThreadingHTTPServer(("127.0.0.1", 0), Handler)
         tls = ssl.create_default_context(ssl.Purpose.CLIENT_AUTH)
-        tls.load_cert_chain(gateway.folder / "cert.pem", gateway.folder / "key.pem")
+        tls.load_cert_chain(gateway.house() / "cert.pem", gateway.house() / "key.pem")
         self.server.socket = tls.wrap_socket(self.server.socket, server_side=True)
         self.url = f"https://localhost:{self.server.server_port}/"
 

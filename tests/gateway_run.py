@@ -77,15 +77,20 @@ class Gateway:
         return script(self.examples / "gateway" / name, *words, PORT=str(self.port), HOUSE_PORT=str(self.house_port),
                       COUNT=self.count)
 
-    def start(self):
-        ending = self.script("start.sh", self.program, self.folder, *self.hosts)
+    def start(self, *hosts):
+        ending = self.script("start.sh", self.program, self.folder, *(hosts or self.hosts))
         if ending[0] == 0:
-            self.tls = ssl.create_default_context(cafile=self.folder / "cert.pem")
+            self.know_certificates()
             self.know((self.house() / "passwords").read_text().splitlines())
         return ending
 
-    def stop(self):
-        return self.script("stop.sh", self.folder)
+    def know_certificates(self):
+        self.tls = ssl.create_default_context()
+        for file in self.folder.glob("houses/*/cert.pem"):
+            self.tls.load_verify_locations(file)
+
+    def stop(self, *hosts):
+        return self.script("stop.sh", self.folder, *hosts)
 
     def house(self):
         return self.folder / "houses" / self.host
@@ -155,13 +160,13 @@ class Gateway:
         fields = ["Connection: close", *([f"Content-Length: {len(body)}"] if body else []), *fields]
         return reply(self.raw(self.head(name, f"{method} {path} HTTP/1.1", fields) + body))
 
-    def raw(self, text):
+    def raw(self, text, host=None):
         """All that is sent back to a text before the connection ends."""
-        with self.connection() as connection:
+        with self.connection(host=host) as connection:
             connection.sendall(text.encode("latin-1"))
             return read_all(connection)
 
-    def connection(self, room=None):
+    def connection(self, room=None, host=None):
         """A connection, of which the system keeps so many bytes that came and weren't read."""
         plain = socket.socket()
         plain.settimeout(PATIENCE)
@@ -169,18 +174,21 @@ class Gateway:
             plain.setsockopt(socket.SOL_SOCKET, socket.SO_RCVBUF, room)
         plain.bind((self.address, 0))
         plain.connect(("127.0.0.1", self.port))
-        return self.tls.wrap_socket(plain, server_hostname=self.host)
+        return self.tls.wrap_socket(plain, server_hostname=host or self.host)
 
     def starts(self):
         """How often the house was started."""
         return (self.folder / "logs" / f"{self.host}.log").read_text().count("listening")
 
     def kill_house(self, number=signal.SIGKILL):
-        """Sends a signal to the program that serves the house now."""
+        """Sends a signal to the program that serves the house now, and tells whether there was one."""
+        is_sent = False
         for child in children(self.house() / "run" / "house.pid"):
             with contextlib.suppress(FileNotFoundError, ProcessLookupError):
                 if b"\0serve\0" in pathlib.Path(f"/proc/{child}/cmdline").read_bytes():
                     os.kill(int(child), number)
+                    is_sent = True
+        return is_sent
 
     def reload(self):
         """Has the gateway read its files anew, and waits until nobody is answered by the old ones."""

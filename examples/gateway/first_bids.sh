@@ -11,7 +11,7 @@ trap 'rm -r "$cookies"' EXIT
 # Signs in by a login, whose password no other user sees among the processes.
 sign_in() {
     sed -n "s/^$1 [0-9]* //p" houses/localhost/passwords | tr -d '\n' |
-        curl -sS --cacert cert.pem -o /dev/null -c "$cookies/$1" -d "httpd_username=$1" --data-urlencode httpd_password@- "$url/sign-in"
+        curl -sS --cacert houses/localhost/cert.pem -o /dev/null -c "$cookies/$1" -d "httpd_username=$1" --data-urlencode httpd_password@- "$url/sign-in"
 }
 
 ask() {
@@ -19,7 +19,7 @@ ask() {
     shift 2
     [ -e "$cookies/$name" ] || sign_in "$name"
     printf '%s: ' "$name"
-    curl -sS --cacert cert.pem -b "$cookies/$name" -w '\n' "$@" "$url/api$path"
+    curl -sS --cacert houses/localhost/cert.pem -b "$cookies/$name" -w '\n' "$@" "$url/api$path"
 }
 
 tomorrow=$(($(date +%s) + 86400))
