@@ -8,6 +8,7 @@ signed-in clients show what the page of the gateway says:
 - members sign in by the form and out again, choose a password, and are kept out by account.sh; a run of it that was
   killed is ended by the next; on a phone's width too, where chromedriver is there
 - odd messages have each their status: two lengths, a length and a coding, chunks, HEAD, too large ones
+- of 242 hostile requests the house sees what a member meant, as its own and now, or nothing (gateway_hostile.py)
 - pages of other sites bid for nobody; in Chromium too, where chromedriver is there
 - another user of the machine reaches neither the house nor its queue; a house that was made open to others is shut
 - 50 clients for SECONDS (60 where none are given), and 300 for a third of them, lose nothing and see no MomentBehind
@@ -31,7 +32,8 @@ from gateway_cities import cities
 from gateway_crowds import crowds, dribblers, restarts
 from gateway_files import open_houses
 from gateway_form import foreign_form
-from gateway_run import folder_of_nobody, missing_packages, running
+from gateway_hostile import hostile
+from gateway_run import ROOT, folder_of_nobody, missing_packages, running
 from gateway_sign_in import SIGN_IN
 from gateway_visit import visit
 from served import CHECKS, check
@@ -78,6 +80,8 @@ def main():
         cities(program, folder)
     with folder_of_nobody() as folder:
         open_houses(program, folder)
+    with folder_of_nobody() as folder:
+        hostile(ROOT / "tests" / "seen_house.py", folder)
     print(f"{len(CHECKS)} checks, {CHECKS.count(False)} wrong")
     return 1 if not all(CHECKS) else 0
 
