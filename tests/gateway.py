@@ -17,12 +17,13 @@ signed-in clients show what the page of the gateway says:
 - RESTARTS restarts (20 where none are given) under 50 clients, one of them by SIGKILL, lose no answer
 - houses behind one gateway are distinguished by host name, and each comes and goes alone: one whose file is damaged
   keeps none of the others down, and haproxy and Apache are begun again when they end
-- what was taken is there after stop.sh and start.sh
+- what is due is closed, and what was taken is there after stop.sh and start.sh
 
-It needs nginx, haproxy, openssl, curl, ip, setsid and unshare. The last line is 'N checks, M wrong'.
+It needs nginx, haproxy, apache2, htpasswd, sqlite3, openssl, curl, ip, setsid, flock and unshare. The last line is 'N checks, M wrong'.
 """
 import socket
 import sys
+import time
 
 import browser
 from gateway_accounts import ACCOUNTS
@@ -47,8 +48,21 @@ def stop_and_start(gateway):
     check("stopped", gateway.stop(), (0, [], ""))
     with socket.socket() as probe:
         check("nobody listens", probe.connect_ex(("127.0.0.1", gateway.port)) != 0, True)
-    check("started again", gateway.start()[0], 0)
+    check("started again, without a warning", gateway.start()[::2], (0, ""))
     check("it is all there", [gateway.ask("cid", "GET", page).value for page in pages], before)
+
+
+def lists_what_ends(gateway):
+    """An item that ends in a moment, and the number that it has."""
+    item = {"category": 1, "end": int(time.time()) + 3, "lot": "Ends", "start": 500, "text": "", "title": "Globe"}
+    return gateway.ask("ana", "POST", "/api/items", item).value["item"]
+
+
+def is_closed(gateway, number):
+    """house.sh closes it, within a minute of its end."""
+    state = lambda: gateway.ask("ana", "GET", f"/api/items/{number}").value["state"]
+    gateway.wait(lambda: state() != "open")
+    check("what is due is closed", state(), "unsold")
 
 
 def main():
@@ -63,9 +77,11 @@ def main():
             gateway.address = f"127.0.0.{place}"
             case(gateway)
         gateway.enrol(*NAMES)
+        due = lists_what_ends(gateway)
         crowds(gateway, length)
         dribblers(gateway, length / 3)
         attacks(gateway)
+        is_closed(gateway, due)
         stop_and_start(gateway)
         if browser.is_there():
             foreign_form(gateway)
