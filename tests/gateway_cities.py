@@ -74,13 +74,12 @@ def come_and_go(gateway):
     """A house is begun beside others, ended, and begun again, and nobody waits for it but its own members."""
     with goes_on(gateway, LINDOW, "another is begun"):
         check("begun", gateway.start(MERE)[0], 0)
-        gateway.wait(lambda: is_open(gateway, MERE))
+        check("it is open", is_open(gateway, MERE), True)
     with goes_on(gateway, LINDOW, "another is ended"):
         check("ended", gateway.stop(MERE), (0, [], ""))
         check("it is gone", is_open(gateway, MERE), False)
     status, _, error = gateway.start(LINDOW, MERE)
     check("one that runs is left alone", (status, error), (1, "start.sh: lindow.localhost runs already\n"))
-    gateway.wait(lambda: is_open(gateway, MERE))
     check("both are open", [is_open(gateway, host) for host in HOSTS], [True] * 3)
 
 
@@ -99,7 +98,7 @@ def damaged(gateway):
     file.write_bytes(kept)
     with goes_on(gateway, LINDOW, "the damaged one is mended"):
         check("mended", gateway.start(TARN)[0], 0)
-        gateway.wait(lambda: is_open(gateway, TARN))
+        check("it is open again", is_open(gateway, TARN), True)
 
 
 def processes(name, folder):

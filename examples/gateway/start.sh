@@ -21,7 +21,7 @@ fail() {
 }
 
 check_needs() {
-    for command in nginx haproxy apache2 htpasswd sqlite3 openssl curl setsid unshare flock ip; do
+    for command in nginx haproxy apache2 htpasswd sqlite3 openssl curl setsid unshare flock ip ps; do
         command -v "$command" > /dev/null || fail "no $command: README.md has the packages"
     done
 }
@@ -104,20 +104,41 @@ open_house() {
     if is_served "$1"; then
         add_first_members "$1"
         sed -e "s/HOST/$1/g" -e "s/PORT/$port/g" "$here/site.conf" > "houses/$1/site.conf"
-        echo "https://$1:$port: names and passwords in $PWD/houses/$1/passwords"
+        opened="$opened $1"
     else
         sh "$here/stop.sh" "$PWD" "$1"
         complain "the house of $1 has a fault: docs/RUNNING.md has its words"
     fi
 }
 
+# Houses that ended without stop.sh, as where the machine did, aren't nginx's any more.
+forget_ended() {
+    for file in houses/*/site.conf; do
+        ended=${file%/site.conf}
+        [ ! -e "$file" ] || is_running "${ended#houses/}" || rm "$file"
+    done
+}
+
+# Whether nginx answers for a house, within ten seconds.
+is_open() {
+    for _ in $(seq 100); do
+        ! curl -s -f -m 2 -o /dev/null --cacert "houses/$1/cert.pem" --resolve "$1:$port:127.0.0.1" \
+            "https://$1:$port/sign-in.html" || return 0
+        sleep 0.1
+    done
+    return 1
+}
+
+# Starts nginx, or has it read its files again.
 start_nginx() {
     sed -e "s/PORT/$port/g" "$here/nginx.conf" > nginx.conf
     cp "$here/maps.conf" "$here/server.conf" "$here/errors.conf" "$here/form.conf" .
-    if [ -e run/nginx.pid ] && kill -s HUP "$(cat run/nginx.pid)" 2> /dev/null; then
-        return
-    fi
-    nginx -p "$PWD" -c nginx.conf -e logs/error.log
+    [ -e run/nginx.pid ] && kill -s HUP "$(cat run/nginx.pid)" 2> /dev/null ||
+        nginx -p "$PWD" -c nginx.conf -e logs/error.log
+    for host in $opened; do
+        is_open "$host" || fail "nginx doesn't serve $host: logs/error.log has its words"
+        echo "https://$host:$port: names and passwords in $PWD/houses/$host/passwords"
+    done
 }
 
 [ $# -ge 2 ] || fail "its words are PROGRAM FOLDER [HOST...]"
@@ -135,7 +156,7 @@ $own_network true 2> /dev/null || {
     own_network=
     echo "start.sh: no network of its own, so any user of this machine can speak for the house" >&2
 }
-begun=
+begun='' opened=''
 trap '[ -z "$begun" ] || sh "$here/stop.sh" "$PWD" $begun' EXIT
 for host in "$@"; do
     begin "$host"
@@ -143,7 +164,8 @@ done
 for host in $begun; do
     open_house "$host"
 done
-[ -z "$(find houses -name site.conf)" ] || start_nginx
+forget_ended
+[ -z "$opened" ] || start_nginx
 trap - EXIT
 echo "stop it by: sh $here/stop.sh $PWD"
 exit "$status"

@@ -22,21 +22,24 @@ goes_on() {
 }
 
 # Waits until processes have ended, at most ten seconds.
-wait_for_end() {
+have_ended() {
     for _ in $(seq 100); do
         goes_on "$1" || return 0
         sleep 0.1
     done
-    fail "process $1 goes on"
+    return 1
 }
 
-# Has nginx do without some houses: it finishes their requests, or all where it ends.
-tell_nginx() {
+# Has nginx do without some houses. The processes that knew them finish their requests, or have ten seconds for it.
+leave_out() {
     nginx=$(cat run/nginx.pid)
     workers=$(ps -o pid= --ppid "$nginx" || true)
-    kill -s "$1" "$nginx" 2> /dev/null || return 0
-    [ "$1" = HUP ] || workers=$nginx
-    wait_for_end "$workers"
+    ! kill -s HUP "$nginx" 2> /dev/null || have_ended "$workers" || true
+}
+
+end_nginx() {
+    nginx=$(cat run/nginx.pid)
+    ! kill -s QUIT "$nginx" 2> /dev/null || have_ended "$nginx" || fail "process $nginx goes on"
 }
 
 end_house() {
@@ -46,15 +49,15 @@ end_house() {
     rm "houses/$1/run/house.pid"
 }
 
-signal=HUP
+do_without=leave_out
 if [ $# = 0 ]; then
-    signal=QUIT
+    do_without=end_nginx
     set -- $(ls houses 2> /dev/null)
 fi
 for host in "$@"; do
     rm -f "houses/$host/site.conf"
 done
-[ ! -e run/nginx.pid ] || tell_nginx "$signal"
+[ ! -e run/nginx.pid ] || $do_without
 for host in "$@"; do
     end_house "$host"
 done
