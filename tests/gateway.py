@@ -13,7 +13,7 @@ signed-in clients show what the page of the gateway says:
 - another user of the machine reaches neither the house nor its queue; a house that was made open to others is shut
 - 50 clients for SECONDS (60 where none are given), and 300 for a third of them, lose nothing and see no MomentBehind
 - 60 clients that dribble hold nobody up; nor do 4,000 connections that say nothing, 50,000 wrong passwords of a member
-  from its own address, wrong ones from 200 addresses, and a member that asks as fast as it can from 40
+  from its own address, wrong ones from 200 addresses, and a member or a stranger that asks as fast as it can from 40
 - RESTARTS restarts (20 where none are given) under 50 clients, one of them by SIGKILL, lose no answer
 - houses behind one gateway are distinguished by host name, and each comes and goes alone: one whose file is damaged
   keeps none of the others down, and haproxy and Apache are begun again when they end

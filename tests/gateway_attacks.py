@@ -16,6 +16,7 @@ HELD, GUESSES, FLOODED = 4_000, 50_000, 40
 LASTS, OTHERS = 8, 200
 SOON = 1
 GUESS = "httpd_username=ben&httpd_password=wrong"
+NO_KEY = "00000000-0000-4000-8000-000000000000"
 
 
 def spread(count):
@@ -82,18 +83,27 @@ async def guess_from_everywhere(gateway, counts):
     await asyncio.gather(*map(one, spread(FLOODED * 5)))
 
 
-async def flood(gateway, counts):
-    """A member asks as fast as it can, from many addresses."""
-    text = gateway.head("cid", "GET /api/house HTTP/1.1").encode()
+async def ask_from_everywhere(gateway, counts, text):
+    """Sends a text as fast as it is answered, from many addresses."""
     ends = time.monotonic() + LASTS
 
     async def one(address):
-        async for answer in answers(gateway, address, text, GUESSES):
+        async for answer in answers(gateway, address, text.encode(), GUESSES):
             counts[answer[9:12]] += 1
             if time.monotonic() > ends:
                 return
 
     await asyncio.gather(*map(one, spread(FLOODED)))
+
+
+async def flood(gateway, counts):
+    """A member asks as fast as it can."""
+    await ask_from_everywhere(gateway, counts, gateway.head("cid", "GET /api/house HTTP/1.1"))
+
+
+async def strangers(gateway, counts):
+    """Somebody asks as fast as it can, by a key that is none."""
+    await ask_from_everywhere(gateway, counts, gateway.head(None, "GET /api/house HTTP/1.1", [f"Cookie: __Host-house={NO_KEY}"]))
 
 
 def run(attack, gateway, results):
@@ -123,7 +133,7 @@ def attacks(gateway):
     number = gateway.ask("ana", "POST", "/api/items", item).value["item"]
     maxima = itertools.count(STEP, STEP)
     gateway.field("ben"), gateway.field("cid")
-    for attack in (hold, guess, guess_from_everywhere, flood):
+    for attack in (hold, guess, guess_from_everywhere, flood, strangers):
         statuses, longest, counts = bids_during(gateway, attack, number, maxima)
         print(f"{attack.__name__}: {dict(counts)}; bids of a member {dict(statuses)}, each within {longest:.2f} s")
         check(f"{attack.__name__}: all bids are taken", list(statuses), [201])
@@ -139,6 +149,8 @@ def judge(attack, counts):
     elif attack is flood:
         check("the flood is let in by 200 a second", 0 < counts[b"200"] <= 220 * LASTS, True)
         check("and is refused beyond", counts[b"429"] > counts[b"200"], True)
+    elif attack is strangers:
+        check("strangers are nobody", list(counts), [b"401"])
     else:
         check(f"{attack.__name__}: wrong ones, or too many", sorted(counts), ["often", "wrong"])
     if attack is guess:

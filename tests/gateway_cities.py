@@ -1,14 +1,11 @@
 """Several houses behind one gateway: nothing of one shows in another, and each comes and goes alone."""
 import contextlib
-import os
-import pathlib
-import signal
 import ssl
 import threading
 import time
 
 from gateway_cases import MINE, fault
-from gateway_run import reply, running
+from gateway_run import kill_all, processes, reply, running
 from gateway_sign_in import WRONG, asked, leads_to, number
 from served import check
 
@@ -55,10 +52,11 @@ def goes_on(gateway, host, what):
     asking.start()
     try:
         yield
+        gateway.wait(lambda: len(statuses) > 5)
     finally:
         is_over.set()
         asking.join()
-        check(f"{host} goes on: {what}", (set(statuses), len(statuses) > 5), ({200}, True))
+        check(f"{host} goes on: {what}", set(statuses), {200})
 
 
 def is_open(gateway, host):
@@ -101,30 +99,33 @@ def damaged(gateway):
         check("it is open again", is_open(gateway, TARN), True)
 
 
-def processes(name, folder):
-    """The processes of a program that work in a folder."""
-    found = []
-    for process in pathlib.Path("/proc").glob("[0-9]*"):
-        with contextlib.suppress(OSError):
-            if (process / "comm").read_text().strip() == name and pathlib.Path(os.readlink(process / "cwd")) == folder:
-                found.append(int(process.name))
-    return found
-
-
 def killed(gateway):
     """haproxy and Apache are begun again when they end, as the house is."""
     gateway.visit(MERE)
     for name in ("haproxy", "apache2"):
         before = processes(name, gateway.house())
         check(f"{name} runs", len(before) > 0, True)
-        for process in before:
-            with contextlib.suppress(ProcessLookupError):
-                os.kill(process, signal.SIGKILL)
+        kill_all(before)
         began = time.monotonic()
         gateway.wait(lambda: asked(gateway, gateway.field("ana")).status == 200)
         check(f"{name} is begun again soon", time.monotonic() - began < 10, True)
-        check(f"{name}: others", set(before) & set(processes(name, gateway.house())), set())
+        check(f"{name}: others", before & processes(name, gateway.house()), set())
     check("signed in by what was begun again", number(gateway, gateway.sign_in("ana")[1]), gateway.numbers["ana"])
+
+
+def without_number(gateway):
+    """Where Apache tells no number, the house is told of nobody. Where it tells nothing, nobody is let in."""
+    gateway.visit(MERE)
+    file, field = gateway.house() / "sign_in.conf", gateway.field("ana")
+    text = file.read_text()
+    for line, wanted in (("Header always set X-Member", (400, {"error": "member"})), ("RewriteRule ^", (503, fault("house")))):
+        file.write_text(text.replace(line, f"# {line}"))
+        kill_all(processes("apache2", gateway.house()))
+        gateway.wait(lambda: asked(gateway, field)[::2] == wanted)
+        check(f"without {line}", asked(gateway, field)[::2], wanted)
+    file.write_text(text)
+    kill_all(processes("apache2", gateway.house()))
+    gateway.wait(lambda: asked(gateway, field).status == 200)
 
 
 def cities(program, folder):
@@ -134,3 +135,4 @@ def cities(program, folder):
         gateway.hosts = HOSTS
         damaged(gateway)
         killed(gateway)
+        without_number(gateway)

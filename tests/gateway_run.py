@@ -198,6 +198,22 @@ class Gateway:
         self.wait(lambda: not before & children(file))
 
 
+def processes(name, folder):
+    """The processes of a program that work in a folder."""
+    found = set()
+    for process in pathlib.Path("/proc").glob("[0-9]*"):
+        with contextlib.suppress(OSError):
+            if (process / "comm").read_text().strip() == name and pathlib.Path(os.readlink(process / "cwd")) == folder:
+                found.add(int(process.name))
+    return found
+
+
+def kill_all(numbers):
+    for number in numbers:
+        with contextlib.suppress(ProcessLookupError):
+            os.kill(number, signal.SIGKILL)
+
+
 def children(file):
     """The processes that one has begun whose number is in a file."""
     number = file.read_text().strip()
