@@ -31,7 +31,7 @@ from gateway_attacks import attacks
 from gateway_cases import CASES, MINE, NAMES
 from gateway_cities import cities
 from gateway_crowds import crowds, dribblers, restarts
-from gateway_files import open_houses
+from gateway_files import half_started, open_houses
 from gateway_form import foreign_form
 from gateway_hostile import hostile
 from gateway_run import ROOT, folder_of_nobody, missing_packages, running
@@ -94,8 +94,9 @@ def main():
         restarts(gateway, count)
     with folder_of_nobody() as folder:
         cities(program, folder)
-    with folder_of_nobody() as folder:
-        open_houses(program, folder)
+    for case in (open_houses, half_started):
+        with folder_of_nobody() as folder:
+            case(program, folder)
     with folder_of_nobody() as folder:
         hostile(ROOT / "tests" / "seen_house.py", folder)
     print(f"{len(CHECKS)} checks, {CHECKS.count(False)} wrong")

@@ -91,10 +91,20 @@ def half_done(gateway):
     with contextlib.closing(sqlite3.connect(gateway.house() / "accounts")) as accounts, accounts:
         accounts.execute("INSERT INTO begun VALUES ('fay', 'Fay', 5), ('gus', 'Gus', 5)")
     check("registered, and not let in", gateway.ask("house", "POST", "/api/members", {"name": "Fay"}).value, {"member": 6})
+    away = gateway.house() / "run" / "away.sock"
+    queue = (gateway.house() / "run" / "queue.sock").rename(away)
+    status, lines, error = gateway.account("add", "hal", "Hal")
+    check("without the house", (status, lines, error), (1, [], "account.sh: the house isn't served\n"))
+    queue.rename(gateway.house() / "run" / "queue.sock")
     check("listed as begun", listed(gateway)[-2:], [f"{name} is begun, and the next add ends it" for name in ("fay", "gus")])
     status, lines, _ = gateway.account("add", "hal", "Hal")
     check("the next run ends it", (status, [line.split()[:2] for line in lines]), (0, [["fay", "6"], ["hal", "7"]]))
     check("fay signs in", number(gateway, gateway.sign_in("fay")[1]), 6)
+    with contextlib.closing(sqlite3.connect(gateway.house() / "accounts")) as accounts, accounts:
+        accounts.execute("INSERT INTO begun VALUES ('ida', 'Ida', 7)")
+    check("registered too", gateway.ask("house", "POST", "/api/members", {"name": "Ida"}).value, {"member": 8})
+    status, lines, _ = gateway.account("add", "ida", "Ida")
+    check("the same run again", (status, [line.split()[:2] for line in lines]), (0, [["ida", "8"]]))
     check("nothing is begun", [line for line in listed(gateway) if "begun" in line or "gus" in line], [])
 
 
@@ -110,7 +120,7 @@ def killed(gateway):
     check("the next run", gateway.account("add", "last", "Last")[0], 0)
     members = gateway.ask("house", "GET", "/api/house").value["members"]
     check("each has its login", sorted(int(line.split()[1]) for line in listed(gateway)), list(range(members + 1)))
-    print(f"of 10 runs that were killed {members - 8} had registered a member")
+    print(f"of 10 runs that were killed {members - 9} had registered a member")
 
 
 ACCOUNTS = add, adopt, shut_out, new_password, remove, half_done, killed

@@ -1,11 +1,12 @@
-"""Houses that other users of the machine could read: start.sh shuts them, or doesn't serve them."""
+"""What start.sh finds: houses that other users of the machine could read, and what a run of it left that was killed."""
 import os
+import signal
 import stat
 import subprocess
 
 from bad_files import NOBODY, as_nobody
 from gateway_cases import as_another_user
-from gateway_run import Gateway
+from gateway_run import PATH, Gateway
 from served import check, held_port
 
 OPENED = "start.sh: other users could read files in houses/localhost until now"
@@ -52,3 +53,22 @@ def of_another_owner(gateway, house):
     check("another's open house", (status, error.splitlines()[-1:]), (1, [REFUSED]))
     with as_another_user():
         check("another user", os.access(house / "house", os.R_OK, effective_ids=True), False)
+
+
+def half_started(program, folder):
+    """A start that was killed when it had let one of four in is ended by the next."""
+    with held_port() as port, held_port() as house_port:
+        gateway = Gateway(program, folder, port, house_port)
+        words = ["sh", gateway.examples / "gateway" / "start.sh", gateway.program, gateway.folder]
+        process = subprocess.Popen(words, preexec_fn=as_nobody, start_new_session=True, stdout=subprocess.DEVNULL,
+                                   env={**os.environ, "PATH": PATH, "PORT": str(port), "HOUSE_PORT": str(house_port)})
+        begun = gateway.house() / "passwords.begun"
+        gateway.wait(lambda: begun.exists() and begun.read_text())
+        os.killpg(process.pid, signal.SIGKILL)
+        process.wait()
+        try:
+            check("started again", gateway.start()[0], 0)
+            check("all are let in", [line.split() for line in gateway.account("list")[1]],
+                  [["house", "0"], ["ana", "1"], ["ben", "2"], ["cid", "3"]])
+        finally:
+            gateway.stop()

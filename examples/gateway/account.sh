@@ -86,6 +86,7 @@ find_member() {
 }
 
 # Ends what an add that was stopped had begun: the house has registered the member by then, or it has not.
+mended=" "
 mend() {
     for login in $(sql "SELECT login FROM begun;"); do
         name=$(sql "SELECT name FROM begun WHERE login = '$login';")
@@ -93,6 +94,7 @@ mend() {
         if [ -n "$number" ]; then
             echo "account.sh: an earlier run had registered $login, and let nobody in: this one does" >&2
             let_in "$login" "$number"
+            mended="$mended$login "
         else
             sql "DELETE FROM begun WHERE login = '$login';"
         fi
@@ -172,8 +174,17 @@ cd "$2" 2> /dev/null || fail "no folder $2"
 exec 9> accounts.lock
 flock 9
 case $1 in
-    add) mend && add "$3" "$4" ;;
-    adopt) mend && adopt "$3" "$4" ;;
+    add)
+        mend
+        case $mended in
+            *" $3 "*) ;;
+            *) add "$3" "$4" ;;
+        esac
+        ;;
+    adopt)
+        mend
+        adopt "$3" "$4"
+        ;;
     list) list ;;
     *) change "$1" "$3" ;;
 esac

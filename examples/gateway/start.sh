@@ -70,13 +70,16 @@ serve_house() {
 
 begin() {
     mkdir -p "houses/$1/run"
-    if is_running "$1"; then
-        complain "$1 runs already"
-    elif shut_house "$1"; then
+    if ! is_running "$1"; then
+        rm -f "houses/$1/site.conf"
+        shut_house "$1" || return 0
         make_house "$1"
         serve_house "$1"
-        begun="$begun $1"
+    elif [ -e "houses/$1/site.conf" ]; then
+        complain "$1 runs already"
+        return
     fi
+    begun="$begun $1"
 }
 
 # Whether a house answers. One that has a fault says so in its log.
@@ -91,12 +94,24 @@ account() {
     sh "$here/account.sh" "$@"
 }
 
+# Lets the house and three members sign in where nobody may. A run that was stopped in it is ended by the next.
 add_first_members() {
-    [ -z "$(account list "houses/$1")" ] || return 0
-    account adopt "houses/$1" house 0 > "houses/$1/passwords"
+    printed=houses/$1/passwords.begun
+    [ -z "$(account list "houses/$1")" ] || [ -e "$printed" ] || return 0
+    touch "$printed"
+    listed=$(account list "houses/$1")
+    case $listed in
+        *"house 0"*) ;;
+        *) account adopt "houses/$1" house 0 >> "$printed" ;;
+    esac
     for name in Ana Ben Cid; do
-        account add "houses/$1" "$(echo "$name" | tr A-Z a-z)" "$name" >> "houses/$1/passwords"
+        login=$(echo "$name" | tr A-Z a-z)
+        case $listed in
+            *"$login "[1-9]*) ;;
+            *) account add "houses/$1" "$login" "$name" >> "$printed" ;;
+        esac
     done
+    mv "$printed" "houses/$1/passwords"
 }
 
 # Has nginx serve the house of a host, once it runs.
