@@ -31,7 +31,7 @@ PAGES ?= 1000
 
 # Debian's packages of these five: nginx to util-linux are needed, the others are left out where they aren't there. The page
 # needs chromium-driver too.
-GATEWAY_PACKAGES = nginx-light haproxy apache2-bin apache2-utils sqlite3 openssl curl iproute2 procps util-linux chromium-driver
+GATEWAY_PACKAGES = nginx-light haproxy apache2-bin apache2-utils sqlite3 openssl curl iproute2 procps util-linux nftables chromium-driver
 PAGE_PACKAGES = $(GATEWAY_PACKAGES)
 LOAD_PACKAGES = $(GATEWAY_PACKAGES) wrk
 BACKUP_PACKAGES = sqlite3 btrfs-progs

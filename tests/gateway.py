@@ -14,6 +14,7 @@ signed-in clients show what the page of the gateway says:
 - 50 clients for SECONDS (60 where none are given), and 300 for a third of them, lose nothing and see no MomentBehind
 - 60 clients that dribble hold nobody up; nor do 4,000 connections that say nothing, 50,000 wrong passwords of a member
   from its own address, wrong ones from 200 addresses, and a member or a stranger that asks as fast as it can from 40
+- the kernel lets a hundred connections of an address in, by connections.nft, where nft is there
 - RESTARTS restarts (20 where none are given) under 50 clients, one of them by SIGKILL, lose no answer
 - houses behind one gateway are distinguished by host name, and each comes and goes alone: one whose file is damaged
   keeps none of the others down, and haproxy and Apache are begun again when they end
@@ -30,6 +31,7 @@ from gateway_accounts import ACCOUNTS
 from gateway_attacks import attacks
 from gateway_cases import CASES, MINE, NAMES
 from gateway_cities import cities
+from gateway_connections import connections
 from gateway_crowds import crowds, dribblers, restarts
 from gateway_files import half_started, open_houses
 from gateway_form import foreign_form
@@ -99,6 +101,7 @@ def main():
             case(program, folder)
     with folder_of_nobody() as folder:
         hostile(ROOT / "tests" / "seen_house.py", folder)
+    connections()
     print(f"{len(CHECKS)} checks, {CHECKS.count(False)} wrong")
     return 1 if not all(CHECKS) else 0
 
