@@ -47,6 +47,8 @@ def pages(gateway):
     page = gateway.raw(gateway.head(None, "GET / HTTP/1.1", [cookie, "Connection: close"]))
     check("the page of ben", (page[:15], b'src="main.js"' in page), (b"HTTP/1.1 200 OK", True))
     check("nobody keeps it", b"Cache-Control: no-store" in page, True)
+    link = gateway.raw(gateway.head(None, "GET / HTTP/1.1", [cookie, "Sec-Fetch-Site: cross-site", "Connection: close"]))
+    check("a link on another site leads to the page", link[:15], b"HTTP/1.1 200 OK")
     check("ben is himself", [number(gateway, cookie) for _ in range(5)], [gateway.numbers["ben"]] * 5)
 
 

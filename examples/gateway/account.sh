@@ -85,8 +85,10 @@ find_member() {
     done
 }
 
-# Ends what an add that was stopped had begun: the house has registered the member by then, or it has not.
+# The logins that mend let in.
 mended=" "
+
+# Ends what an add that was stopped had begun: the house has registered the member by then, or it has not.
 mend() {
     for login in $(sql "SELECT login FROM begun;"); do
         name=$(sql "SELECT name FROM begun WHERE login = '$login';")

@@ -105,7 +105,7 @@ add_first_members() {
         *) account adopt "houses/$1" house 0 >> "$printed" ;;
     esac
     for name in Ana Ben Cid; do
-        login=$(echo "$name" | tr A-Z a-z)
+        login=$(echo "$name" | tr "[:upper:]" "[:lower:]")
         case $listed in
             *"$login "[1-9]*) ;;
             *) account add "houses/$1" "$login" "$name" >> "$printed" ;;
@@ -148,8 +148,9 @@ is_open() {
 start_nginx() {
     sed -e "s/PORT/$port/g" "$here/nginx.conf" > nginx.conf
     cp "$here/maps.conf" "$here/server.conf" "$here/errors.conf" "$here/form.conf" .
-    [ -e run/nginx.pid ] && kill -s HUP "$(cat run/nginx.pid)" 2> /dev/null ||
+    if ! { [ -e run/nginx.pid ] && kill -s HUP "$(cat run/nginx.pid)" 2> /dev/null; }; then
         nginx -p "$PWD" -c nginx.conf -e logs/error.log
+    fi
     for host in $opened; do
         is_open "$host" || fail "nginx doesn't serve $host: logs/error.log has its words"
         echo "https://$host:$port: names and passwords in $PWD/houses/$host/passwords"
