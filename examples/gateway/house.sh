@@ -5,7 +5,7 @@ set -eu
 program=$1 count=$3
 PATH=$PATH:/usr/sbin:/sbin
 SCRIPTS=$(cd "$(dirname "$0")" && pwd)
-export HOUSE="$PWD" HOUSE_PORT="$2" SIGN_IN_PORT=$(($2 + 1)) SCRIPTS
+export HOUSE="$PWD" RUN="$PWD/run" LOG="$PWD/sign-in.log" HOUSE_PORT="$2" SIGN_IN_PORT=$(($2 + 1)) SCRIPTS
 
 # Runs a command again whenever it ends, after a second where that was a fault. The house ends after its count.
 keep() {
