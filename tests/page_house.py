@@ -175,7 +175,7 @@ def as_owner(folder):
 
 @contextlib.contextmanager
 def furnished(program, folder, history=with_history):
-    """A gateway of a house with a history, which is stopped after this."""
+    """A gateway of a house with a history, which is stopped after this. What is due is closed on the page alone."""
     make_house(program, folder, history)
-    with running(program, folder) as gateway:
+    with running(program, folder, closes=0) as gateway:
         yield gateway

@@ -1,6 +1,6 @@
 #!/bin/sh
-# house.sh PROGRAM PORT COUNT: serves the house of this folder, its queue and its sign-in, and closes what is due.
-# start.sh runs it in a network of its own. Then nobody else reaches their ports.
+# house.sh PROGRAM PORT COUNT: serves the house of this folder, its queue and its sign-in, and closes what is due after each
+# CLOSE seconds, or never, where that is 0. start.sh runs it in a network of its own. Then nobody else reaches their ports.
 set -eu
 program=$1 count=$3
 PATH=$PATH:/usr/sbin:/sbin
@@ -16,7 +16,7 @@ keep() {
 
 # An item takes no bid after its end. Until it is closed it isn't sold.
 close_due() {
-    while sleep 60; do
+    while sleep "$1"; do
         curl -s -m 300 -o /dev/null --unix-socket run/queue.sock -X POST -H 'x-member: 0' http://house/close || :
     done
 }
@@ -29,5 +29,5 @@ if [ "$(id -u)" = 0 ]; then
 fi
 keep haproxy -db -q -f queue.cfg &
 keep $apart apache2 -D FOREGROUND -f "$PWD/sign_in.conf" &
-close_due &
+[ "${CLOSE:-60}" = 0 ] || close_due "${CLOSE:-60}" &
 keep "$program" serve house --port "$HOUSE_PORT" --count "$count"

@@ -3,7 +3,8 @@
 # Each house lies in FOLDER/houses/HOST. One that isn't there is made, with members ana, ben and cid, by the
 # settings of the examples. Without a name there is one house, at localhost. Houses that run there already go on, and a
 # house that can't be served keeps none of the others down. PORT may be another port, COUNT the connections after which a
-# house is started anew, and HOUSE_PORT the first of the ports of the houses, two for each.
+# house is started anew, HOUSE_PORT the first of the ports of the houses, two for each, and CLOSE the seconds after which
+# what is due is closed, or 0 for never.
 set -eu
 here=$(cd "$(dirname "$0")" && pwd)
 port=${PORT:-8443} count=${COUNT:-1000000}
