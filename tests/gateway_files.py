@@ -70,5 +70,19 @@ def half_started(program, folder):
             check("started again", gateway.start()[0], 0)
             check("all are let in", [line.split() for line in gateway.account("list")[1]],
                   [["house", "0"], ["ana", "1"], ["ben", "2"], ["cid", "3"]])
+            gateway.stop()
+            others_numbers(gateway)
         finally:
             gateway.stop()
+
+
+def others_numbers(gateway):
+    """Numbers that a machine left which ended may be another process's by now, which goes on."""
+    other = subprocess.Popen(["sleep", "600"], preexec_fn=as_nobody, start_new_session=True)
+    for file in (gateway.folder / "run" / "nginx.pid", gateway.house() / "run" / "house.pid"):
+        subprocess.run(["tee", file], input=f"{other.pid}\n", text=True, check=True, preexec_fn=as_nobody, stdout=subprocess.DEVNULL)
+    check("stopped beside another's number", gateway.stop()[0], 0)
+    check("started beside another's number", gateway.start()[0], 0)
+    check("the other process goes on", other.poll(), None)
+    other.kill()
+    other.wait()

@@ -145,11 +145,22 @@ is_open() {
     return 1
 }
 
+# Whether the number that nginx noted is still its own, and not another process's since the machine began again.
+nginx_runs() {
+    [ -e run/nginx.pid ] || return 1
+    case $(ps -o args= -p "$(cat run/nginx.pid)") in
+        "nginx: master"*) ;;
+        *) return 1 ;;
+    esac
+}
+
 # Starts nginx, or has it read its files again.
 start_nginx() {
     sed -e "s/PORT/$port/g" "$here/nginx.conf" > nginx.conf
     cp "$here/maps.conf" "$here/server.conf" "$here/errors.conf" "$here/form.conf" .
-    if ! { [ -e run/nginx.pid ] && kill -s HUP "$(cat run/nginx.pid)" 2> /dev/null; }; then
+    if nginx_runs; then
+        kill -s HUP "$(cat run/nginx.pid)"
+    else
         nginx -p "$PWD" -c nginx.conf -e logs/error.log
     fi
     for host in $opened; do

@@ -42,10 +42,13 @@ end_nginx() {
     ! kill -s QUIT "$nginx" 2> /dev/null || have_ended "$nginx" || fail "process $nginx goes on"
 }
 
+# A house that runs holds its lock. Without it the number may be another process's since the machine began again.
 end_house() {
     [ -e "houses/$1/run/house.pid" ] || return 0
-    kill -s TERM -- "-$(cat "houses/$1/run/house.pid")" 2> /dev/null || true
-    flock -w 10 "houses/$1/run/lock" true || fail "the house of $1 goes on"
+    if ! flock -n "houses/$1/run/lock" true; then
+        kill -s TERM -- "-$(cat "houses/$1/run/house.pid")" 2> /dev/null || true
+        flock -w 10 "houses/$1/run/lock" true || fail "the house of $1 goes on"
+    fi
     rm "houses/$1/run/house.pid"
 }
 
@@ -57,7 +60,9 @@ fi
 for host in "$@"; do
     rm -f "houses/$host/site.conf"
 done
-[ ! -e run/nginx.pid ] || $do_without
+case $([ ! -e run/nginx.pid ] || ps -o args= -p "$(cat run/nginx.pid)") in
+    "nginx: master"*) $do_without ;;
+esac
 for host in "$@"; do
     end_house "$host"
 done
