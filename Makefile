@@ -20,22 +20,25 @@ CRATES ?=
 BODIES ?=
 
 # How many seconds fifty clients ask through the gateway, how often the house is started anew under them, and how many copies
-# are made of a house that is served; the Debian in which the package is tried; a folder for pictures of the page, or none.
+# are made of a house that is served; the Debian in which the package is tried; a folder for pictures of the page, or none;
+# how many pages are open at once.
 PERIOD ?= 60
 RESTARTS ?= 20
 COPIES ?= 60
 DEBIAN ?= out/debian
 PICTURES ?=
+PAGES ?= 1000
 
-# Debian's packages of these four: nginx to util-linux are needed, the others are left out where they aren't there. The page
+# Debian's packages of these five: nginx to util-linux are needed, the others are left out where they aren't there. The page
 # needs chromium-driver too.
-GATEWAY_PACKAGES = nginx-light haproxy openssl curl iproute2 procps util-linux chromium-driver
+GATEWAY_PACKAGES = nginx-light haproxy apache2-bin apache2-utils sqlite3 openssl curl iproute2 procps util-linux nftables chromium-driver
 PAGE_PACKAGES = $(GATEWAY_PACKAGES)
+LOAD_PACKAGES = $(GATEWAY_PACKAGES) wrk
 BACKUP_PACKAGES = sqlite3 btrfs-progs
 DEB_PACKAGES = lintian debootstrap systemd-container
 
 .PHONY: help demo session test auction program cases rows fuzz mutated twins memory allocations statement random file \
-	office kills stops cuts stalls counts wrong giving documents openapi gateway page backup deb packages
+	office kills stops cuts stalls counts wrong giving documents openapi gateway load page backup deb packages
 
 help:
 	@echo "For a newcomer"
@@ -72,6 +75,7 @@ help:
 	@echo "What is around the program, from examples/"
 	@echo "  make packages  installs Debian's packages that these need, as root"
 	@echo "  make gateway   has clients ask and bid through nginx and haproxy for PERIOD, and the house start anew RESTARTS times"
+	@echo "  make load      has PAGES pages of an item open in its last minute, through the gateway, while a member bids (needs wrk)"
 	@echo "  make page      plays an auction on the page of the gateway in Chromium, by the house and three members, in five minutes"
 	@echo "  make backup    makes COPIES copies of a house that is served, and restores one"
 	@echo "  make deb       makes the package in out/, and tries it in a plain Debian in the folder DEBIAN"
@@ -110,7 +114,7 @@ has-tests:
 demo test auction wrong giving: has-kit
 session: has-bin has-curl
 program cases fuzz mutated twins memory allocations file office kills stops cuts stalls counts documents: has-program
-gateway page backup deb: has-program
+gateway load page backup deb: has-program
 rows random file statement memory allocations: has-tests
 cases openapi: has-cases
 memory allocations stops cuts: has-cc
@@ -241,6 +245,10 @@ gateway:
 	@echo "Debian's packages: $(GATEWAY_PACKAGES)"
 	python3 tests/gateway.py crates/auction/out/auction $(PERIOD) $(RESTARTS)
 
+load:
+	@echo "Debian's packages: $(LOAD_PACKAGES)"
+	python3 tests/gateway_load.py crates/auction/out/auction $(PAGES)
+
 page:
 	@echo "Debian's packages: $(PAGE_PACKAGES)"
 	python3 tests/page.py crates/auction/out/auction $(PICTURES)
@@ -255,4 +263,4 @@ deb:
 	python3 tests/package.py crates/auction/out/auction out $(DEBIAN)
 
 packages:
-	apt-get install -y --no-install-recommends $(GATEWAY_PACKAGES) $(BACKUP_PACKAGES) $(DEB_PACKAGES)
+	apt-get install -y --no-install-recommends $(LOAD_PACKAGES) $(BACKUP_PACKAGES) $(DEB_PACKAGES)

@@ -1,29 +1,44 @@
 #!/usr/bin/env python3
 """Runs the gateway of examples/gateway over the program, and drives it: `gateway.py PROGRAM [SECONDS] [RESTARTS]`.
 
-start.sh, first_bids.sh, add_member.sh and stop.sh run as an ordinary user: as nobody where a superuser runs this. Then
+start.sh, first_bids.sh, account.sh and stop.sh run as an ordinary user: as nobody where a superuser runs this. Then
 signed-in clients show what the page of the gateway says:
 
-- who doesn't sign in gets 401, and who does can't speak for another by any spelling of the two headers
+- who isn't signed in gets 401, and who is can't speak for another by any spelling of the two headers
+- members sign in by the form and out again, choose a password, and are kept out by account.sh; a run of it that was
+  killed is ended by the next; on a phone's width too, where chromedriver is there
 - odd messages have each their status: two lengths, a length and a coding, chunks, HEAD, too large ones
+- of 242 hostile requests the house sees what a member meant, as its own and now, or nothing (gateway_hostile.py)
 - pages of other sites bid for nobody; in Chromium too, where chromedriver is there
-- another user of the machine reaches neither the house nor its queue
+- another user of the machine reaches neither the house nor its queue; a house that was made open to others is shut
 - 50 clients for SECONDS (60 where none are given), and 300 for a third of them, lose nothing and see no MomentBehind
-- 60 clients that dribble hold nobody up
+- 60 clients that dribble hold nobody up; nor do 4,000 connections that say nothing, 50,000 wrong passwords of a member
+  from its own address, wrong ones from 200 addresses, and a member or a stranger that asks as fast as it can from 40
+- the kernel lets a hundred connections of an address in, by connections.nft, where nft is there
 - RESTARTS restarts (20 where none are given) under 50 clients, one of them by SIGKILL, lose no answer
-- two houses behind one gateway are distinguished by host name
-- what was taken is there after stop.sh and start.sh
+- houses behind one gateway are distinguished by host name, and each comes and goes alone: one whose file is damaged
+  keeps none of the others down, and haproxy and Apache are begun again when they end
+- what is due is closed, and what was taken is there after stop.sh and start.sh
 
-It needs nginx, haproxy, openssl, curl, ip, setsid and unshare. The last line is 'N checks, M wrong'.
+It needs nginx, haproxy, apache2, htpasswd, sqlite3, openssl, curl, ip, setsid, flock and unshare. The last line is 'N checks, M wrong'.
 """
 import socket
 import sys
+import time
 
 import browser
-from gateway_cases import CASES, MINE, NAMES, fault
+from gateway_accounts import ACCOUNTS
+from gateway_attacks import attacks
+from gateway_cases import CASES, MINE, NAMES
+from gateway_cities import cities
+from gateway_connections import connections
 from gateway_crowds import crowds, dribblers, restarts
+from gateway_files import half_started, open_houses
 from gateway_form import foreign_form
-from gateway_run import folder_of_nobody, missing_packages, reply, running
+from gateway_hostile import hostile
+from gateway_run import ROOT, folder_of_nobody, missing_packages, running
+from gateway_sign_in import SIGN_IN
+from gateway_visit import visit
 from served import CHECKS, check
 
 
@@ -35,31 +50,21 @@ def stop_and_start(gateway):
     check("stopped", gateway.stop(), (0, [], ""))
     with socket.socket() as probe:
         check("nobody listens", probe.connect_ex(("127.0.0.1", gateway.port)) != 0, True)
-    check("started again", gateway.start()[0], 0)
+    check("started again, without a warning", gateway.start()[::2], (0, ""))
     check("it is all there", [gateway.ask("cid", "GET", page).value for page in pages], before)
 
 
-def two_houses(program, folder):
-    """Two houses behind one gateway: names, numbers and items of one are nothing in the other."""
-    with running(program, folder, hosts=("lindow.localhost", "tarn.localhost")) as gateway:
-        passwords = {}
-        for host in gateway.hosts:
-            gateway.host = host
-            gateway.know((gateway.house() / "passwords").read_text().splitlines())
-            passwords[host] = dict(gateway.passwords)
-            check(f"{host}: a category", gateway.ask("house", "POST", "/api/categories", {"name": host}).status, 201)
-            answer = gateway.ask("ana", "GET", "/api/categories").value
-            check(f"{host}: its own categories", answer, {"categories": [{"category": 1, "name": host}]})
-        gateway.host, gateway.passwords = "lindow.localhost", passwords["tarn.localhost"]
-        check("a password of the other house", gateway.ask("ana", "GET", MINE).status, 401)
-        gateway.passwords = passwords["lindow.localhost"]
-        check("added in one", gateway.add("dora")[0], 0)
-        gateway.host = "tarn.localhost"
-        check("not in the other", gateway.ask("dora", "GET", MINE).status, 401)
-        gateway.host, gateway.passwords = "lindow.localhost", passwords["lindow.localhost"]
-        text = gateway.head("ana", f"GET {MINE} HTTP/1.1", ["Connection: close"])
-        check("the other's host", reply(gateway.raw(text.replace("lindow", "tarn", 1))).status, 401)
-        check("nobody's host", reply(gateway.raw(text.replace("lindow", "other", 1)))[::2], (421, fault("host")))
+def lists_what_ends(gateway):
+    """An item that ends in a moment, and the number that it has."""
+    item = {"category": 1, "end": int(time.time()) + 3, "lot": "Ends", "start": 500, "text": "", "title": "Globe"}
+    return gateway.ask("ana", "POST", "/api/items", item).value["item"]
+
+
+def is_closed(gateway, number):
+    """house.sh closes it, within a minute of its end."""
+    state = lambda: gateway.ask("ana", "GET", f"/api/items/{number}").value["state"]
+    gateway.wait(lambda: state() != "open")
+    check("what is due is closed", state(), "unsold")
 
 
 def main():
@@ -69,21 +74,34 @@ def main():
         print(f"Debian's packages that are missing: {' '.join(missing)}")
         return 1
     with folder_of_nobody() as folder, running(program, folder) as gateway:
-        for case in CASES:
+        # Wrong passwords count by address, so each case has its own.
+        for place, case in enumerate((*CASES, *ACCOUNTS, *SIGN_IN), 1):
+            gateway.address = f"127.0.0.{place}"
             case(gateway)
+        gateway.enrol(*NAMES)
+        due = lists_what_ends(gateway)
         crowds(gateway, length)
         dribblers(gateway, length / 3)
+        attacks(gateway)
+        is_closed(gateway, due)
         stop_and_start(gateway)
         if browser.is_there():
             foreign_form(gateway)
+            visit(gateway)
         else:
-            print("no chromedriver, so no browser sent the form of another site")
+            print("no chromedriver, so no browser signed in, and none sent the form of another site")
     with folder_of_nobody() as folder, running(program, folder, count=500) as gateway:
         check("a category", gateway.ask("house", "POST", "/api/categories", {"name": "Books"}).status, 201)
-        check("members added", gateway.add(*NAMES)[0], 0)
+        gateway.enrol(*NAMES)
         restarts(gateway, count)
     with folder_of_nobody() as folder:
-        two_houses(program, folder)
+        cities(program, folder)
+    for case in (open_houses, half_started):
+        with folder_of_nobody() as folder:
+            case(program, folder)
+    with folder_of_nobody() as folder:
+        hostile(ROOT / "tests" / "seen_house.py", folder)
+    connections()
     print(f"{len(CHECKS)} checks, {CHECKS.count(False)} wrong")
     return 1 if not all(CHECKS) else 0
 

@@ -4,7 +4,7 @@ import os
 import socket
 import time
 
-from gateway_run import encoded, reply
+from gateway_run import reply
 from sent import PATIENCE
 from served import check
 
@@ -29,46 +29,29 @@ def first_steps(gateway):
         'ben: {"bids":[{"item":1,"leading":false,"maximum":500,"mine":1,"price":550,"state":"open"}]}'])
 
 
-def members(gateway):
-    """Members are added, and refused, by add_member.sh."""
-    check("members added", gateway.add(*NAMES)[0], 0)
-    check("their numbers", [gateway.numbers[name] for name in NAMES], list(range(4, 4 + len(NAMES))))
-    refused = {"there": ["ben"], "capital": ["Ben"], "two words": ["a b"], "two lines": ["a\nb"], "none": []}
-    for name, words in refused.items():
-        status, lines, _ = gateway.script("add_member.sh", gateway.house(), *words)
-        check(f"member {name}", (status, lines), (1, []))
-    for name in ("ben", NAMES[3]):
-        check(f"{name} is its number", gateway.ask(name, "GET", MINE).value["member"], gateway.numbers[name])
-
-
-def sign_in(gateway):
-    """Who isn't signed in is nobody."""
+def unsigned(gateway):
+    """Who shows nothing that the house's gateway gave is nobody, whatever else it shows."""
     wanted = 401, fault("sign-in")
-    pairs = {"another password": encoded("ben", gateway.passwords["cid"]), "no password": encoded("ben", ""),
-             "another name": encoded("nobody", "x"), "another case": encoded("Ben", gateway.passwords["ben"]),
-             "no pair": "YmVu", "no code": "%%%"}
-    for name, pair in pairs.items():
-        check(name, gateway.ask(None, "GET", MINE, fields=[f"Authorization: Basic {pair}"])[::2], wanted)
-    check("no sign-in, the page", gateway.ask(None, "GET", "/")[::2], wanted)
-    answer = gateway.ask(None, "GET", MINE)
-    check("no sign-in", answer[::2], wanted)
-    check("a browser is asked", 'www-authenticate: basic realm="the auction house"' in answer.head, True)
-    without_number(gateway)
-
-
-def without_number(gateway):
-    """A name that may sign in, and has no number, as a crash within add_member.sh would leave it."""
-    users = gateway.house() / "users"
-    text = users.read_text()
-    users.write_text(text + text.splitlines()[-1].replace(NAMES[-1], "stray") + "\n")
-    gateway.passwords["stray"] = gateway.passwords[NAMES[-1]]
-    check("no number", gateway.ask("stray", "GET", MINE)[::2], (400, {"error": "member"}))
+    key = gateway.token("cid")
+    lies = ["", "Cookie: __Host-house=", f"Cookie: house={key}", f"Cookie: __Host-house={key[:-1]}", f"Cookie: __Host-house={key}0",
+            f"Cookie: __Host-house={key[::-1]}", f"Cookie: __Host-house={key}; __Host-house={key[::-1]}", "Cookie: house-user=cid",
+            "Cookie: __Host-house=house-user=cid", f"Authorization: Bearer {key[:-1]}", f"Authorization: Bearer {key}, {key}",
+            f"Authorization: Basic {key}", f"Authorization: {key}", "Authorization: Bearer x; house-user=cid",
+            "Authorization: Basic Y2lkOng=", "X-Member: 3", "REMOTE_USER: cid", "x-remote-user: cid", "MEMBER: 3"]
+    for lie in lies:
+        answer = gateway.ask(None, "GET", MINE, fields=[lie] if lie else [])
+        check(f"{lie or 'nothing'}: nobody", answer[::2], wanted)
+        check(f"{lie or 'nothing'}: no browser asks for a password", "www-authenticate" in answer.head, False)
+    for name in (f"Cookie: __Host-house={key}", f"Authorization: Bearer {key}", f"Cookie: a=b; __Host-house={key}; c=d"):
+        check(f"{name} is cid", gateway.ask(None, "GET", MINE, fields=[name]).value["member"], gateway.numbers["cid"])
+    check("a session of a house that isn't asked", gateway.ask("ben", "GET", "/session").status, 404)
 
 
 LIES = ["x-member: 0", "x-member: 1", "X-MEMBER: 1", "X-Member:1", "x_member: 1", "x-member: 1\r\nx-member: 3",
         "x-member: 2, 1", "x-member:\t1", "x-member : 1", " x-member: 1", "x-a: b\r\n x-member: 1",
         "x-a: b\nx-member: 1", "x-a: b\rx-member: 1", "Connection: x-member", "x-member", "x-member:", "x-member: 1\0",
-        "Forwarded: for=1", "x-remote-user: ana", "Authorization: Basic eA=="]
+        "Forwarded: for=1", "x-remote-user: ana", "X-Member: 1\r\nx-member: 1", "REMOTE_USER: ana", "MEMBER: 1", "x-address: 1",
+        "Cookie: house-user=ana", "Content-Length: 0\r\nx-member: 1", "Trailer: x-member", "\xefx-member: 1"]
 REFUSED = fault("head"), fault("sign-in")
 
 
@@ -100,7 +83,9 @@ ODD = {
     "a length and a coding": (BID, ["Content-Length: 13", "Transfer-Encoding: chunked"], CHUNKS, (400, fault("head"))),
     "chunks": (BID, ["Transfer-Encoding: chunked"], CHUNKS + "\r\n", LOW),
     "chunks with a trailer": (BID, ["Transfer-Encoding: chunked"], CHUNKS + "x-member: 1\r\n\r\n", LOW),
-    "another coding": (BID, ["Transfer-Encoding: gzip"], BODY, (501, None)),
+    "another coding": (BID, ["Transfer-Encoding: gzip"], BODY, (400, fault("head"))),
+    "another version": ("GET /api/items/1 HTTP/3.0", [], "", (400, fault("head"))),
+    "the interface itself": ("GET /api HTTP/1.1", [], "", (404, fault("path"))),
     "chunks that are none": (BID, ["Transfer-Encoding: chunked"], "zz\r\n", (400, fault("head"))),
     "chunks of 17 kB": (BID, ["Transfer-Encoding: chunked"], LONG_CHUNK, (413, fault("size"))),
     "a body of 17 kB": (BID, ["Content-Length: 17000"], " " * 17_000, (413, fault("size"))),
@@ -186,14 +171,16 @@ def hindrance(family, address):
 
 def another_user(gateway):
     """Who else uses the machine reaches neither the port of the house nor its queue, and reads no file of it."""
-    check("the house's port", hindrance(socket.AF_INET, ("127.0.0.1", gateway.house_port)), ConnectionRefusedError)
+    for name, port in (("house", gateway.house_port), ("sign-in", gateway.house_port + 1)):
+        check(f"the port of the {name}", hindrance(socket.AF_INET, ("127.0.0.1", port)), ConnectionRefusedError)
     check("the gateway", hindrance(socket.AF_INET, ("127.0.0.1", gateway.port)), None)
     if os.geteuid() != 0:
         return
-    check("the queue", hindrance(socket.AF_UNIX, str(gateway.house() / "run" / "queue.sock")), PermissionError)
-    for file in ("key.pem", "houses/localhost/house", "houses/localhost/users", "houses/localhost/passwords"):
+    for name in ("queue", "session", "password"):
+        check(f"the socket of {name}", hindrance(socket.AF_UNIX, str(gateway.house() / "run" / f"{name}.sock")), PermissionError)
+    for file in ("houses/localhost/key.pem", "houses/localhost/house", "houses/localhost/accounts", "houses/localhost/passwords"):
         with as_another_user():
             check(f"reads {file}", os.access(gateway.folder / file, os.R_OK, effective_ids=True), False)
 
 
-CASES = first_steps, members, sign_in, spellings, odd_messages, together, origins, another_user
+CASES = first_steps, unsigned, spellings, odd_messages, together, origins, another_user

@@ -11,11 +11,10 @@ import math
 import random
 import time
 
-from gateway_run import encoded
 from sent import PATIENCE
 
 # What a client may say, none of which reaches the house.
-LIES = "x-member: 0\r\nX-MEMBER: 1\r\nx_member: 1\r\nx-moment: 5\r\nConnection: x-member, keep-alive\r\n"
+LIES = "x-member: 0\r\nX-MEMBER: 1\r\nx_member: 1\r\nx-moment: 5\r\nx-address: 1\r\nConnection: x-member, keep-alive\r\n"
 # By how much each bid on an item is over the one before: over every step of the example table.
 STEP = 20_000
 # How many clients connect at once: one whose hands aren't shaken within ten seconds is given up.
@@ -77,8 +76,7 @@ class Client:
         self.turn = turn
         self.random = random.Random(seed)
         self.streams = None
-        signed = f"Authorization: Basic {encoded(name, gateway.passwords[name])}"
-        self.fields = f"Host: {gateway.host}:{gateway.port}\r\n{signed}\r\n{LIES}"
+        self.fields = f"Host: {gateway.host}:{gateway.port}\r\n{gateway.field(name)}\r\n{LIES}"
 
     async def run(self):
         await self.connect()

@@ -104,7 +104,7 @@ def restarts(gateway, count):
 
     async def until():
         await asyncio.sleep(1)
-        gateway.kill_house()
+        check("the house was killed", gateway.kill_house(), True)
         while gateway.starts() - begun < count:
             await asyncio.sleep(0.1)
 

@@ -1,17 +1,20 @@
 """A gateway of examples/gateway that runs in a folder, as an ordinary user, and what it answers to who is signed in."""
-import base64
 import collections
 import contextlib
 import json
 import os
 import pathlib
+import re
+import resource
 import shutil
 import signal
 import socket
+import sqlite3
 import ssl
 import subprocess
 import tempfile
 import time
+import urllib.parse
 
 from bad_files import NOBODY, as_nobody
 from sent import PATIENCE
@@ -19,9 +22,11 @@ from served import held_port
 
 ROOT = pathlib.Path(__file__).resolve().parent.parent
 # Commands that the gateway needs, with the Debian packages that have them.
-NEEDED = {"nginx": "nginx-light", "haproxy": "haproxy", "openssl": "openssl", "curl": "curl", "ip": "iproute2",
-          "setsid": "util-linux", "unshare": "util-linux"}
+NEEDED = {"nginx": "nginx-light", "haproxy": "haproxy", "apache2": "apache2-bin", "htpasswd": "apache2-utils",
+          "sqlite3": "sqlite3", "openssl": "openssl", "curl": "curl", "ip": "iproute2", "setsid": "util-linux",
+          "unshare": "util-linux"}
 PATH = os.environ["PATH"] + ":/usr/sbin:/sbin"
+FILES = 1024
 
 Reply = collections.namedtuple("Reply", "status head value")
 
@@ -40,9 +45,15 @@ def folder_of_nobody():
         yield pathlib.Path(name)
 
 
+def as_a_user():
+    """Makes a process that of an ordinary user, who may open as many files as a shell of Debian lets it."""
+    resource.setrlimit(resource.RLIMIT_NOFILE, (FILES, resource.getrlimit(resource.RLIMIT_NOFILE)[1]))
+    as_nobody()
+
+
 def script(name, *words, **environment):
     """The lines that one of the examples' scripts prints."""
-    result = subprocess.run(["sh", name, *map(str, words)], preexec_fn=as_nobody, capture_output=True, text=True,
+    result = subprocess.run(["sh", name, *map(str, words)], preexec_fn=as_a_user, capture_output=True, text=True,
                           timeout=PATIENCE, env={**os.environ, "PATH": PATH, **environment})
     return result.returncode, result.stdout.splitlines(), result.stderr
 
@@ -50,8 +61,9 @@ def script(name, *words, **environment):
 class Gateway:
     """The gateway of some hosts: the scripts, its port, its folder, and the passwords of each host."""
 
-    def __init__(self, program, folder, port, house_port, hosts=("localhost",), count=1_000_000):
-        self.folder, self.port, self.house_port, self.count = folder / "city", port, house_port, str(count)
+    def __init__(self, program, folder, port, house_port, hosts=("localhost",), count=1_000_000, closes=60):
+        self.folder, self.port, self.house_port = folder / "city", port, house_port
+        self.count, self.closes = str(count), str(closes)
         self.hosts, self.host = hosts, hosts[0]
         self.examples, self.program = folder / "examples", folder / "auction"
         if not self.program.exists():
@@ -59,36 +71,76 @@ class Gateway:
             shutil.copy(program, self.program)
             self.program.chmod(0o755)
         self.numbers, self.passwords, self.tls = {}, {}, None
+        # The fields by which members show who they are, and the address from which clients come.
+        self.shown, self.address = {}, "127.0.0.1"
 
     def script(self, name, *words):
         return script(self.examples / "gateway" / name, *words, PORT=str(self.port), HOUSE_PORT=str(self.house_port),
-                      COUNT=self.count)
+                      COUNT=self.count, CLOSE=self.closes)
 
-    def start(self):
-        ending = self.script("start.sh", self.program, self.folder, *self.hosts)
+    def start(self, *hosts):
+        ending = self.script("start.sh", self.program, self.folder, *(hosts or self.hosts))
         if ending[0] == 0:
-            self.tls = ssl.create_default_context(cafile=self.folder / "cert.pem")
+            self.know_certificates()
             self.know((self.house() / "passwords").read_text().splitlines())
         return ending
 
-    def stop(self):
-        return self.script("stop.sh", self.folder)
+    def know_certificates(self):
+        self.tls = ssl.create_default_context()
+        for file in self.folder.glob("houses/*/cert.pem"):
+            self.tls.load_verify_locations(file)
+
+    def stop(self, *hosts):
+        return self.script("stop.sh", self.folder, *hosts)
 
     def house(self):
         return self.folder / "houses" / self.host
 
+    def visit(self, host):
+        """Goes on at another of the hosts, as its first members."""
+        self.host, self.passwords, self.shown = host, {}, {}
+        self.know((self.house() / "passwords").read_text().splitlines())
+
     def know(self, lines):
-        """Notes members as add_member.sh prints them."""
+        """Notes members as account.sh prints them."""
         for name, number, password in map(str.split, lines):
             self.numbers[name], self.passwords[name] = int(number), password
 
-    def add(self, *names):
-        """Adds members, and waits until the gateway knows the last of them."""
-        ending = self.script("add_member.sh", self.house(), *names)
-        if ending[0] == 0:
+    def account(self, command, *words):
+        """What account.sh prints. Members that it lets in are noted."""
+        ending = self.script("account.sh", command, self.house(), *words)
+        if ending[0] == 0 and command in ("add", "adopt", "password"):
             self.know(ending[1])
-            self.wait(lambda: self.ask(names[-1], "GET", "/api/me/bids/1").status == 200)
         return ending
+
+    def enrol(self, *names):
+        """Has the house register members, and gives each a token, without the time that a password takes."""
+        registered = {name: self.ask("house", "POST", "/api/members", {"name": name}).value["member"] for name in names}
+        with contextlib.closing(sqlite3.connect(self.house() / "accounts", timeout=PATIENCE)) as accounts, accounts:
+            accounts.executemany("INSERT INTO account (login, member, hash) VALUES (?, ?, '')", registered.items())
+        self.numbers.update(registered)
+
+    def token(self, name):
+        status, lines, error = self.account("token", name)
+        if status != 0:
+            raise OSError(f"account.sh: {error}")
+        return lines[0].split()[2]
+
+    def sign_in(self, name, password=None):
+        """The answer to the form, and the cookie that it gives, or None."""
+        form = urllib.parse.urlencode({"httpd_username": name, "httpd_password": password or self.passwords[name]})
+        answer = self.send_form("/sign-in", form)
+        return answer, cookie_of(answer)
+
+    def send_form(self, path, form="", fields=()):
+        head = self.head(None, f"POST {path} HTTP/1.1", [f"Content-Length: {len(form)}", "Connection: close", *fields])
+        return reply(self.raw(head + form))
+
+    def field(self, name):
+        """The field by which a member shows who it is: its token, where nothing else was noted."""
+        if name not in self.shown:
+            self.shown[name] = f"Authorization: Bearer {self.token(name)}"
+        return self.shown[name]
 
     @staticmethod
     def wait(holds):
@@ -100,7 +152,7 @@ class Gateway:
 
     def head(self, name, first, fields=()):
         """A head that begins with this line: a sign-in, where there is a name, and more fields."""
-        signed = [f"Authorization: Basic {encoded(name, self.passwords[name])}"] if name else []
+        signed = [self.field(name)] if name else []
         return "\r\n".join([first, f"Host: {self.host}:{self.port}", *signed, *fields, "", ""])
 
     def ask(self, name, method, path, value=None, fields=()):
@@ -109,31 +161,35 @@ class Gateway:
         fields = ["Connection: close", *([f"Content-Length: {len(body)}"] if body else []), *fields]
         return reply(self.raw(self.head(name, f"{method} {path} HTTP/1.1", fields) + body))
 
-    def raw(self, text):
+    def raw(self, text, host=None):
         """All that is sent back to a text before the connection ends."""
-        with self.connection() as connection:
+        with self.connection(host=host) as connection:
             connection.sendall(text.encode("latin-1"))
             return read_all(connection)
 
-    def connection(self, room=None):
+    def connection(self, room=None, host=None):
         """A connection, of which the system keeps so many bytes that came and weren't read."""
         plain = socket.socket()
         plain.settimeout(PATIENCE)
         if room is not None:
             plain.setsockopt(socket.SOL_SOCKET, socket.SO_RCVBUF, room)
+        plain.bind((self.address, 0))
         plain.connect(("127.0.0.1", self.port))
-        return self.tls.wrap_socket(plain, server_hostname=self.host)
+        return self.tls.wrap_socket(plain, server_hostname=host or self.host)
 
     def starts(self):
         """How often the house was started."""
         return (self.folder / "logs" / f"{self.host}.log").read_text().count("listening")
 
     def kill_house(self, number=signal.SIGKILL):
-        """Sends a signal to the program that serves the house now."""
+        """Sends a signal to the program that serves the house now, and tells whether there was one."""
+        is_sent = False
         for child in children(self.house() / "run" / "house.pid"):
             with contextlib.suppress(FileNotFoundError, ProcessLookupError):
                 if b"\0serve\0" in pathlib.Path(f"/proc/{child}/cmdline").read_bytes():
                     os.kill(int(child), number)
+                    is_sent = True
+        return is_sent
 
     def reload(self):
         """Has the gateway read its files anew, and waits until nobody is answered by the old ones."""
@@ -141,6 +197,22 @@ class Gateway:
         before = children(file)
         os.kill(int(file.read_text()), signal.SIGHUP)
         self.wait(lambda: not before & children(file))
+
+
+def processes(name, folder):
+    """The processes of a program that work in a folder."""
+    found = set()
+    for process in pathlib.Path("/proc").glob("[0-9]*"):
+        with contextlib.suppress(OSError):
+            if (process / "comm").read_text().strip() == name and pathlib.Path(os.readlink(process / "cwd")) == folder:
+                found.add(int(process.name))
+    return found
+
+
+def kill_all(numbers):
+    for number in numbers:
+        with contextlib.suppress(ProcessLookupError):
+            os.kill(number, signal.SIGKILL)
 
 
 def children(file):
@@ -157,8 +229,10 @@ def read_all(connection):
     return received
 
 
-def encoded(name, password):
-    return base64.b64encode(f"{name}:{password}".encode()).decode()
+def cookie_of(answer):
+    """The field that a browser sends after this answer, or None."""
+    found = re.search(r"^set-cookie: (__host-house=([^;]*));", answer.head, re.M)
+    return found and f"Cookie: __Host-house={found[2]}"
 
 
 def reply(text):

@@ -6,6 +6,8 @@ Three lots and one member have names and texts that would do harm if they were r
 import contextlib
 import json
 import os
+import pathlib
+import sqlite3
 import subprocess
 import time
 
@@ -135,17 +137,19 @@ def with_many(now):
 
 
 def write_passwords(house):
-    """Lets the members sign in whom the house knows, as add_member.sh does."""
-    users, numbers, passwords = [], [], []
-    for number, name in enumerate(["house", *map(str.lower, NAMES)]):
-        password = os.urandom(12).hex()
-        digest = subprocess.run(["openssl", "passwd", "-6", "-stdin", "-salt", "rounds=1000$" + os.urandom(6).hex()],
-                                input=password, capture_output=True, text=True, check=True).stdout.strip()
-        users.append(f"{name}:{digest}\n")
-        numbers.append(f'"localhost {name}" {number};\n')
-        passwords.append(f"{name} {number} {password}\n")
-    for file, lines in (("users", users), ("members.map", numbers), ("passwords", passwords)):
-        (house / file).write_text("".join(lines))
+    """Lets the members sign in whom the house knows, as account.sh does, by hashes that take less time."""
+    tables = pathlib.Path(__file__).resolve().parent.parent / "examples" / "gateway" / "accounts.sql"
+    lines = []
+    with contextlib.closing(sqlite3.connect(house / "accounts")) as accounts:
+        accounts.executescript(tables.read_text())
+        for number, name in enumerate(["house", *map(str.lower, NAMES)]):
+            password = os.urandom(12).hex()
+            digest = subprocess.run(["htpasswd", "-niBC", "4", name], input=password, capture_output=True, text=True, check=True)
+            accounts.execute("INSERT INTO account (login, member, hash) VALUES (?, ?, ?)",
+                             (name, number, digest.stdout.strip().partition(":")[2]))
+            lines.append(f"{name} {number} {password}\n")
+        accounts.commit()
+    (house / "passwords").write_text("".join(lines))
 
 
 def make_house(program, folder, history):
@@ -171,7 +175,7 @@ def as_owner(folder):
 
 @contextlib.contextmanager
 def furnished(program, folder, history=with_history):
-    """A gateway of a house with a history, which is stopped after this."""
+    """A gateway of a house with a history, which is stopped after this. What is due is closed on the page alone."""
     make_house(program, folder, history)
-    with running(program, folder) as gateway:
+    with running(program, folder, closes=0) as gateway:
         yield gateway

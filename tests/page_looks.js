@@ -140,7 +140,7 @@ function parts() {
   all("img:not([alt]), svg:not([role][aria-label])").forEach(element => say("a picture without a name", element));
   all("[tabindex]").filter(element => element.tabIndex > 0).forEach(element => say("an order of its own", element));
   all("[style], [onclick], [onerror], [onload]").forEach(element => say("style or script within", element));
-  all("input, textarea, select").filter(element => !element.labels.length).forEach(element => say("no label", element));
+  all("input:not([type=hidden]), textarea, select").filter(element => !element.labels.length).forEach(element => say("no label", element));
 }
 
 // Marks of right-to-left may turn what is in the same isolated part alone.

@@ -39,12 +39,16 @@ class Reader:
         self.page, self.name = Browser(driver, logs=("performance", "browser")), name
         self.answers, self.asked, self.faults = [], {}, []
         self.root = f"https://{gateway.host}:{gateway.port}/"
-        # It signs in at a picture, so that the page's own address has no password in it.
-        self.page.go(f"{self.root}icon.svg".replace("://", f"://{name}:{gateway.passwords[name]}@"))
-        # Bodies of what was answered before are gone on the next page, so they are noted first.
-        self.listen()
         self.page.tool("Page.addScriptToEvaluateOnNewDocument", source=script)
         self.page.go(self.root)
+        self.sign_in(name, gateway.passwords[name])
+
+    def sign_in(self, login, password):
+        self.write("textbox", "Name for signing in", login)
+        self.write("textbox", "Password", password)
+        # Bodies of what was answered before are gone on the next page, so they are noted first.
+        self.listen()
+        self.press("button", "Sign in")
         self.wait_for("navigation", "Pages")
 
     # What is there.

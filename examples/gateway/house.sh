@@ -1,15 +1,33 @@
 #!/bin/sh
-# house.sh PROGRAM PORT COUNT: serves the house of this folder on a port, and its queue on run/queue.sock.
-# start.sh runs it in a network of its own. Then nobody else reaches the port.
+# house.sh PROGRAM PORT COUNT: serves the house of this folder, its queue and its sign-in, and closes what is due after each
+# CLOSE seconds, or never, where that is 0. start.sh runs it in a network of its own. Then nobody else reaches their ports.
 set -eu
-program=$1 port=$2 count=$3
+program=$1 count=$3
+PATH=$PATH:/usr/sbin:/sbin
+SCRIPTS=$(cd "$(dirname "$0")" && pwd)
+export HOUSE="$PWD" RUN="$PWD/run" LOG="$PWD/sign-in.log" HOUSE_PORT="$2" SIGN_IN_PORT=$(($2 + 1)) SCRIPTS
 
+# Runs a command again whenever it ends, after a second where that was a fault. The house ends after its count.
+keep() {
+    while :; do
+        "$@" || sleep 1
+    done
+}
+
+# An item takes no bid after its end. Until it is closed it isn't sold.
+close_due() {
+    while sleep "$1"; do
+        curl -s -m 300 -o /dev/null --unix-socket run/queue.sock -X POST -H 'x-member: 0' http://house/close || :
+    done
+}
+
+apart=
 if [ "$(id -u)" = 0 ]; then
     ip link set lo up
+    # Apache doesn't run as root, and not as the root of its own network either.
+    apart="unshare --user --map-user=1"
 fi
-HOUSE_PORT=$port haproxy -q -f queue.cfg &
-
-# The house ends after its count of connections, and is served again. After a fault it waits.
-while :; do
-    "$program" serve house --port "$port" --count "$count" || sleep 1
-done
+keep haproxy -db -q -f queue.cfg &
+keep $apart apache2 -D FOREGROUND -f "$PWD/sign_in.conf" &
+[ "${CLOSE:-60}" = 0 ] || close_due "${CLOSE:-60}" &
+keep "$program" serve house --port "$HOUSE_PORT" --count "$count"

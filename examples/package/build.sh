@@ -75,7 +75,7 @@ put lib/systemd/system service/auction.service service/auction-queue.service ser
     service/auction-close.timer
 put etc/default package/auction
 put_gateway
-put usr/share/auction service/setup.sh gateway/add_member.sh
+put usr/share/auction service/setup.sh service/add_member.sh
 put usr/share/auction/page $(cd "$here/.." && echo gateway/page/*)
 put_documents
 put_control

@@ -55,8 +55,8 @@ function registering(more) {
   }).node;
 }
 
-const SIGN_IN = "A member that is registered here can't sign in yet: the gateway needs a line for it. "
-  + "add_member.sh on the server does both at once, and the page of the gateway says how.";
+const SIGN_IN = "A member that is registered here can't sign in yet. On the server, account.sh adopt lets it in by its "
+  + "number, and account.sh add registers a member and lets it in at once.";
 
 export async function members() {
   const { place, more } = listing();

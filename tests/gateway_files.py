@@ -1,0 +1,88 @@
+"""What start.sh finds: houses that other users of the machine could read, and what a run of it left that was killed."""
+import os
+import signal
+import stat
+import subprocess
+
+from bad_files import NOBODY, as_nobody
+from gateway_cases import as_another_user
+from gateway_run import PATH, Gateway
+from served import check, held_port
+
+OPENED = "start.sh: other users could read files in houses/localhost until now"
+REFUSED = "start.sh: others may read houses/localhost, and its owner alone can shut it: it isn't served"
+
+
+def make_open(gateway):
+    """A house that its user made without a umask, where start.sh looks for it."""
+    house = gateway.house()
+    words = ["--bands", gateway.examples / "bands.csv", "--rate", "1000", "--zone", "UTC0"]
+    for command in (["mkdir", "-p", house], [gateway.program, "init", house / "house", *words]):
+        subprocess.run(command, check=True, preexec_fn=as_nobody, umask=0o022, stdout=subprocess.DEVNULL)
+    return house
+
+
+def open_to_others(folder):
+    """A folder and the files in it for which others than its user have any right."""
+    files = [folder, *folder.iterdir()]
+    return sorted(file.name for file in files if not file.is_symlink() and stat.S_IMODE(file.stat().st_mode) & 0o077)
+
+
+def open_houses(program, folder):
+    """A house that others could read is shut before it is served. One of another owner isn't served."""
+    with held_port() as port, held_port() as house_port:
+        gateway = Gateway(program, folder, port, house_port)
+        house = make_open(gateway)
+        check("made open", open_to_others(house), ["house", "house-wal", "localhost"])
+        try:
+            status, _, error = gateway.start()
+            check("an open house is served", (status, error.strip()), (0, OPENED))
+            check("and is shut", open_to_others(house), [])
+        finally:
+            gateway.stop()
+        if os.geteuid() == 0:
+            of_another_owner(gateway, house)
+
+
+def of_another_owner(gateway, house):
+    """Who runs the gateway can't shut the house that is another's."""
+    os.chown(house / "house", 0, 0)
+    os.chmod(house / "house", 0o644)
+    os.chown(house, NOBODY, NOBODY)
+    status, _, error = gateway.start()
+    check("another's open house", (status, error.splitlines()[-1:]), (1, [REFUSED]))
+    with as_another_user():
+        check("another user", os.access(house / "house", os.R_OK, effective_ids=True), False)
+
+
+def half_started(program, folder):
+    """A start that was killed when it had let one of four in is ended by the next."""
+    with held_port() as port, held_port() as house_port:
+        gateway = Gateway(program, folder, port, house_port)
+        words = ["sh", gateway.examples / "gateway" / "start.sh", gateway.program, gateway.folder]
+        process = subprocess.Popen(words, preexec_fn=as_nobody, start_new_session=True, stdout=subprocess.DEVNULL,
+                                   env={**os.environ, "PATH": PATH, "PORT": str(port), "HOUSE_PORT": str(house_port)})
+        begun = gateway.house() / "passwords.begun"
+        gateway.wait(lambda: begun.exists() and begun.read_text())
+        os.killpg(process.pid, signal.SIGKILL)
+        process.wait()
+        try:
+            check("started again", gateway.start()[0], 0)
+            check("all are let in", [line.split() for line in gateway.account("list")[1]],
+                  [["house", "0"], ["ana", "1"], ["ben", "2"], ["cid", "3"]])
+            gateway.stop()
+            others_numbers(gateway)
+        finally:
+            gateway.stop()
+
+
+def others_numbers(gateway):
+    """Numbers that a machine left which ended may be another process's by now, which goes on."""
+    other = subprocess.Popen(["sleep", "600"], preexec_fn=as_nobody, start_new_session=True)
+    for file in (gateway.folder / "run" / "nginx.pid", gateway.house() / "run" / "house.pid"):
+        subprocess.run(["tee", file], input=f"{other.pid}\n", text=True, check=True, preexec_fn=as_nobody, stdout=subprocess.DEVNULL)
+    check("stopped beside another's number", gateway.stop()[0], 0)
+    check("started beside another's number", gateway.start()[0], 0)
+    check("the other process goes on", other.poll(), None)
+    other.kill()
+    other.wait()
