@@ -1,22 +1,22 @@
 // The page: who is signed in, which part of it is shown, and the clock that goes on.
-import { Refusal, read } from "./api.js";
-import { bids } from "./bids.js";
-import { category, front } from "./browse.js";
-import { caller, findOut } from "./caller.js";
-import { ahead, isKnown } from "./clock.js";
-import { link, make, put, replace, written, isolated } from "./dom.js";
-import { house } from "./house.js";
-import { item } from "./item.js";
-import { member, members } from "./members.js";
-import { duration, setZone, tick, zoneInWords } from "./moments.js";
-import { tell } from "./news.js";
-import { questions } from "./questions.js";
-import { sell } from "./sell.js";
-import { settling } from "./settling.js";
-import { statement } from "./statement.js";
-import { Visit } from "./visit.js";
-import { watches } from "./watches.js";
-import { sentence } from "./words.js";
+import { Refusal, read } from "./exchange/api.js";
+import { bids } from "./member/bids.js";
+import { category, front } from "./items/browse.js";
+import { caller, findOut } from "./exchange/caller.js";
+import { ahead, isKnown } from "./time/clock.js";
+import { link, make, put, replace, written, isolated } from "./elements/dom.js";
+import { house } from "./office/house.js";
+import { item } from "./items/item.js";
+import { member, members } from "./office/members.js";
+import { duration, setZone, tick, zoneInWords } from "./time/moments.js";
+import { tell } from "./elements/news.js";
+import { questions } from "./member/questions.js";
+import { sell } from "./member/sell.js";
+import { settling } from "./office/settling.js";
+import { statement } from "./member/statement.js";
+import { Visit } from "./exchange/visit.js";
+import { watches } from "./member/watches.js";
+import { sentence } from "./words/refusals.js";
 
 // Each part of the page by the first word after #/. It makes a heading and what is below it.
 const PARTS = { "": front, category, item, member, bids, watches, questions, sell, statement, house, members, settling };

@@ -1,5 +1,5 @@
 // One visit to a page: what it repeats ends with it.
-import { tell } from "./news.js";
+import { tell } from "../elements/news.js";
 
 // After so many reads that failed, what is shown may be old.
 const FAILED = 3;

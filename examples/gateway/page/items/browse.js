@@ -1,12 +1,12 @@
 // Items to choose from: those of all categories that end soonest, and those of one category.
-import { each, read } from "./api.js";
-import { caller } from "./caller.js";
-import { Shelf, inOrder } from "./catalogue.js";
-import { link, make, put, replace, written } from "./dom.js";
-import { action } from "./form.js";
-import { bidsByItem, categories } from "./known.js";
-import { countdown, inWords } from "./moments.js";
-import { shown } from "./money.js";
+import { each, read } from "../exchange/api.js";
+import { caller } from "../exchange/caller.js";
+import { Shelf, inOrder } from "../exchange/shelf.js";
+import { link, make, put, replace, written } from "../elements/dom.js";
+import { action } from "../elements/form.js";
+import { bidsByItem, categories } from "../exchange/known.js";
+import { countdown, inWords } from "../time/moments.js";
+import { shown } from "../words/money.js";
 import { badge, bidsInWords, priceInWords, standingInShort, stateOf } from "./standing.js";
 
 // With more categories than this the first page names them alone: each would be read for it.

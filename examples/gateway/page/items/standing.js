@@ -1,8 +1,8 @@
 // How an item stands, and how the caller stands in it.
-import { caller } from "./caller.js";
-import { make } from "./dom.js";
-import { hasEnded } from "./moments.js";
-import { shown } from "./money.js";
+import { caller } from "../exchange/caller.js";
+import { make } from "../elements/dom.js";
+import { hasEnded } from "../time/moments.js";
+import { shown } from "../words/money.js";
 
 const WORDS = { open: "Open", ended: "Ended", sold: "Sold", unsold: "Not sold", settled: "Settled" };
 

@@ -1,11 +1,11 @@
 // Questions to the seller and their answers, on the page of an item.
-import { lists, read, send, whole } from "./api.js";
-import { caller } from "./caller.js";
-import { isolated, link, make, paragraphs, replace, written } from "./dom.js";
-import { textField } from "./fields.js";
-import { form } from "./form.js";
-import { namesOf } from "./known.js";
-import { tell } from "./news.js";
+import { lists, read, send, whole } from "../exchange/api.js";
+import { caller } from "../exchange/caller.js";
+import { isolated, link, make, paragraphs, replace, written } from "../elements/dom.js";
+import { textField } from "../elements/fields.js";
+import { form } from "../elements/form.js";
+import { namesOf } from "../exchange/known.js";
+import { tell } from "../elements/news.js";
 import { stateOf } from "./standing.js";
 
 const MOST = 500;

@@ -1,15 +1,15 @@
 // The house itself: its counts and rules for everybody, and for who runs it categories and the public record.
-import { read, send } from "./api.js";
-import { caller } from "./caller.js";
-import { link, make, replace, written } from "./dom.js";
-import { textField } from "./fields.js";
-import { save } from "./files.js";
-import { action, form } from "./form.js";
-import { categories } from "./known.js";
-import { dayAt, time } from "./moments.js";
-import { shown } from "./money.js";
+import { read, send } from "../exchange/api.js";
+import { caller } from "../exchange/caller.js";
+import { link, make, replace, written } from "../elements/dom.js";
+import { textField } from "../elements/fields.js";
+import { save } from "../elements/files.js";
+import { action, form } from "../elements/form.js";
+import { categories } from "../exchange/known.js";
+import { dayAt, time } from "../time/moments.js";
+import { shown } from "../words/money.js";
 import { publicRecord } from "./record.js";
-import { AMOUNT, sums, table } from "./table.js";
+import { AMOUNT, sums, table } from "../elements/table.js";
 
 const number = count => shown(count * 100).slice(0, -3);
 

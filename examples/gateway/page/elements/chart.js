@@ -1,7 +1,7 @@
 // Prices by day, as bars: what was sold, and what was bought.
 import { draw, make } from "./dom.js";
-import { dayInWords } from "./moments.js";
-import { shown } from "./money.js";
+import { dayInWords } from "../time/moments.js";
+import { shown } from "../words/money.js";
 
 const HEIGHT = 120;
 const FLOOR = 130;

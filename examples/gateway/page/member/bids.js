@@ -1,12 +1,12 @@
 // What the caller has bid for, with titles and ends, which the list of bids lacks.
-import { link, make, replace, written } from "./dom.js";
-import { action } from "./form.js";
-import { bidsByItem, itemsOf } from "./known.js";
-import { countdown, inWords } from "./moments.js";
-import { shown } from "./money.js";
-import { inOrder } from "./catalogue.js";
-import { standingInShort, stateOf } from "./standing.js";
-import { AMOUNT, SUBJECT, TEXT, table } from "./table.js";
+import { link, make, replace, written } from "../elements/dom.js";
+import { action } from "../elements/form.js";
+import { bidsByItem, itemsOf } from "../exchange/known.js";
+import { countdown, inWords } from "../time/moments.js";
+import { shown } from "../words/money.js";
+import { inOrder } from "../exchange/shelf.js";
+import { standingInShort, stateOf } from "../items/standing.js";
+import { AMOUNT, SUBJECT, TEXT, table } from "../elements/table.js";
 
 const COLUMNS = [["Item", SUBJECT], ["Price", AMOUNT], ["My maximum", AMOUNT], ["How it stands", TEXT], ["End", TEXT]];
 

@@ -1,6 +1,6 @@
 // The public record, which the interface tells in parts: as `auction replay --record` writes it, its keys in byte order.
-import { each, isUnknown, read, whole } from "./api.js";
-import { categories } from "./known.js";
+import { each, isUnknown, read, whole } from "../exchange/api.js";
+import { categories } from "../exchange/known.js";
 
 const numbers = count => Array.from({ length: count }, (_, place) => place + 1);
 

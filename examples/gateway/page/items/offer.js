@@ -1,11 +1,11 @@
 // What a member may do with an open item: bid, buy, watch.
-import { Refusal, send } from "./api.js";
-import { caller } from "./caller.js";
-import { make, put, written } from "./dom.js";
-import { moneyField } from "./fields.js";
-import { action, form, label } from "./form.js";
-import { shown } from "./money.js";
-import { isSure } from "./question.js";
+import { Refusal, send } from "../exchange/api.js";
+import { caller } from "../exchange/caller.js";
+import { make, put, written } from "../elements/dom.js";
+import { moneyField } from "../elements/fields.js";
+import { action, form, label } from "../elements/form.js";
+import { shown } from "../words/money.js";
+import { isSure } from "../elements/question.js";
 import { stateOf } from "./standing.js";
 
 // A maximum so many times the next bid may be a slip of the finger.

@@ -1,5 +1,5 @@
 // Reads and commands of the interface that docs/HTTP.md describes.
-import { heard } from "./clock.js";
+import { heard } from "../time/clock.js";
 
 // The address of the page may have a name and a password in it, and fetch takes no such address.
 const BASE = `${location.origin}/api`;

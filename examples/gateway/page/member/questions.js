@@ -1,8 +1,8 @@
 // What waits for the caller's answer, and what the caller asked.
-import { read, whole } from "./api.js";
-import { link, make, paragraphs, replace, written } from "./dom.js";
-import { namesOf, titlesOf } from "./known.js";
-import { answering } from "./talk.js";
+import { read, whole } from "../exchange/api.js";
+import { link, make, paragraphs, replace, written } from "../elements/dom.js";
+import { namesOf, titlesOf } from "../exchange/known.js";
+import { answering } from "../items/talk.js";
 
 // The house tells the first fifty that wait.
 const MOST = 50;

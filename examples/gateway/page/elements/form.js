@@ -1,7 +1,7 @@
 // Forms and buttons that send a command: they wait for its answer, and say what came of it.
-import { Refusal } from "./api.js";
+import { Refusal } from "../exchange/api.js";
 import { make, put } from "./dom.js";
-import { sentence } from "./words.js";
+import { sentence } from "../words/refusals.js";
 
 // After so many milliseconds somebody who waits sees that nothing is lost.
 const SLOW = 4000;

@@ -1,13 +1,13 @@
 // The form by which a member lists an item.
-import { send } from "./api.js";
-import { now } from "./clock.js";
-import { make } from "./dom.js";
-import { choiceField, codeField, dayField, moneyField, textField, timeField } from "./fields.js";
-import { form } from "./form.js";
-import { categories } from "./known.js";
-import { dayAt, moment, timeAt, zoneInWords } from "./moments.js";
-import { MOST, shown } from "./money.js";
-import { tell } from "./news.js";
+import { send } from "../exchange/api.js";
+import { now } from "../time/clock.js";
+import { make } from "../elements/dom.js";
+import { choiceField, codeField, dayField, moneyField, textField, timeField } from "../elements/fields.js";
+import { form } from "../elements/form.js";
+import { categories } from "../exchange/known.js";
+import { dayAt, moment, timeAt, zoneInWords } from "../time/moments.js";
+import { MOST, shown } from "../words/money.js";
+import { tell } from "../elements/news.js";
 
 const WEEK = 7 * 86400;
 const EVENING = "20:00";

@@ -1,14 +1,14 @@
 // The page of an item. What may change is read again and again, and a change is announced.
-import { read } from "./api.js";
-import { caller } from "./caller.js";
-import { link, make, paragraphs, put, replace, written } from "./dom.js";
-import { categories, nameOf, reserveOf } from "./known.js";
-import { countdown, hasEnded, secondsLeft, tick, time } from "./moments.js";
-import { shown } from "./money.js";
-import { tell } from "./news.js";
+import { read } from "../exchange/api.js";
+import { caller } from "../exchange/caller.js";
+import { link, make, paragraphs, put, replace, written } from "../elements/dom.js";
+import { categories, nameOf, reserveOf } from "../exchange/known.js";
+import { countdown, hasEnded, secondsLeft, tick, time } from "../time/moments.js";
+import { shown } from "../words/money.js";
+import { tell } from "../elements/news.js";
 import { offers } from "./offer.js";
 import { rating } from "./rating.js";
-import { settle } from "./settling.js";
+import { settle } from "../office/settling.js";
 import { badge, bidsInWords, priceInWords, reserveInWords, standing, stateInWords, stateOf } from "./standing.js";
 import { talk } from "./talk.js";
 

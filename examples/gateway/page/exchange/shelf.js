@@ -1,7 +1,7 @@
 // The items of a category. A list begins with the oldest, and what is open is mostly young: so the numbers that the
 // house gave last are read first, and older ones when they are asked for.
 import { lists } from "./api.js";
-import { hasEnded } from "./moments.js";
+import { hasEnded } from "../time/moments.js";
 
 // Over how many numbers the first look goes. Each further one goes over twice as many.
 const FIRST = 200;

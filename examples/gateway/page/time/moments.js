@@ -1,5 +1,5 @@
 // Moments as people read them, in the house's zone.
-import { make } from "./dom.js";
+import { make } from "../elements/dom.js";
 import { isKnown, now } from "./clock.js";
 import { at, momentOf, parse } from "./zone.js";
 

@@ -1,9 +1,9 @@
 // What the caller watches.
-import { read } from "./api.js";
-import { cards } from "./browse.js";
-import { inOrder } from "./catalogue.js";
-import { link, make } from "./dom.js";
-import { bidsByItem } from "./known.js";
+import { read } from "../exchange/api.js";
+import { cards } from "../items/browse.js";
+import { inOrder } from "../exchange/shelf.js";
+import { link, make } from "../elements/dom.js";
+import { bidsByItem } from "../exchange/known.js";
 
 export async function watches() {
   const [{ items }, bids] = await Promise.all([read("/me/watches"), bidsByItem()]);

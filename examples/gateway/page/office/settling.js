@@ -1,11 +1,11 @@
 // What the house does at the end: it closes what is due, and settles sales.
-import { each, read, send } from "./api.js";
-import { caller } from "./caller.js";
-import { Shelf } from "./catalogue.js";
-import { link, make, replace, written } from "./dom.js";
-import { action } from "./form.js";
-import { categories } from "./known.js";
-import { shown } from "./money.js";
+import { each, read, send } from "../exchange/api.js";
+import { caller } from "../exchange/caller.js";
+import { Shelf } from "../exchange/shelf.js";
+import { link, make, replace, written } from "../elements/dom.js";
+import { action } from "../elements/form.js";
+import { categories } from "../exchange/known.js";
+import { shown } from "../words/money.js";
 
 const ENOUGH = 1000;
 

@@ -1,10 +1,10 @@
 // The rating of a sale, by its two parties.
-import { read, send } from "./api.js";
-import { caller } from "./caller.js";
-import { make, replace, written } from "./dom.js";
-import { choiceField, textField } from "./fields.js";
-import { form } from "./form.js";
-import { nameOf } from "./known.js";
+import { read, send } from "../exchange/api.js";
+import { caller } from "../exchange/caller.js";
+import { make, replace, written } from "../elements/dom.js";
+import { choiceField, textField } from "../elements/fields.js";
+import { form } from "../elements/form.js";
+import { nameOf } from "../exchange/known.js";
 
 const RATINGS = [[1, "Good"], [0, "Neither good nor bad"], [-1, "Bad"]];
 

@@ -1,6 +1,6 @@
 // Fields of forms: a label, a hint, and a sentence where what was written can't be taken.
 import { make, put } from "./dom.js";
-import { MOST, cents, shown } from "./money.js";
+import { MOST, cents, shown } from "../words/money.js";
 
 // Why a field can't be taken.
 class Mistake extends Error {}

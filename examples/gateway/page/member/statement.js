@@ -1,16 +1,16 @@
 // What the caller sold and bought in a period: a chart, a table, and a file for a spreadsheet.
-import { read } from "./api.js";
-import { caller } from "./caller.js";
-import { now } from "./clock.js";
-import { chart } from "./days.js";
-import { link, make, written } from "./dom.js";
-import { dayField } from "./fields.js";
-import { save } from "./files.js";
-import { form } from "./form.js";
-import { namesOf, titlesOf } from "./known.js";
-import { dayAt, dayInWords } from "./moments.js";
-import { plain, shown } from "./money.js";
-import { AMOUNT, SUBJECT, TEXT, sums, table } from "./table.js";
+import { read } from "../exchange/api.js";
+import { caller } from "../exchange/caller.js";
+import { now } from "../time/clock.js";
+import { chart } from "../elements/chart.js";
+import { link, make, written } from "../elements/dom.js";
+import { dayField } from "../elements/fields.js";
+import { save } from "../elements/files.js";
+import { form } from "../elements/form.js";
+import { namesOf, titlesOf } from "../exchange/known.js";
+import { dayAt, dayInWords } from "../time/moments.js";
+import { plain, shown } from "../words/money.js";
+import { AMOUNT, SUBJECT, TEXT, sums, table } from "../elements/table.js";
 
 const COLUMNS = [["Day", TEXT], ["Item", SUBJECT], ["Sold or bought", TEXT], ["With", TEXT], ["Price", AMOUNT], ["Fee", AMOUNT],
   ["Net", AMOUNT]];

@@ -1,10 +1,10 @@
 // Members: what each was rated, and for the house the list of all.
-import { each, read, send, whole } from "./api.js";
-import { link, make, written } from "./dom.js";
-import { textField } from "./fields.js";
-import { action, form } from "./form.js";
-import { titlesOf } from "./known.js";
-import { ratingInWords } from "./rating.js";
+import { each, read, send, whole } from "../exchange/api.js";
+import { link, make, written } from "../elements/dom.js";
+import { textField } from "../elements/fields.js";
+import { action, form } from "../elements/form.js";
+import { titlesOf } from "../exchange/known.js";
+import { ratingInWords } from "../items/rating.js";
 
 const AT_ONCE = 50;
 
