@@ -243,6 +243,7 @@ gateway:
 
 page:
 	@echo "Debian's packages: $(PAGE_PACKAGES)"
+	if command -v node > /dev/null; then node --test tests/page_modules.mjs; fi
 	python3 tests/page.py crates/auction/out/auction $(PICTURES)
 
 backup:

@@ -15,6 +15,8 @@ a house with some history behind nginx and haproxy. They find all by roles and n
 - the file of a statement is the program's own, and the public record is what all reads tell
 - of many items and bids the youngest are shown, and the others when they are asked for
 - amounts, zones (beside the C library) and refusals (page_words.py)
+- what the page says is true at once: after an outbid, an end, a failed read, a lost answer, a sleep, a way back
+  (page_truth.py)
 
 PICTURES is a folder for pictures of three parts. It needs what gateway.py needs, and chromedriver. The last line is
 'N checks, M wrong'.
@@ -26,6 +28,7 @@ import tempfile
 
 import browser
 import page_play as play
+import page_truth as truth
 import page_words as words
 from gateway_run import folder_of_nobody, missing_packages
 from page_house import (EVIL, EVIL_CATEGORY, EVIL_NAME, EVIL_TEXTS, EVIL_TITLES, MANY, MANY_BIDS, OPEN, PAST, furnished,
@@ -96,6 +99,16 @@ def stays_text(reader):
     check("no script of theirs", reader.page.run("return document.title"), "Items | The auction house")
 
 
+def comes_back_down(ben):
+    """Back leads to the same list, as long as it was, and to the same place in it."""
+    ben.press("link", "Print 200")
+    ben.wait_for("heading", "Print 200")
+    ben.page.run("history.back()")
+    ben.wait_for_text(f"{MANY} of {MANY} items")
+    link = ben.wait_for("link", "Print 200")
+    ben.wait(lambda: 0 < ben.box(link)[1] < 900, "the place in the list")
+
+
 def long_lists(program, folder):
     """Of many items and bids the youngest are shown, and the others when they are asked for."""
     with furnished(program, folder, with_many) as gateway, readers(gateway, "ben", wrong=None) as [ben]:
@@ -103,6 +116,7 @@ def long_lists(program, folder):
         ben.wait_for_text("200 of 200 items that were listed last")
         ben.press("button", "Read older items")
         ben.wait_for_text(f"{MANY} of {MANY} items")
+        comes_back_down(ben)
         check("what ends first comes first", ben.all("heading")[2].name, "Print 1")
         ben.write("searchbox", "Find in titles", "Print 26")
         ben.wait_for_text(f"2 of {MANY} items")
@@ -112,6 +126,14 @@ def long_lists(program, folder):
         ben.wait_for_text("All your bids are here.")
         check("all bids", len(ben.all("row")), 1 + MANY_BIDS)
         play.no_faults([ben])
+
+
+def true_at_once(program, folder):
+    """What the page says goes with what is so."""
+    with furnished(program, folder) as gateway:
+        with readers(gateway, "ana", "ben", "cid", wrong=None, before=truth.BEFORE) as all_of_them:
+            truth.all_of_it(gateway, *all_of_them)
+            play.no_faults(all_of_them)
 
 
 def policy(gateway):
@@ -133,12 +155,12 @@ def picture(reader, folder, name, part=None, height=900):
 
 
 @contextlib.contextmanager
-def readers(gateway, *names, wrong):
-    """A browser for each, all of which end after this. The clock of one is wrong."""
+def readers(gateway, *names, wrong, before=""):
+    """A browser for each, all of which end after this. The clock of one is wrong. A script may run before the page's own."""
     with browser.driver() as address, contextlib.ExitStack() as ending:
         found = []
         for name in names:
-            found.append(Reader(address, gateway, name, play.WRONG_CLOCK if name == wrong else ""))
+            found.append(Reader(address, gateway, name, play.WRONG_CLOCK if name == wrong else before))
             ending.callback(found[-1].end)
             size(found[-1], 1280)
         yield found
@@ -204,6 +226,7 @@ def main():
             auction(gateway, house, ana, ben, cid, pictures)
             meanwhile(gateway, house, ana, ben)
             spreadsheet = after_the_end(gateway, house, ana, ben, cid, pictures, pathlib.Path(saved))
+            truth.named_spreadsheet(spreadsheet, gateway)
             play.never_shown(ben)
             play.is_shown(cid)
             play.no_faults(all_of_them)
@@ -211,6 +234,8 @@ def main():
         play.same_as_the_program(gateway, spreadsheet)
     with folder_of_nobody() as folder:
         long_lists(program, folder)
+    with folder_of_nobody() as folder:
+        true_at_once(program, folder)
     print(f"{len(CHECKS)} checks, {CHECKS.count(False)} wrong")
     return 1 if not all(CHECKS) else 0
 

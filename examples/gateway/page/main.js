@@ -1,9 +1,11 @@
 // The page: who is signed in, which part of it is shown, and the clock that goes on.
-import { Refusal, read } from "./exchange/api.js";
+import { Refusal, read, readUntil } from "./exchange/api.js";
 import { bids } from "./member/bids.js";
 import { category, front } from "./items/browse.js";
 import { caller, findOut } from "./exchange/caller.js";
 import { ahead, isKnown } from "./time/clock.js";
+import { entry, keepDrafts, noteFields, putDrafts } from "./exchange/history.js";
+import { nameOf } from "./exchange/known.js";
 import { link, make, put, replace, written, isolated } from "./elements/dom.js";
 import { house } from "./office/house.js";
 import { item } from "./items/item.js";
@@ -15,6 +17,7 @@ import { sell } from "./member/sell.js";
 import { settling } from "./office/settling.js";
 import { statement } from "./member/statement.js";
 import { Visit } from "./exchange/visit.js";
+import { countWaiting } from "./member/waiting.js";
 import { watches } from "./member/watches.js";
 import { sentence } from "./words/refusals.js";
 
@@ -28,6 +31,10 @@ const OF_HOUSE = [["members", "Members"], ["settling", "Close and settle"]];
 const LAST = [["house", "The house"]];
 // The entry below which a part lies that has none.
 const ABOVE = { category: "", item: "" };
+
+// How often countdowns are put anew, in milliseconds, and after how many seconds questions that wait are counted again.
+const TICK = 500;
+const WAITING = 60;
 
 const content = document.getElementById("content");
 let visit = new Visit();
@@ -46,13 +53,6 @@ function navigation(current) {
   replace(document.getElementById("pages"), make("ul", {}, ...entries));
 }
 
-// The entry of questions says how many wait for the caller's answer. Nothing waits for this read.
-async function countWaiting() {
-  const { questions: waiting } = await read("/me/waiting");
-  const entry = document.querySelector('#pages a[href="#/questions"]');
-  put(entry, waiting.length ? `Questions (${waiting.length})` : "Questions");
-}
-
 function foot() {
   const seconds = ahead();
   const apart = seconds === 0 ? "" : ` Your clock is ${duration(Math.abs(seconds))} ${seconds > 0 ? "ahead of" : "behind"}`
@@ -60,15 +60,13 @@ function foot() {
   put(document.getElementById("foot"), isKnown() ? zoneInWords() + apart : "The house's clock is not known yet.");
 }
 
-const again = () => make("button", { type: "button", click: show }, "Try again");
-
 // Why nothing is shown: a refusal has its sentence, and what is a fault of the page goes to the console too.
 function failure(error) {
   if (!(error instanceof Refusal)) {
     console.error(error);
   }
   const why = error instanceof Refusal ? sentence(error.answer, { isRead: true }) : "This page has a fault.";
-  return { title: "This can't be shown", nodes: [make("p", {}, why), again()] };
+  return { title: "This can't be shown", nodes: [make("p", {}, why), make("button", { type: "button", click: again }, "Try again")] };
 }
 
 // The house has no bids and no statement: the interface would refuse it as nobody.
@@ -88,11 +86,24 @@ async function made(own, name, words) {
   }
 }
 
+let entryNow = null;
+let addressNow = "";
+
+// Keeps what the page that is left has, for who comes back.
+function leave() {
+  visit.end();
+  entryNow.scroll = scrollY;
+  keepDrafts(addressNow, content);
+}
+
 // Shows the part that the address names, unless another was asked for meanwhile.
 async function show() {
   const [name = "", ...words] = location.hash.replace(/^#\/?/, "").split("/");
-  visit.end();
-  const own = visit = new Visit();
+  entryNow = entry();
+  addressNow = location.hash;
+  const { scroll, noted } = entryNow;
+  const own = visit = new Visit(noted);
+  readUntil(own.signal);
   content.setAttribute("aria-busy", "true");
   const { title, of = null, nodes } = await made(own, name, words);
   if (own.isOver) {
@@ -102,34 +113,58 @@ async function show() {
   navigation(name);
   const heading = make("h1", { tabindex: "-1" }, written(title));
   replace(content, of, heading, ...nodes);
+  noteFields(content);
+  putDrafts(addressNow, content);
   document.title = `${isolated(title)} | The auction house`;
   tick();
   foot();
-  scrollTo(0, 0);
+  scrollTo(0, scroll);
   heading.focus({ preventScroll: true });
-  if (caller.isMember) {
-    countWaiting().catch(() => {});
+  countWaiting();
+  own.repeat(() => WAITING, countWaiting);
+}
+
+function again() {
+  visit.end();
+  return show();
+}
+
+// The clock is heard of again where this machine slept, or its clock was set: then all that is left isn't known.
+async function hearClock() {
+  if (!isKnown() && !document.hidden) {
+    await read("/house").catch(() => {});
+    tick();
+    foot();
   }
 }
 
 async function begin() {
   try {
-    await findOut();
-    setZone((await read("/house")).zone);
+    const house = read("/house");
+    await Promise.all([findOut(house), house.then(({ zone }) => setZone(zone))]);
   } catch (error) {
     const { title, nodes: [why] } = failure(error);
     const button = make("button", { type: "button", click: () => location.reload() }, "Load it again");
     replace(content, make("h1", {}, title), why, button);
     return;
   }
-  put(document.getElementById("who"), `Signed in as ${isolated(caller.name)}`);
+  sayWho();
+  history.scrollRestoration = "manual";
   addEventListener("hashchange", () => {
     tell("");
+    leave();
     show();
   });
-  setInterval(tick, 1000);
+  setInterval(tick, TICK);
   setInterval(foot, 10_000);
+  setInterval(hearClock, 2_000);
   await show();
+}
+
+// Who is signed in. The name of a member takes a read, for which nothing waits.
+async function sayWho() {
+  const name = caller.isMember ? await nameOf(caller.number).catch(() => `member ${caller.number}`) : "the house";
+  put(document.getElementById("who"), `Signed in as ${isolated(name)}`);
 }
 
 // The address after # is that of a part, so the link to the content moves the keyboard alone.

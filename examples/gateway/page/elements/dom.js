@@ -42,6 +42,16 @@ const TURNING = /[\u0590-\u08ff\u200e\u200f\u202a-\u202e\u2066-\u2069\ufb1d-\ufd
 // The same in a place for plain text alone, such as a window's title.
 export const isolated = text => TURNING.test(text) ? `\u2068${text}\u2069` : text;
 
+// What can be seen of a text: a letter, a digit, a mark. Five letters are as blank as spaces.
+const BLANK = /[\u115f\u1160\u2800\u3164\uffa0]/gu;
+const isSeen = text => /[\p{L}\p{N}\p{P}\p{S}]/u.test(text.replace(BLANK, ""));
+
+// The title of an item. One of spaces alone would be a link without a name.
+export const titled = title => isSeen(title) ? title : "(no title)";
+
+// The same of a member or a category.
+export const named = name => isSeen(name) ? name : "(no name)";
+
 // A long text of a member, a paragraph for each of its lines.
 export const paragraphs = text => text.split(/[\u2028\u2029]/).map(line => make("p", { dir: "auto" }, line));
 

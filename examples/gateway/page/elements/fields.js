@@ -43,6 +43,7 @@ class Field {
 
   clear() {
     this.control.value = "";
+    this.control.dispatchEvent(new Event("input"));
     this.say("");
   }
 }
@@ -60,16 +61,30 @@ function judged(text, least, most) {
     throw new Mistake("Write something here.");
   }
   if (length > most) {
-    throw new Mistake(`This has ${length} bytes, and ${most} are possible. A letter with an accent has two. Shorten it.`);
+    throw new Mistake(`This is too long by ${length - most}. A letter with an accent counts as two. Shorten it.`);
   }
   return tidied;
 }
 
-// A text of so many bytes. One of several lines has rows.
+// How much room is left in a text: the house counts bytes.
+function roomIn(text, most) {
+  const left = most - bytes(tidy(text));
+  return left >= 0 ? `Room for ${left} more letters. One with an accent takes the room of two, others of three.`
+    : `${-left} letters too long.`;
+}
+
+// A text of so many bytes, which tells how many are left. One of several lines has rows.
 export function textField(label, { hint = "", least = 1, most, rows = 0, value = "" }) {
   const control = rows ? make("textarea", { rows }) : make("input", { type: "text", autocomplete: "off" });
   control.value = value;
-  return new Field(label, control, hint, text => judged(text, least, most));
+  const field = new Field(label, control, hint, text => judged(text, least, most));
+  const room = make("p", { class: "hint", id: `room-${control.id}` });
+  const tell = () => put(room, roomIn(control.value, most));
+  tell();
+  control.addEventListener("input", tell);
+  control.setAttribute("aria-describedby", `${control.getAttribute("aria-describedby")} ${room.id}`);
+  field.node.append(room);
+  return field;
 }
 
 export function codeField(label, { hint, value }) {

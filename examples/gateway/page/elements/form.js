@@ -27,7 +27,9 @@ async function whileWaiting(button, waits, outcome, work) {
 // Says what came of some work: its sentence, or why it was refused. A fault of the page goes to the console too.
 async function saying(outcome, context, work) {
   try {
-    put(outcome, (await work()) ?? "");
+    const done = (await work()) ?? "";
+    outcome.classList.toggle("refused", done.isBad === true);
+    put(outcome, done.sentence ?? done);
   } catch (error) {
     const isRefusal = error instanceof Refusal;
     outcome.classList.add("refused");
@@ -39,6 +41,13 @@ async function saying(outcome, context, work) {
 }
 
 const outcomePart = () => make("p", { class: "outcome", role: "status" });
+
+// Takes away what came of the last work, which may be true no more. Who waits for an answer goes on waiting.
+const forgetting = (button, outcome) => () => {
+  if (button.getAttribute("aria-disabled") !== "true") {
+    put(outcome, "");
+  }
+};
 
 // Sets what a button says when it doesn't wait.
 export function label(button, text) {
@@ -61,7 +70,8 @@ async function pressed(button, outcome, { waits, context = () => ({}), isMeant =
   await whileWaiting(button, waits, outcome, () => saying(outcome, context, () => act(...values)));
 }
 
-// A form of fields. `act` is given their values, and answers a sentence on what was done.
+// A form of fields. `act` is given their values, and answers a sentence on what was done, or one with `isBad` where that
+// is not what was hoped for.
 export function form({ fields, button: text, kind = "", ...does }) {
   const outcome = outcomePart();
   const button = make("button", { type: "submit", class: kind }, text);
@@ -73,10 +83,16 @@ export function form({ fields, button: text, kind = "", ...does }) {
       wrong[0].control.focus();
       return;
     }
-    pressed(button, outcome, does, fields.map(field => field.value));
+    pressed(button, outcome, { ...does, act: sending }, fields.map(field => field.value));
   };
-  const node = make("form", { novalidate: true, submit }, ...fields.map(field => field.node), button, outcome);
-  return { node, button };
+  // What was sent is no draft any more.
+  const sending = async (...values) => {
+    const done = await does.act(...values);
+    node.dataset.isSent = "true";
+    return done;
+  };
+  const node = make("form", { novalidate: true, submit, input: () => delete node.dataset.isSent }, ...fields.map(field => field.node), button, outcome);
+  return { node, button, forget: forgetting(button, outcome) };
 }
 
 // A button that acts by itself.
@@ -84,5 +100,5 @@ export function action({ button: text, kind = "", ...does }) {
   const outcome = outcomePart();
   const click = () => pressed(button, outcome, does, []);
   const button = make("button", { type: "button", class: kind, click }, text);
-  return { node: make("div", { class: "action" }, button, outcome), button };
+  return { node: make("div", { class: "action" }, button, outcome), button, forget: forgetting(button, outcome) };
 }

@@ -1,4 +1,4 @@
-// What a screen reader tells, and the foot of the window shows, without being asked: a price that changed.
+// What a screen reader tells, and a strip under the header shows, without being asked: a price that changed.
 import { put } from "./dom.js";
 
 const SHOWN = 12_000;
@@ -6,6 +6,7 @@ const SHOWN = 12_000;
 const place = document.getElementById("news");
 let timer = 0;
 
+// Tells a sentence. An empty one takes away what was told, since it is true no more.
 export function tell(text) {
   clearTimeout(timer);
   put(place, text);

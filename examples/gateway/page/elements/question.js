@@ -13,7 +13,11 @@ export function isSure({ title, text, yes, no }) {
       make("button", { type: "button", class: "plain", autofocus: true, click: answer("no") }, no)));
   document.body.append(dialog);
   dialog.showModal();
+  // Who leaves the page has not said yes.
+  const leave = answer("no");
+  addEventListener("hashchange", leave);
   return new Promise(done => dialog.addEventListener("close", () => {
+    removeEventListener("hashchange", leave);
     dialog.remove();
     done(dialog.returnValue === "yes");
   }));

@@ -18,6 +18,13 @@ export class Refusal extends Error {
 // Whether the house answered that what was asked for is not there.
 export const isUnknown = refusal => refusal instanceof Refusal && refusal.answer.error === "Unknown";
 
+// Reads end with the visit that asked: what nobody waits for any more costs the house nothing.
+let leaving = null;
+
+export function readUntil(signal) {
+  leaving = signal;
+}
+
 async function exchange(path, options) {
   const sent = performance.now();
   let answer;
@@ -45,7 +52,7 @@ function parsed(text) {
   }
 }
 
-export const read = path => exchange(path, {});
+export const read = path => exchange(path, { signal: leaving });
 
 export const send = (path, body = {}) => exchange(path, { method: "POST", body: JSON.stringify(body) });
 

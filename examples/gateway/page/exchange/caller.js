@@ -1,20 +1,19 @@
 // Who is signed in. The interface has no read for that alone: an own page tells a member's number, and refuses the house.
 import { read } from "./api.js";
-import { nameOf } from "./known.js";
 
 const OWN = "/me/statement/1970-01-01/1970-01-01";
 
 // The number is 0 for the house, and null for a sign-in that is neither.
-export const caller = { number: null, name: "", isMember: false, isHouse: false };
+export const caller = { number: null, isMember: false, isHouse: false };
 
-export async function findOut() {
-  caller.number = await number();
+// Finds it out, beside a read of the house that was begun.
+export async function findOut(house) {
+  caller.number = await number(house);
   caller.isMember = caller.number > 0;
   caller.isHouse = caller.number === 0;
-  caller.name = caller.isMember ? await nameOf(caller.number) : "the house";
 }
 
-async function number() {
+async function number(house) {
   try {
     return (await read(OWN)).member;
   } catch (refusal) {
@@ -23,6 +22,6 @@ async function number() {
     }
   }
   // Whom the house knows for no member, it may still know for itself: to any other number it tells nothing.
-  await read("/house");
+  await house;
   return 0;
 }

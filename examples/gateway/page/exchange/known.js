@@ -1,38 +1,49 @@
 // What was read once and is shown beside a number: names of members, titles of items, names of categories.
 import { each, read, whole } from "./api.js";
+import { named, titled } from "../elements/dom.js";
 
-const names = new Map();
-const items = new Map();
-
-// A name stays, so it is asked once. A read that failed is forgotten, and asked again.
-function once(known, number, ask) {
-  if (!known.has(number)) {
-    const asked = ask();
-    known.set(number, asked);
-    asked.catch(() => known.delete(number));
+// Texts that stay, by their numbers. Each is asked once. A read that failed is forgotten, and asked again.
+class Texts {
+  constructor(ask) {
+    this.ask = ask;
+    this.asked = new Map();
+    this.found = new Map();
   }
-  return known.get(number);
+
+  get(number) {
+    if (!this.asked.has(number)) {
+      const asked = this.ask(number);
+      this.asked.set(number, asked);
+      asked.then(text => this.found.set(number, text), () => this.asked.delete(number));
+    }
+    return this.asked.get(number);
+  }
 }
 
-export const nameOf = number => once(names, number, async () => (await read(`/members/${number}`)).name);
+const names = new Texts(async number => named((await read(`/members/${number}`)).name));
 
 // A title stays too. Prices don't, so only the title is to be taken from here.
-const titleOf = number => once(items, number, async () => (await read(`/items/${number}`)).title);
+const titles = new Texts(async number => titled((await read(`/items/${number}`)).title));
+
+export const nameOf = number => names.get(number);
+
+// A name that was read before, or undefined.
+export const nameAtHand = number => names.found.get(number);
 
 // Each is a read of its own. So of a long list that many are read, the greatest numbers, and the others are shown by
 // their numbers alone.
 const MOST = 200;
 
-async function found(numbers, ask, otherwise) {
-  const chosen = [...new Set(numbers)].sort((one, two) => two - one).slice(0, MOST);
-  const answers = await each(chosen, ask);
+async function found(numbers, texts, otherwise, most) {
+  const chosen = [...new Set(numbers)].sort((one, two) => two - one).slice(0, most);
+  const answers = await each(chosen, number => texts.get(number));
   const known = new Map(chosen.map((number, place) => [number, answers[place]]));
   return { get: number => known.get(number) ?? `${otherwise} ${number}` };
 }
 
-export const titlesOf = numbers => found(numbers, titleOf, "item");
+export const titlesOf = (numbers, most = MOST) => found(numbers, titles, "item", most);
 
-export const namesOf = numbers => found(numbers, nameOf, "member");
+export const namesOf = (numbers, most = MOST) => found(numbers, names, "member", most);
 
 // Items as they are now.
 export const itemsOf = numbers => each(numbers, number => read(`/items/${number}`));
@@ -47,4 +58,9 @@ export async function reserveOf(number) {
 // The caller's bids by item. The house has none.
 export async function bidsByItem() {
   return new Map((await whole("/me/bids", "bids")).map(bid => [bid.item, bid]));
+}
+
+// The caller's own bid for an item, or undefined: the list begins at the item.
+export async function ownBid(number) {
+  return (await read(`/me/bids/${number}`)).bids.find(bid => bid.item === number);
 }

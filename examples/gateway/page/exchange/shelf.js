@@ -7,12 +7,19 @@ import { hasEnded } from "../time/moments.js";
 const FIRST = 200;
 
 export class Shelf {
-  // A shelf of a category in a house of so many items.
-  constructor(category, count) {
+  constructor(category) {
     this.category = category;
-    this.before = count + 1;
+    this.before = 1;
     this.width = FIRST;
     this.items = [];
+  }
+
+  // Reads so many of the youngest items, or all, in a house that has so many. What was read before stays until then.
+  async readAnew(count, enough) {
+    const fresh = new Shelf(this.category);
+    fresh.before = count + 1;
+    await fresh.readOlder(enough);
+    Object.assign(this, fresh);
   }
 
   get isWhole() {

@@ -1,15 +1,15 @@
 // The page of an item. What may change is read again and again, and a change is announced.
 import { read } from "../exchange/api.js";
 import { caller } from "../exchange/caller.js";
-import { link, make, paragraphs, put, replace, written } from "../elements/dom.js";
-import { categories, nameOf, reserveOf } from "../exchange/known.js";
+import { link, make, named, paragraphs, put, replace, titled, written } from "../elements/dom.js";
+import { categories, nameAtHand, nameOf, ownBid, reserveOf } from "../exchange/known.js";
 import { countdown, hasEnded, secondsLeft, tick, time } from "../time/moments.js";
 import { shown } from "../words/money.js";
 import { tell } from "../elements/news.js";
 import { offers } from "./offer.js";
 import { rating } from "./rating.js";
 import { settle } from "../office/settling.js";
-import { badge, bidsInWords, priceInWords, reserveInWords, standing, stateInWords, stateOf } from "./standing.js";
+import { badge, bidsInWords, isSold, priceInWords, reserveInWords, standing, stateInWords, stateOf } from "./standing.js";
 import { talk } from "./talk.js";
 
 // Every so many seconds the item is read again: oftener near its end, and seldom once it is over.
@@ -22,14 +22,24 @@ function pace(item) {
   if (item.state !== "open") {
     return OVER;
   }
-  const left = secondsLeft(item.end);
-  return left > 0 && left < NEAR ? OFTEN : OPEN;
+  return !hasEnded(item) && secondsLeft(item.end) < NEAR ? OFTEN : OPEN;
 }
 
-// An item as it is, with the caller's own bid for it.
-async function look(number) {
-  const [item, own] = await Promise.all([read(`/items/${number}`), caller.isMember ? read(`/me/bids/${number}`) : null]);
-  return { item, bid: own?.bids.find(bid => bid.item === item.item) };
+const hasOwnBid = item => caller.isMember && item.seller !== caller.number && item.count > 0;
+
+// An item as it is, with the caller's own bid for it. Whoever bids raises the count, so the own bid is read where that
+// has changed.
+async function look(number, before) {
+  const item = await read(`/items/${number}`);
+  if (before.item.count === item.count) {
+    return { item, bid: before.bid };
+  }
+  return { item, bid: hasOwnBid(item) ? await ownBid(number) : undefined };
+}
+
+async function firstLook(number) {
+  const [item, bid] = await Promise.all([read(`/items/${number}`), caller.isMember ? ownBid(number) : undefined]);
+  return { item, bid };
 }
 
 const isSame = (one, two) => JSON.stringify(one) === JSON.stringify(two);
@@ -43,35 +53,54 @@ function ending(item) {
   return [item.state === "open" ? "The end came " : "Over since ", time(closed)];
 }
 
-async function leading(item) {
-  if (item.leader === null) {
-    return [];
-  }
-  const name = item.leader === caller.number ? "you" : written(await nameOf(item.leader));
-  return [item.state === "open" ? "Led by " : "Sold to ", link(`member/${item.leader}`, name)];
+// Who leads. A name that isn't known yet is put once it is read, and asked for again where that failed.
+function leaderPart() {
+  const node = make("p");
+  let isAsked = false;
+  const show = item => {
+    if (item.leader === null) {
+      replace(node);
+      return;
+    }
+    const name = item.leader === caller.number ? "you" : written(nameAtHand(item.leader) ?? `member ${item.leader}`);
+    replace(node, item.state === "open" ? "Led by " : "Sold to ", link(`member/${item.leader}`, name));
+  };
+  const ask = async item => {
+    if (isAsked || item.leader === null || item.leader === caller.number || nameAtHand(item.leader) !== undefined) {
+      return;
+    }
+    isAsked = true;
+    await nameOf(item.leader).then(() => show(item), () => {});
+    isAsked = false;
+  };
+  return { node, show, ask };
 }
 
-// Price, state and end, with a call that puts them anew. The reserve, which is the seller's to see, stays.
-function facts(reserve) {
+// Price, state and end, with a call that puts them anew.
+function facts() {
   const parts = {
     badge: make("p", { class: "badges" }), what: make("h2", { class: "what", tabindex: "-1" }),
-    price: make("p", { class: "amount-now" }), bids: make("p"), leader: make("p"), end: make("p"),
-    reserve: make("p", {}, reserve === null ? null : `Your reserve is ${shown(reserve)}, and nobody else sees it.`),
-    standing: make("p"),
+    price: make("p", { class: "amount-now" }), bids: make("p"),
   };
-  const node = make("div", { class: "facts" }, ...Object.values(parts));
-  const update = async (item, bid) => {
+  const leader = leaderPart();
+  const end = make("p");
+  const reserve = make("p");
+  const stands = make("p");
+  const node = make("div", { class: "facts" }, ...Object.values(parts), leader.node, end, reserve, stands);
+  const update = (item, bid) => {
     replace(parts.badge, badge(item), reserveBadge(item));
     put(parts.what, priceInWords(item));
     put(parts.price, shown(item.price));
     put(parts.bids, bidsInWords(item));
-    replace(parts.end, ...ending(item));
+    leader.show(item);
+    replace(end, ...ending(item));
     const [kind, words] = standing(item, bid) ?? ["none", ""];
-    parts.standing.className = `standing ${kind}`;
-    put(parts.standing, words);
-    replace(parts.leader, ...await leading(item));
+    stands.className = `standing ${kind}`;
+    put(stands, words);
   };
-  return { node, update, focus: () => parts.what.focus() };
+  // The reserve, which is the seller's to see, stays.
+  const tellReserve = sealed => put(reserve, `Your reserve is ${shown(sealed)}, and nobody else sees it.`);
+  return { node, update, tellReserve, askLeader: leader.ask, focus: () => parts.what.focus() };
 }
 
 function reserveBadge(item) {
@@ -88,58 +117,78 @@ function change(before, after) {
 }
 
 // The parts of the page that follow the item, and the call that reads it anew.
-function followed(first, reserve, wasWatched, conversation) {
+function followed(first, conversation) {
   const shownNow = { ...first };
-  const about = facts(reserve);
-  const place = make("div");
-  const lookAgain = async isAnnounced => {
-    const after = await look(shownNow.item.item);
-    const before = { ...shownNow };
-    Object.assign(shownNow, after);
-    if (!isSame(before, after)) {
-      await update();
-      const words = change(before, after);
-      if (isAnnounced && words) {
-        tell(words);
-      }
-    }
-  };
-  // One look after the other, so that no older one is shown after a newer.
-  let last = Promise.resolve();
-  const refresh = (isAnnounced = true) => {
-    last = last.catch(() => {}).then(() => lookAgain(isAnnounced));
-    return last;
-  };
-  const offer = offers(shownNow, wasWatched, refresh);
-  const sale = { state: "" };
-  async function update() {
-    await about.update(shownNow.item, shownNow.bid);
+  const about = facts();
+  const sale = salePart(() => refresh());
+  const offer = offers(shownNow, isAnnounced => refresh(isAnnounced));
+  // Nothing in here waits, so the parts never show two states.
+  function update() {
+    about.update(shownNow.item, shownNow.bid);
     const hadKeyboard = offer.node.contains(document.activeElement);
     offer.update();
     if (hadKeyboard && !document.activeElement.checkVisibility?.()) {
       about.focus();
     }
     conversation.update(shownNow.item);
-    await updateSale(sale, shownNow.item, place, refresh);
     tick();
   }
-  const node = make("section", { class: "box offer", "aria-label": "Price and bids" }, about.node, offer.node, place);
-  return { node, update, refresh, shownNow };
+  async function lookAgain(isAnnounced) {
+    const after = await look(shownNow.item.item, shownNow);
+    const before = { ...shownNow };
+    if (!isSame(before, after)) {
+      Object.assign(shownNow, after);
+      update();
+      tell(isAnnounced ? change(before, after) : "");
+    }
+    touchUp();
+  }
+  // What takes further reads, for which nothing waits.
+  function touchUp() {
+    about.askLeader(shownNow.item);
+    sale.update(shownNow.item);
+  }
+  // One look after the other, so that no older one is shown after a newer.
+  let last = Promise.resolve();
+  const refresh = (isAnnounced = true) => {
+    last = last.catch(() => {}).then(() => lookAgain(isAnnounced));
+    return last;
+  };
+  const node = make("section", { class: "box offer", "aria-label": "Price and bids" }, about.node, offer.node, sale.node);
+  update();
+  touchUp();
+  return { node, update, refresh, shownNow, about, offer };
 }
 
-// What the two parties and the house have to do once an item is sold.
-async function updateSale(sale, item, place, refresh) {
-  if (sale.state !== item.state) {
-    sale.state = item.state;
-    replace(place, settle(item, refresh), await rating(item));
-  }
+// What the two parties and the house have to do once an item is sold. Where a read fails it is made again.
+function salePart(refresh) {
+  const toSettle = make("div");
+  const toRate = make("div");
+  let state = "";
+  let isAsked = false;
+  const rate = async item => {
+    isAsked = true;
+    await rating(item).then(node => replace(toRate, node), () => {
+      isAsked = false;
+    });
+  };
+  const update = item => {
+    if (isSold(item) && !isAsked) {
+      rate(item);
+    }
+    if (state !== item.state) {
+      state = item.state;
+      replace(toSettle, settle(item, refresh));
+    }
+  };
+  return { node: make("div", {}, toSettle, toRate), update };
 }
 
 async function byline(item) {
-  const list = await categories();
+  const [list, seller] = await Promise.all([categories(), nameOf(item.seller)]);
   const category = list.find(one => one.category === item.category);
-  return make("p", { class: "of" }, link(`category/${item.category}`, written(category?.name ?? "Its category")),
-    ` · Lot ${item.lot} · from `, link(`member/${item.seller}`, written(await nameOf(item.seller))));
+  return [link(`category/${item.category}`, written(named(category?.name ?? "Its category"))),
+    ` · Lot ${item.lot} · from `, link(`member/${item.seller}`, written(seller))];
 }
 
 const story = item => make("section", { class: "box story" }, make("h2", {}, "About it"),
@@ -154,22 +203,35 @@ async function isWatched(number) {
   return caller.isMember && (await read("/me/watches")).items.some(item => item.item === number);
 }
 
+// What is of use beside the price, and comes after it.
+async function complete(item, of, { about, offer }, conversation) {
+  const [line, reserve, watched] = await Promise.all([byline(item), ownReserve(item), isWatched(item.item),
+    conversation.fill()]);
+  replace(of, ...line);
+  if (reserve !== null) {
+    about.tellReserve(reserve);
+  }
+  offer.watch(watched);
+}
+
 export async function item(visit, number) {
-  const first = await look(number);
-  const own = first.item;
-  const asked = [byline(own), ownReserve(own), isWatched(own.item), talk(own)];
-  const [of, reserve, watched, conversation] = await Promise.all(asked);
-  const { node, update, refresh, shownNow } = followed(first, reserve, watched, conversation);
-  await update();
-  let wasOver = hasEnded(own);
-  visit.repeat(() => pace(shownNow.item), async () => {
-    await refresh();
-    // The end comes by the clock alone: the item is the same before and after it.
-    if (hasEnded(shownNow.item) !== wasOver) {
-      wasOver = !wasOver;
-      await update();
-      tell("The end of this auction has come.");
-    }
+  const first = await firstLook(Number(number));
+  const conversation = talk(first.item);
+  const parts = followed(first, conversation);
+  const { node, update, refresh, shownNow } = parts;
+  visit.onEnd(() => {
+    update();
+    tell("The end of this auction has come.");
   });
-  return { title: own.title, of, nodes: [make("div", { class: "two" }, node, story(own), conversation.node)] };
+  visit.repeat(() => pace(shownNow.item), refresh);
+  const of = make("p", { class: "of" }, `Lot ${first.item.lot}`);
+  let isComplete = false;
+  const fill = async () => {
+    await (isComplete ? conversation.fill() : complete(first.item, of, parts, conversation));
+    isComplete = true;
+  };
+  visit.repeat(() => isComplete ? 60 : 4, fill);
+  fill().catch(() => {});
+  return { title: titled(first.item.title), of, nodes: [make("div", { class: "two" }, node, story(first.item),
+    conversation.node)] };
 }

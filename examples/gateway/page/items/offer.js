@@ -1,12 +1,12 @@
 // What a member may do with an open item: bid, buy, watch.
 import { Refusal, send } from "../exchange/api.js";
 import { caller } from "../exchange/caller.js";
-import { make, put, written } from "../elements/dom.js";
+import { make, put, titled, written } from "../elements/dom.js";
 import { moneyField } from "../elements/fields.js";
 import { action, form, label } from "../elements/form.js";
 import { shown } from "../words/money.js";
 import { isSure } from "../elements/question.js";
-import { stateOf } from "./standing.js";
+import { standing, stateOf } from "./standing.js";
 
 // A maximum so many times the next bid may be a slip of the finger.
 const FAR = 10;
@@ -19,9 +19,18 @@ const tooLow = (now, amount) => now.bid?.leading
   ? `You lead already. Write more than your own maximum, which is ${shown(now.bid.maximum)}.`
   : `The next bid is ${shown(amount)} or more.`;
 
-function came(answer) {
-  return answer.leader === caller.number ? `Your bid is taken, and you lead at ${shown(answer.price)}.`
-    : `Your bid is taken, but another maximum is as high or higher. The next bid is ${shown(answer.floor)} or more.`;
+// What came of a bid that was taken, by its answer and by the item as it was read after it.
+function came(answer, now) {
+  if (answer.leader !== caller.number) {
+    return { isBad: true, sentence:
+      `Your bid is taken, but another maximum is as high or higher. The next bid is ${shown(answer.floor)} or more.` };
+  }
+  if (now.bid?.leading === false) {
+    return { isBad: true, sentence: `Your bid was taken, and outbid since. The next bid is ${shown(now.item.floor ?? 0)} or more.` };
+  }
+  const isShort = now.item.met === false;
+  return { isBad: isShort, sentence:
+    `Your bid is taken, and you lead at ${shown(answer.price)}${isShort ? ", but the reserve is not met" : ""}.` };
 }
 
 const isMeant = (maximum, floor) => maximum < FAR * floor || isSure({
@@ -30,15 +39,19 @@ const isMeant = (maximum, floor) => maximum < FAR * floor || isSure({
   yes: `Bid up to ${shown(maximum)}`, no: "Change it",
 });
 
-// Sends a bid. Where no answer came, the caller's own bid tells whether it was taken.
+const isLost = refusal => refusal instanceof Refusal && ["silence", "gateway"].includes(refusal.answer.error);
+
+// Sends a bid. Where no answer came, the caller's own bid tells whether it was taken. A look that fails after an answer
+// changes nothing of that: the next one comes in its turn.
 async function bid(now, maximum, refresh) {
+  const look = () => refresh(false).catch(() => {});
   try {
     const answer = await send(`/items/${now.item.item}/bids`, { maximum });
-    await refresh(false);
-    return came(answer);
+    await look();
+    return came(answer, now);
   } catch (refusal) {
-    await refresh(false).catch(() => {});
-    if (refusal instanceof Refusal && ["silence", "gateway"].includes(refusal.answer.error) && now.bid?.maximum === maximum) {
+    await look();
+    if (isLost(refusal) && now.bid?.maximum === maximum) {
       return "Your bid is taken.";
     }
     throw refusal;
@@ -62,8 +75,15 @@ function bidding(now, refresh) {
       return sentence;
     },
   });
+  let stood = null;
   const update = () => {
     const leads = Boolean(now.bid?.leading);
+    const stands = JSON.stringify(standing(now.item, now.bid));
+    // What came of the last bid is said of how things stood.
+    if (stands !== stood) {
+      parts.forget();
+    }
+    stood = stands;
     put(field.label, leads ? "A higher maximum" : "Your maximum");
     put(next, leads ? `Bid more than ${shown(now.bid.maximum)}.` : `Bid ${shown(now.item.floor ?? 0)} or more.`);
     label(parts.button, leads ? "Raise my maximum" : "Bid");
@@ -77,7 +97,7 @@ function buying(now, refresh) {
     button: `Buy now for ${price()}`, waits: "Buying..", kind: "plain", context: () => ({ tried: "buy" }),
     isMeant: () => isSure({
       title: `Buy this for ${price()}?`,
-      text: [written(now.item.title), " is yours then, and the auction is over. You can't give it back here."],
+      text: [written(titled(now.item.title)), " is yours then, and the auction is over. You can't give it back here."],
       yes: `Buy for ${price()}`, no: "Don't buy",
     }),
     unless: "Nothing was bought.",
@@ -93,7 +113,9 @@ function buying(now, refresh) {
   return parts.node;
 }
 
-function watching(now, isWatched) {
+// The button by which a member watches the item. It is there once it is known whether it does so already.
+function watching(now) {
+  let isWatched = false;
   const words = () => isWatched ? "Stop watching" : "Watch";
   const parts = action({
     button: words(), waits: "Asking the house..", kind: "plain", context: () => ({ tried: "watch" }),
@@ -103,19 +125,26 @@ function watching(now, isWatched) {
       return isWatched ? "You watch this now." : "You don't watch this any more.";
     },
   });
-  return parts.node;
+  parts.node.hidden = true;
+  const begin = value => {
+    isWatched = value;
+    label(parts.button, words());
+    parts.node.hidden = !caller.isMember;
+  };
+  return { node: parts.node, begin };
 }
 
 // The forms for an item as it is now, and the call that shows those that are of use.
-export function offers(now, isWatched, refresh) {
+export function offers(now, refresh) {
   const mayBid = () => caller.isMember && now.item.seller !== caller.number && stateOf(now.item) === "open";
   const bids = bidding(now, refresh);
   const purchase = buying(now, refresh);
-  const node = make("div", { class: "offers" }, bids.node, purchase, caller.isMember ? watching(now, isWatched) : null);
+  const watch = watching(now);
+  const node = make("div", { class: "offers" }, bids.node, purchase, watch.node);
   const update = () => {
     bids.node.hidden = !mayBid();
     purchase.hidden = !mayBid() || now.item.buy_now === null || now.item.count > 0;
     bids.update();
   };
-  return { node, update };
+  return { node, update, watch: watch.begin };
 }

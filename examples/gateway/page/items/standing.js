@@ -13,19 +13,54 @@ export const badge = item => make("span", { class: `badge ${stateOf(item)}` }, W
 
 export const stateInWords = item => WORDS[stateOf(item)];
 
-export const bidsInWords = item => item.count === 0 ? "No bids yet" : item.count === 1 ? "1 bid" : `${item.count} bids`;
+export const isSold = item => ["sold", "settled"].includes(item.state);
+
+// How many have bid. What was bought at once has no bids, and what is over gets none any more.
+export function bidsInWords(item) {
+  if (item.count > 0) {
+    return item.count === 1 ? "1 bid" : `${item.count} bids`;
+  }
+  if (isSold(item)) {
+    return "Bought at once";
+  }
+  return stateOf(item) === "open" ? "No bids yet" : "No bids";
+}
 
 // What the price is: of what nobody has bid for it is the start.
 export function priceInWords(item) {
-  if (item.state === "sold" || item.state === "settled") {
+  if (isSold(item)) {
     return "Sold for";
   }
-  return item.count === 0 ? "Starts at" : item.state === "open" ? "Price now" : "Last price";
+  const isOpen = stateOf(item) === "open";
+  if (item.count === 0) {
+    return isOpen ? "Starts at" : "Started at";
+  }
+  return isOpen ? "Price now" : "Last price";
 }
 
 // Whether the reserve is met, where the interface tells of one.
 export function reserveInWords(item) {
-  return typeof item.met !== "boolean" ? "" : item.met ? "Reserve met" : "Reserve not met";
+  if (typeof item.met !== "boolean") {
+    return "";
+  }
+  return item.met ? "Reserve met" : "Reserve not met";
+}
+
+const SHORT = "the reserve is not met";
+
+// Of a member that leads: below the reserve nobody gets the item.
+function leading(item, state, maximum) {
+  if (state === "ended") {
+    return item.met === false ? ["short", `You led at the end, but ${SHORT}, so it will not be sold.`]
+      : ["lead", "You led at the end. The house has yet to close this auction."];
+  }
+  return item.met === false ? ["short", `You lead, but ${SHORT}: at this price it is not sold. Your maximum is ${maximum}.`]
+    : ["lead", `You lead. Your maximum is ${maximum}, and nobody else sees it.`];
+}
+
+function outbid(state, maximum) {
+  return ["out", state === "ended" ? `You were outbid at the end. Your maximum was ${maximum}.`
+    : `You were outbid. Your maximum is ${maximum}.`];
 }
 
 // How the caller stands by its own bid: a kind, and some words.
@@ -34,20 +69,15 @@ export function standing(item, bid) {
   if (item.seller === caller.number) {
     return ["own", "This is your own item."];
   }
-  if ((state === "sold" || state === "settled") && item.leader === caller.number) {
+  if (isSold(item) && item.leader === caller.number) {
     return ["lead", `You ${item.count ? "won" : "bought"} this for ${shown(item.price)}.`];
   }
   if (!bid) {
     return null;
   }
   const maximum = shown(bid.maximum);
-  if (state === "open") {
-    return bid.leading ? ["lead", `You lead. Your maximum is ${maximum}, and nobody else sees it.`]
-      : ["out", `You were outbid. Your maximum is ${maximum}.`];
-  }
-  if (state === "ended") {
-    return bid.leading ? ["lead", "You led at the end. The house has yet to close this auction."]
-      : ["out", `You were outbid at the end. Your maximum was ${maximum}.`];
+  if (state === "open" || state === "ended") {
+    return bid.leading ? leading(item, state, maximum) : outbid(state, maximum);
   }
   return ["out", state === "unsold" ? "It ended without a sale." : `Somebody else got this. Your maximum was ${maximum}.`];
 }
@@ -56,6 +86,7 @@ export function standing(item, bid) {
 export function standingInShort(item, bid) {
   const [kind] = standing(item, bid) ?? [];
   const isOver = !["open", "ended"].includes(stateOf(item));
-  const words = { own: "Yours", lead: isOver ? "You won" : "You lead", out: isOver ? "Lost" : "You were outbid" };
+  const words = { own: "Yours", lead: isOver ? "You won" : "You lead", out: isOver ? "Lost" : "You were outbid",
+    short: "You lead, reserve not met" };
   return kind ? make("span", { class: `badge ${kind}` }, words[kind]) : null;
 }

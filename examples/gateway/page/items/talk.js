@@ -1,11 +1,13 @@
 // Questions to the seller and their answers, on the page of an item.
 import { lists, read, send, whole } from "../exchange/api.js";
 import { caller } from "../exchange/caller.js";
-import { isolated, link, make, paragraphs, replace, written } from "../elements/dom.js";
+import { isolated, link, make, paragraphs, put, written } from "../elements/dom.js";
 import { textField } from "../elements/fields.js";
 import { form } from "../elements/form.js";
 import { namesOf } from "../exchange/known.js";
 import { tell } from "../elements/news.js";
+import { keepingEntries } from "../elements/place.js";
+import { countWaiting } from "../member/waiting.js";
 import { stateOf } from "./standing.js";
 
 const MOST = 500;
@@ -26,6 +28,7 @@ export function answering(question, asker, after) {
     act: async text => {
       await send(`/items/${question.item}/questions/${question.asker}/${question.number}/answer`, { text });
       await after();
+      countWaiting();
       tell("Your answer is published.");
     },
   }).node;
@@ -56,18 +59,17 @@ async function questionsOf(item) {
   return { published, own, waits: isSeller ? await waiting(item) : [] };
 }
 
-// What is listed under a heading. After an answer the keyboard goes to the heading, since its form is gone.
-async function listed(item, after) {
-  const { published, own, waits } = await questionsOf(item);
-  const names = await namesOf([...published, ...waits].map(question => question.asker));
-  const entries = [
-    ...waits.map(question => make("li", {}, make("p", { class: "soft" }, written(names.get(question.asker)), " asks"),
-      make("div", { class: "asked" }, paragraphs(question.text)), answering(question, names.get(question.asker), after))),
-    ...own.map(question => exchange(question, "You")),
-    ...published.map(question => exchange(question, link(`member/${question.asker}`, written(names.get(question.asker))))),
+// The entries of the list, each with a key by which it is known again. One that is answered is another entry.
+function entriesOf({ published, own, waits }, names, after) {
+  const by = question => link(`member/${question.asker}`, written(names.get(question.asker)));
+  const key = question => `${question.asker}/${question.number}/${question.answer === null}`;
+  return [
+    ...waits.map(question => [key(question), () => make("li", {},
+      make("p", { class: "soft" }, written(names.get(question.asker)), " asks"),
+      make("div", { class: "asked" }, paragraphs(question.text)), answering(question, names.get(question.asker), after))]),
+    ...own.map(question => [key(question), () => exchange(question, "You")]),
+    ...published.map(question => [key(question), () => exchange(question, by(question))]),
   ];
-  return entries.length ? make("ul", { class: "talk" }, ...entries)
-    : make("p", { class: "soft" }, "No question was answered yet.");
 }
 
 function asking(item, refill) {
@@ -77,25 +79,33 @@ function asking(item, refill) {
     act: async text => {
       await send(`/items/${item.item}/questions`, { text });
       field.clear();
-      await refill();
+      await refill().catch(() => {});
       return "Your question is with the seller.";
     },
   }).node;
 }
 
-// The part of an item's page with its questions, and the call that takes the form away once nobody may ask any more.
-export async function talk(item) {
-  const place = make("div");
+// The part of an item's page with its questions, the call that reads them, and the call that takes the form away once
+// nobody may ask any more.
+export function talk(item) {
+  const list = make("ul", { class: "talk" });
+  const none = make("p", { class: "soft" });
   const heading = make("h2", { tabindex: "-1" }, "Questions");
+  const keep = keepingEntries(list);
   const after = async () => {
-    await refill();
+    await fill().catch(() => {});
     heading.focus();
   };
-  const refill = async () => replace(place, await listed(item, after));
-  await refill();
-  const ask = asking(item, refill);
+  async function fill() {
+    const found = await questionsOf(item);
+    const names = await namesOf([...found.published, ...found.waits].map(question => question.asker));
+    const entries = entriesOf(found, names, after);
+    keep(entries);
+    put(none, entries.length ? "" : "No question was answered yet.");
+  }
+  const ask = asking(item, fill);
   const update = now => {
     ask.hidden = !caller.isMember || caller.number === now.seller || stateOf(now) !== "open";
   };
-  return { node: make("section", { class: "box" }, heading, place, ask), update };
+  return { node: make("section", { class: "box" }, heading, list, none, ask), update, fill };
 }

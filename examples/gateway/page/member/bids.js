@@ -1,10 +1,12 @@
 // What the caller has bid for, with titles and ends, which the list of bids lacks.
-import { link, make, replace, written } from "../elements/dom.js";
+import { link, make, titled, written } from "../elements/dom.js";
+import { refilling } from "../elements/place.js";
 import { action } from "../elements/form.js";
 import { bidsByItem, itemsOf } from "../exchange/known.js";
 import { countdown, inWords } from "../time/moments.js";
 import { shown } from "../words/money.js";
 import { inOrder } from "../exchange/shelf.js";
+import { shownOf } from "../items/browse.js";
 import { standingInShort, stateOf } from "../items/standing.js";
 import { AMOUNT, SUBJECT, TEXT, table } from "../elements/table.js";
 
@@ -12,9 +14,13 @@ const COLUMNS = [["Item", SUBJECT], ["Price", AMOUNT], ["My maximum", AMOUNT], [
 
 // So many are read at first.
 const MOST = 100;
+// After so many seconds what is shown is read again.
+const FRESH = 60;
 
-const row = (item, bid) => [link(`item/${item.item}`, written(item.title)), shown(item.price), shown(bid.maximum),
-  standingInShort(item, bid), stateOf(item) === "open" ? ["in ", countdown(item.end)] : inWords(item.closed ?? item.end)];
+const nothing = () => make("p", { class: "empty" }, "You have bid for nothing yet. ", link("", "Look at the items"));
+
+const row = (item, bid) => [link(`item/${item.item}`, written(titled(item.title))), shown(item.price), shown(bid.maximum),
+  standingInShort(item, bid), make("span", {}, stateOf(item) === "open" ? ["in ", countdown(item.end)] : inWords(item.closed ?? item.end))];
 
 function part(title, items, bids) {
   return items.length ? table(title, COLUMNS, items.map(item => row(item, bids.get(item.item)))) : null;
@@ -27,11 +33,12 @@ function chosen(bids) {
 }
 
 // Each item is a read of its own, so older ones are read when they are asked for.
-function older(numbers, fill) {
+function older(visit, numbers, again) {
   const parts = action({
     button: `Read ${numbers.length} older ones`, waits: "Reading..", kind: "plain",
     act: async () => {
-      fill(await itemsOf(numbers));
+      visit.kept.isWhole = true;
+      await again();
       parts.button.hidden = true;
       return "All your bids are here.";
     },
@@ -39,20 +46,29 @@ function older(numbers, fill) {
   return parts.node;
 }
 
-export async function bids() {
-  const own = await bidsByItem();
-  if (!own.size) {
-    const why = make("p", { class: "empty" }, "You have bid for nothing yet. ", link("", "Look at the items"));
-    return { title: "My bids", nodes: [why] };
-  }
-  const numbers = chosen(own.values());
+export async function bids(visit) {
   const place = make("div");
-  const items = [];
-  const fill = found => {
-    items.push(...found);
-    const { open, over } = inOrder(items);
-    replace(place, part("Open", open, own), part("Over", over, own));
+  const refill = refilling(place);
+  const known = new Map();
+  const look = async () => {
+    const own = await bidsByItem();
+    const numbers = chosen(own.values());
+    const [most, rest] = visit.kept.isWhole ? [numbers, []] : [numbers.slice(0, MOST), numbers.slice(MOST)];
+    // What is over stays as it is.
+    const changing = most.filter(number => (known.get(number)?.state ?? "open") === "open");
+    (await itemsOf(changing)).forEach(item => known.set(item.item, item));
+    return { own, items: most.map(number => known.get(number)), rest };
   };
-  fill(await itemsOf(numbers.slice(0, MOST)));
-  return { title: "My bids", nodes: [place, numbers.length > MOST ? older(numbers.slice(MOST), fill) : null] };
+  const show = ({ own, items }) => {
+    const { open, over } = inOrder(items);
+    refill(shownOf([...open, ...over], own), () => items.length ? [part("Open", open, own), part("Over", over, own)]
+      : [nothing()]);
+  };
+  let first = null;
+  await visit.follow(FRESH, look, found => {
+    first ??= found;
+    show(found);
+  });
+  const more = first.rest.length ? older(visit, first.rest, async () => show(await look())) : null;
+  return { title: "My bids", nodes: [place, more] };
 }

@@ -1,7 +1,9 @@
 // The form by which a member lists an item.
-import { send } from "../exchange/api.js";
+import { Refusal, read, send } from "../exchange/api.js";
+import { caller } from "../exchange/caller.js";
+import { Shelf } from "../exchange/shelf.js";
 import { now } from "../time/clock.js";
-import { make } from "../elements/dom.js";
+import { make, named } from "../elements/dom.js";
 import { choiceField, codeField, dayField, moneyField, textField, timeField } from "../elements/fields.js";
 import { form } from "../elements/form.js";
 import { categories } from "../exchange/known.js";
@@ -34,9 +36,9 @@ function fieldsOf(list) {
     most: () => buyNow.value ?? MOST,
   });
   return [
-    choiceField("Category", { choices: list.map(one => [one.category, one.name]) }),
-    textField("Title", { most: 80, hint: "What it is, in up to 80 letters." }),
-    textField("About it", { least: 0, most: 2000, rows: 6, hint: "Its age, its size, its faults. Up to 2000 letters." }),
+    choiceField("Category", { choices: list.map(one => [one.category, named(one.name)]) }),
+    textField("Title", { most: 80, hint: "What it is." }),
+    textField("About it", { least: 0, most: 2000, rows: 6, hint: "Its age, its size, its faults." }),
     start, buyNow, reserve,
     dayField("Ends on", dayAt(now() + WEEK)),
     timeField("Ends at", EVENING, zoneInWords()),
@@ -46,15 +48,43 @@ function fieldsOf(list) {
   ];
 }
 
+// The item that the caller has listed under a code, among those that its category got last, or undefined.
+async function listedUnder(category, lot) {
+  const shelf = new Shelf(category);
+  await shelf.readAnew((await read("/house")).items, 1);
+  return shelf.items.find(item => item.seller === caller.number && item.lot === lot);
+}
+
+const isSame = (item, listing) => ["category", "title", "text", "start", "end", "buy_now"]
+  .every(key => item[key] === listing[key]);
+
+// Lists an item, and gives its number. Where the answer was lost, now or before, the item is looked for by its code: who
+// sends the same again has not listed it twice.
+async function listOnce(listing) {
+  try {
+    return (await send("/items", listing)).item;
+  } catch (refusal) {
+    const mayBeThere = refusal instanceof Refusal && ["silence", "gateway", "LotExists"].includes(refusal.answer.error);
+    const item = mayBeThere ? await listedUnder(listing.category, listing.lot).catch(() => undefined) : undefined;
+    if (!item || !isSame(item, listing)) {
+      throw refusal;
+    }
+    return item.item;
+  }
+}
+
 async function list(category, title, text, start, buyNow, reserve, day, time, lot) {
   const end = Math.min(moment(day, time), LAST);
-  const answer = await send("/items", { category, title, text, start, buy_now: buyNow, reserve, end, lot });
-  location.hash = `#/item/${answer.item}`;
+  const number = await listOnce({ category, title, text, start, buy_now: buyNow, reserve, end, lot });
+  location.hash = `#/item/${number}`;
   setTimeout(() => tell("Your item is listed."), 500);
 }
 
+// What goes to the house of a sale: the rate is in ten-thousandths.
+const feeInWords = rate => rate === 0 ? "" : `Of the price at which it is sold the house keeps ${rate / 100} %. `;
+
 export async function sell() {
-  const all = await categories();
+  const [all, { rate }] = await Promise.all([categories(), read("/house")]);
   if (!all.length) {
     const why = "The house has no category yet, so nothing can be listed. Ask whoever runs it for one.";
     return { title: "Sell", nodes: [make("p", { class: "empty" }, why)] };
@@ -62,5 +92,6 @@ export async function sell() {
   const fields = fieldsOf(all);
   const parts = form({ fields, button: "List it", waits: "Listing..", context: () => ({ tried: "list" }), act: list });
   return { title: "Sell", nodes: [make("section", { class: "box narrow" },
-    make("p", { class: "soft" }, "A listing stays as it is: it can't be changed or taken back."), parts.node)] };
+    make("p", { class: "soft" }, feeInWords(rate), "A listing stays as it is: it can't be changed or taken back."),
+    parts.node)] };
 }

@@ -5,9 +5,9 @@ import { now } from "../time/clock.js";
 import { chart } from "../elements/chart.js";
 import { link, make, written } from "../elements/dom.js";
 import { dayField } from "../elements/fields.js";
-import { save } from "../elements/files.js";
-import { form } from "../elements/form.js";
-import { namesOf, titlesOf } from "../exchange/known.js";
+import { csv, save } from "../elements/files.js";
+import { action, form } from "../elements/form.js";
+import { nameOf, namesOf, titlesOf } from "../exchange/known.js";
 import { dayAt, dayInWords } from "../time/moments.js";
 import { plain, shown } from "../words/money.js";
 import { AMOUNT, SUBJECT, TEXT, sums, table } from "../elements/table.js";
@@ -15,14 +15,11 @@ import { AMOUNT, SUBJECT, TEXT, sums, table } from "../elements/table.js";
 const COLUMNS = [["Day", TEXT], ["Item", SUBJECT], ["Sold or bought", TEXT], ["With", TEXT], ["Price", AMOUNT], ["Fee", AMOUNT],
   ["Net", AMOUNT]];
 
-// The form of `auction statement --csv`.
-const HEAD = "day,item,role,other,price,fee,net";
+// The columns of `auction statement --csv`, and then what the numbers of item and party stand for.
+const HEAD = ["day", "item", "role", "other", "price", "fee", "net", "title", "name"];
 
-function csv(lines) {
-  const rows = lines.map(({ day, item, role, other, price, fee, net }) =>
-    [day, item, role, other, plain(price), plain(fee), plain(net)].join(","));
-  return [HEAD, ...rows, ""].join("\n");
-}
+const spreadsheet = (lines, titles, names) => csv([HEAD, ...lines.map(({ day, item, role, other, price, fee, net }) =>
+  [day, item, role, other, plain(price), plain(fee), plain(net), titles.get(item), names.get(other)])]);
 
 function period() {
   const year = dayAt(now()).slice(0, 4);
@@ -45,9 +42,7 @@ function choosing(from, to) {
   return parts.node;
 }
 
-async function lines(statement) {
-  const [titles, names] = await Promise.all([titlesOf(statement.lines.map(line => line.item)),
-    namesOf(statement.lines.map(line => line.other))]);
+function lines(statement, titles, names) {
   const rows = statement.lines.map(line => [dayInWords(line.day), link(`item/${line.item}`, written(titles.get(line.item))),
     line.role === "sell" ? "Sold" : "Bought", link(`member/${line.other}`, written(names.get(line.other))),
     shown(line.price), line.role === "sell" ? shown(line.fee) : "", line.role === "sell" ? shown(line.net) : ""]);
@@ -59,17 +54,32 @@ async function lines(statement) {
 const totals = ({ sold, fees, net, bought }) => sums([["Sold", shown(sold)], ["Fees", shown(fees)], ["You get", shown(net)],
   ["Bought", shown(bought)]]);
 
-function download(statement, from, to) {
-  const click = () => save(`statement-${from}-${to}.csv`, "text/csv", csv(statement.lines));
-  return make("button", { type: "button", class: "plain", click }, "Save as CSV");
+// A table for a spreadsheet: in it every item and party has its name, however many there are.
+function download({ lines }, from, to) {
+  return action({
+    button: "Save as CSV", waits: "Reading..", kind: "plain", context: () => ({ isRead: true }),
+    act: async () => {
+      const [titles, names] = await namesIn(lines, Infinity);
+      save(`statement-${from}-${to}.csv`, "text/csv", spreadsheet(lines, titles, names));
+      return "The table is saved.";
+    },
+  }).node;
 }
+
+const namesIn = (lines, most) => Promise.all([titlesOf(lines.map(line => line.item), most),
+  namesOf(lines.map(line => line.other), most)]);
+
+// Of a long statement the names of the last are read for the page itself.
+const SHOWN = 200;
 
 export async function statement(visit, first, last) {
   const [from, to] = first && last ? [first, last] : period();
   const answer = await read(`/me/statement/${from}/${to}`);
   const days = `, ${dayInWords(from)} to ${dayInWords(to)}. Both days belong to it.`;
-  const heading = make("p", { class: "soft" }, "For ", written(caller.name), days);
-  const nodes = answer.lines.length ? [totals(answer), chart(answer.lines), await lines(answer), download(answer, from, to)]
+  const heading = make("p", { class: "soft" }, "For ", written(await nameOf(caller.number)), days);
+  const [titles, names] = await namesIn(answer.lines, SHOWN);
+  const nodes = answer.lines.length ? [totals(answer), chart(answer.lines), lines(answer, titles, names),
+    download(answer, from, to)]
     : [make("p", { class: "empty" }, "Nothing was sold or bought in this period. Choose other days.")];
   return { title: "Statement", nodes: [heading, choosing(from, to), ...nodes] };
 }

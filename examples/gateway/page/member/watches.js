@@ -1,16 +1,29 @@
 // What the caller watches.
 import { read } from "../exchange/api.js";
-import { cards } from "../items/browse.js";
+import { cards, shownOf } from "../items/browse.js";
 import { inOrder } from "../exchange/shelf.js";
 import { link, make } from "../elements/dom.js";
+import { refilling } from "../elements/place.js";
 import { bidsByItem } from "../exchange/known.js";
 
-export async function watches() {
-  const [{ items }, bids] = await Promise.all([read("/me/watches"), bidsByItem()]);
-  const { open, over } = inOrder(items);
-  const part = (title, list) => list.length ? make("section", {}, make("h2", {}, title), cards(list, bids)) : null;
-  const nodes = items.length ? [part("Open", open), part("Over", over)]
-    : [make("p", { class: "empty" }, "You watch nothing yet. An item's page has a button for it. ",
-      link("", "Look at the items"))];
-  return { title: "Watching", nodes };
+const FRESH = 60;
+
+const part = (title, list, bids) => list.length ? make("section", {}, make("h2", {}, title), cards(list, bids)) : null;
+
+const nothing = () => make("p", { class: "empty" }, "You watch nothing yet. An item's page has a button for it. ",
+  link("", "Look at the items"));
+
+export async function watches(visit) {
+  const place = make("div");
+  const refill = refilling(place);
+  const look = async () => {
+    const [{ items }, bids] = await Promise.all([read("/me/watches"), bidsByItem()]);
+    return { items, bids };
+  };
+  await visit.follow(FRESH, look, ({ items, bids }) => {
+    const { open, over } = inOrder(items);
+    refill(shownOf([...open, ...over], bids), () => items.length ? [part("Open", open, bids), part("Over", over, bids)]
+      : [nothing()]);
+  });
+  return { title: "Watching", nodes: [place] };
 }

@@ -1,7 +1,8 @@
 // The house itself: its counts and rules for everybody, and for who runs it categories and the public record.
 import { read, send } from "../exchange/api.js";
 import { caller } from "../exchange/caller.js";
-import { link, make, replace, written } from "../elements/dom.js";
+import { link, make, named, written } from "../elements/dom.js";
+import { refilling } from "../elements/place.js";
 import { textField } from "../elements/fields.js";
 import { save } from "../elements/files.js";
 import { action, form } from "../elements/form.js";
@@ -11,13 +12,16 @@ import { shown } from "../words/money.js";
 import { publicRecord } from "./record.js";
 import { AMOUNT, sums, table } from "../elements/table.js";
 
+// After so many seconds what is shown is read again.
+const FRESH = 60;
+
 const number = count => shown(count * 100).slice(0, -3);
 
 // The rate is in ten-thousandths: 1000 is 10 %.
 const facts = page => [
   ["Members", number(page.members)], ["Items", number(page.items)], ["Categories", number(page.categories)],
   ["Fee of a sale", `${page.rate / 100} %`], ["Zone", page.zone],
-  ["Clock", page.clock ? time(page.clock) : "not set yet"],
+  ["Last command", page.clock ? time(page.clock) : "none yet"],
 ];
 
 function steps(bands) {
@@ -52,21 +56,29 @@ function recording() {
   }).node;
 }
 
-async function ofHouse(place, refill) {
-  await refill();
+function ofHouse(place, refill) {
   const about = make("p", { class: "soft" }, "All that everybody may see, as one file. In a great house it takes a while.");
   return [
     make("section", { class: "box" }, make("h2", {}, "Categories"), place, adding(refill)),
     make("section", { class: "box" }, make("h2", {}, "Public record"), about, recording())];
 }
 
-export async function house() {
-  const [page, { bands }] = await Promise.all([read("/house"), read("/bands")]);
+export async function house(visit) {
   const place = make("div");
-  const refill = async () => replace(place, make("ul", { class: "people" },
-    ...(await categories()).map(one => make("li", {}, link(`category/${one.category}`, written(one.name))))));
-  return { title: "The house", nodes: [
-    sums(facts(page)),
-    ...(caller.isHouse ? await ofHouse(place, refill) : []),
-    steps(bands)] };
+  const categoriesPlace = make("div");
+  const refill = refilling(place);
+  const refillCategories = refilling(categoriesPlace);
+  const { bands } = await read("/bands");
+  const look = async () => {
+    const [page, list] = await Promise.all([read("/house"), caller.isHouse ? categories() : []]);
+    return { page, list };
+  };
+  const show = ({ page, list }) => {
+    refill(page, () => [sums(facts(page))]);
+    refillCategories(list, () => [make("ul", { class: "people" },
+      ...list.map(one => make("li", {}, link(`category/${one.category}`, written(named(one.name))))))]);
+  };
+  await visit.follow(FRESH, look, show);
+  const again = async () => show(await look());
+  return { title: "The house", nodes: [place, ...(caller.isHouse ? ofHouse(categoriesPlace, again) : []), steps(bands)] };
 }

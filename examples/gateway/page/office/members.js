@@ -1,6 +1,6 @@
 // Members: what each was rated, and for the house the list of all.
 import { each, read, send, whole } from "../exchange/api.js";
-import { link, make, written } from "../elements/dom.js";
+import { link, make, named, written } from "../elements/dom.js";
 import { textField } from "../elements/fields.js";
 import { action, form } from "../elements/form.js";
 import { titlesOf } from "../exchange/known.js";
@@ -21,7 +21,7 @@ function feedbackList(list, titles) {
 export async function member(visit, number) {
   const [one, list] = await Promise.all([read(`/members/${number}`), whole(`/members/${number}/feedback`, "feedback")]);
   const titles = await titlesOf(list.map(feedback => feedback.item));
-  return { title: one.name, nodes: [
+  return { title: named(one.name), nodes: [
     make("p", {}, `Member ${one.member}. Rated: ${counts(one)}.`),
     make("section", { class: "box" }, make("h2", {}, "Ratings"), feedbackList(list, titles))] };
 }
@@ -35,7 +35,7 @@ function listing() {
     const numbers = Array.from({ length: Math.min(AT_ONCE, count - known) }, (_, place) => known + 1 + place);
     const found = await each(numbers, number => read(`/members/${number}`));
     known += found.length;
-    place.append(...found.map(one => make("li", {}, link(`member/${one.member}`, written(one.name)),
+    place.append(...found.map(one => make("li", {}, link(`member/${one.member}`, written(named(one.name))),
       make("span", { class: "soft" }, ` member ${one.member}; ${counts(one)}`))));
     return known < count;
   };

@@ -2,7 +2,7 @@
 import { each, read, send } from "../exchange/api.js";
 import { caller } from "../exchange/caller.js";
 import { Shelf } from "../exchange/shelf.js";
-import { link, make, replace, written } from "../elements/dom.js";
+import { link, make, replace, titled, written } from "../elements/dom.js";
 import { action } from "../elements/form.js";
 import { categories } from "../exchange/known.js";
 import { shown } from "../words/money.js";
@@ -32,14 +32,14 @@ export function settle(item, after) {
 // Sales that wait: no list has them, so the items of all categories are read.
 async function sales() {
   const [list, { items: count }] = await Promise.all([categories(), read("/house")]);
-  const shelves = list.map(one => new Shelf(one.category, count));
-  await each(shelves, shelf => shelf.readOlder(ENOUGH));
+  const shelves = list.map(one => new Shelf(one.category));
+  await each(shelves, shelf => shelf.readAnew(count, ENOUGH));
   const isWhole = shelves.every(shelf => shelf.isWhole);
   return { sold: shelves.flatMap(shelf => shelf.items).filter(item => item.state === "sold"), isWhole };
 }
 
 const entry = item => make("li", {},
-  make("p", {}, link(`item/${item.item}`, written(item.title)), ` sold for ${shown(item.price)}`), settle(item));
+  make("p", {}, link(`item/${item.item}`, written(titled(item.title))), ` sold for ${shown(item.price)}`), settle(item));
 
 async function listed() {
   const { sold, isWhole } = await sales();

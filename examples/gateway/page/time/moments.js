@@ -1,5 +1,5 @@
 // Moments as people read them, in the house's zone.
-import { make } from "../elements/dom.js";
+import { make, put } from "../elements/dom.js";
 import { isKnown, now } from "./clock.js";
 import { at, momentOf, parse } from "./zone.js";
 
@@ -84,10 +84,21 @@ function left(end) {
   return seconds > 0 ? duration(seconds) : "no time";
 }
 
+// The event by which the page hears that a countdown has run out.
+export const ENDED = "countdown-ended";
+
 export function tick() {
+  let hasRunOut = false;
   for (const span of document.querySelectorAll(".countdown")) {
     const end = Number(span.dataset.end);
-    span.textContent = left(end);
+    put(span, left(end));
     span.classList.toggle("soon", isKnown() && secondsLeft(end) < 5 * MINUTE);
+    if (hasEnded({ end }) && !span.dataset.isOver) {
+      span.dataset.isOver = "true";
+      hasRunOut = true;
+    }
+  }
+  if (hasRunOut) {
+    document.dispatchEvent(new Event(ENDED));
   }
 }

@@ -14,14 +14,15 @@ export function shown(cents) {
 export const plain = cents => shown(cents).replaceAll(",", "");
 
 const PLAIN = /^(\d{1,8})(?:[.,](\d{1,2}))?$/;
-const GROUPED = [/^(\d{1,3}(?:,\d{3})+)(?:\.(\d{1,2}))?$/, /^(\d{1,3}(?:\.\d{3})+)(?:,(\d{1,2}))?$/];
+const SPACED = /^(\d{1,3}(?:[ \u00a0\u202f]\d{3})+)(?:[.,](\d{1,2}))?$/;
+const GROUPED = [/^(\d{1,3}(?:,\d{3})+)\.(\d{1,2})$/, /^(\d{1,3}(?:\.\d{3})+),(\d{1,2})$/];
 
-// The cents that somebody wrote, or null. 1,234 and 1.234 may mean two amounts, so they are none.
+// The cents that somebody wrote, or null. 1,234 and 1.234 may mean two amounts, so they are none. A space parts threes
+// alone: 12 50 may be a slip for 12.50.
 export function cents(text) {
-  const tight = text.replace(/[\s\u00a0\u202f]/g, "");
-  const found = PLAIN.exec(tight) ?? GROUPED.map(form => form.exec(tight)).find(match => match && match[2]);
+  const found = [PLAIN, SPACED, ...GROUPED].map(form => form.exec(text.trim())).find(match => match);
   if (!found) {
     return null;
   }
-  return Number(found[1].replace(/[.,]/g, "")) * 100 + Number((found[2] ?? "").padEnd(2, "0"));
+  return Number(found[1].replace(/\D/g, "")) * 100 + Number((found[2] ?? "").padEnd(2, "0"));
 }

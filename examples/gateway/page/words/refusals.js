@@ -13,7 +13,7 @@ const RULES = {
   OwnItem: "This is your own item, and sellers stay out of their own auctions. Other members may bid.",
   HasBids: "Somebody has bid meanwhile, so it can't be bought at once any more. You can bid for it.",
   NoBuyNow: "This item can't be bought at once. You can bid for it.",
-  LotExists: "You have listed something under this code already. Choose another code.",
+  LotExists: "You have listed something else under this code already. Choose another code.",
   NameTaken: "This name is taken. Choose another.",
   AlreadyAnswered: "This question has its answer already, and that stays. Read the page again to see it.",
   AlreadyGiven: "You have rated this sale already, and that stays. The other member's page shows it.",
