@@ -14,6 +14,7 @@ a house with some history behind nginx and haproxy. They find all by roles and n
 - the console has nothing of the page's own making
 - the file of a statement is the program's own, and the public record is what all reads tell
 - of many items and bids the youngest are shown, and the others when they are asked for
+- a job writes the public items as files, whole or not at all (page_catalogue.py)
 - amounts, zones (beside the C library) and refusals (page_words.py)
 - what the page says is true at once: after an outbid, an end, a failed read, a lost answer, a sleep, a way back
   (page_truth.py)
@@ -27,6 +28,7 @@ import sys
 import tempfile
 
 import browser
+import page_catalogue as catalogue
 import page_play as play
 import page_truth as truth
 import page_words as words
@@ -219,6 +221,7 @@ def main():
         print(f"Debian's packages that are missing: {' '.join(missing)}")
         return 1
     words.files()
+    catalogue.whole_or_not()
     with folder_of_nobody() as folder, tempfile.TemporaryDirectory() as saved, furnished(program, folder) as gateway:
         policy(gateway)
         with readers(gateway, "house", "ana", "ben", "cid", wrong="cid") as all_of_them:
