@@ -13,7 +13,7 @@ fail() {
 }
 
 check_needs() {
-    for command in nginx haproxy openssl curl setsid unshare ip; do
+    for command in nginx haproxy openssl curl setsid unshare ip python3; do
         PATH=$PATH:/usr/sbin:/sbin command -v "$command" > /dev/null || fail "no $command: README.md has the packages"
     done
     if [ -e run/nginx.pid ] && kill -0 "$(cat run/nginx.pid)" 2> /dev/null; then
@@ -46,6 +46,13 @@ serve_house() {
     (cd "houses/$1" && exec setsid $own_network sh "$here/house.sh" "$program" "$2" "$count") \
         > "logs/$1.log" 2>&1 &
     echo $! > "houses/$1/run/house.pid"
+}
+
+# Writes the catalogue of a host's house each minute, or after as many seconds as CATALOGUE has; never, where that is 0.
+keep_catalogue() {
+    [ "${CATALOGUE:-60}" != 0 ] || return 0
+    setsid sh "$here/catalogue/each_minute.sh" "houses/$1" "${CATALOGUE:-60}" > "logs/$1-catalogue.log" 2>&1 &
+    echo $! > "houses/$1/run/catalogue.pid"
 }
 
 wait_for() {
@@ -88,6 +95,7 @@ done
 for host in "$@"; do
     wait_for "$host"
     add_first_members "$host"
+    keep_catalogue "$host"
 done
 nginx -p "$PWD" -c nginx.conf -e logs/error.log
 trap - EXIT

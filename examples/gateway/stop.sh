@@ -20,7 +20,7 @@ if [ -e run/nginx.pid ]; then
     kill -s QUIT "$gateway" 2> /dev/null || true
     wait_for_end "$gateway"
 fi
-for file in houses/*/run/house.pid; do
+for file in houses/*/run/catalogue.pid houses/*/run/house.pid; do
     [ -e "$file" ] || continue
     house=$(cat "$file")
     kill -s TERM -- "-$house" 2> /dev/null || true
