@@ -28,9 +28,9 @@ DEBIAN ?= out/debian
 PICTURES ?=
 
 # Debian's packages of these four: nginx to util-linux are needed, the others are left out where they aren't there. The page
-# needs chromium-driver too.
-GATEWAY_PACKAGES = nginx-light haproxy openssl curl iproute2 procps util-linux chromium-driver
-PAGE_PACKAGES = $(GATEWAY_PACKAGES)
+# needs chromium-driver too, and its modules and types are tested where nodejs and node-typescript are there.
+GATEWAY_PACKAGES = nginx-light haproxy openssl curl iproute2 procps python3 util-linux chromium-driver
+PAGE_PACKAGES = $(GATEWAY_PACKAGES) nodejs node-typescript
 BACKUP_PACKAGES = sqlite3 btrfs-progs
 DEB_PACKAGES = lintian debootstrap systemd-container
 
@@ -244,6 +244,7 @@ gateway:
 page:
 	@echo "Debian's packages: $(PAGE_PACKAGES)"
 	if command -v node > /dev/null; then node --test tests/page_modules.mjs; fi
+	if command -v tsc > /dev/null; then tsc -p tests/page_types.json; fi
 	python3 tests/page.py crates/auction/out/auction $(PICTURES)
 
 backup:
@@ -256,4 +257,4 @@ deb:
 	python3 tests/package.py crates/auction/out/auction out $(DEBIAN)
 
 packages:
-	apt-get install -y --no-install-recommends $(GATEWAY_PACKAGES) $(BACKUP_PACKAGES) $(DEB_PACKAGES)
+	apt-get install -y --no-install-recommends $(PAGE_PACKAGES) $(BACKUP_PACKAGES) $(DEB_PACKAGES)

@@ -6,7 +6,10 @@ a house with some history behind nginx and haproxy. They find all by roles and n
 
 - a whole bid by the keyboard; a purchase after a second question; a button that waits while the house is still, and
   bids once
-- Ben, who loses, gets no digit of the maximum by which Cid leads: in no answer, and nowhere on the page
+- nobody is sent a digit of what another has sealed, a maximum or a reserve: in no answer, nowhere on a page, and in no
+  file that is written for all (page_sealed.py)
+- what one won and listed, accounts, settling, a new band table, the city's own words (page_pages.py)
+- the catalogue has all items, is written whole or not at all, and the page does without it (page_catalogue.py)
 - the countdown goes by the gateway's clock, also where the browser's is an hour wrong
 - names and texts that would do harm as HTML stay text, and turn nothing around them
 - all parts, light and dark, 360 and 1280 wide: names, roles, contrast, sizes, nothing wider than the window
@@ -14,7 +17,6 @@ a house with some history behind nginx and haproxy. They find all by roles and n
 - the console has nothing of the page's own making
 - the file of a statement is the program's own, and the public record is what all reads tell
 - of many items and bids the youngest are shown, and the others when they are asked for
-- a job writes the public items as files, whole or not at all (page_catalogue.py)
 - amounts, zones (beside the C library) and refusals (page_words.py)
 - what the page says is true at once: after an outbid, an end, a failed read, a lost answer, a sleep, a way back
   (page_truth.py)
@@ -29,11 +31,13 @@ import tempfile
 
 import browser
 import page_catalogue as catalogue
+import page_pages as pages
 import page_play as play
+import page_sealed as sealed
 import page_truth as truth
 import page_words as words
 from gateway_run import folder_of_nobody, missing_packages
-from page_house import (EVIL, EVIL_CATEGORY, EVIL_NAME, EVIL_TEXTS, EVIL_TITLES, MANY, MANY_BIDS, OPEN, PAST, furnished,
+from page_house import (BEN, EVIL, EVIL_CATEGORY, EVIL_NAME, EVIL_TEXTS, EVIL_TITLES, MANY, MANY_BIDS, OPEN, PAST, furnished,
                         with_many)
 from screen_reader import Reader
 from served import CHECKS, check
@@ -53,11 +57,11 @@ location.hash = arguments[0];"""
 EVIL_ITEM = len(PAST) + len(OPEN) + 1
 # The parts of the page, by who looks at them.
 PARTS = {
-    "ana": ["", "category/1", "category/4", "item/1", f"item/{EVIL_ITEM}", "questions", "sell", "statement", "house",
+    "ana": ["", "category/1", "category/4", "search/globe%20gores", "listings", "sell/1", "item/1", f"item/{EVIL_ITEM}", "questions", "sell", "statement", "house",
             "member/2", "nothing", "constructor"],
-    "ben": ["bids", "watches", "questions", "statement", "item/14", "item/15", "item/13", f"item/{EVIL_ITEM + 1}",
+    "ben": ["bids", "won", "watches", "questions", "statement", "item/14", "item/15", "item/13", f"item/{EVIL_ITEM + 1}",
             f"item/{EVIL_ITEM + 2}", "member/1", "item/999", "statement/2020-01-01/2020-12-31"],
-    "house": ["", "members", "settling", "house", "item/12", "member/4", "bids"],
+    "house": ["", "members", "settling", "accounts", "house", "item/12", "member/4", "bids"],
 }
 
 
@@ -91,7 +95,7 @@ def stays_text(reader):
         check(f"item {number}: its title", reader.find("heading", title) is not None, True)
         check(f"item {number}: its text", all(line in reader.text() for line in text.split("\u2029")), True)
     show(reader, f"item/{EVIL_ITEM}")
-    check("a question and its answer", reader.text().count(EVIL) >= 2, True)
+    reader.wait(lambda: reader.text().count(EVIL) >= 2, "a question and its answer")
     show(reader, "member/2" if reader.name == "house" else "member/1")
     show(reader, "member/4")
     check("a name", reader.find("heading", EVIL_NAME) is not None, True)
@@ -112,29 +116,40 @@ def comes_back_down(ben):
 
 
 def long_lists(program, folder):
-    """Of many items and bids the youngest are shown, and the others when they are asked for."""
-    with furnished(program, folder, with_many) as gateway, readers(gateway, "ben", wrong=None) as [ben]:
+    """Of many items and bids the youngest are shown, where there is no catalogue, and the others when they are asked for.
+    With a catalogue all are there, and what ends soonest is first."""
+    with furnished(program, folder, with_many, catalogue=0) as gateway, readers(gateway, "ben", wrong=None) as [ben]:
         show(ben, "category/1")
         ben.wait_for_text("200 of 200 items that were listed last")
-        ben.press("button", "Read older items")
+        ben.press("button", "Show more items")
         ben.wait_for_text(f"{MANY} of {MANY} items")
         comes_back_down(ben)
         check("what ends first comes first", ben.all("heading")[2].name, "Print 1")
         ben.write("searchbox", "Find in titles", "Print 26")
-        ben.wait_for_text(f"2 of {MANY} items")
+        ben.wait_for_text(f"4 of {MANY} items")
         show(ben, "bids")
         check("bids that are shown", len(ben.all("row")), 1 + 100)
         ben.press("button", f"Read {MANY_BIDS - 100} older ones")
         ben.wait_for_text("All your bids are here.")
         check("all bids", len(ben.all("row")), 1 + MANY_BIDS)
+        show(ben, "")
+        ben.wait_for_text("These are those that were listed last.")
+        catalogue.written(gateway)
+        show(ben, "")
+        catalogue.shown(ben)
+        catalogue.searched(ben)
         play.no_faults([ben])
 
 
 def true_at_once(program, folder):
     """What the page says goes with what is so."""
     with furnished(program, folder) as gateway:
-        with readers(gateway, "ana", "ben", "cid", wrong=None, before=truth.BEFORE) as all_of_them:
-            truth.all_of_it(gateway, *all_of_them)
+        with readers(gateway, "house", "ana", "ben", "cid", wrong=None, before=truth.BEFORE) as all_of_them:
+            house, ana, ben, cid = all_of_them
+            listings = truth.all_of_it(gateway, ana, ben, cid)
+            pages.all_of_it(gateway, listings, *all_of_them)
+            for reader in all_of_them:
+                sealed.never_sent(reader, gateway.numbers[reader.name])
             play.no_faults(all_of_them)
 
 
@@ -179,7 +194,7 @@ def auction(gateway, house, ana, ben, cid, pictures):
     play.is_unsure(ben)
     play.talks(ana, ben)
     picture(ben, pictures, "item", f"item/{number}")
-    play.never_shown(ben)
+    sealed.never_sent(ben, BEN)
     play.countdown(cid, end)
     return number
 
@@ -230,7 +245,9 @@ def main():
             meanwhile(gateway, house, ana, ben)
             spreadsheet = after_the_end(gateway, house, ana, ben, cid, pictures, pathlib.Path(saved))
             truth.named_spreadsheet(spreadsheet, gateway)
-            play.never_shown(ben)
+            for reader in all_of_them:
+                sealed.never_sent(reader, gateway.numbers[reader.name])
+            sealed.never_written(gateway.house() / "catalogue", 20)
             play.is_shown(cid)
             play.no_faults(all_of_them)
         gateway.stop()

@@ -16,7 +16,7 @@ from served import check
 BEFORE = """const reallyAsk = fetch, reallyWait = setTimeout;
 window.lost = "";
 window.failing = [];
-window.fetch = async (address, words) => {
+window.fetch = async (address, words = {}) => {
   if (words.method !== "POST" && window.failing.some(one => new RegExp(`/api/${one}$`).test(address))) {
     throw new TypeError("failed");
   }
@@ -105,19 +105,24 @@ def short_of_the_reserve(ben, listings):
     ben.wait_for_text("You lead, reserve not met")
 
 
+def about_it(reader):
+    """What an item's page says of price and bids, without the other items beside it."""
+    return reader.said(reader.find("region", "Price and bids"))
+
+
 def purchase_has_no_bids(ben, gateway, listings):
     """What was bought at once, and what nobody wanted, says so."""
     bought = listings.list("A map to buy", buy_now=2_000)
     gateway.ask("cid", "POST", f"/api/items/{bought}/purchase", {})
     go(ben, f"item/{bought}", "A map to buy")
-    text = ben.wait_for_text("Bought at once")
-    check("a purchase has no bids to come", "No bids yet" in text, False)
+    ben.wait_for_text("Bought at once")
+    check("a purchase has no bids to come", "No bids yet" in about_it(ben), False)
     unwanted = listings.list("A map for nobody", seconds=2)
     time.sleep(2.5)
     gateway.ask("house", "POST", "/api/close", {})
     go(ben, f"item/{unwanted}", "A map for nobody")
-    text = ben.wait_for_text("Started at")
-    check("what nobody wanted gets no bids", "No bids yet" in text, False)
+    ben.wait_for_text("Started at")
+    check("what nobody wanted gets no bids", "No bids yet" in about_it(ben), False)
 
 
 def ends_by_the_clock(ben, listings):
@@ -127,9 +132,8 @@ def ends_by_the_clock(ben, listings):
     go(ben, f"item/{number}", "A map that ends")
     ben.wait_for("button", "Bid")
     time.sleep(max(0, end + TURN - time.time()))
-    tree = ben.tree()
-    check("a live button after the end", ben.find("button", "Bid", tree), None)
-    check("open after the end", [node for node in tree if node.name == "Open"], [])
+    check("a live button after the end", ben.find("button", "Bid"), None)
+    check("open after the end", "Open" in about_it(ben), False)
     ben.wait_for_text("The end came")
 
 
@@ -290,3 +294,4 @@ def all_of_it(gateway, ana, ben, cid):
     room_in_titles(ana)
     blank_titles(ben, listings)
     sleeps(ben)
+    return listings

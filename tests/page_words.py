@@ -119,7 +119,11 @@ def reserves(page):
 
 
 def files():
-    """The page's own files never read a text as HTML, name no other site, and import what is there."""
+    """The page's own files never read a text as HTML, name no other site, and import what is there. The page names all of
+    them, so that a browser asks for them at once."""
+    modules = sorted(file.relative_to(PAGE).as_posix() for file in PAGE.rglob("*.js") if file.name != "main.js")
+    named = re.findall(r'<link rel="modulepreload" href="([^"]+)">', (PAGE / "index.html").read_text())
+    check("modules that the page names", named, modules)
     for file in filter(pathlib.Path.is_file, PAGE.rglob("*")):
         name, text = file.relative_to(PAGE), file.read_text()
         for word in NEVER:

@@ -128,7 +128,9 @@ class Reader:
 
     def press(self, role, name):
         """Presses a part where it is drawn."""
-        node = self.wait_for(role, name)
+        self.press_node(self.wait_for(role, name))
+
+    def press_node(self, node):
         self.page.tool("DOM.scrollIntoViewIfNeeded", backendNodeId=node.number)
         left, top, right, bottom = self.box(node)
         x, y = (left + right) / 2, (top + bottom) / 2

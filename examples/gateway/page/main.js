@@ -1,13 +1,17 @@
+// @ts-check
 // The page: who is signed in, which part of it is shown, and the clock that goes on.
 import { Refusal, read, readUntil } from "./exchange/api.js";
+import { accounts } from "./office/accounts.js";
+import { atTheFoot, readCity } from "./exchange/city.js";
 import { bids } from "./member/bids.js";
-import { category, front } from "./items/browse.js";
+import { category, front, search } from "./items/browse.js";
 import { caller, findOut } from "./exchange/caller.js";
 import { ahead, isKnown } from "./time/clock.js";
 import { entry, keepDrafts, noteFields, putDrafts } from "./exchange/history.js";
 import { nameOf } from "./exchange/known.js";
-import { link, make, put, replace, written, isolated } from "./elements/dom.js";
+import { isolated, link, make, part, put, replace, written } from "./elements/dom.js";
 import { house } from "./office/house.js";
+import { listings } from "./member/listings.js";
 import { item } from "./items/item.js";
 import { member, members } from "./office/members.js";
 import { duration, setZone, tick, zoneInWords } from "./time/moments.js";
@@ -19,24 +23,26 @@ import { statement } from "./member/statement.js";
 import { Visit } from "./exchange/visit.js";
 import { countWaiting } from "./member/waiting.js";
 import { watches } from "./member/watches.js";
+import { won } from "./member/won.js";
 import { sentence } from "./words/refusals.js";
 
 // Each part of the page by the first word after #/. It makes a heading and what is below it.
-const PARTS = { "": front, category, item, member, bids, watches, questions, sell, statement, house, members, settling };
+const PARTS = { "": front, category, search, item, member, bids, won, watches, listings, questions, sell, statement,
+  house, members, settling, accounts };
 
 const OF_ALL = [["", "Items"]];
-const OF_MEMBERS = [["bids", "My bids"], ["watches", "Watching"], ["questions", "Questions"], ["sell", "Sell"],
-  ["statement", "Statement"]];
-const OF_HOUSE = [["members", "Members"], ["settling", "Close and settle"]];
+const OF_MEMBERS = [["bids", "My bids"], ["won", "Won"], ["watches", "Watching"], ["listings", "My listings"],
+  ["questions", "Questions"], ["sell", "Sell"], ["statement", "Statement"]];
+const OF_HOUSE = [["members", "Members"], ["settling", "Close and settle"], ["accounts", "Accounts"]];
 const LAST = [["house", "The house"]];
 // The entry below which a part lies that has none.
-const ABOVE = { category: "", item: "" };
+const ABOVE = { category: "", item: "", search: "" };
 
 // How often countdowns are put anew, in milliseconds, and after how many seconds questions that wait are counted again.
 const TICK = 500;
 const WAITING = 60;
 
-const content = document.getElementById("content");
+const content = part("content");
 let visit = new Visit();
 
 function navigation(current) {
@@ -50,14 +56,14 @@ function navigation(current) {
     }
     return make("li", {}, entry);
   });
-  replace(document.getElementById("pages"), make("ul", {}, ...entries));
+  replace(part("pages"), make("ul", {}, ...entries));
 }
 
 function foot() {
   const seconds = ahead();
   const apart = seconds === 0 ? "" : ` Your clock is ${duration(Math.abs(seconds))} ${seconds > 0 ? "ahead of" : "behind"}`
     + " the house's. What is left goes by the house's.";
-  put(document.getElementById("foot"), isKnown() ? zoneInWords() + apart : "The house's clock is not known yet.");
+  put(part("clock"), isKnown() ? zoneInWords() + apart : "The house's clock is not known yet.");
 }
 
 // Why nothing is shown: a refusal has its sentence, and what is a fault of the page goes to the console too.
@@ -86,7 +92,7 @@ async function made(own, name, words) {
   }
 }
 
-let entryNow = null;
+let entryNow = { scroll: 0, noted: {} };
 let addressNow = "";
 
 // Keeps what the page that is left has, for who comes back.
@@ -141,7 +147,7 @@ async function hearClock() {
 async function begin() {
   try {
     const house = read("/house");
-    await Promise.all([findOut(house), house.then(({ zone }) => setZone(zone))]);
+    await Promise.all([findOut(house), house.then(({ zone }) => setZone(zone)), readCity()]);
   } catch (error) {
     const { title, nodes: [why] } = failure(error);
     const button = make("button", { type: "button", click: () => location.reload() }, "Load it again");
@@ -149,6 +155,7 @@ async function begin() {
     return;
   }
   sayWho();
+  replace(part("city"), ...atTheFoot());
   history.scrollRestoration = "manual";
   addEventListener("hashchange", () => {
     tell("");
@@ -164,11 +171,11 @@ async function begin() {
 // Who is signed in. The name of a member takes a read, for which nothing waits.
 async function sayWho() {
   const name = caller.isMember ? await nameOf(caller.number).catch(() => `member ${caller.number}`) : "the house";
-  put(document.getElementById("who"), `Signed in as ${isolated(name)}`);
+  put(part("who"), `Signed in as ${isolated(name)}`);
 }
 
 // The address after # is that of a part, so the link to the content moves the keyboard alone.
-document.getElementById("skip").addEventListener("click", event => {
+part("skip").addEventListener("click", event => {
   event.preventDefault();
   content.focus();
 });

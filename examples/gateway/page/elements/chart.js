@@ -1,3 +1,4 @@
+// @ts-check
 // Prices by day, as bars: what was sold, and what was bought.
 import { draw, make } from "./dom.js";
 import { dayInWords } from "../time/moments.js";

@@ -1,3 +1,4 @@
+// @ts-check
 // Elements, made by calls alone. What members wrote goes in as text: nothing here reads HTML.
 
 const SVG = "http://www.w3.org/2000/svg";
@@ -16,6 +17,9 @@ function fill(element, attributes, children) {
 
 // Children that are there: a condition that didn't hold leaves null or false in the place of one.
 const present = children => children.flat(Infinity).filter(child => ![null, false, undefined].includes(child));
+
+/** A part of index.html. @param {string} id */
+export const part = id => /** @type {HTMLElement} */ (document.getElementById(id));
 
 // An element with attributes and children. An attribute that is a function listens to the event of its name.
 export const make = (tag, attributes = {}, ...children) =>

@@ -1,9 +1,10 @@
+// @ts-check
 // Fields of forms: a label, a hint, and a sentence where what was written can't be taken.
 import { make, put } from "./dom.js";
 import { MOST, cents, shown } from "../words/money.js";
 
 // Why a field can't be taken.
-class Mistake extends Error {}
+export class Mistake extends Error {}
 
 let made = 0;
 
@@ -41,10 +42,14 @@ class Field {
     this.control.setAttribute("aria-invalid", sentence !== "");
   }
 
-  clear() {
-    this.control.value = "";
+  write(value) {
+    this.control.value = value;
     this.control.dispatchEvent(new Event("input"));
     this.say("");
+  }
+
+  clear() {
+    this.write("");
   }
 }
 
@@ -87,6 +92,13 @@ export function textField(label, { hint = "", least = 1, most, rows = 0, value =
   return field;
 }
 
+// Lines that are judged together. Empty ones don't count.
+export function linesField(label, { hint, rows, value, judge }) {
+  const control = make("textarea", { rows, class: "amount" });
+  control.value = value;
+  return new Field(label, control, hint, text => judge(text.split("\n").map(line => line.trim()).filter(line => line !== "")));
+}
+
 export function codeField(label, { hint, value }) {
   const control = make("input", { type: "text", autocomplete: "off", value });
   return new Field(label, control, hint, text => {
@@ -97,8 +109,20 @@ export function codeField(label, { hint, value }) {
   });
 }
 
-// The cents of an amount of at least so many, and at most so many. Where `isOptional` holds an empty field is null.
-export function moneyField(label, { hint = "", least = () => 1, tooLow, most = () => MOST, isOptional = false }) {
+/**
+ * @typedef {object} Amounts
+ * @property {any} [hint]
+ * @property {() => number} [least]
+ * @property {(least: number) => string} [tooLow] what is said of less
+ * @property {() => number} [most]
+ * @property {boolean} [isOptional]
+ */
+
+/**
+ * The cents of an amount of at least so many, and at most so many. Where `isOptional` holds an empty field is null.
+ * @param {any} label @param {Amounts} amounts
+ */
+export function moneyField(label, { hint = "", least = () => 1, tooLow = String, most = () => MOST, isOptional = false }) {
   const control = make("input", { type: "text", inputmode: "decimal", autocomplete: "off", class: "amount" });
   return new Field(label, control, hint, text => {
     if (isOptional && !text.trim()) {

@@ -1,3 +1,4 @@
+// @ts-check
 // Files that the page makes, for the browser to save.
 import { make } from "./dom.js";
 

@@ -1,3 +1,4 @@
+// @ts-check
 // Forms and buttons that send a command: they wait for its answer, and say what came of it.
 import { Refusal } from "../exchange/api.js";
 import { make, put } from "./dom.js";
@@ -57,8 +58,18 @@ export function label(button, text) {
   }
 }
 
-// What a button does: a second question where there is one, and then the work. `unless` is what is said after a no.
-async function pressed(button, outcome, { waits, context = () => ({}), isMeant = () => true, unless = "", act }, values) {
+/**
+ * What a button does: a second question where there is one, and then the work.
+ * @typedef {object} Deed
+ * @property {string} waits what the button says meanwhile
+ * @property {() => object} [context] what a refusal's sentence goes by
+ * @property {(...values: any[]) => boolean | Promise<boolean>} [isMeant]
+ * @property {string} [unless] what is said after a no
+ * @property {(...values: any[]) => any} act
+ */
+
+/** @param {HTMLElement} button @param {HTMLElement} outcome @param {Deed} deed @param {any[]} values */
+async function pressed(button, outcome, { waits, context = () => ({}), isMeant = (..._) => true, unless = "", act }, values) {
   if (button.getAttribute("aria-disabled") === "true") {
     return;
   }
@@ -72,6 +83,7 @@ async function pressed(button, outcome, { waits, context = () => ({}), isMeant =
 
 // A form of fields. `act` is given their values, and answers a sentence on what was done, or one with `isBad` where that
 // is not what was hoped for.
+/** @param {{ fields: any[], button: string, kind?: string } & Deed} parts */
 export function form({ fields, button: text, kind = "", ...does }) {
   const outcome = outcomePart();
   const button = make("button", { type: "submit", class: kind }, text);
@@ -96,6 +108,7 @@ export function form({ fields, button: text, kind = "", ...does }) {
 }
 
 // A button that acts by itself.
+/** @param {{ button: string, kind?: string } & Deed} parts */
 export function action({ button: text, kind = "", ...does }) {
   const outcome = outcomePart();
   const click = () => pressed(button, outcome, does, []);

@@ -1,3 +1,4 @@
+// @ts-check
 // A place on a page whose content comes anew.
 import { replace } from "./dom.js";
 
@@ -12,7 +13,7 @@ export function refilling(element) {
     }
     shown = sign;
     const active = document.activeElement;
-    const address = element.contains(active) ? active.getAttribute("href") : null;
+    const address = active && element.contains(active) ? active.getAttribute("href") : null;
     replace(element, ...nodes());
     if (address !== null) {
       [...element.querySelectorAll("a")].find(link => link.getAttribute("href") === address)?.focus();

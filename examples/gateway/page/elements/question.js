@@ -1,3 +1,4 @@
+// @ts-check
 // A second question before what can't be taken back.
 import { make } from "./dom.js";
 

@@ -1,3 +1,4 @@
+// @ts-check
 // Tables, which a narrow window shows as one block for each row. The roles are given apart, since a table that is
 // shown as blocks would lose them.
 import { make } from "./dom.js";

@@ -1,3 +1,4 @@
+// @ts-check
 // Reads and commands of the interface that docs/HTTP.md describes.
 import { heard } from "../time/clock.js";
 
@@ -78,10 +79,10 @@ export async function* lists(path, kind, from = 1) {
   }
 }
 
-// All entries of such lists. What is in two of them is there once.
-export async function whole(path, kind) {
+// All entries of such lists, from a number on. What is in two of them is there once.
+export async function whole(path, kind, from = 1) {
   const found = new Map();
-  for await (const list of lists(path, kind)) {
+  for await (const list of lists(path, kind, from)) {
     list.forEach(entry => found.set(JSON.stringify(entry), entry));
   }
   return [...found.values()];

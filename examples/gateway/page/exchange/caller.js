@@ -1,10 +1,14 @@
+// @ts-check
 // Who is signed in. The interface has no read for that alone: an own page tells a member's number, and refuses the house.
 import { read } from "./api.js";
 
 const OWN = "/me/statement/1970-01-01/1970-01-01";
 
-// The number is 0 for the house, and null for a sign-in that is neither.
-export const caller = { number: null, isMember: false, isHouse: false };
+/**
+ * The number is 0 for the house, and -1 until it is known.
+ * @type {{ number: number, isMember: boolean, isHouse: boolean }}
+ */
+export const caller = { number: -1, isMember: false, isHouse: false };
 
 // Finds it out, beside a read of the house that was begun.
 export async function findOut(house) {

@@ -1,3 +1,4 @@
+// @ts-check
 // What is kept of each entry of the browser's history, for who comes back to it: how far down it was, what the page
 // noted, and what was written in its fields. It is in the page's memory alone, and gone when that is loaded anew.
 

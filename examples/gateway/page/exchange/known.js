@@ -1,5 +1,7 @@
+// @ts-check
 // What was read once and is shown beside a number: names of members, titles of items, names of categories.
 import { each, read, whole } from "./api.js";
+import { caller } from "./caller.js";
 import { named, titled } from "../elements/dom.js";
 
 // Texts that stay, by their numbers. Each is asked once. A read that failed is forgotten, and asked again.
@@ -55,9 +57,15 @@ export async function reserveOf(number) {
   return (await read(`/me/reserves/${number}`)).reserves.find(one => one.item === number)?.reserve ?? null;
 }
 
-// The caller's bids by item. The house has none.
-export async function bidsByItem() {
-  return new Map((await whole("/me/bids", "bids")).map(bid => [bid.item, bid]));
+// The caller's bids by item, from an item on.
+export async function bidsByItem(from = 1) {
+  return new Map((await whole("/me/bids", "bids", from)).map(bid => [bid.item, bid]));
+}
+
+// The caller's bids for some items. The house has none.
+export async function bidsFor(items) {
+  const first = items.reduce((least, { item }) => Math.min(least, item), Infinity);
+  return caller.isMember && first < Infinity ? bidsByItem(first) : new Map();
 }
 
 // The caller's own bid for an item, or undefined: the list begins at the item.

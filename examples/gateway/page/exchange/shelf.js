@@ -1,3 +1,4 @@
+// @ts-check
 // The items of a category. A list begins with the oldest, and what is open is mostly young: so the numbers that the
 // house gave last are read first, and older ones when they are asked for.
 import { lists } from "./api.js";

@@ -1,3 +1,4 @@
+// @ts-check
 // One visit to a page: what it repeats and what it asks for ends with it.
 import { tell } from "../elements/news.js";
 import { ENDED } from "../time/moments.js";

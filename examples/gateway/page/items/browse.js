@@ -1,40 +1,21 @@
-// Items to choose from: those of all categories that end soonest, and those of one category.
-import { each, read } from "../exchange/api.js";
+// @ts-check
+// Items to choose from: those of all categories that end soonest, those of one category, and those that a search finds.
+import { found } from "../exchange/catalogue.js";
 import { caller } from "../exchange/caller.js";
-import { Shelf, inOrder } from "../exchange/shelf.js";
-import { link, make, named, put, replace, titled, written } from "../elements/dom.js";
-import { refilling } from "../elements/place.js";
+import { bidsFor, categories } from "../exchange/known.js";
+import { inOrder } from "../exchange/shelf.js";
+import { link, make, named, put, titled, written } from "../elements/dom.js";
 import { action } from "../elements/form.js";
-import { bidsByItem, categories } from "../exchange/known.js";
-import { countdown, inWords } from "../time/moments.js";
-import { shown } from "../words/money.js";
-import { badge, bidsInWords, priceInWords, standingInShort, stateOf } from "./standing.js";
+import { refilling } from "../elements/place.js";
+import { cards, shownOf } from "./cards.js";
+import { allItems, itemsOfCategory, openItems, provenance } from "./lists.js";
 
-// With more categories than this the first page names them alone: each would be read for it.
+// With more categories than this, and without a catalogue, the first page names them alone: each would be read for it.
 const MOST_CATEGORIES = 20;
-const ENOUGH = 100;
 // After so many seconds what is shown is read again.
 const FRESH = 60;
-
-const ownBids = () => caller.isMember ? bidsByItem() : new Map();
-
-function when(item) {
-  if (stateOf(item) === "open") {
-    return ["ends in ", countdown(item.end)];
-  }
-  return item.state === "open" ? "to be closed" : inWords(item.closed ?? item.end);
-}
-
-const card = (item, bid) => make("li", { class: "card" },
-  make("p", { class: "badges" }, badge(item), standingInShort(item, bid)),
-  make("h3", {}, link(`item/${item.item}`, written(titled(item.title)))),
-  make("p", { class: "price" }, make("span", { class: "what" }, priceInWords(item)), " ", shown(item.price)),
-  make("p", { class: "soft" }, bidsInWords(item), ", ", when(item)));
-
-export const cards = (items, bids) => make("ul", { class: "cards" }, ...items.map(item => card(item, bids.get(item.item))));
-
-// What cards show, to know whether it has changed.
-export const shownOf = (items, bids) => items.map(item => [item, stateOf(item), bids.get(item.item)]);
+// A search shows so many at most.
+const MOST_FOUND = 200;
 
 const section = (title, ...nodes) => make("section", {}, make("h2", {}, title), ...nodes);
 
@@ -42,86 +23,139 @@ const choices = list => make("ul", { class: "choices", "aria-label": "Categories
   ...list.map(one => make("li", {}, link(`category/${one.category}`, written(named(one.name))))));
 
 function nothingYet() {
-  const next = caller.isHouse ? link("house", "Add a category")
-    : caller.isMember ? link("sell", "List the first one") : null;
+  const next = caller.isHouse ? link("house", "Add a category") : link("sell", "List the first one");
   return make("p", { class: "empty" }, "Nothing is open for bids. ", next);
 }
 
-async function openItems(list) {
-  const { items: count } = await read("/house");
-  const shelves = list.map(one => new Shelf(one.category));
-  await each(shelves, shelf => shelf.readAnew(count, ENOUGH));
-  return shelves.flatMap(shelf => shelf.items);
+// The field that leads to what a search finds.
+function searching(words = "") {
+  const input = make("input", { type: "search", id: "search", autocomplete: "off", value: words });
+  const submit = event => {
+    event.preventDefault();
+    const wanted = input.value.trim();
+    if (wanted) {
+      event.target.dataset.isSent = "true";
+      location.hash = `#/search/${encodeURIComponent(wanted)}`;
+    }
+  };
+  return make("form", { class: "row search", role: "search", submit },
+    make("div", { class: "field find" }, make("label", { for: "search" }, "Find in all titles"), input),
+    make("button", { type: "submit", class: "plain" }, "Find"));
 }
+
+// The button that shows one part more of a list. Who comes back finds as many as there were.
+function moreOf(visit, button, show) {
+  const parts = action({
+    button, waits: "Reading..", kind: "plain",
+    act: async () => {
+      visit.kept.parts = (visit.kept.parts ?? 1) + 1;
+      const { isWhole } = await show();
+      parts.button.hidden = isWhole;
+      return isWhole ? "All items are here." : "";
+    },
+  });
+  return parts;
+}
+
+const isReadable = (list, moment) => moment !== null || list.length <= MOST_CATEGORIES;
 
 export async function front(visit) {
   const place = make("div");
   const refill = refilling(place);
+  const more = moreOf(visit, "Show more items", async () => show(await look()));
   const look = async () => {
     const list = await categories();
-    const isShort = list.length <= MOST_CATEGORIES;
-    const [open, bids] = await Promise.all([isShort ? openItems(list) : null, isShort ? ownBids() : new Map()]);
-    return { list, open, bids };
+    const open = await openItems(visit, list.slice(0, MOST_CATEGORIES), visit.kept.parts ?? 1);
+    return { list, open, bids: await bidsFor(open.items) };
   };
-  await visit.follow(FRESH, look, ({ list, open, bids }) => {
-    if (open === null) {
-      refill(list, () => [section("Categories", choices(list))]);
-      return;
-    }
-    const items = inOrder(open).open;
-    refill([list, shownOf(items, bids)], () => [choices(list),
-      section("Open, ending soonest", items.length ? cards(items, bids) : nothingYet())]);
-  });
-  return { title: "Items", nodes: [place] };
+  function show({ list, open, bids }) {
+    const items = inOrder(open.items).open;
+    more.button.hidden = open.isWhole || open.moment === null;
+    refill([list, open.moment, shownOf(items, bids)], () => [choices(list),
+      isReadable(list, open.moment) ? section("Open, ending soonest", provenance(open),
+        items.length ? cards(items, bids) : nothingYet()) : null]);
+    return open;
+  }
+  await visit.follow(FRESH, look, show);
+  return { title: "Items", nodes: [searching(), place, more.node] };
 }
 
-// The items of a shelf, as far as they are read, and of them those with some words in their titles.
-function shelved(shelf) {
+// Of the items that are at hand those with some words in their titles.
+function filtered() {
   const input = make("input", { type: "search", id: "find", autocomplete: "off", input: () => show() });
   const count = make("p", { class: "soft", role: "status" });
   const place = make("div");
   const refill = refilling(place);
-  let bids = new Map();
-  function show(ownBids = bids) {
-    bids = ownBids;
-    const words = input.value.trim().toLowerCase();
-    const found = shelf.items.filter(item => titled(item.title).toLowerCase().includes(words));
-    const { open, over } = inOrder(found);
-    put(count, `${found.length} of ${shelf.items.length} items${shelf.isWhole ? "" : " that were listed last"}`);
-    refill(shownOf([...open, ...over], bids), () => [open.length ? section("Open", cards(open, bids)) : null,
-      over.length ? section("Over", cards(over, bids)) : null,
-      found.length ? null : make("p", { class: "empty" }, "No item is here. Try other words, or another category.")]);
+  /** @type {{ list: import("./lists.js").List, bids: Map<number, any> }} */
+  let now = { list: { items: [], isWhole: true, moment: null }, bids: new Map() };
+  function show(next = now) {
+    now = next;
+    const { list, bids } = now;
+    const { open, over } = inOrder(found(list.items, input.value));
+    const shown = open.length + over.length;
+    put(count, `${shown} of ${list.items.length} items${whichOf(list)}`);
+    refill([list.moment, shownOf([...open, ...over], bids)], () => [list.moment === null ? null : provenance(list),
+      open.length ? section("Open", cards(open, bids)) : null, over.length ? section("Over", cards(over, bids)) : null,
+      shown ? null : make("p", { class: "empty" }, "No item is here. Try other words, or another category.")]);
+    return list;
   }
   const find = make("div", { class: "field find" }, make("label", { for: "find" }, "Find in titles"), input);
   return { show, nodes: [find, count, place] };
 }
 
-// The button that reads older items. Who comes back finds as many as there were.
-function older(visit, shelf, show) {
-  const { node, button } = action({
-    button: "Read older items", waits: "Reading..", kind: "plain",
-    act: async () => {
-      await shelf.readOlder(ENOUGH);
-      visit.kept.count = shelf.items.length;
-      show();
-      button.hidden = shelf.isWhole;
-      return shelf.isWhole ? "All items are here." : "";
-    },
-  });
-  button.hidden = shelf.isWhole;
-  return node;
+function whichOf({ isWhole, moment }) {
+  if (isWhole) {
+    return "";
+  }
+  return moment === null ? " that were listed last" : " that end first";
 }
 
 export async function category(visit, number) {
   const list = await categories();
-  const shelf = new Shelf(Number(number));
-  const { show, nodes } = shelved(shelf);
+  const { show, nodes } = filtered();
   const look = async () => {
-    const [bids, { items: count }] = await Promise.all([ownBids(), read("/house")]);
-    await shelf.readAnew(count, visit.kept.count ?? ENOUGH);
-    return bids;
+    const items = await itemsOfCategory(visit, Number(number), visit.kept.parts ?? 1);
+    return { list: items, bids: await bidsFor(items.items) };
   };
-  await visit.follow(FRESH, look, show);
+  const more = moreOf(visit, "Show more items", async () => show(await look()));
+  await visit.follow(FRESH, look, now => {
+    show(now);
+    more.button.hidden = now.list.isWhole;
+  });
   const name = named(list.find(one => one.category === Number(number))?.name ?? "Items");
-  return { title: name, of: make("p", { class: "of" }, link("", "All categories")), nodes: [...nodes, older(visit, shelf, show)] };
+  return { title: name, of: make("p", { class: "of" }, link("", "All categories")), nodes: [...nodes, more.node] };
+}
+
+export async function search(visit, encoded = "") {
+  const words = decoded(encoded);
+  const place = make("div");
+  const refill = refilling(place);
+  const look = async () => {
+    const all = await allItems(visit);
+    const matches = found(all.items, words);
+    return { all, matches, bids: await bidsFor(matches) };
+  };
+  await visit.follow(FRESH, look, ({ all, matches, bids }) => {
+    const { open, over } = inOrder(matches);
+    const both = [...open, ...over].slice(0, MOST_FOUND);
+    refill([all.moment, shownOf(both, bids)], () => [
+      make("p", { class: "soft", role: "status" }, `${counted(open.length + over.length)} of ${all.items.length}`,
+        both.length < open.length + over.length ? `. The first ${MOST_FOUND} are shown: more words find fewer.` : null),
+      provenance(all), results("Open", both.slice(0, open.length), bids), results("Over", both.slice(open.length), bids)]);
+  });
+  return { title: words ? `Found: ${titled(words)}` : "Find", of: make("p", { class: "of" }, link("", "All categories")),
+    nodes: [searching(words), place] };
+}
+
+const counted = count => count === 1 ? "1 item" : `${count} items`;
+
+const results = (title, items, bids) => items.length ? section(title, cards(items, bids)) : null;
+
+// The words of an address, as far as they are ones.
+function decoded(text) {
+  try {
+    return decodeURIComponent(text);
+  } catch {
+    return text;
+  }
 }

@@ -1,6 +1,8 @@
+// @ts-check
 // The page of an item. What may change is read again and again, and a change is announced.
 import { read } from "../exchange/api.js";
 import { caller } from "../exchange/caller.js";
+import { whatNow } from "../exchange/city.js";
 import { link, make, named, paragraphs, put, replace, titled, written } from "../elements/dom.js";
 import { categories, nameAtHand, nameOf, ownBid, reserveOf } from "../exchange/known.js";
 import { countdown, hasEnded, secondsLeft, tick, time } from "../time/moments.js";
@@ -9,6 +11,9 @@ import { tell } from "../elements/news.js";
 import { offers } from "./offer.js";
 import { rating } from "./rating.js";
 import { settle } from "../office/settling.js";
+import { cards } from "./cards.js";
+import { itemsOfSeller } from "./lists.js";
+import { inOrder } from "../exchange/shelf.js";
 import { badge, bidsInWords, isSold, priceInWords, reserveInWords, standing, stateInWords, stateOf } from "./standing.js";
 import { talk } from "./talk.js";
 
@@ -125,9 +130,10 @@ function followed(first, conversation) {
   // Nothing in here waits, so the parts never show two states.
   function update() {
     about.update(shownNow.item, shownNow.bid);
-    const hadKeyboard = offer.node.contains(document.activeElement);
+    const active = document.activeElement;
+    const hadKeyboard = offer.node.contains(active);
     offer.update();
-    if (hadKeyboard && !document.activeElement.checkVisibility?.()) {
+    if (hadKeyboard && active?.getClientRects().length === 0) {
       about.focus();
     }
     conversation.update(shownNow.item);
@@ -168,7 +174,7 @@ function salePart(refresh) {
   let isAsked = false;
   const rate = async item => {
     isAsked = true;
-    await rating(item).then(node => replace(toRate, node), () => {
+    await rating(item).then(node => replace(toRate, item.leader === caller.number ? whatNow() : null, node), () => {
       isAsked = false;
     });
   };
@@ -203,6 +209,19 @@ async function isWatched(number) {
   return caller.isMember && (await read("/me/watches")).items.some(item => item.item === number);
 }
 
+// What else the seller has open, of what ends first.
+const MORE = 6;
+
+async function moreOfSeller(visit, item) {
+  const [{ items }, name] = await Promise.all([itemsOfSeller(visit, item.seller, 1), nameOf(item.seller)]);
+  const others = inOrder(items).open.filter(one => one.item !== item.item).slice(0, MORE);
+  if (!others.length || item.seller === caller.number) {
+    return null;
+  }
+  const heading = make("h2", {}, "More from ", link(`member/${item.seller}`, written(name)));
+  return make("section", {}, heading, cards(others, new Map()));
+}
+
 // What is of use beside the price, and comes after it.
 async function complete(item, of, { about, offer }, conversation) {
   const [line, reserve, watched] = await Promise.all([byline(item), ownReserve(item), isWatched(item.item),
@@ -231,7 +250,8 @@ export async function item(visit, number) {
     isComplete = true;
   };
   visit.repeat(() => isComplete ? 60 : 4, fill);
-  fill().catch(() => {});
+  const more = make("div");
+  fill().then(() => moreOfSeller(visit, first.item)).then(section => replace(more, section)).catch(() => {});
   return { title: titled(first.item.title), of, nodes: [make("div", { class: "two" }, node, story(first.item),
-    conversation.node)] };
+    conversation.node), more] };
 }

@@ -1,3 +1,4 @@
+// @ts-check
 // What a member may do with an open item: bid, buy, watch.
 import { Refusal, send } from "../exchange/api.js";
 import { caller } from "../exchange/caller.js";

@@ -1,3 +1,4 @@
+// @ts-check
 // The rating of a sale, by its two parties.
 import { read, send } from "../exchange/api.js";
 import { caller } from "../exchange/caller.js";
@@ -8,7 +9,7 @@ import { nameOf } from "../exchange/known.js";
 
 const RATINGS = [[1, "Good"], [0, "Neither good nor bad"], [-1, "Bad"]];
 
-export const ratingInWords = rating => RATINGS.find(([value]) => value === rating)[1];
+export const ratingInWords = rating => String(RATINGS.find(([value]) => value === rating)?.[1]);
 
 // What the caller gave to the other party for this item: the list begins at the item.
 async function given(item, other) {

@@ -1,3 +1,4 @@
+// @ts-check
 // How an item stands, and how the caller stands in it.
 import { caller } from "../exchange/caller.js";
 import { make } from "../elements/dom.js";

@@ -1,3 +1,4 @@
+// @ts-check
 // Questions to the seller and their answers, on the page of an item.
 import { lists, read, send, whole } from "../exchange/api.js";
 import { caller } from "../exchange/caller.js";

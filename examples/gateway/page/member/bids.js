@@ -1,3 +1,4 @@
+// @ts-check
 // What the caller has bid for, with titles and ends, which the list of bids lacks.
 import { link, make, titled, written } from "../elements/dom.js";
 import { refilling } from "../elements/place.js";
@@ -6,7 +7,7 @@ import { bidsByItem, itemsOf } from "../exchange/known.js";
 import { countdown, inWords } from "../time/moments.js";
 import { shown } from "../words/money.js";
 import { inOrder } from "../exchange/shelf.js";
-import { shownOf } from "../items/browse.js";
+import { shownOf } from "../items/cards.js";
 import { standingInShort, stateOf } from "../items/standing.js";
 import { AMOUNT, SUBJECT, TEXT, table } from "../elements/table.js";
 
@@ -64,11 +65,11 @@ export async function bids(visit) {
     refill(shownOf([...open, ...over], own), () => items.length ? [part("Open", open, own), part("Over", over, own)]
       : [nothing()]);
   };
-  let first = null;
+  let rest = [];
   await visit.follow(FRESH, look, found => {
-    first ??= found;
+    rest = found.rest;
     show(found);
   });
-  const more = first.rest.length ? older(visit, first.rest, async () => show(await look())) : null;
+  const more = rest.length ? older(visit, rest, async () => show(await look())) : null;
   return { title: "My bids", nodes: [place, more] };
 }

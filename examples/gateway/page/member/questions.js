@@ -1,3 +1,4 @@
+// @ts-check
 // What waits for the caller's answer, and what the caller asked.
 import { read, whole } from "../exchange/api.js";
 import { link, make, paragraphs, put, written } from "../elements/dom.js";

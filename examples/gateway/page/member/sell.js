@@ -1,3 +1,4 @@
+// @ts-check
 // The form by which a member lists an item.
 import { Refusal, read, send } from "../exchange/api.js";
 import { caller } from "../exchange/caller.js";
@@ -6,9 +7,9 @@ import { now } from "../time/clock.js";
 import { make, named } from "../elements/dom.js";
 import { choiceField, codeField, dayField, moneyField, textField, timeField } from "../elements/fields.js";
 import { form } from "../elements/form.js";
-import { categories } from "../exchange/known.js";
+import { categories, reserveOf } from "../exchange/known.js";
 import { dayAt, moment, timeAt, zoneInWords } from "../time/moments.js";
-import { MOST, shown } from "../words/money.js";
+import { MOST, plain, shown } from "../words/money.js";
 import { tell } from "../elements/news.js";
 
 const WEEK = 7 * 86400;
@@ -83,13 +84,26 @@ async function list(category, title, text, start, buyNow, reserve, day, time, lo
 // What goes to the house of a sale: the rate is in ten-thousandths.
 const feeInWords = rate => rate === 0 ? "" : `Of the price at which it is sold the house keeps ${rate / 100} %. `;
 
-export async function sell() {
+// Fills the form with what an item of before has. Its code is used, and its reserve is known to its seller alone.
+async function fillAgain(fields, number) {
+  const before = await read(`/items/${number}`);
+  const reserve = typeof before.met === "boolean" && before.seller === caller.number ? await reserveOf(before.item) : null;
+  const amount = cents => cents === null ? "" : plain(cents);
+  const values = [String(before.category), before.title, before.text.replace(/[\u2028\u2029]/g, "\n"), amount(before.start),
+    amount(before.buy_now), amount(reserve)];
+  values.forEach((value, place) => fields[place].write(value));
+}
+
+export async function sell(visit, again) {
   const [all, { rate }] = await Promise.all([categories(), read("/house")]);
   if (!all.length) {
     const why = "The house has no category yet, so nothing can be listed. Ask whoever runs it for one.";
     return { title: "Sell", nodes: [make("p", { class: "empty" }, why)] };
   }
   const fields = fieldsOf(all);
+  if (again) {
+    await fillAgain(fields, again);
+  }
   const parts = form({ fields, button: "List it", waits: "Listing..", context: () => ({ tried: "list" }), act: list });
   return { title: "Sell", nodes: [make("section", { class: "box narrow" },
     make("p", { class: "soft" }, feeInWords(rate), "A listing stays as it is: it can't be changed or taken back."),

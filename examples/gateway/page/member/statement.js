@@ -1,15 +1,15 @@
+// @ts-check
 // What the caller sold and bought in a period: a chart, a table, and a file for a spreadsheet.
 import { read } from "../exchange/api.js";
 import { caller } from "../exchange/caller.js";
-import { now } from "../time/clock.js";
 import { chart } from "../elements/chart.js";
 import { link, make, written } from "../elements/dom.js";
-import { dayField } from "../elements/fields.js";
 import { csv, save } from "../elements/files.js";
-import { action, form } from "../elements/form.js";
+import { action } from "../elements/form.js";
 import { nameOf, namesOf, titlesOf } from "../exchange/known.js";
-import { dayAt, dayInWords } from "../time/moments.js";
+import { dayInWords } from "../time/moments.js";
 import { plain, shown } from "../words/money.js";
+import { choosingPeriod, thisYear } from "./period.js";
 import { AMOUNT, SUBJECT, TEXT, sums, table } from "../elements/table.js";
 
 const COLUMNS = [["Day", TEXT], ["Item", SUBJECT], ["Sold or bought", TEXT], ["With", TEXT], ["Price", AMOUNT], ["Fee", AMOUNT],
@@ -20,27 +20,6 @@ const HEAD = ["day", "item", "role", "other", "price", "fee", "net", "title", "n
 
 const spreadsheet = (lines, titles, names) => csv([HEAD, ...lines.map(({ day, item, role, other, price, fee, net }) =>
   [day, item, role, other, plain(price), plain(fee), plain(net), titles.get(item), names.get(other)])]);
-
-function period() {
-  const year = dayAt(now()).slice(0, 4);
-  return [`${year}-01-01`, `${year}-12-31`];
-}
-
-function choosing(from, to) {
-  const fields = [dayField("First day", from), dayField("Last day", to)];
-  const parts = form({
-    fields, button: "Show", waits: "Reading..",
-    act: (first, last) => {
-      if (last < first) {
-        return "The last day lies before the first. Change one of them.";
-      }
-      location.hash = `#/statement/${first}/${last}`;
-      return "";
-    },
-  });
-  parts.node.classList.add("row");
-  return parts.node;
-}
 
 function lines(statement, titles, names) {
   const rows = statement.lines.map(line => [dayInWords(line.day), link(`item/${line.item}`, written(titles.get(line.item))),
@@ -73,7 +52,7 @@ const namesIn = (lines, most) => Promise.all([titlesOf(lines.map(line => line.it
 const SHOWN = 200;
 
 export async function statement(visit, first, last) {
-  const [from, to] = first && last ? [first, last] : period();
+  const [from, to] = first && last ? [first, last] : thisYear();
   const answer = await read(`/me/statement/${from}/${to}`);
   const days = `, ${dayInWords(from)} to ${dayInWords(to)}. Both days belong to it.`;
   const heading = make("p", { class: "soft" }, "For ", written(await nameOf(caller.number)), days);
@@ -81,5 +60,5 @@ export async function statement(visit, first, last) {
   const nodes = answer.lines.length ? [totals(answer), chart(answer.lines), lines(answer, titles, names),
     download(answer, from, to)]
     : [make("p", { class: "empty" }, "Nothing was sold or bought in this period. Choose other days.")];
-  return { title: "Statement", nodes: [heading, choosing(from, to), ...nodes] };
+  return { title: "Statement", nodes: [heading, choosingPeriod("statement", from, to), ...nodes] };
 }

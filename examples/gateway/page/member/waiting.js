@@ -1,3 +1,4 @@
+// @ts-check
 // How many questions wait for the caller's answer, in the entry of the navigation that leads to them.
 import { read } from "../exchange/api.js";
 import { caller } from "../exchange/caller.js";

@@ -1,10 +1,11 @@
+// @ts-check
 // What the caller watches.
 import { read } from "../exchange/api.js";
-import { cards, shownOf } from "../items/browse.js";
+import { cards, shownOf } from "../items/cards.js";
 import { inOrder } from "../exchange/shelf.js";
 import { link, make } from "../elements/dom.js";
 import { refilling } from "../elements/place.js";
-import { bidsByItem } from "../exchange/known.js";
+import { bidsFor } from "../exchange/known.js";
 
 const FRESH = 60;
 
@@ -17,8 +18,8 @@ export async function watches(visit) {
   const place = make("div");
   const refill = refilling(place);
   const look = async () => {
-    const [{ items }, bids] = await Promise.all([read("/me/watches"), bidsByItem()]);
-    return { items, bids };
+    const { items } = await read("/me/watches");
+    return { items, bids: await bidsFor(items) };
   };
   await visit.follow(FRESH, look, ({ items, bids }) => {
     const { open, over } = inOrder(items);

@@ -1,3 +1,4 @@
+// @ts-check
 // The house itself: its counts and rules for everybody, and for who runs it categories and the public record.
 import { read, send } from "../exchange/api.js";
 import { caller } from "../exchange/caller.js";
@@ -7,28 +8,21 @@ import { textField } from "../elements/fields.js";
 import { save } from "../elements/files.js";
 import { action, form } from "../elements/form.js";
 import { categories } from "../exchange/known.js";
-import { dayAt, time } from "../time/moments.js";
-import { shown } from "../words/money.js";
+import { dayAt, time, zoneName } from "../time/moments.js";
+import { grouped } from "../words/money.js";
 import { publicRecord } from "./record.js";
-import { AMOUNT, sums, table } from "../elements/table.js";
+import { sums } from "../elements/table.js";
+import { bandsPart } from "./bands.js";
 
 // After so many seconds what is shown is read again.
 const FRESH = 60;
 
-const number = count => shown(count * 100).slice(0, -3);
-
 // The rate is in ten-thousandths: 1000 is 10 %.
 const facts = page => [
-  ["Members", number(page.members)], ["Items", number(page.items)], ["Categories", number(page.categories)],
-  ["Fee of a sale", `${page.rate / 100} %`], ["Zone", page.zone],
+  ["Members", grouped(page.members)], ["Items", grouped(page.items)], ["Categories", grouped(page.categories)],
+  ["Fee of a sale", `${page.rate / 100} %`], ["Times", zoneName()],
   ["Last command", page.clock ? time(page.clock) : "none yet"],
 ];
-
-function steps(bands) {
-  const rows = bands.map(({ at, step }) => [shown(at), shown(step)]);
-  const holds = make("p", { class: "soft" }, "For items that are listed from now on. Each item keeps the steps of its listing.");
-  return make("div", { class: "small" }, table("By how much prices rise", [["From", AMOUNT], ["Step", AMOUNT]], rows), holds);
-}
 
 function adding(refill) {
   const field = textField("Name of the category", { most: 40 });
@@ -68,7 +62,7 @@ export async function house(visit) {
   const categoriesPlace = make("div");
   const refill = refilling(place);
   const refillCategories = refilling(categoriesPlace);
-  const { bands } = await read("/bands");
+  const bands = await bandsPart();
   const look = async () => {
     const [page, list] = await Promise.all([read("/house"), caller.isHouse ? categories() : []]);
     return { page, list };
@@ -80,5 +74,5 @@ export async function house(visit) {
   };
   await visit.follow(FRESH, look, show);
   const again = async () => show(await look());
-  return { title: "The house", nodes: [place, ...(caller.isHouse ? ofHouse(categoriesPlace, again) : []), steps(bands)] };
+  return { title: "The house", nodes: [place, ...(caller.isHouse ? ofHouse(categoriesPlace, again) : []), bands] };
 }

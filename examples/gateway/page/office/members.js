@@ -1,9 +1,13 @@
+// @ts-check
 // Members: what each was rated, and for the house the list of all.
 import { each, read, send, whole } from "../exchange/api.js";
 import { link, make, named, written } from "../elements/dom.js";
 import { textField } from "../elements/fields.js";
 import { action, form } from "../elements/form.js";
 import { titlesOf } from "../exchange/known.js";
+import { inOrder } from "../exchange/shelf.js";
+import { cards } from "../items/cards.js";
+import { itemsOfSeller, provenance } from "../items/lists.js";
 import { ratingInWords } from "../items/rating.js";
 
 const AT_ONCE = 50;
@@ -18,12 +22,20 @@ function feedbackList(list, titles) {
     : make("p", { class: "soft" }, "Nobody has rated this member yet.");
 }
 
+async function onOffer(visit, number) {
+  const list = await itemsOfSeller(visit, number, 1);
+  const { open } = inOrder(list.items);
+  return make("section", {}, make("h2", {}, "Open items"), open.length ? [provenance(list), cards(open, new Map())]
+    : make("p", { class: "soft" }, "This member offers nothing just now."));
+}
+
 export async function member(visit, number) {
-  const [one, list] = await Promise.all([read(`/members/${number}`), whole(`/members/${number}/feedback`, "feedback")]);
+  const [one, list, offer] = await Promise.all([read(`/members/${number}`),
+    whole(`/members/${number}/feedback`, "feedback"), onOffer(visit, Number(number))]);
   const titles = await titlesOf(list.map(feedback => feedback.item));
   return { title: named(one.name), nodes: [
     make("p", {}, `Member ${one.member}. Rated: ${counts(one)}.`),
-    make("section", { class: "box" }, make("h2", {}, "Ratings"), feedbackList(list, titles))] };
+    make("section", { class: "box" }, make("h2", {}, "Ratings"), feedbackList(list, titles)), offer] };
 }
 
 // The list of all members, fifty more at each call. The house tells none, so each is read by its number.

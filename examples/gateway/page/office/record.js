@@ -1,3 +1,4 @@
+// @ts-check
 // The public record, which the interface tells in parts: as `auction replay --record` writes it, its keys in byte order.
 import { each, isUnknown, read, whole } from "../exchange/api.js";
 import { categories } from "../exchange/known.js";

@@ -1,18 +1,47 @@
+// @ts-check
 // What the house does at the end: it closes what is due, and settles sales.
-import { each, read, send } from "../exchange/api.js";
+import { read, send } from "../exchange/api.js";
 import { caller } from "../exchange/caller.js";
-import { Shelf } from "../exchange/shelf.js";
-import { link, make, replace, titled, written } from "../elements/dom.js";
+import { itemsOf, namesOf } from "../exchange/known.js";
+import { link, make, titled, written } from "../elements/dom.js";
 import { action } from "../elements/form.js";
-import { categories } from "../exchange/known.js";
+import { tell } from "../elements/news.js";
+import { refilling } from "../elements/place.js";
+import { isSure } from "../elements/question.js";
+import { AMOUNT, SUBJECT, TEXT, table } from "../elements/table.js";
+import { allItems, provenance } from "../items/lists.js";
+import { bidsInWords } from "../items/standing.js";
+import { hasEnded, inWords } from "../time/moments.js";
 import { shown } from "../words/money.js";
+import { feeOf } from "./fee.js";
 
+// Without a catalogue so many items of each category are looked through.
 const ENOUGH = 1000;
-
-const some = (count, words) => `${count} ${words}`;
+// Each is read as it is now. So many at most are shown, those that ended first.
+const MOST = 200;
+// After so many seconds what is shown is read again.
+const FRESH = 60;
 
 const closed = answer => answer.sold + answer.unsold === 0 ? "Nothing was due."
-  : `Closed: ${some(answer.sold, "sold")}, ${some(answer.unsold, "not sold")}.`;
+  : `Closed: ${answer.sold} sold, ${answer.unsold} not sold.`;
+
+// A sale, with the names of its parties and what each gets.
+async function saleOf(item) {
+  const [names, { rate }] = await Promise.all([namesOf([item.seller, item.leader]), read("/house")]);
+  return withParties(item, names, rate);
+}
+
+function withParties(item, names, rate) {
+  const fee = feeOf(item.price, rate);
+  return { ...item, buyer: names.get(item.leader), from: names.get(item.seller), fee, net: item.price - fee };
+}
+
+const isMeant = sale => isSure({
+  title: "Settle this sale?",
+  text: [written(titled(sale.title)), `: ${shown(sale.price)} from `, written(sale.buyer), `, ${shown(sale.net)} for `,
+    written(sale.from), `, and ${shown(sale.fee)} for the house. It can't be taken back.`],
+  yes: "It is paid, settle it", no: "Not yet",
+});
 
 // A button that settles the sale of an item, for the house; else nothing.
 export function settle(item, after) {
@@ -21,50 +50,68 @@ export function settle(item, after) {
   }
   return action({
     button: "Settle this sale", waits: "Settling..", context: () => ({ tried: "settle" }),
+    isMeant: async () => isMeant(await saleOf(item)), unless: "Nothing was settled.",
     act: async () => {
       const answer = await send(`/items/${item.item}/settle`);
-      await after?.();
-      return `Settled: ${shown(answer.price)} paid, ${shown(answer.fee)} fee, ${shown(answer.net)} for the seller.`;
+      const sentence = `Settled: ${shown(answer.price)} paid, ${shown(answer.fee)} fee, ${shown(answer.net)} for the seller.`;
+      await after?.().catch(() => {});
+      tell(sentence);
+      return sentence;
     },
   }).node;
 }
 
-// Sales that wait: no list has them, so the items of all categories are read.
-async function sales() {
-  const [list, { items: count }] = await Promise.all([categories(), read("/house")]);
-  const shelves = list.map(one => new Shelf(one.category));
-  await each(shelves, shelf => shelf.readAnew(count, ENOUGH));
-  const isWhole = shelves.every(shelf => shelf.isWhole);
-  return { sold: shelves.flatMap(shelf => shelf.items).filter(item => item.state === "sold"), isWhole };
+// What is due and what waits to be settled, each as it is now: a list may be a minute old.
+async function waiting(visit) {
+  const [list, { rate }] = await Promise.all([allItems(visit, ENOUGH), read("/house")]);
+  const isOver = item => item.state === "sold" || item.state === "open" && hasEnded(item);
+  const numbers = list.items.filter(isOver).sort((one, two) => one.end - two.end).slice(0, MOST).map(item => item.item);
+  const items = await itemsOf(numbers);
+  const sold = items.filter(item => item.state === "sold");
+  const names = await namesOf(sold.flatMap(item => [item.seller, item.leader]), Infinity);
+  return { list, due: items.filter(item => item.state === "open"), sales: sold.map(item => withParties(item, names, rate)) };
 }
 
-const entry = item => make("li", {},
-  make("p", {}, link(`item/${item.item}`, written(titled(item.title))), ` sold for ${shown(item.price)}`), settle(item));
+const DUE = [["Item", SUBJECT], ["Price", AMOUNT], ["Bids", TEXT], ["Ended", TEXT]];
+const SALES = [["Item", SUBJECT], ["Buyer", TEXT], ["Seller", TEXT], ["Closed", TEXT], ["Price", AMOUNT], ["Fee", AMOUNT],
+  ["For the seller", AMOUNT], ["", TEXT]];
 
-async function listed() {
-  const { sold, isWhole } = await sales();
-  const older = isWhole ? null : make("p", { class: "soft" }, `Of each category the last ${ENOUGH} items are looked through.`);
-  const list = sold.length ? make("ul", { class: "talk" }, ...sold.map(entry))
-    : make("p", { class: "soft" }, "No sale waits.");
-  return [list, older];
-}
+const title = item => link(`item/${item.item}`, written(titled(item.title)));
+const party = (number, name) => link(`member/${number}`, written(name));
 
-function closing(refill) {
+const dueTable = items => table("Due to be closed", DUE, items.map(item => [title(item), shown(item.price), bidsInWords(item),
+  inWords(item.end)]));
+
+const saleRow = (sale, after) => [title(sale), party(sale.leader, sale.buyer), party(sale.seller, sale.from), inWords(sale.closed),
+  shown(sale.price), shown(sale.fee), shown(sale.net), settle(sale, after)];
+
+const none = text => make("p", { class: "soft" }, text);
+
+function closing(again) {
   return action({
     button: "Close what is due", waits: "Closing..",
     act: async () => {
       const answer = await send("/close");
-      await refill();
+      await again().catch(() => {});
       return closed(answer);
     },
   }).node;
 }
 
-export async function settling() {
-  const place = make("div");
-  const refill = async () => replace(place, ...await listed());
-  await refill();
+export async function settling(visit) {
+  const toClose = make("div");
+  const toSettle = make("div");
+  const refillDue = refilling(toClose);
+  const refillSales = refilling(toSettle);
+  const look = () => waiting(visit);
+  const show = ({ list, due, sales }) => {
+    refillDue(due, () => [due.length ? dueTable(due) : none("Nothing is due to be closed.")]);
+    refillSales([list.moment, sales], () => [list.moment === null ? provenance(list) : null,
+      sales.length ? table("Sales to settle", SALES, sales.map(sale => saleRow(sale, again))) : none("No sale waits.")]);
+  };
+  const again = async () => show(await look());
+  await visit.follow(FRESH, look, show);
   return { title: "Close and settle", nodes: [
-    make("section", { class: "box" }, make("h2", {}, "Auctions whose end has come"), closing(refill)),
-    make("section", { class: "box" }, make("h2", {}, "Sales to settle"), place)] };
+    make("section", { class: "box" }, make("h2", {}, "Auctions whose end has come"), toClose, closing(again)),
+    make("section", {}, toSettle)] };
 }

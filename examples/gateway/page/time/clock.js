@@ -1,3 +1,4 @@
+// @ts-check
 // The gateway's clock, by which auctions end, as far as its answers tell it.
 //
 // Each answer has the second of the gateway in `date`, and came between two moments of this machine. So each bounds

@@ -1,3 +1,4 @@
+// @ts-check
 // Moments as people read them, in the house's zone.
 import { make, put } from "../elements/dom.js";
 import { isKnown, now } from "./clock.js";
@@ -23,6 +24,8 @@ export function setZone(rule) {
 export const zoneInWords = () => isOfHouse
   ? `Times are those of the house: ${at(zone, now()).name}.`
   : "Times are in UTC, since this page can't read the house's zone.";
+
+export const zoneName = () => isOfHouse ? at(zone, now()).name : "UTC";
 
 const two = number => String(number).padStart(2, "0");
 
@@ -84,12 +87,20 @@ function left(end) {
   return seconds > 0 ? duration(seconds) : "no time";
 }
 
+// How long ago a moment was, which goes on as a countdown does.
+export const age = moment => make("span", { class: "age", "data-since": moment }, since(moment));
+
+const since = moment => isKnown() ? duration(Math.max(0, Math.floor(now() - moment))) : "some time";
+
 // The event by which the page hears that a countdown has run out.
 export const ENDED = "countdown-ended";
 
+/** @param {string} selector @returns {NodeListOf<HTMLElement>} */
+const spans = selector => document.querySelectorAll(selector);
+
 export function tick() {
   let hasRunOut = false;
-  for (const span of document.querySelectorAll(".countdown")) {
+  for (const span of spans(".countdown")) {
     const end = Number(span.dataset.end);
     put(span, left(end));
     span.classList.toggle("soon", isKnown() && secondsLeft(end) < 5 * MINUTE);
@@ -97,6 +108,9 @@ export function tick() {
       span.dataset.isOver = "true";
       hasRunOut = true;
     }
+  }
+  for (const span of spans(".age")) {
+    put(span, since(Number(span.dataset.since)));
   }
   if (hasRunOut) {
     document.dispatchEvent(new Event(ENDED));

@@ -1,3 +1,4 @@
+// @ts-check
 // The zone of the house, which it tells as a POSIX rule such as CET-1CEST,M3.5.0,M10.5.0/3.
 
 const NAME = "([A-Za-z]{3,}|<[A-Za-z0-9+-]{3,}>)";

@@ -1,17 +1,28 @@
+// @ts-check
 // Amounts: the interface has whole cents, people write and read them with two decimals.
 
 export const MOST = 1_000_000_000;
 
 const GROUPS = /\B(?=(\d{3})+$)/g;
 
-// 123450 is shown as 1,234.50.
+// The name by which the city's money goes, after each amount; none, where the city gives none.
+let currency = "";
+
+export function setCurrency(name) {
+  currency = name;
+}
+
+// 1234567 is shown as 1,234,567.
+export const grouped = whole => String(whole).replace(GROUPS, ",");
+
+// 123450 is shown as 1,234.50, and with the name of the money.
 export function shown(cents) {
-  const whole = String(Math.floor(cents / 100)).replace(GROUPS, ",");
-  return `${whole}.${String(cents % 100).padStart(2, "0")}`;
+  const amount = `${grouped(Math.floor(cents / 100))}.${String(cents % 100).padStart(2, "0")}`;
+  return currency === "" ? amount : `${amount}\u00a0${currency}`;
 }
 
 // As a program reads it: 1234.50.
-export const plain = cents => shown(cents).replaceAll(",", "");
+export const plain = cents => `${Math.floor(cents / 100)}.${String(cents % 100).padStart(2, "0")}`;
 
 const PLAIN = /^(\d{1,8})(?:[.,](\d{1,2}))?$/;
 const SPACED = /^(\d{1,3}(?:[ \u00a0\u202f]\d{3})+)(?:[.,](\d{1,2}))?$/;

@@ -1,3 +1,4 @@
+// @ts-check
 // What a refusal means, in a sentence that says what happened, and what to do.
 import { shown } from "./money.js";
 
@@ -28,6 +29,7 @@ const SPECIAL = {
   bid: { Limit: "This item has as many bids as the house keeps. Nobody can bid for it any more." },
   watch: { Limit: "You watch as many items as the house keeps. Stop watching another one first." },
   ask: { Limit: "You have asked as many questions about this item as the house keeps. Its page has the answers." },
+  bands: { Limit: "The house keeps no more band tables." },
   list: { Range: "A field is too long or too large, or the end has come already. Look at the fields again.",
     Unknown: "The house has no such category. Choose another." },
 };
