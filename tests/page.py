@@ -9,6 +9,7 @@ a house with some history behind nginx and haproxy. They find all by roles and n
 - nobody is sent a digit of what another has sealed, a maximum or a reserve: in no answer, nowhere on a page, and in no
   file that is written for all (page_sealed.py)
 - what one won and listed, accounts, settling, a new band table, the city's own words (page_pages.py)
+- mails and other notices, each once, to whom they concern (page_notices.py)
 - the catalogue has all items, is written whole or not at all, and the page does without it (page_catalogue.py)
 - the countdown goes by the gateway's clock, also where the browser's is an hour wrong
 - names and texts that would do harm as HTML stay text, and turn nothing around them
@@ -25,17 +26,20 @@ PICTURES is a folder for pictures of three parts. It needs what gateway.py needs
 'N checks, M wrong'.
 """
 import contextlib
+import os
 import pathlib
 import sys
 import tempfile
 
 import browser
 import page_catalogue as catalogue
+import page_notices as notices
 import page_pages as pages
 import page_play as play
 import page_sealed as sealed
 import page_truth as truth
 import page_words as words
+from bad_files import NOBODY
 from gateway_run import folder_of_nobody, missing_packages
 from page_house import (BEN, EVIL, EVIL_CATEGORY, EVIL_NAME, EVIL_TEXTS, EVIL_TITLES, MANY, MANY_BIDS, OPEN, PAST, furnished,
                         with_many)
@@ -57,7 +61,7 @@ location.hash = arguments[0];"""
 EVIL_ITEM = len(PAST) + len(OPEN) + 1
 # The parts of the page, by who looks at them.
 PARTS = {
-    "ana": ["", "category/1", "category/4", "search/globe%20gores", "listings", "sell/1", "item/1", f"item/{EVIL_ITEM}", "questions", "sell", "statement", "house",
+    "ana": ["", "category/1", "category/4", "search/globe%20gores", "listings", "sell/1", "item/1", f"item/{EVIL_ITEM}", "questions", "sell", "statement", "notices", "house",
             "member/2", "nothing", "constructor"],
     "ben": ["bids", "won", "watches", "questions", "statement", "item/14", "item/15", "item/13", f"item/{EVIL_ITEM + 1}",
             f"item/{EVIL_ITEM + 2}", "member/1", "item/999", "statement/2020-01-01/2020-12-31"],
@@ -143,11 +147,16 @@ def long_lists(program, folder):
 
 def true_at_once(program, folder):
     """What the page says goes with what is so."""
+    program_of_mail, mails = notices.mailbox(folder, NOBODY)
+    os.environ["SENDMAIL"] = str(program_of_mail)
     with furnished(program, folder) as gateway:
         with readers(gateway, "house", "ana", "ben", "cid", wrong=None, before=truth.BEFORE) as all_of_them:
             house, ana, ben, cid = all_of_them
             listings = truth.all_of_it(gateway, ana, ben, cid)
             pages.all_of_it(gateway, listings, *all_of_them)
+            notices.gives_an_address(ben, gateway)
+            notices.tells_members(ben, gateway, listings, mails)
+            notices.tells_the_window(ben, gateway, listings)
             for reader in all_of_them:
                 sealed.never_sent(reader, gateway.numbers[reader.name])
             play.no_faults(all_of_them)
@@ -237,6 +246,7 @@ def main():
         return 1
     words.files()
     catalogue.whole_or_not()
+    notices.told_once()
     with folder_of_nobody() as folder, tempfile.TemporaryDirectory() as saved, furnished(program, folder) as gateway:
         policy(gateway)
         with readers(gateway, "house", "ana", "ben", "cid", wrong="cid") as all_of_them:

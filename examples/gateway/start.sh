@@ -29,12 +29,13 @@ make_certificate() {
 
 # Makes the files of a house that are missing. The house of the host is served and reached by them.
 make_house() {
-    mkdir -p "houses/$1/run"
+    mkdir -p "houses/$1/run" "houses/$1/addresses"
     [ -e "houses/$1/page" ] || cp -r "$here/page" "houses/$1/"
     sed -e "s/HOST/$1/g" -e "s/PORT/$port/g" "$here/site.conf" > "houses/$1/site.conf"
     cp "$here/queue.cfg" "houses/$1/"
     touch "houses/$1/users" "houses/$1/members.map"
     echo "$1" > "houses/$1/host"
+    echo "https://$1:$port" > "houses/$1/origin"
     ln -sf ../../run/nginx.pid "houses/$1/nginx.pid"
     [ -e "houses/$1/house" ] ||
         "$program" init "houses/$1/house" --bands "$here/../bands.csv" --rate 1000 --zone UTC0 > /dev/null

@@ -16,10 +16,12 @@ import { item } from "./items/item.js";
 import { member, members } from "./office/members.js";
 import { duration, setZone, tick, zoneInWords } from "./time/moments.js";
 import { tell } from "./elements/news.js";
+import { notices } from "./member/notices.js";
 import { questions } from "./member/questions.js";
 import { sell } from "./member/sell.js";
 import { settling } from "./office/settling.js";
 import { statement } from "./member/statement.js";
+import { markTitle, setTitle } from "./elements/title.js";
 import { Visit } from "./exchange/visit.js";
 import { countWaiting } from "./member/waiting.js";
 import { watches } from "./member/watches.js";
@@ -27,12 +29,12 @@ import { won } from "./member/won.js";
 import { sentence } from "./words/refusals.js";
 
 // Each part of the page by the first word after #/. It makes a heading and what is below it.
-const PARTS = { "": front, category, search, item, member, bids, won, watches, listings, questions, sell, statement,
+const PARTS = { "": front, category, search, item, member, bids, won, watches, listings, questions, sell, statement, notices,
   house, members, settling, accounts };
 
 const OF_ALL = [["", "Items"]];
 const OF_MEMBERS = [["bids", "My bids"], ["won", "Won"], ["watches", "Watching"], ["listings", "My listings"],
-  ["questions", "Questions"], ["sell", "Sell"], ["statement", "Statement"]];
+  ["questions", "Questions"], ["sell", "Sell"], ["statement", "Statement"], ["notices", "Notices"]];
 const OF_HOUSE = [["members", "Members"], ["settling", "Close and settle"], ["accounts", "Accounts"]];
 const LAST = [["house", "The house"]];
 // The entry below which a part lies that has none.
@@ -111,7 +113,7 @@ async function show() {
   const own = visit = new Visit(noted);
   readUntil(own.signal);
   content.setAttribute("aria-busy", "true");
-  const { title, of = null, nodes } = await made(own, name, words);
+  const { title, mark = "", of = null, nodes } = await made(own, name, words);
   if (own.isOver) {
     return;
   }
@@ -121,7 +123,8 @@ async function show() {
   replace(content, of, heading, ...nodes);
   noteFields(content);
   putDrafts(addressNow, content);
-  document.title = `${isolated(title)} | The auction house`;
+  setTitle(title);
+  markTitle(mark);
   tick();
   foot();
   scrollTo(0, scroll);

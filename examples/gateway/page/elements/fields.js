@@ -92,6 +92,13 @@ export function textField(label, { hint = "", least = 1, most, rows = 0, value =
   return field;
 }
 
+// A line that is judged as it is.
+export function lineField(label, { hint, value, judge }) {
+  const control = make("input", { type: "text", autocomplete: "off" });
+  control.value = value;
+  return new Field(label, control, hint, judge);
+}
+
 // Lines that are judged together. Empty ones don't count.
 export function linesField(label, { hint, rows, value, judge }) {
   const control = make("textarea", { rows, class: "amount" });

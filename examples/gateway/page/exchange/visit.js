@@ -43,9 +43,9 @@ export class Visit {
     });
   }
 
-  // Does work again and again, each time so many seconds after the last. It rests while nobody sees the page, and
-  // begins at once when somebody does.
-  repeat(seconds, work) {
+  // Does work again and again, each time so many seconds after the last. While nobody sees the page it rests, or works
+  // seldom where `hidden` has seconds for that. It begins at once when somebody sees it.
+  repeat(seconds, work, hidden = Infinity) {
     let timer = 0;
     let isAtWork = false;
     let failed = 0;
@@ -55,9 +55,23 @@ export class Visit {
         tell(OLD);
       }
     };
+    const wait = () => {
+      const pause = document.hidden ? hidden : seconds();
+      if (pause < Infinity) {
+        timer = setTimeout(go, 1000 * pause);
+      }
+    };
+    const turn = () => {
+      clearTimeout(timer);
+      if (document.hidden) {
+        wait();
+      } else {
+        go();
+      }
+    };
     const go = async () => {
       clearTimeout(timer);
-      if (this.isOver || isAtWork || document.hidden) {
+      if (this.isOver || isAtWork) {
         return;
       }
       isAtWork = true;
@@ -66,9 +80,9 @@ export class Visit {
         failed = 0;
       }, fails);
       isAtWork = false;
-      timer = setTimeout(go, 1000 * seconds());
+      wait();
     };
-    document.addEventListener("visibilitychange", go, { signal: this.signal });
-    timer = setTimeout(go, 1000 * seconds());
+    document.addEventListener("visibilitychange", turn, { signal: this.signal });
+    wait();
   }
 }

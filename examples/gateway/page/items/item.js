@@ -8,6 +8,8 @@ import { categories, nameAtHand, nameOf, ownBid, reserveOf } from "../exchange/k
 import { countdown, hasEnded, secondsLeft, tick, time } from "../time/moments.js";
 import { shown } from "../words/money.js";
 import { tell } from "../elements/news.js";
+import { notify } from "../elements/notify.js";
+import { markTitle } from "../elements/title.js";
 import { offers } from "./offer.js";
 import { rating } from "./rating.js";
 import { settle } from "../office/settling.js";
@@ -22,6 +24,8 @@ const OFTEN = 1;
 const OPEN = 4;
 const OVER = 30;
 const NEAR = 60;
+// While nobody sees the page.
+const HIDDEN = 60;
 
 function pace(item) {
   if (item.state !== "open") {
@@ -113,6 +117,11 @@ function reserveBadge(item) {
   return words ? make("span", { class: `badge ${item.met ? "lead" : "quiet"}` }, words) : null;
 }
 
+const isOutbid = ({ item, bid }) => stateOf(item) === "open" && standing(item, bid)?.[0] === "out";
+
+// The word before the window's title, which is seen among other windows.
+const markOf = shownNow => isOutbid(shownNow) ? "outbid" : "";
+
 // What changed for who looks on, in a sentence.
 function change(before, after) {
   const price = after.item.price === before.item.price ? "" : `The price is now ${shown(after.item.price)}. `;
@@ -145,7 +154,11 @@ function followed(first, conversation) {
     if (!isSame(before, after)) {
       Object.assign(shownNow, after);
       update();
+      markTitle(markOf(shownNow));
       tell(isAnnounced ? change(before, after) : "");
+      if (isOutbid(after) && !isOutbid(before)) {
+        notify(`You were outbid: ${titled(after.item.title)}`, `item ${after.item.item}`);
+      }
     }
     touchUp();
   }
@@ -240,9 +253,10 @@ export async function item(visit, number) {
   const { node, update, refresh, shownNow } = parts;
   visit.onEnd(() => {
     update();
+    markTitle(markOf(shownNow));
     tell("The end of this auction has come.");
   });
-  visit.repeat(() => pace(shownNow.item), refresh);
+  visit.repeat(() => pace(shownNow.item), refresh, HIDDEN);
   const of = make("p", { class: "of" }, `Lot ${first.item.lot}`);
   let isComplete = false;
   const fill = async () => {
@@ -252,6 +266,6 @@ export async function item(visit, number) {
   visit.repeat(() => isComplete ? 60 : 4, fill);
   const more = make("div");
   fill().then(() => moreOfSeller(visit, first.item)).then(section => replace(more, section)).catch(() => {});
-  return { title: titled(first.item.title), of, nodes: [make("div", { class: "two" }, node, story(first.item),
+  return { title: titled(first.item.title), mark: markOf(shownNow), of, nodes: [make("div", { class: "two" }, node, story(first.item),
     conversation.node), more] };
 }
