@@ -22,7 +22,7 @@ a house with some history behind nginx and haproxy. They find all by roles and n
 - what the page says is true at once: after an outbid, an end, a failed read, a lost answer, a sleep, a way back
   (page_truth.py)
 
-PICTURES is a folder for pictures of three parts. It needs what gateway.py needs, and chromedriver. The last line is
+PICTURES is a folder for pictures of some parts. It needs what gateway.py needs, and chromedriver. The last line is
 'N checks, M wrong'.
 """
 import contextlib
@@ -203,6 +203,7 @@ def auction(gateway, house, ana, ben, cid, pictures):
     play.is_unsure(ben)
     play.talks(ana, ben)
     picture(ben, pictures, "item", f"item/{number}")
+    picture(ben, pictures, "items", "")
     sealed.never_sent(ben, BEN)
     play.countdown(cid, end)
     return number
@@ -230,6 +231,9 @@ def after_the_end(gateway, house, ana, ben, cid, pictures, folder):
     play.statements(gateway, ana, ben, cid)
     picture(ana, pictures, "statement", "statement", 1000)
     picture(ben, pictures, "bids", "bids", 820)
+    picture(cid, pictures, "won", "won", 800)
+    picture(ana, pictures, "listings", "listings", 900)
+    picture(house, pictures, "accounts", "accounts", 760)
     play.registers(house)
     play.allow_saving(house, folder)
     play.record(gateway, house, folder)

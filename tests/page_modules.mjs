@@ -3,10 +3,10 @@
 import assert from "node:assert/strict";
 import { test } from "node:test";
 import { csv } from "../examples/gateway/page/elements/files.js";
-import { named, titled } from "../examples/gateway/page/elements/dom.js";
+import { nameOrNone, titleOrNone } from "../examples/gateway/page/elements/dom.js";
 import { dayInWords, duration } from "../examples/gateway/page/time/moments.js";
 import { at, momentOf, parse } from "../examples/gateway/page/time/zone.js";
-import { cents, plain, shown } from "../examples/gateway/page/words/money.js";
+import { cents, money, plain } from "../examples/gateway/page/words/money.js";
 import { sentence } from "../examples/gateway/page/words/refusals.js";
 
 const table = (rows, work) => rows.forEach(([given, wanted]) => assert.deepEqual(work(given), wanted, JSON.stringify(given)));
@@ -21,7 +21,7 @@ test("amounts are read as they are meant, or not at all", () => table([
 
 test("amounts are shown with two decimals", () => table([
   [0, "0.00"], [5, "0.05"], [123450, "1,234.50"], [1_000_000_000, "10,000,000.00"],
-], shown));
+], money));
 
 test("programs read amounts without commas", () => assert.equal(plain(123450), "1234.50"));
 
@@ -56,8 +56,8 @@ test("a bid under the floor is told by what was shown", () => {
 test("a word that nobody knows is told as it is", () => assert.match(sentence({ error: "Novel" }), /by the word Novel/));
 
 test("a title that nobody can see has a name all the same", () => {
-  table([["\u00a0", "(no title)"], ["\u2029\ufeff", "(no title)"], ["\u3164", "(no title)"], ["7", "7"], ["–", "–"]], titled);
-  assert.equal(named("\u200b"), "(no name)");
+  table([["\u00a0", "(no title)"], ["\u2029\ufeff", "(no title)"], ["\u3164", "(no title)"], ["7", "7"], ["–", "–"]], titleOrNone);
+  assert.equal(nameOrNone("\u200b"), "(no name)");
 });
 
 test("a spreadsheet runs nothing, and keeps amounts", () => table([

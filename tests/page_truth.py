@@ -12,13 +12,22 @@ from page_house import HOUR, MAPS
 from screen_reader import USABLE
 from served import check
 
-# Before the page's own scripts: reads that fail, a command whose answer is lost, and long pauses that are a tenth as long.
+# Before the page's own scripts: reads that fail, one that isn't answered, a command whose answer is lost, and long pauses that
+# are a tenth as long.
 BEFORE = """const reallyAsk = fetch, reallyWait = setTimeout;
 window.lost = "";
+window.held = "";
+window.ended = [];
 window.failing = [];
 window.fetch = async (address, words = {}) => {
   if (words.method !== "POST" && window.failing.some(one => new RegExp(`/api/${one}$`).test(address))) {
     throw new TypeError("failed");
+  }
+  if (window.held && String(address).endsWith(window.held)) {
+    await new Promise((_, fail) => words.signal.addEventListener("abort", () => {
+      window.ended.push(window.held);
+      fail(words.signal.reason);
+    }));
   }
   const answer = await reallyAsk(address, words);
   if (window.lost && words.method === "POST" && String(address).endsWith(window.lost)) {
@@ -33,6 +42,10 @@ SLEEP = "const right = Date.now; Date.now = () => right() + 3600000"
 # The clock turns the page within this, and a machine that is busy takes its time.
 TURN = 2.0
 BLANK = "\u00a0\u2029\ufeff"
+
+
+# How far down the heading is.
+HEIGHT = "return document.querySelector('h1').getBoundingClientRect().top + scrollY"
 
 
 class Listings:
@@ -86,12 +99,14 @@ def outcome_goes(ben, listings):
 def news_cover_nothing(ben, number):
     """What is announced lies over nothing that is used, and goes with the next own bid."""
     news = next(node for node in ben.all("status") if "The price is now" in ben.said(node))
+    height = ben.page.run(HEIGHT)
     covered = [node for node in ben.tree() if node.role in USABLE and overlap(ben.box(news), ben.box(node))]
     check("the news cover", covered, [])
     ben.write("textbox", "Your maximum", "30")
     ben.press("button", "Bid")
     ben.wait_for_text("Your bid is taken, and you lead at")
     check("stale news", "The price is now" in ben.announced(), False)
+    check("what is below the news stays where it was", ben.page.run(HEIGHT), height)
 
 
 def short_of_the_reserve(ben, listings):
@@ -230,6 +245,13 @@ def comes_back(ben, ana, gateway, listings):
     ben.wait(lambda: abs(ben.page.run("return scrollY") - 500) < 20, "the place in the list")
 
 
+def reads_end_with_the_page(ben):
+    """What a page asks for is ended when one leaves it."""
+    ben.page.run("window.held = '/api/categories'; location.hash = '#/category/1'")
+    go(ben, "watches", "Watching")
+    check("reads that ended", ben.page.run("window.held = ''; return window.ended"), ["/api/categories"])
+
+
 def lost_listings(ana, gateway):
     """A listing whose answer was lost is found by its code, at once or when it is sent again, and is there once."""
     for title, blocked in (("A lost map", []), ("A map that is lost twice", ["house"])):
@@ -290,6 +312,7 @@ def all_of_it(gateway, ana, ben, cid):
     taken_and_unread(ben, listings)
     lists_come_anew(cid, ana, gateway, listings)
     comes_back(ben, ana, gateway, listings)
+    reads_end_with_the_page(ben)
     lost_listings(ana, gateway)
     room_in_titles(ana)
     blank_titles(ben, listings)

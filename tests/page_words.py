@@ -39,7 +39,7 @@ def amounts(page):
     texts = [*AMOUNTS, *NO_AMOUNTS]
     results = in_page(page, "words/money.js", "words.map(it.cents)", texts)
     check("amounts that are read", dict(zip(texts, results)), {**AMOUNTS, **dict.fromkeys(NO_AMOUNTS)})
-    check("amounts that are shown", in_page(page, "words/money.js", "words.map(it.shown)", list(SHOWN)), list(SHOWN.values()))
+    check("amounts that are shown", in_page(page, "words/money.js", "words.map(it.money)", list(SHOWN)), list(SHOWN.values()))
 
 
 def zones(page, seed):
@@ -121,9 +121,9 @@ def reserves(page):
 def files():
     """The page's own files never read a text as HTML, name no other site, and import what is there. The page names all of
     them, so that a browser asks for them at once."""
-    modules = sorted(file.relative_to(PAGE).as_posix() for file in PAGE.rglob("*.js") if file.name != "main.js")
-    named = re.findall(r'<link rel="modulepreload" href="([^"]+)">', (PAGE / "index.html").read_text())
-    check("modules that the page names", named, modules)
+    modules = sorted(file.relative_to(PAGE).as_posix() for file in PAGE.rglob("*.js"))
+    named = re.findall(r'<(?:link rel="modulepreload" href|script type="module" src)="([^"]+)"', (PAGE / "index.html").read_text())
+    check("modules that the page names", sorted(named), modules)
     for file in filter(pathlib.Path.is_file, PAGE.rglob("*")):
         name, text = file.relative_to(PAGE), file.read_text()
         for word in NEVER:

@@ -6,7 +6,7 @@ SHOWN = ("buy_now", "category", "closed", "count", "end", "item", "leader", "met
 FINAL = ("unsold", "settled")
 
 
-def shown(item):
+def public_part(item):
     return {key: item[key] for key in SHOWN}
 
 
@@ -15,7 +15,7 @@ def read_items(house, known, count):
     first = first_to_read(house, known, count)
     items = {number: item for number, item in known.items() if number < first}
     for category in house.read("/categories")["categories"]:
-        items.update((item["item"], shown(item)) for item in house.items_of(category["category"], first))
+        items.update((item["item"], public_part(item)) for item in house.items_of(category["category"], first))
     return dict(sorted(items.items()))
 
 
@@ -25,7 +25,7 @@ def first_to_read(house, known, count):
     first = min(changing, default=max(known, default=0) + 1)
     if first == 1:
         return 1
-    is_same = max(known) <= count and shown(house.read(f"/items/{first - 1}")) == known[first - 1]
+    is_same = max(known) <= count and public_part(house.read(f"/items/{first - 1}")) == known[first - 1]
     return first if is_same else 1
 
 

@@ -22,7 +22,7 @@ from words import subject, text
 PATIENCE = 86_400
 KEPT = ("item", "leader", "state")
 FINAL = ("unsold", "settled")
-ADDRESS = re.compile(r"[A-Za-z0-9][A-Za-z0-9._%+-]*@[A-Za-z0-9](?:[A-Za-z0-9-]*[A-Za-z0-9])?(?:\.[A-Za-z0-9-]+)+", re.ASCII)
+ADDRESS = re.compile(r"[A-Za-z0-9][A-Za-z0-9._%+-]*@[A-Za-z0-9][A-Za-z0-9-]*(?:\.[A-Za-z0-9-]+)+", re.ASCII)
 
 
 def read_json(file, otherwise):

@@ -30,7 +30,7 @@ def amount(cents, currency):
 
 def tidy(text):
     """A title in one line, without marks that turn or break it."""
-    return "".join(letter if unicodedata.category(letter)[0] != "C" and letter not in "\u2028\u2029" else " " for letter in text)
+    return "".join(" " if unicodedata.category(letter)[0] == "C" or letter in "\u2028\u2029" else letter for letter in text)
 
 
 def subject(kind, item):

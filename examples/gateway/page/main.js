@@ -9,7 +9,7 @@ import { caller, findOut } from "./exchange/caller.js";
 import { ahead, isKnown } from "./time/clock.js";
 import { entry, keepDrafts, noteFields, putDrafts } from "./exchange/history.js";
 import { nameOf } from "./exchange/known.js";
-import { isolated, link, make, part, put, replace, written } from "./elements/dom.js";
+import { isolate, link, make, part, put, replace, quote } from "./elements/dom.js";
 import { house } from "./office/house.js";
 import { listings } from "./member/listings.js";
 import { item } from "./items/item.js";
@@ -48,7 +48,7 @@ const content = part("content");
 let visit = new Visit();
 
 function navigation(current) {
-  const own = caller.isHouse ? OF_HOUSE : caller.isMember ? OF_MEMBERS : [];
+  const own = caller.isHouse ? OF_HOUSE : OF_MEMBERS;
   const entries = [...OF_ALL, ...own, ...LAST].map(([path, text]) => {
     const entry = link(path, text);
     if (path === current) {
@@ -82,7 +82,7 @@ const isAnothers = name => !caller.isMember && OF_MEMBERS.some(([path]) => path 
 
 const membersOnly = () => ({ title: "For members", nodes: [make("p", {}, "Only members have this. Sign in as a member.")] });
 
-async function made(own, name, words) {
+async function makePart(own, name, words) {
   if (isAnothers(name)) {
     return membersOnly();
   }
@@ -113,13 +113,13 @@ async function show() {
   const own = visit = new Visit(noted);
   readUntil(own.signal);
   content.setAttribute("aria-busy", "true");
-  const { title, mark = "", of = null, nodes } = await made(own, name, words);
+  const { title, mark = "", of = null, nodes } = await makePart(own, name, words);
   if (own.isOver) {
     return;
   }
   content.removeAttribute("aria-busy");
   navigation(name);
-  const heading = make("h1", { tabindex: "-1" }, written(title));
+  const heading = make("h1", { tabindex: "-1" }, quote(title));
   replace(content, of, heading, ...nodes);
   noteFields(content);
   putDrafts(addressNow, content);
@@ -174,7 +174,7 @@ async function begin() {
 // Who is signed in. The name of a member takes a read, for which nothing waits.
 async function sayWho() {
   const name = caller.isMember ? await nameOf(caller.number).catch(() => `member ${caller.number}`) : "the house";
-  put(part("who"), `Signed in as ${isolated(name)}`);
+  put(part("who"), `Signed in as ${isolate(name)}`);
 }
 
 // The address after # is that of a part, so the link to the content moves the keyboard alone.

@@ -2,7 +2,7 @@
 // Prices by day, as bars: what was sold, and what was bought.
 import { draw, make } from "./dom.js";
 import { dayInWords } from "../time/moments.js";
-import { shown } from "../words/money.js";
+import { money } from "../words/money.js";
 
 const HEIGHT = 120;
 const FLOOR = 130;
@@ -27,7 +27,7 @@ function byDay(lines) {
 function bar(left, width, amount, most, kind, day) {
   const height = amount === 0 ? 0 : Math.max(1, amount / most * HEIGHT);
   return draw("rect", { x: left, y: FLOOR - height, width, height, class: kind },
-    draw("title", {}, `${dayInWords(day)}: ${kind} ${shown(amount)}`));
+    draw("title", {}, `${dayInWords(day)}: ${kind} ${money(amount)}`));
 }
 
 function bars(days, most, breadth) {
@@ -50,11 +50,11 @@ export function chart(lines) {
     return null;
   }
   const most = days.reduce((greatest, [, { sell, buy }]) => Math.max(greatest, sell, buy), 0);
-  const words = `Sold and bought by day, on ${days.length} ${days.length === 1 ? "day" : "days"}, at most ${shown(most)} on one.`;
+  const words = `Sold and bought by day, on ${days.length} ${days.length === 1 ? "day" : "days"}, at most ${money(most)} on one.`;
   // As broad as the window, so that letters have their size on a phone too.
   const breadth = Math.min(BROADEST, Math.max(NARROWEST, innerWidth - 80));
   const picture = draw("svg", { viewBox: `0 0 ${breadth} ${LABEL + 6}`, role: "img", "aria-label": words },
     draw("line", { x1: 0, x2: breadth, y1: FLOOR, y2: FLOOR }), ...bars(days, most, breadth));
   return make("figure", { class: "chart" },
-    make("figcaption", {}, "By day: ", key("sold", "sold"), " ", key("bought", "bought"), `, at most ${shown(most)}`), picture);
+    make("figcaption", {}, "By day: ", key("sold", "sold"), " ", key("bought", "bought"), `, at most ${money(most)}`), picture);
 }

@@ -1,7 +1,7 @@
 // @ts-check
 // Fields of forms: a label, a hint, and a sentence where what was written can't be taken.
 import { make, put } from "./dom.js";
-import { MOST, cents, shown } from "../words/money.js";
+import { MOST, cents, money } from "../words/money.js";
 
 // Why a field can't be taken.
 export class Mistake extends Error {}
@@ -59,7 +59,7 @@ const bytes = text => new TextEncoder().encode(text).length;
 // spaces.
 const tidy = text => text.trim().replace(/\s*[\r\n]\s*/g, "\u2029").replace(/[\u0000-\u001f\u007f]/g, " ");
 
-function judged(text, least, most) {
+function judgeText(text, least, most) {
   const tidied = tidy(text);
   const length = bytes(tidied);
   if (length < least) {
@@ -82,7 +82,7 @@ function roomIn(text, most) {
 export function textField(label, { hint = "", least = 1, most, rows = 0, value = "" }) {
   const control = rows ? make("textarea", { rows }) : make("input", { type: "text", autocomplete: "off" });
   control.value = value;
-  const field = new Field(label, control, hint, text => judged(text, least, most));
+  const field = new Field(label, control, hint, text => judgeText(text, least, most));
   const room = make("p", { class: "hint", id: `room-${control.id}` });
   const tell = () => put(room, roomIn(control.value, most));
   tell();
@@ -143,7 +143,7 @@ export function moneyField(label, { hint = "", least = () => 1, tooLow = String,
       throw new Mistake(tooLow(least()));
     }
     if (amount > most()) {
-      throw new Mistake(`The greatest amount is ${shown(most())}. Write less.`);
+      throw new Mistake(`The greatest amount is ${money(most())}. Write less.`);
     }
     return amount;
   });
@@ -154,7 +154,7 @@ export function choiceField(label, { hint = "", choices }) {
   return new Field(label, control, hint, Number);
 }
 
-function dated(type, label, value, hint, sentence) {
+function dateOrTimeField(type, label, value, hint, sentence) {
   return new Field(label, make("input", { type, value }), hint, text => {
     if (!text) {
       throw new Mistake(sentence);
@@ -163,6 +163,6 @@ function dated(type, label, value, hint, sentence) {
   });
 }
 
-export const dayField = (label, value, hint = "") => dated("date", label, value, hint, "Choose a day.");
+export const dayField = (label, value, hint = "") => dateOrTimeField("date", label, value, hint, "Choose a day.");
 
-export const timeField = (label, value, hint = "") => dated("time", label, value, hint, "Choose a time.");
+export const timeField = (label, value, hint = "") => dateOrTimeField("time", label, value, hint, "Choose a time.");

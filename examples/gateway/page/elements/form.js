@@ -26,7 +26,7 @@ async function whileWaiting(button, waits, outcome, work) {
 }
 
 // Says what came of some work: its sentence, or why it was refused. A fault of the page goes to the console too.
-async function saying(outcome, context, work) {
+async function sayOutcome(outcome, context, work) {
   try {
     const done = (await work()) ?? "";
     outcome.classList.toggle("refused", done.isBad === true);
@@ -44,7 +44,7 @@ async function saying(outcome, context, work) {
 const outcomePart = () => make("p", { class: "outcome", role: "status" });
 
 // Takes away what came of the last work, which may be true no more. Who waits for an answer goes on waiting.
-const forgetting = (button, outcome) => () => {
+const makeForget = (button, outcome) => () => {
   if (button.getAttribute("aria-disabled") !== "true") {
     put(outcome, "");
   }
@@ -69,7 +69,7 @@ export function label(button, text) {
  */
 
 /** @param {HTMLElement} button @param {HTMLElement} outcome @param {Deed} deed @param {any[]} values */
-async function pressed(button, outcome, { waits, context = () => ({}), isMeant = (..._) => true, unless = "", act }, values) {
+async function press(button, outcome, { waits, context = () => ({}), isMeant = (..._) => true, unless = "", act }, values) {
   if (button.getAttribute("aria-disabled") === "true") {
     return;
   }
@@ -78,7 +78,7 @@ async function pressed(button, outcome, { waits, context = () => ({}), isMeant =
     put(outcome, unless);
     return;
   }
-  await whileWaiting(button, waits, outcome, () => saying(outcome, context, () => act(...values)));
+  await whileWaiting(button, waits, outcome, () => sayOutcome(outcome, context, () => act(...values)));
 }
 
 // A form of fields. `act` is given their values, and answers a sentence on what was done, or one with `isBad` where that
@@ -95,7 +95,7 @@ export function form({ fields, button: text, kind = "", ...does }) {
       wrong[0].control.focus();
       return;
     }
-    pressed(button, outcome, { ...does, act: sending }, fields.map(field => field.value));
+    press(button, outcome, { ...does, act: sending }, fields.map(field => field.value));
   };
   // What was sent is no draft any more.
   const sending = async (...values) => {
@@ -104,14 +104,14 @@ export function form({ fields, button: text, kind = "", ...does }) {
     return done;
   };
   const node = make("form", { novalidate: true, submit, input: () => delete node.dataset.isSent }, ...fields.map(field => field.node), button, outcome);
-  return { node, button, forget: forgetting(button, outcome) };
+  return { node, button, forget: makeForget(button, outcome) };
 }
 
 // A button that acts by itself.
 /** @param {{ button: string, kind?: string } & Deed} parts */
 export function action({ button: text, kind = "", ...does }) {
   const outcome = outcomePart();
-  const click = () => pressed(button, outcome, does, []);
+  const click = () => press(button, outcome, does, []);
   const button = make("button", { type: "button", class: kind, click }, text);
-  return { node: make("div", { class: "action" }, button, outcome), button, forget: forgetting(button, outcome) };
+  return { node: make("div", { class: "action" }, button, outcome), button, forget: makeForget(button, outcome) };
 }

@@ -4,7 +4,7 @@ import { replace } from "./dom.js";
 
 // Puts nodes into an element, where the value that they show is another than the last time. The keyboard stays at the
 // link that has it.
-export function refilling(element) {
+export function makeRefill(element) {
   let shown = null;
   return (value, nodes) => {
     const sign = JSON.stringify(value);
@@ -22,7 +22,7 @@ export function refilling(element) {
 }
 
 // Entries of a list by key: one that is there stays as it is, with what is written in its form.
-export function keepingEntries(list) {
+export function makeKeeper(list) {
   let known = new Map();
   return entries => {
     const next = new Map(entries.map(([key, make]) => [key, known.get(key) ?? make()]));

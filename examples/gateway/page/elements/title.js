@@ -1,12 +1,12 @@
 // @ts-check
 // The title of the window, with a word before it that is seen among other windows.
-import { isolated } from "./dom.js";
+import { isolate } from "./dom.js";
 
 let title = "";
 let mark = "";
 
 function show() {
-  document.title = `${mark}${isolated(title)} | The auction house`;
+  document.title = `${mark}${isolate(title)} | The auction house`;
 }
 
 /** @param {string} text */

@@ -20,8 +20,10 @@ export class Refusal extends Error {
 export const isUnknown = refusal => refusal instanceof Refusal && refusal.answer.error === "Unknown";
 
 // Reads end with the visit that asked: what nobody waits for any more costs the house nothing.
+/** @type {AbortSignal | null} */
 let leaving = null;
 
+/** @param {AbortSignal} signal */
 export function readUntil(signal) {
   leaving = signal;
 }
@@ -37,7 +39,7 @@ async function exchange(path, options) {
   } catch {
     throw new Refusal({ error: "silence" });
   }
-  const value = parsed(text);
+  const value = parse(text);
   if (!answer.ok || value === null) {
     throw new Refusal(value ?? { error: "gateway", why: "words" });
   }
@@ -45,7 +47,7 @@ async function exchange(path, options) {
 }
 
 // The value of a body, or null where it is no JSON: then something else than the house or the gateway has answered.
-function parsed(text) {
+function parse(text) {
   try {
     return JSON.parse(text);
   } catch {
@@ -53,8 +55,10 @@ function parsed(text) {
   }
 }
 
+/** @param {string} path @returns {Promise<any>} */
 export const read = path => exchange(path, { signal: leaving });
 
+/** @param {string} path @param {object} [body] @returns {Promise<any>} */
 export const send = (path, body = {}) => exchange(path, { method: "POST", body: JSON.stringify(body) });
 
 // The lists that begin at a number: their key, and where the next one begins. One of questions begins at the last
@@ -79,7 +83,10 @@ export async function* lists(path, kind, from = 1) {
   }
 }
 
-// All entries of such lists, from a number on. What is in two of them is there once.
+/**
+ * All entries of such lists, from a number on. What is in two of them is there once.
+ * @param {string} path @param {string} kind @param {number} [from] @returns {Promise<any[]>}
+ */
 export async function whole(path, kind, from = 1) {
   const found = new Map();
   for await (const list of lists(path, kind, from)) {
@@ -88,8 +95,13 @@ export async function whole(path, kind, from = 1) {
   return [...found.values()];
 }
 
-// What comes of each of a list, at most so many asked at once: the house answers one at a time.
+/**
+ * What comes of each of a list, at most so many asked at once: the house answers one at a time.
+ * @template Entry, Result
+ * @param {Entry[]} list @param {(entry: Entry) => Promise<Result>} work @param {number} [most] @returns {Promise<Result[]>}
+ */
 export async function each(list, work, most = 4) {
+  /** @type {Result[]} */
   const results = [];
   const rest = list.entries();
   const worker = async () => {

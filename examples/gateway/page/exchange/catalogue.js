@@ -79,10 +79,10 @@ export async function catalogueOf(signal) {
 }
 
 // Letters without accents, in small ones: who looks for cafe finds Café.
-const folded = text => text.normalize("NFD").replace(/\p{M}/gu, "").toLowerCase();
+const fold = text => text.normalize("NFD").replace(/\p{M}/gu, "").toLowerCase();
 
 /** Those items whose titles have all of some words. @param {Item[]} items @param {string} words @returns {Item[]} */
-export function found(items, words) {
-  const parts = folded(words).split(/\s+/).filter(part => part !== "");
-  return items.filter(item => parts.every(part => folded(item.title).includes(part)));
+export function findTitles(items, words) {
+  const parts = fold(words).split(/\s+/).filter(part => part !== "");
+  return items.filter(item => parts.every(part => fold(item.title).includes(part)));
 }

@@ -19,14 +19,14 @@ export async function readCity() {
 }
 
 /** @param {[string, string][]} entries */
-const listed = entries => entries.filter(([, text]) => text !== "")
+const linesOf = entries => entries.filter(([, text]) => text !== "")
   .map(([title, text]) => make("p", {}, make("strong", {}, `${title}: `), text));
 
 /** What who has won something has to know, or null. @returns {HTMLElement | null} */
 export function whatNow() {
-  const lines = listed([["To pay", city.pay], ["To fetch it", city.fetch], ["To write to us", city.write]]);
+  const lines = linesOf([["To pay", city.pay], ["To fetch it", city.fetch], ["To write to us", city.write]]);
   return lines.length ? make("div", { class: "city" }, ...lines) : null;
 }
 
 /** What stands at the foot of each page. */
-export const atTheFoot = () => listed([["Terms", city.terms], ["To write to us", city.write]]);
+export const atTheFoot = () => linesOf([["Terms", city.terms], ["To write to us", city.write]]);

@@ -18,7 +18,7 @@ export function entry() {
 const fieldsOf = content => [...content.querySelectorAll("input, textarea, select")];
 
 // A field is known again by its label and by how many with the same label come before it.
-function named(content) {
+function fieldsByLabel(content) {
   const seen = new Map();
   return fieldsOf(content).map(field => {
     const label = field.labels?.[0]?.textContent ?? "";
@@ -35,14 +35,14 @@ export const noteFields = content => fieldsOf(content).forEach(field => begun.se
 
 // Keeps what was written, and not sent, by the address of the page.
 export function keepDrafts(address, content) {
-  const written = named(content).filter(([, field]) => field.value !== (begun.get(field) ?? "") && !field.form?.dataset.isSent);
+  const written = fieldsByLabel(content).filter(([, field]) => field.value !== (begun.get(field) ?? "") && !field.form?.dataset.isSent);
   drafts.set(address, new Map(written.map(([name, field]) => [name, field.value])));
 }
 
 // Puts back what was written, and tells the page of it as if it had been written now.
 export function putDrafts(address, content) {
   const kept = drafts.get(address) ?? new Map();
-  for (const [name, field] of named(content)) {
+  for (const [name, field] of fieldsByLabel(content)) {
     if (kept.has(name)) {
       field.value = kept.get(name);
       field.dispatchEvent(new Event("input"));

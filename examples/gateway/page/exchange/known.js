@@ -2,7 +2,7 @@
 // What was read once and is shown beside a number: names of members, titles of items, names of categories.
 import { each, read, whole } from "./api.js";
 import { caller } from "./caller.js";
-import { named, titled } from "../elements/dom.js";
+import { nameOrNone, titleOrNone } from "../elements/dom.js";
 
 // Texts that stay, by their numbers. Each is asked once. A read that failed is forgotten, and asked again.
 class Texts {
@@ -22,10 +22,10 @@ class Texts {
   }
 }
 
-const names = new Texts(async number => named((await read(`/members/${number}`)).name));
+const names = new Texts(async number => nameOrNone((await read(`/members/${number}`)).name));
 
 // A title stays too. Prices don't, so only the title is to be taken from here.
-const titles = new Texts(async number => titled((await read(`/items/${number}`)).title));
+const titles = new Texts(async number => titleOrNone((await read(`/items/${number}`)).title));
 
 export const nameOf = number => names.get(number);
 
@@ -36,16 +36,16 @@ export const nameAtHand = number => names.found.get(number);
 // their numbers alone.
 const MOST = 200;
 
-async function found(numbers, texts, otherwise, most) {
+async function textsOf(numbers, texts, otherwise, most) {
   const chosen = [...new Set(numbers)].sort((one, two) => two - one).slice(0, most);
   const answers = await each(chosen, number => texts.get(number));
   const known = new Map(chosen.map((number, place) => [number, answers[place]]));
   return { get: number => known.get(number) ?? `${otherwise} ${number}` };
 }
 
-export const titlesOf = (numbers, most = MOST) => found(numbers, titles, "item", most);
+export const titlesOf = (numbers, most = MOST) => textsOf(numbers, titles, "item", most);
 
-export const namesOf = (numbers, most = MOST) => found(numbers, names, "member", most);
+export const namesOf = (numbers, most = MOST) => textsOf(numbers, names, "member", most);
 
 // Items as they are now.
 export const itemsOf = numbers => each(numbers, number => read(`/items/${number}`));

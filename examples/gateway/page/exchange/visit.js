@@ -26,13 +26,17 @@ export class Visit {
     this.ending.abort();
   }
 
-  // Does some work each time that a countdown of the page has run out.
+  /** Does some work each time that a countdown of the page has run out. @param {() => void} work */
   onEnd(work) {
     document.addEventListener(ENDED, work, { signal: this.signal });
   }
 
-  // Shows what is read, reads it again and again, and shows it anew where an end comes meanwhile: that changes how an
-  // item stands, and nothing that is read.
+  /**
+   * Shows what is read, reads it again and again, and shows it anew where an end comes meanwhile: that changes how an
+   * item stands, and nothing that is read.
+   * @template Found
+   * @param {number} seconds @param {() => Promise<Found>} look @param {(found: Found) => void} show
+   */
   async follow(seconds, look, show) {
     let found = await look();
     show(found);
@@ -43,10 +47,14 @@ export class Visit {
     });
   }
 
-  // Does work again and again, each time so many seconds after the last. While nobody sees the page it rests, or works
-  // seldom where `hidden` has seconds for that. It begins at once when somebody sees it.
+  /**
+   * Does work again and again, each time so many seconds after the last. While nobody sees the page it rests, or works
+   * seldom where `hidden` has seconds for that. It begins at once when somebody sees it.
+   * @param {() => number} seconds @param {() => Promise<any>} work @param {number} [hidden]
+   */
   repeat(seconds, work, hidden = Infinity) {
-    let timer = 0;
+    /** @type {ReturnType<typeof setTimeout> | undefined} */
+    let timer;
     let isAtWork = false;
     let failed = 0;
     const fails = () => {

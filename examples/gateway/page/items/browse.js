@@ -1,13 +1,13 @@
 // @ts-check
 // Items to choose from: those of all categories that end soonest, those of one category, and those that a search finds.
-import { found } from "../exchange/catalogue.js";
+import { findTitles } from "../exchange/catalogue.js";
 import { caller } from "../exchange/caller.js";
 import { bidsFor, categories } from "../exchange/known.js";
 import { inOrder } from "../exchange/shelf.js";
-import { link, make, named, put, titled, written } from "../elements/dom.js";
+import { link, make, nameOrNone, put, titleOrNone, quote } from "../elements/dom.js";
 import { action } from "../elements/form.js";
-import { refilling } from "../elements/place.js";
-import { cards, shownOf } from "./cards.js";
+import { makeRefill } from "../elements/place.js";
+import { cards, signOf } from "./cards.js";
 import { allItems, itemsOfCategory, openItems, provenance } from "./lists.js";
 
 // With more categories than this, and without a catalogue, the first page names them alone: each would be read for it.
@@ -20,7 +20,7 @@ const MOST_FOUND = 200;
 const section = (title, ...nodes) => make("section", {}, make("h2", {}, title), ...nodes);
 
 const choices = list => make("ul", { class: "choices", "aria-label": "Categories" },
-  ...list.map(one => make("li", {}, link(`category/${one.category}`, written(named(one.name))))));
+  ...list.map(one => make("li", {}, link(`category/${one.category}`, quote(nameOrNone(one.name))))));
 
 function nothingYet() {
   const next = caller.isHouse ? link("house", "Add a category") : link("sell", "List the first one");
@@ -28,7 +28,7 @@ function nothingYet() {
 }
 
 // The field that leads to what a search finds.
-function searching(words = "") {
+function searchForm(words = "") {
   const input = make("input", { type: "search", id: "search", autocomplete: "off", value: words });
   const submit = event => {
     event.preventDefault();
@@ -61,7 +61,7 @@ const isReadable = (list, moment) => moment !== null || list.length <= MOST_CATE
 
 export async function front(visit) {
   const place = make("div");
-  const refill = refilling(place);
+  const refill = makeRefill(place);
   const more = moreOf(visit, "Show more items", async () => show(await look()));
   const look = async () => {
     const list = await categories();
@@ -71,30 +71,30 @@ export async function front(visit) {
   function show({ list, open, bids }) {
     const items = inOrder(open.items).open;
     more.button.hidden = open.isWhole || open.moment === null;
-    refill([list, open.moment, shownOf(items, bids)], () => [choices(list),
+    refill([list, open.moment, signOf(items, bids)], () => [choices(list),
       isReadable(list, open.moment) ? section("Open, ending soonest", provenance(open),
         items.length ? cards(items, bids) : nothingYet()) : null]);
     return open;
   }
   await visit.follow(FRESH, look, show);
-  return { title: "Items", nodes: [searching(), place, more.node] };
+  return { title: "Items", nodes: [searchForm(), place, more.node] };
 }
 
 // Of the items that are at hand those with some words in their titles.
-function filtered() {
+function filterPart() {
   const input = make("input", { type: "search", id: "find", autocomplete: "off", input: () => show() });
   const count = make("p", { class: "soft", role: "status" });
   const place = make("div");
-  const refill = refilling(place);
+  const refill = makeRefill(place);
   /** @type {{ list: import("./lists.js").List, bids: Map<number, any> }} */
   let now = { list: { items: [], isWhole: true, moment: null }, bids: new Map() };
   function show(next = now) {
     now = next;
     const { list, bids } = now;
-    const { open, over } = inOrder(found(list.items, input.value));
+    const { open, over } = inOrder(findTitles(list.items, input.value));
     const shown = open.length + over.length;
     put(count, `${shown} of ${list.items.length} items${whichOf(list)}`);
-    refill([list.moment, shownOf([...open, ...over], bids)], () => [list.moment === null ? null : provenance(list),
+    refill([list.moment, signOf([...open, ...over], bids)], () => [list.moment === null ? null : provenance(list),
       open.length ? section("Open", cards(open, bids)) : null, over.length ? section("Over", cards(over, bids)) : null,
       shown ? null : make("p", { class: "empty" }, "No item is here. Try other words, or another category.")]);
     return list;
@@ -112,7 +112,7 @@ function whichOf({ isWhole, moment }) {
 
 export async function category(visit, number) {
   const list = await categories();
-  const { show, nodes } = filtered();
+  const { show, nodes } = filterPart();
   const look = async () => {
     const items = await itemsOfCategory(visit, Number(number), visit.kept.parts ?? 1);
     return { list: items, bids: await bidsFor(items.items) };
@@ -122,37 +122,37 @@ export async function category(visit, number) {
     show(now);
     more.button.hidden = now.list.isWhole;
   });
-  const name = named(list.find(one => one.category === Number(number))?.name ?? "Items");
+  const name = nameOrNone(list.find(one => one.category === Number(number))?.name ?? "Items");
   return { title: name, of: make("p", { class: "of" }, link("", "All categories")), nodes: [...nodes, more.node] };
 }
 
 export async function search(visit, encoded = "") {
-  const words = decoded(encoded);
+  const words = decode(encoded);
   const place = make("div");
-  const refill = refilling(place);
+  const refill = makeRefill(place);
   const look = async () => {
     const all = await allItems(visit);
-    const matches = found(all.items, words);
+    const matches = findTitles(all.items, words);
     return { all, matches, bids: await bidsFor(matches) };
   };
   await visit.follow(FRESH, look, ({ all, matches, bids }) => {
     const { open, over } = inOrder(matches);
     const both = [...open, ...over].slice(0, MOST_FOUND);
-    refill([all.moment, shownOf(both, bids)], () => [
-      make("p", { class: "soft", role: "status" }, `${counted(open.length + over.length)} of ${all.items.length}`,
+    refill([all.moment, signOf(both, bids)], () => [
+      make("p", { class: "soft", role: "status" }, `${countInWords(open.length + over.length)} of ${all.items.length}`,
         both.length < open.length + over.length ? `. The first ${MOST_FOUND} are shown: more words find fewer.` : null),
       provenance(all), results("Open", both.slice(0, open.length), bids), results("Over", both.slice(open.length), bids)]);
   });
-  return { title: words ? `Found: ${titled(words)}` : "Find", of: make("p", { class: "of" }, link("", "All categories")),
-    nodes: [searching(words), place] };
+  return { title: words ? `Found: ${titleOrNone(words)}` : "Find", of: make("p", { class: "of" }, link("", "All categories")),
+    nodes: [searchForm(words), place] };
 }
 
-const counted = count => count === 1 ? "1 item" : `${count} items`;
+const countInWords = count => count === 1 ? "1 item" : `${count} items`;
 
 const results = (title, items, bids) => items.length ? section(title, cards(items, bids)) : null;
 
 // The words of an address, as far as they are ones.
-function decoded(text) {
+function decode(text) {
   try {
     return decodeURIComponent(text);
   } catch {

@@ -33,7 +33,7 @@ async function newerThan(catalogue) {
  * categories. `moment` is that of the catalogue, or null; `chosen` says what belongs in the list.
  * @returns {Promise<List>}
  */
-async function listed(visit, { name, parts, chosen, instead }) {
+async function readList(visit, { name, parts, chosen, instead }) {
   const catalogue = await catalogueOf(visit.signal);
   if (!catalogue) {
     const { items, isWhole } = await instead();
@@ -43,22 +43,22 @@ async function listed(visit, { name, parts, chosen, instead }) {
   return { items: [...newer.filter(chosen), ...list.items], isWhole: list.isWhole, moment: catalogue.moment };
 }
 
-export const openItems = (visit, list, parts) => listed(visit, {
+export const openItems = (visit, list, parts) => readList(visit, {
   name: "open", parts, chosen: item => item.state === "open", instead: () => youngest(list, ENOUGH),
 });
 
-export const itemsOfSeller = (visit, seller, parts) => listed(visit, {
+export const itemsOfSeller = (visit, seller, parts) => readList(visit, {
   name: `seller/${seller}`, parts, chosen: item => item.seller === seller,
   instead: async () => youngest(await categories(), ENOUGH),
 });
 
-export const itemsOfCategory = (visit, category, parts) => listed(visit, {
+export const itemsOfCategory = (visit, category, parts) => readList(visit, {
   name: `category/${category}`, parts, chosen: item => item.category === category,
   instead: () => youngest([{ category }], ENOUGH * (2 * parts - 1)),
 });
 
 // All items: those of the catalogue, or the youngest of the house.
-export const allItems = (visit, enough = ENOUGH) => listed(visit, {
+export const allItems = (visit, enough = ENOUGH) => readList(visit, {
   name: null, parts: 1, chosen: () => true, instead: async () => youngest(await categories(), enough),
 });
 

@@ -2,10 +2,10 @@
 // What a member may do with an open item: bid, buy, watch.
 import { Refusal, send } from "../exchange/api.js";
 import { caller } from "../exchange/caller.js";
-import { make, put, titled, written } from "../elements/dom.js";
+import { make, put, titleOrNone, quote } from "../elements/dom.js";
 import { moneyField } from "../elements/fields.js";
 import { action, form, label } from "../elements/form.js";
-import { shown } from "../words/money.js";
+import { money } from "../words/money.js";
 import { isSure } from "../elements/question.js";
 import { standing, stateOf } from "./standing.js";
 
@@ -17,27 +17,27 @@ const SEALED = "The house bids for you, only as far as is needed to lead. Nobody
 const least = now => now.bid?.leading ? now.bid.maximum + 1 : now.item.floor;
 
 const tooLow = (now, amount) => now.bid?.leading
-  ? `You lead already. Write more than your own maximum, which is ${shown(now.bid.maximum)}.`
-  : `The next bid is ${shown(amount)} or more.`;
+  ? `You lead already. Write more than your own maximum, which is ${money(now.bid.maximum)}.`
+  : `The next bid is ${money(amount)} or more.`;
 
 // What came of a bid that was taken, by its answer and by the item as it was read after it.
 function came(answer, now) {
   if (answer.leader !== caller.number) {
     return { isBad: true, sentence:
-      `Your bid is taken, but another maximum is as high or higher. The next bid is ${shown(answer.floor)} or more.` };
+      `Your bid is taken, but another maximum is as high or higher. The next bid is ${money(answer.floor)} or more.` };
   }
   if (now.bid?.leading === false) {
-    return { isBad: true, sentence: `Your bid was taken, and outbid since. The next bid is ${shown(now.item.floor ?? 0)} or more.` };
+    return { isBad: true, sentence: `Your bid was taken, and outbid since. The next bid is ${money(now.item.floor ?? 0)} or more.` };
   }
   const isShort = now.item.met === false;
   return { isBad: isShort, sentence:
-    `Your bid is taken, and you lead at ${shown(answer.price)}${isShort ? ", but the reserve is not met" : ""}.` };
+    `Your bid is taken, and you lead at ${money(answer.price)}${isShort ? ", but the reserve is not met" : ""}.` };
 }
 
 const isMeant = (maximum, floor) => maximum < FAR * floor || isSure({
-  title: `Bid up to ${shown(maximum)}?`,
-  text: `The next bid is ${shown(floor)}. You wrote much more, which may be a slip.`,
-  yes: `Bid up to ${shown(maximum)}`, no: "Change it",
+  title: `Bid up to ${money(maximum)}?`,
+  text: `The next bid is ${money(floor)}. You wrote much more, which may be a slip.`,
+  yes: `Bid up to ${money(maximum)}`, no: "Change it",
 });
 
 const isLost = refusal => refusal instanceof Refusal && ["silence", "gateway"].includes(refusal.answer.error);
@@ -59,7 +59,7 @@ async function bid(now, maximum, refresh) {
   }
 }
 
-function bidding(now, refresh) {
+function bidForm(now, refresh) {
   // The floor that was seen when the button was pressed: after a refusal the item has another.
   const seen = {};
   const next = make("strong");
@@ -86,19 +86,19 @@ function bidding(now, refresh) {
     }
     stood = stands;
     put(field.label, leads ? "A higher maximum" : "Your maximum");
-    put(next, leads ? `Bid more than ${shown(now.bid.maximum)}.` : `Bid ${shown(now.item.floor ?? 0)} or more.`);
+    put(next, leads ? `Bid more than ${money(now.bid.maximum)}.` : `Bid ${money(now.item.floor ?? 0)} or more.`);
     label(parts.button, leads ? "Raise my maximum" : "Bid");
   };
   return { node: parts.node, update };
 }
 
-function buying(now, refresh) {
-  const price = () => shown(now.item.buy_now ?? 0);
+function buyButton(now, refresh) {
+  const price = () => money(now.item.buy_now ?? 0);
   const parts = action({
     button: `Buy now for ${price()}`, waits: "Buying..", kind: "plain", context: () => ({ tried: "buy" }),
     isMeant: () => isSure({
       title: `Buy this for ${price()}?`,
-      text: [written(titled(now.item.title)), " is yours then, and the auction is over. You can't give it back here."],
+      text: [quote(titleOrNone(now.item.title)), " is yours then, and the auction is over. You can't give it back here."],
       yes: `Buy for ${price()}`, no: "Don't buy",
     }),
     unless: "Nothing was bought.",
@@ -115,7 +115,7 @@ function buying(now, refresh) {
 }
 
 // The button by which a member watches the item. It is there once it is known whether it does so already.
-function watching(now) {
+function watchButton(now) {
   let isWatched = false;
   const words = () => isWatched ? "Stop watching" : "Watch";
   const parts = action({
@@ -138,9 +138,9 @@ function watching(now) {
 // The forms for an item as it is now, and the call that shows those that are of use.
 export function offers(now, refresh) {
   const mayBid = () => caller.isMember && now.item.seller !== caller.number && stateOf(now.item) === "open";
-  const bids = bidding(now, refresh);
-  const purchase = buying(now, refresh);
-  const watch = watching(now);
+  const bids = bidForm(now, refresh);
+  const purchase = buyButton(now, refresh);
+  const watch = watchButton(now);
   const node = make("div", { class: "offers" }, bids.node, purchase, watch.node);
   const update = () => {
     bids.node.hidden = !mayBid();

@@ -2,7 +2,7 @@
 // The rating of a sale, by its two parties.
 import { read, send } from "../exchange/api.js";
 import { caller } from "../exchange/caller.js";
-import { make, replace, written } from "../elements/dom.js";
+import { make, replace, quote } from "../elements/dom.js";
 import { choiceField, textField } from "../elements/fields.js";
 import { form } from "../elements/form.js";
 import { nameOf } from "../exchange/known.js";
@@ -12,13 +12,13 @@ const RATINGS = [[1, "Good"], [0, "Neither good nor bad"], [-1, "Bad"]];
 export const ratingInWords = rating => String(RATINGS.find(([value]) => value === rating)?.[1]);
 
 // What the caller gave to the other party for this item: the list begins at the item.
-async function given(item, other) {
+async function readGiven(item, other) {
   const { feedback } = await read(`/members/${other}/feedback/${item.item}`);
   return feedback.find(one => one.item === item.item && one.from === caller.number);
 }
 
 function thanks(feedback, name) {
-  return make("p", {}, "You rated ", written(name), `: ${ratingInWords(feedback.rating)}. `, written(feedback.text));
+  return make("p", {}, "You rated ", quote(name), `: ${ratingInWords(feedback.rating)}. `, quote(feedback.text));
 }
 
 function rate(item, name, after) {
@@ -41,9 +41,9 @@ export async function rating(item) {
     return null;
   }
   const other = caller.number === item.seller ? item.leader : item.seller;
-  const [name, feedback] = await Promise.all([nameOf(other), given(item, other)]);
+  const [name, feedback] = await Promise.all([nameOf(other), readGiven(item, other)]);
   const place = make("div");
   const after = (one, whom) => replace(place, thanks(one, whom));
   replace(place, feedback ? thanks(feedback, name) : rate(item, name, after));
-  return make("section", {}, make("h2", {}, "Rate ", written(name)), place);
+  return make("section", {}, make("h2", {}, "Rate ", quote(name)), place);
 }

@@ -3,7 +3,7 @@
 import { caller } from "../exchange/caller.js";
 import { make } from "../elements/dom.js";
 import { hasEnded } from "../time/moments.js";
-import { shown } from "../words/money.js";
+import { money } from "../words/money.js";
 
 const WORDS = { open: "Open", ended: "Ended", sold: "Sold", unsold: "Not sold", settled: "Settled" };
 
@@ -50,7 +50,7 @@ export function reserveInWords(item) {
 const SHORT = "the reserve is not met";
 
 // Of a member that leads: below the reserve nobody gets the item.
-function leading(item, state, maximum) {
+function standingOfLeader(item, state, maximum) {
   if (state === "ended") {
     return item.met === false ? ["short", `You led at the end, but ${SHORT}, so it will not be sold.`]
       : ["lead", "You led at the end. The house has yet to close this auction."];
@@ -59,7 +59,7 @@ function leading(item, state, maximum) {
     : ["lead", `You lead. Your maximum is ${maximum}, and nobody else sees it.`];
 }
 
-function outbid(state, maximum) {
+function standingOfOutbid(state, maximum) {
   return ["out", state === "ended" ? `You were outbid at the end. Your maximum was ${maximum}.`
     : `You were outbid. Your maximum is ${maximum}.`];
 }
@@ -71,14 +71,14 @@ export function standing(item, bid) {
     return ["own", "This is your own item."];
   }
   if (isSold(item) && item.leader === caller.number) {
-    return ["lead", `You ${item.count ? "won" : "bought"} this for ${shown(item.price)}.`];
+    return ["lead", `You ${item.count ? "won" : "bought"} this for ${money(item.price)}.`];
   }
   if (!bid) {
     return null;
   }
-  const maximum = shown(bid.maximum);
+  const maximum = money(bid.maximum);
   if (state === "open" || state === "ended") {
-    return bid.leading ? leading(item, state, maximum) : outbid(state, maximum);
+    return bid.leading ? standingOfLeader(item, state, maximum) : standingOfOutbid(state, maximum);
   }
   return ["out", state === "unsold" ? "It ended without a sale." : `Somebody else got this. Your maximum was ${maximum}.`];
 }

@@ -1,13 +1,13 @@
 // @ts-check
 // What the caller has bid for, with titles and ends, which the list of bids lacks.
-import { link, make, titled, written } from "../elements/dom.js";
-import { refilling } from "../elements/place.js";
+import { link, make, titleOrNone, quote } from "../elements/dom.js";
+import { makeRefill } from "../elements/place.js";
 import { action } from "../elements/form.js";
 import { bidsByItem, itemsOf } from "../exchange/known.js";
 import { countdown, inWords } from "../time/moments.js";
-import { shown } from "../words/money.js";
+import { money } from "../words/money.js";
 import { inOrder } from "../exchange/shelf.js";
-import { shownOf } from "../items/cards.js";
+import { signOf } from "../items/cards.js";
 import { standingInShort, stateOf } from "../items/standing.js";
 import { AMOUNT, SUBJECT, TEXT, table } from "../elements/table.js";
 
@@ -20,7 +20,7 @@ const FRESH = 60;
 
 const nothing = () => make("p", { class: "empty" }, "You have bid for nothing yet. ", link("", "Look at the items"));
 
-const row = (item, bid) => [link(`item/${item.item}`, written(titled(item.title))), shown(item.price), shown(bid.maximum),
+const row = (item, bid) => [link(`item/${item.item}`, quote(titleOrNone(item.title))), money(item.price), money(bid.maximum),
   standingInShort(item, bid), make("span", {}, stateOf(item) === "open" ? ["in ", countdown(item.end)] : inWords(item.closed ?? item.end))];
 
 function part(title, items, bids) {
@@ -28,13 +28,13 @@ function part(title, items, bids) {
 }
 
 // Open ones first, and then those that were listed last.
-function chosen(bids) {
+function openFirst(bids) {
   const isOpen = bid => Number(bid.state === "open");
   return [...bids].sort((one, two) => isOpen(two) - isOpen(one) || two.item - one.item).map(bid => bid.item);
 }
 
 // Each item is a read of its own, so older ones are read when they are asked for.
-function older(visit, numbers, again) {
+function olderButton(visit, numbers, again) {
   const parts = action({
     button: `Read ${numbers.length} older ones`, waits: "Reading..", kind: "plain",
     act: async () => {
@@ -49,11 +49,11 @@ function older(visit, numbers, again) {
 
 export async function bids(visit) {
   const place = make("div");
-  const refill = refilling(place);
+  const refill = makeRefill(place);
   const known = new Map();
   const look = async () => {
     const own = await bidsByItem();
-    const numbers = chosen(own.values());
+    const numbers = openFirst(own.values());
     const [most, rest] = visit.kept.isWhole ? [numbers, []] : [numbers.slice(0, MOST), numbers.slice(MOST)];
     // What is over stays as it is.
     const changing = most.filter(number => (known.get(number)?.state ?? "open") === "open");
@@ -62,7 +62,7 @@ export async function bids(visit) {
   };
   const show = ({ own, items }) => {
     const { open, over } = inOrder(items);
-    refill(shownOf([...open, ...over], own), () => items.length ? [part("Open", open, own), part("Over", over, own)]
+    refill(signOf([...open, ...over], own), () => items.length ? [part("Open", open, own), part("Over", over, own)]
       : [nothing()]);
   };
   let rest = [];
@@ -70,6 +70,6 @@ export async function bids(visit) {
     rest = found.rest;
     show(found);
   });
-  const more = rest.length ? older(visit, rest, async () => show(await look())) : null;
+  const more = rest.length ? olderButton(visit, rest, async () => show(await look())) : null;
   return { title: "My bids", nodes: [place, more] };
 }

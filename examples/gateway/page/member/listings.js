@@ -2,14 +2,14 @@
 // What the caller has listed: what is open, what is sold, and what was not sold, which can be listed again.
 import { caller } from "../exchange/caller.js";
 import { inOrder } from "../exchange/shelf.js";
-import { link, make, titled, written } from "../elements/dom.js";
+import { link, make, titleOrNone, quote } from "../elements/dom.js";
 import { action } from "../elements/form.js";
-import { refilling } from "../elements/place.js";
+import { makeRefill } from "../elements/place.js";
 import { AMOUNT, SUBJECT, TEXT, table } from "../elements/table.js";
 import { itemsOfSeller, provenance } from "../items/lists.js";
 import { bidsInWords, isSold, stateInWords, stateOf } from "../items/standing.js";
 import { countdown, inWords } from "../time/moments.js";
-import { shown } from "../words/money.js";
+import { money } from "../words/money.js";
 
 // After so many seconds what is shown is read again.
 const FRESH = 60;
@@ -18,7 +18,7 @@ const COLUMNS = [["Item", SUBJECT], ["How it stands", TEXT], ["Price", AMOUNT], 
 
 const end = item => make("span", {}, stateOf(item) === "open" ? ["in ", countdown(item.end)] : inWords(item.closed ?? item.end));
 
-const row = item => [link(`item/${item.item}`, written(titled(item.title))), stateInWords(item), shown(item.price),
+const row = item => [link(`item/${item.item}`, quote(titleOrNone(item.title))), stateInWords(item), money(item.price),
   bidsInWords(item), end(item)];
 
 const part = (title, items) => items.length ? table(title, COLUMNS, items.map(row)) : null;
@@ -34,7 +34,7 @@ const nothing = () => make("p", { class: "empty" }, "You have listed nothing yet
 
 export async function listings(visit) {
   const place = make("div");
-  const refill = refilling(place);
+  const refill = makeRefill(place);
   const look = () => itemsOfSeller(visit, caller.number, visit.kept.parts ?? 1);
   const show = list => {
     const { open, over } = inOrder(list.items);

@@ -19,7 +19,7 @@ async function ask(options = {}) {
   return answer.status === 200 ? answer.text() : "";
 }
 
-function judged(text) {
+function judgeAddress(text) {
   const address = text.trim();
   if (address !== "" && (!FORM.test(address) || address.length > MOST)) {
     throw new Mistake("Write a mail address, such as ana@city.example, or nothing.");
@@ -29,9 +29,9 @@ function judged(text) {
 
 const save = address => ask(address === "" ? { method: "DELETE" } : { method: "PUT", body: address });
 
-function mailing(address) {
+function mailForm(address) {
   const field = lineField("Your mail address", {
-    value: address, judge: judged, hint: "Only the gateway's own job reads it. Leave it empty to get no mail.",
+    value: address, judge: judgeAddress, hint: "Only the gateway's own job reads it. Leave it empty to get no mail.",
   });
   return form({
     fields: [field], button: "Keep it", waits: "Keeping it..", context: () => ({ isRead: true }),
@@ -44,7 +44,7 @@ function mailing(address) {
 
 const ALLOWED = "The browser tells you when you are outbid, as long as a page of the house is open in it.";
 
-function browsing() {
+function browserPart() {
   if (isAllowed()) {
     return make("p", {}, ALLOWED);
   }
@@ -59,6 +59,6 @@ export async function notices() {
   const about = make("p", { class: "soft" }, "You are told once, within a minute or two: when you are outbid, have won or lost, "
     + "when your item is sold, not sold or settled, and an hour before the end of what you lead.");
   return { title: "Notices", nodes: [
-    make("section", { class: "box narrow" }, make("h2", {}, "By mail"), about, mailing(address)),
-    make("section", { class: "box narrow" }, make("h2", {}, "In the browser"), browsing())] };
+    make("section", { class: "box narrow" }, make("h2", {}, "By mail"), about, mailForm(address)),
+    make("section", { class: "box narrow" }, make("h2", {}, "In the browser"), browserPart())] };
 }

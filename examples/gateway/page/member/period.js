@@ -11,7 +11,7 @@ export function thisYear() {
 }
 
 // A form that leads to the same part of the page for other days.
-export function choosingPeriod(part, from, to) {
+export function periodForm(part, from, to) {
   const fields = [dayField("First day", from), dayField("Last day", to)];
   const parts = form({
     fields, button: "Show", waits: "Reading..",

@@ -1,19 +1,19 @@
 // @ts-check
 // What waits for the caller's answer, and what the caller asked.
 import { read, whole } from "../exchange/api.js";
-import { link, make, paragraphs, put, written } from "../elements/dom.js";
-import { keepingEntries, refilling } from "../elements/place.js";
+import { link, make, paragraphs, put, quote } from "../elements/dom.js";
+import { makeKeeper, makeRefill } from "../elements/place.js";
 import { namesOf, titlesOf } from "../exchange/known.js";
-import { answering } from "../items/talk.js";
+import { answerForm } from "../items/talk.js";
 
 // The house tells the first fifty that wait.
 const MOST = 50;
 // After so many seconds what is shown is read again.
 const FRESH = 60;
 
-const on = (question, titles) => link(`item/${question.item}`, written(titles.get(question.item)));
+const on = (question, titles) => link(`item/${question.item}`, quote(titles.get(question.item)));
 
-async function waiting() {
+async function readWaiting() {
   const { questions } = await read("/me/waiting");
   const [titles, names] = await Promise.all([titlesOf(questions.map(one => one.item)),
     namesOf(questions.map(one => one.asker))]);
@@ -21,21 +21,21 @@ async function waiting() {
 }
 
 const entry = (one, titles, names, after) => make("li", {},
-  make("p", { class: "soft" }, written(names.get(one.asker)), " asks about ", on(one, titles)),
-  make("div", { class: "asked" }, paragraphs(one.text)), answering(one, names.get(one.asker), after));
+  make("p", { class: "soft" }, quote(names.get(one.asker)), " asks about ", on(one, titles)),
+  make("div", { class: "asked" }, paragraphs(one.text)), answerForm(one, names.get(one.asker), after));
 
 // The list of what waits, and the call that reads it anew. A form in which something is written stays.
 function waitingPart() {
   const list = make("ul", { class: "talk" });
   const note = make("p", { class: "soft" });
   const heading = make("h2", { tabindex: "-1" }, "Waiting for your answer");
-  const keep = keepingEntries(list);
+  const keep = makeKeeper(list);
   const after = async () => {
     await fill().catch(() => {});
     heading.focus();
   };
   async function fill() {
-    const { questions, titles, names } = await waiting();
+    const { questions, titles, names } = await readWaiting();
     keep(questions.map(one => [`${one.item}/${one.asker}/${one.number}`, () => entry(one, titles, names, after)]));
     put(note, noteOf(questions.length));
   }
@@ -49,7 +49,7 @@ function noteOf(count) {
   return count === MOST ? "There may be more: these are the first fifty." : "";
 }
 
-async function asked() {
+async function readAsked() {
   const own = await whole("/me/questions", "asked");
   return { own, titles: await titlesOf(own.map(one => one.item)) };
 }
@@ -65,9 +65,9 @@ const nothing = () => make("p", { class: "soft" }, "You have asked nothing yet. 
 export async function questions(visit) {
   const waits = waitingPart();
   const place = make("div");
-  const refill = refilling(place);
+  const refill = makeRefill(place);
   await visit.follow(FRESH, async () => {
-    const [found] = await Promise.all([asked(), waits.fill()]);
+    const [found] = await Promise.all([readAsked(), waits.fill()]);
     return found;
   }, ({ own, titles }) => refill(own, () => [own.length
     ? make("ul", { class: "talk" }, ...own.map(one => askedEntry(one, titles))) : nothing()]));

@@ -4,12 +4,12 @@ import { Refusal, read, send } from "../exchange/api.js";
 import { caller } from "../exchange/caller.js";
 import { Shelf } from "../exchange/shelf.js";
 import { now } from "../time/clock.js";
-import { make, named } from "../elements/dom.js";
+import { make, nameOrNone } from "../elements/dom.js";
 import { choiceField, codeField, dayField, moneyField, textField, timeField } from "../elements/fields.js";
 import { form } from "../elements/form.js";
 import { categories, reserveOf } from "../exchange/known.js";
 import { dayAt, moment, timeAt, zoneInWords } from "../time/moments.js";
-import { MOST, plain, shown } from "../words/money.js";
+import { MOST, plain, money } from "../words/money.js";
 import { tell } from "../elements/news.js";
 
 const WEEK = 7 * 86400;
@@ -25,19 +25,19 @@ function code() {
 
 function fieldsOf(list) {
   const start = moneyField("Start price", {
-    hint: "The first bid is this or more.", tooLow: least => `Write ${shown(least)} or more.`,
+    hint: "The first bid is this or more.", tooLow: least => `Write ${money(least)} or more.`,
   });
   const buyNow = moneyField("Buy-now price", {
     hint: "Who pays this gets it at once, as long as nobody has bid. Leave it empty to have none.", isOptional: true,
-    least: () => start.value ?? 1, tooLow: least => `This can't be less than the start price, ${shown(least)}.`,
+    least: () => start.value ?? 1, tooLow: least => `This can't be less than the start price, ${money(least)}.`,
   });
   const reserve = moneyField("Reserve price", {
     hint: "It isn't sold for less, and nobody else sees this. Leave it empty to have none.", isOptional: true,
-    least: () => (start.value ?? 0) + 1, tooLow: least => `Write ${shown(least)} or more: it is over the start price.`,
+    least: () => (start.value ?? 0) + 1, tooLow: least => `Write ${money(least)} or more: it is over the start price.`,
     most: () => buyNow.value ?? MOST,
   });
   return [
-    choiceField("Category", { choices: list.map(one => [one.category, named(one.name)]) }),
+    choiceField("Category", { choices: list.map(one => [one.category, nameOrNone(one.name)]) }),
     textField("Title", { most: 80, hint: "What it is." }),
     textField("About it", { least: 0, most: 2000, rows: 6, hint: "Its age, its size, its faults." }),
     start, buyNow, reserve,

@@ -1,10 +1,10 @@
 // @ts-check
 // What the caller watches.
 import { read } from "../exchange/api.js";
-import { cards, shownOf } from "../items/cards.js";
+import { cards, signOf } from "../items/cards.js";
 import { inOrder } from "../exchange/shelf.js";
 import { link, make } from "../elements/dom.js";
-import { refilling } from "../elements/place.js";
+import { makeRefill } from "../elements/place.js";
 import { bidsFor } from "../exchange/known.js";
 
 const FRESH = 60;
@@ -16,14 +16,14 @@ const nothing = () => make("p", { class: "empty" }, "You watch nothing yet. An i
 
 export async function watches(visit) {
   const place = make("div");
-  const refill = refilling(place);
+  const refill = makeRefill(place);
   const look = async () => {
     const { items } = await read("/me/watches");
     return { items, bids: await bidsFor(items) };
   };
   await visit.follow(FRESH, look, ({ items, bids }) => {
     const { open, over } = inOrder(items);
-    refill(shownOf([...open, ...over], bids), () => items.length ? [part("Open", open, bids), part("Over", over, bids)]
+    refill(signOf([...open, ...over], bids), () => items.length ? [part("Open", open, bids), part("Over", over, bids)]
       : [nothing()]);
   });
   return { title: "Watching", nodes: [place] };

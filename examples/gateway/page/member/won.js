@@ -3,11 +3,11 @@
 import { read } from "../exchange/api.js";
 import { whatNow } from "../exchange/city.js";
 import { itemsOf, namesOf } from "../exchange/known.js";
-import { link, make, titled, written } from "../elements/dom.js";
-import { refilling } from "../elements/place.js";
+import { link, make, titleOrNone, quote } from "../elements/dom.js";
+import { makeRefill } from "../elements/place.js";
 import { AMOUNT, SUBJECT, TEXT, sums, table } from "../elements/table.js";
 import { dayInWords } from "../time/moments.js";
-import { shown } from "../words/money.js";
+import { money } from "../words/money.js";
 
 // After so many seconds what is shown is read again.
 const FRESH = 60;
@@ -27,21 +27,21 @@ async function look() {
   return bought.map((line, place) => ({ ...line, title: items[place].title, state: items[place].state, seller: names.get(line.other) }));
 }
 
-const row = line => [link(`item/${line.item}`, written(titled(line.title))), link(`member/${line.other}`, written(line.seller)),
-  dayInWords(line.day), shown(line.price)];
+const row = line => [link(`item/${line.item}`, quote(titleOrNone(line.title))), link(`member/${line.other}`, quote(line.seller)),
+  dayInWords(line.day), money(line.price)];
 
 const part = (title, lines) => lines.length
-  ? table(title, COLUMNS, lines.map(row), [["", "", "All", shown(sum(lines))]]) : null;
+  ? table(title, COLUMNS, lines.map(row), [["", "", "All", money(sum(lines))]]) : null;
 
 const nothing = () => make("p", { class: "empty" }, "You have won nothing yet. ", link("", "Look at the items"));
 
 export async function won(visit) {
   const place = make("div");
-  const refill = refilling(place);
+  const refill = makeRefill(place);
   await visit.follow(FRESH, look, lines => {
     const owed = lines.filter(line => line.state === "sold");
     const settled = lines.filter(line => line.state === "settled");
-    refill(lines, () => lines.length ? [sums([["You owe", shown(sum(owed))], ["Paid", shown(sum(settled))]]),
+    refill(lines, () => lines.length ? [sums([["You owe", money(sum(owed))], ["Paid", money(sum(settled))]]),
       owed.length ? whatNow() : null, part("To be paid", owed), part("Paid and settled", settled)] : [nothing()]);
   });
   return { title: "Won and bought", nodes: [place] };

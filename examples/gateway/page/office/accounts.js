@@ -3,15 +3,15 @@
 // the closing and the rate tell it, as the house's own statements do.
 import { read } from "../exchange/api.js";
 import { namesOf } from "../exchange/known.js";
-import { link, make, titled, written } from "../elements/dom.js";
+import { link, make, titleOrNone, quote } from "../elements/dom.js";
 import { csv, save } from "../elements/files.js";
 import { action } from "../elements/form.js";
 import { AMOUNT, SUBJECT, sums, table } from "../elements/table.js";
 import { allItems, provenance } from "../items/lists.js";
 import { isSold } from "../items/standing.js";
-import { choosingPeriod, thisYear } from "../member/period.js";
+import { periodForm, thisYear } from "../member/period.js";
 import { dayAt, dayInWords } from "../time/moments.js";
-import { plain, shown } from "../words/money.js";
+import { plain, money } from "../words/money.js";
 import { feeOf } from "./fee.js";
 
 // Without a catalogue so many items of each category are looked through.
@@ -52,14 +52,14 @@ export function accountsOf(sales) {
 const total = (accounts, key) => accounts.reduce((all, account) => all + account[key], 0);
 
 function byMember(accounts, names) {
-  const cells = ({ sold, fees, net, bought }) => [sold, fees, net, bought].map(shown);
-  const rows = accounts.map(account => [link(`member/${account.member}`, written(names.get(account.member))), ...cells(account)]);
+  const cells = ({ sold, fees, net, bought }) => [sold, fees, net, bought].map(money);
+  const rows = accounts.map(account => [link(`member/${account.member}`, quote(names.get(account.member))), ...cells(account)]);
   const keys = ["sold", "fees", "net", "bought"];
-  return table("By member", COLUMNS, rows, [["All members", ...keys.map(key => shown(total(accounts, key)))]]);
+  return table("By member", COLUMNS, rows, [["All members", ...keys.map(key => money(total(accounts, key)))]]);
 }
 
 const spreadsheet = (sales, names) => csv([HEAD, ...sales.map(({ day, item, title, seller, leader, price, fee, state }) =>
-  [day, item, titled(title), seller, names.get(seller), leader, names.get(leader), plain(price), plain(fee), plain(price - fee),
+  [day, item, titleOrNone(title), seller, names.get(seller), leader, names.get(leader), plain(price), plain(fee), plain(price - fee),
     state])]);
 
 function download(sales, names, from, to) {
@@ -80,9 +80,9 @@ export async function accounts(visit, first, last) {
   const unpaid = sales.filter(sale => sale.state === "sold");
   const about = make("p", { class: "soft" }, `${dayInWords(from)} to ${dayInWords(to)}. Both days belong to it.`);
   const nodes = sales.length ? [
-    sums([["Fees of the house", shown(total(all, "fees"))], ["Sales", String(sales.length)],
+    sums([["Fees of the house", money(total(all, "fees"))], ["Sales", String(sales.length)],
       ["Not settled yet", String(unpaid.length)]]),
     byMember(all, names), download(sales, names, from, to)]
     : [make("p", { class: "empty" }, "Nothing was sold in this period. Choose other days.")];
-  return { title: "Accounts", nodes: [about, choosingPeriod("accounts", from, to), provenance(list, "What was closed since then is not in it yet."), ...nodes] };
+  return { title: "Accounts", nodes: [about, periodForm("accounts", from, to), provenance(list, "What was closed since then is not in it yet."), ...nodes] };
 }

@@ -5,14 +5,14 @@ import { caller } from "../exchange/caller.js";
 import { make } from "../elements/dom.js";
 import { Mistake, linesField } from "../elements/fields.js";
 import { form } from "../elements/form.js";
-import { refilling } from "../elements/place.js";
+import { makeRefill } from "../elements/place.js";
 import { isSure } from "../elements/question.js";
 import { AMOUNT, table } from "../elements/table.js";
-import { MOST, cents, plain, shown } from "../words/money.js";
+import { MOST, cents, plain, money } from "../words/money.js";
 
 const MOST_BANDS = 50;
 
-const written = bands => bands.map(({ at, step }) => `${plain(at)}: ${plain(step)}`).join("\n");
+const linesOf = bands => bands.map(({ at, step }) => `${plain(at)}: ${plain(step)}`).join("\n");
 
 // One line of the form: from which amount on prices rise by which step.
 function band(line) {
@@ -31,14 +31,14 @@ export function bandsOf(lines) {
   }
   bands.slice(1).forEach(({ at, step }, place) => {
     if (at <= bands[place].at) {
-      throw new Mistake(`Amounts rise from line to line. This one does not: ${shown(at)}`);
+      throw new Mistake(`Amounts rise from line to line. This one does not: ${money(at)}`);
     }
     if (step < bands[place].step) {
-      throw new Mistake(`No step is smaller than the one before. This one is: ${shown(step)}`);
+      throw new Mistake(`No step is smaller than the one before. This one is: ${money(step)}`);
     }
   });
   if (bands[0].step < 1 || bands.some(({ at, step }) => at > MOST || step > MOST) || bands.length > MOST_BANDS) {
-    throw new Mistake(`A step is 0.01 or more, no amount is over ${shown(MOST)}, and there are at most ${MOST_BANDS} lines.`);
+    throw new Mistake(`A step is 0.01 or more, no amount is over ${money(MOST)}, and there are at most ${MOST_BANDS} lines.`);
   }
   return bands;
 }
@@ -50,9 +50,9 @@ const isMeant = bands => isSure({
   yes: "Set it", no: "Don't set it",
 });
 
-function setting(bands, after) {
+function bandsForm(bands, after) {
   const field = linesField("New table", {
-    rows: bands.length + 2, value: written(bands), judge: bandsOf,
+    rows: bands.length + 2, value: linesOf(bands), judge: bandsOf,
     hint: "A line for each step: from which amount on, a colon, and the step.",
   });
   return form({
@@ -67,7 +67,7 @@ function setting(bands, after) {
 }
 
 function asTable(bands) {
-  const rows = bands.map(({ at, step }) => [shown(at), shown(step)]);
+  const rows = bands.map(({ at, step }) => [money(at), money(step)]);
   const holds = make("p", { class: "soft" }, "For items that are listed from now on. Each item keeps the steps of its listing.");
   return make("div", { class: "small" }, table("By how much prices rise", [["From", AMOUNT], ["Step", AMOUNT]], rows), holds);
 }
@@ -76,7 +76,7 @@ function asTable(bands) {
 export async function bandsPart() {
   const { bands } = await read("/bands");
   const place = make("div");
-  const refill = refilling(place);
+  const refill = makeRefill(place);
   refill(bands, () => [asTable(bands)]);
   if (!caller.isHouse) {
     return place;
@@ -86,5 +86,5 @@ export async function bandsPart() {
     refill(next, () => [asTable(next)]);
   };
   return make("div", { class: "beside" }, place, make("section", { class: "box" }, make("h2", {}, "Another table"),
-    setting(bands, after)));
+    bandsForm(bands, after)));
 }

@@ -2,8 +2,8 @@
 // The house itself: its counts and rules for everybody, and for who runs it categories and the public record.
 import { read, send } from "../exchange/api.js";
 import { caller } from "../exchange/caller.js";
-import { link, make, named, written } from "../elements/dom.js";
-import { refilling } from "../elements/place.js";
+import { link, make, nameOrNone, quote } from "../elements/dom.js";
+import { makeRefill } from "../elements/place.js";
 import { textField } from "../elements/fields.js";
 import { save } from "../elements/files.js";
 import { action, form } from "../elements/form.js";
@@ -24,7 +24,7 @@ const facts = page => [
   ["Last command", page.clock ? time(page.clock) : "none yet"],
 ];
 
-function adding(refill) {
+function categoryForm(refill) {
   const field = textField("Name of the category", { most: 40 });
   return form({
     fields: [field], button: "Add", waits: "Adding..", context: () => ({ tried: "category" }),
@@ -39,7 +39,7 @@ function adding(refill) {
 
 const MEANWHILE = " The house took commands meanwhile, so its parts may be of two moments.";
 
-function recording() {
+function recordButton() {
   return action({
     button: "Save the public record", waits: "Reading the house..", kind: "plain", context: () => ({ isRead: true }),
     act: async () => {
@@ -53,15 +53,15 @@ function recording() {
 function ofHouse(place, refill) {
   const about = make("p", { class: "soft" }, "All that everybody may see, as one file. In a great house it takes a while.");
   return [
-    make("section", { class: "box" }, make("h2", {}, "Categories"), place, adding(refill)),
-    make("section", { class: "box" }, make("h2", {}, "Public record"), about, recording())];
+    make("section", { class: "box" }, make("h2", {}, "Categories"), place, categoryForm(refill)),
+    make("section", { class: "box" }, make("h2", {}, "Public record"), about, recordButton())];
 }
 
 export async function house(visit) {
   const place = make("div");
   const categoriesPlace = make("div");
-  const refill = refilling(place);
-  const refillCategories = refilling(categoriesPlace);
+  const refill = makeRefill(place);
+  const refillCategories = makeRefill(categoriesPlace);
   const bands = await bandsPart();
   const look = async () => {
     const [page, list] = await Promise.all([read("/house"), caller.isHouse ? categories() : []]);
@@ -70,7 +70,7 @@ export async function house(visit) {
   const show = ({ page, list }) => {
     refill(page, () => [sums(facts(page))]);
     refillCategories(list, () => [make("ul", { class: "people" },
-      ...list.map(one => make("li", {}, link(`category/${one.category}`, written(named(one.name))))))]);
+      ...list.map(one => make("li", {}, link(`category/${one.category}`, quote(nameOrNone(one.name))))))]);
   };
   await visit.follow(FRESH, look, show);
   const again = async () => show(await look());

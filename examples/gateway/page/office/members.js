@@ -1,7 +1,7 @@
 // @ts-check
 // Members: what each was rated, and for the house the list of all.
 import { each, read, send, whole } from "../exchange/api.js";
-import { link, make, named, written } from "../elements/dom.js";
+import { link, make, nameOrNone, quote } from "../elements/dom.js";
 import { textField } from "../elements/fields.js";
 import { action, form } from "../elements/form.js";
 import { titlesOf } from "../exchange/known.js";
@@ -16,8 +16,8 @@ const counts = one => `${one.plus} good, ${one.zero} neither, ${one.minus} bad`;
 
 function feedbackList(list, titles) {
   const entries = list.map(one => make("li", {},
-    make("p", {}, make("strong", {}, ratingInWords(one.rating)), one.text ? ": " : "", written(one.text)),
-    make("p", { class: "soft" }, "for ", link(`item/${one.item}`, written(titles.get(one.item))))));
+    make("p", {}, make("strong", {}, ratingInWords(one.rating)), one.text ? ": " : "", quote(one.text)),
+    make("p", { class: "soft" }, "for ", link(`item/${one.item}`, quote(titles.get(one.item))))));
   return entries.length ? make("ul", { class: "talk" }, ...entries)
     : make("p", { class: "soft" }, "Nobody has rated this member yet.");
 }
@@ -33,7 +33,7 @@ export async function member(visit, number) {
   const [one, list, offer] = await Promise.all([read(`/members/${number}`),
     whole(`/members/${number}/feedback`, "feedback"), onOffer(visit, Number(number))]);
   const titles = await titlesOf(list.map(feedback => feedback.item));
-  return { title: named(one.name), nodes: [
+  return { title: nameOrNone(one.name), nodes: [
     make("p", {}, `Member ${one.member}. Rated: ${counts(one)}.`),
     make("section", { class: "box" }, make("h2", {}, "Ratings"), feedbackList(list, titles)), offer] };
 }
@@ -47,14 +47,14 @@ function listing() {
     const numbers = Array.from({ length: Math.min(AT_ONCE, count - known) }, (_, place) => known + 1 + place);
     const found = await each(numbers, number => read(`/members/${number}`));
     known += found.length;
-    place.append(...found.map(one => make("li", {}, link(`member/${one.member}`, written(named(one.name))),
+    place.append(...found.map(one => make("li", {}, link(`member/${one.member}`, quote(nameOrNone(one.name))),
       make("span", { class: "soft" }, ` member ${one.member}; ${counts(one)}`))));
     return known < count;
   };
   return { place, more };
 }
 
-function registering(more) {
+function registerForm(more) {
   const field = textField("Name", { most: 40, hint: "As everybody will see it." });
   return form({
     fields: [field], button: "Register", waits: "Registering..", context: () => ({ tried: "register" }),
@@ -83,5 +83,5 @@ export async function members() {
   const about = make("p", { class: "soft" }, SIGN_IN);
   return { title: "Members", nodes: [
     make("section", { class: "box" }, make("h2", {}, "All members"), place, parts.node),
-    make("section", { class: "box narrow" }, make("h2", {}, "Register a member"), about, registering(more))] };
+    make("section", { class: "box narrow" }, make("h2", {}, "Register a member"), about, registerForm(more))] };
 }

@@ -3,16 +3,16 @@
 import { read, send } from "../exchange/api.js";
 import { caller } from "../exchange/caller.js";
 import { itemsOf, namesOf } from "../exchange/known.js";
-import { link, make, titled, written } from "../elements/dom.js";
+import { link, make, titleOrNone, quote } from "../elements/dom.js";
 import { action } from "../elements/form.js";
 import { tell } from "../elements/news.js";
-import { refilling } from "../elements/place.js";
+import { makeRefill } from "../elements/place.js";
 import { isSure } from "../elements/question.js";
 import { AMOUNT, SUBJECT, TEXT, table } from "../elements/table.js";
 import { allItems, provenance } from "../items/lists.js";
 import { bidsInWords } from "../items/standing.js";
 import { hasEnded, inWords } from "../time/moments.js";
-import { shown } from "../words/money.js";
+import { money } from "../words/money.js";
 import { feeOf } from "./fee.js";
 
 // Without a catalogue so many items of each category are looked through.
@@ -22,7 +22,7 @@ const MOST = 200;
 // After so many seconds what is shown is read again.
 const FRESH = 60;
 
-const closed = answer => answer.sold + answer.unsold === 0 ? "Nothing was due."
+const closingInWords = answer => answer.sold + answer.unsold === 0 ? "Nothing was due."
   : `Closed: ${answer.sold} sold, ${answer.unsold} not sold.`;
 
 // A sale, with the names of its parties and what each gets.
@@ -38,8 +38,8 @@ function withParties(item, names, rate) {
 
 const isMeant = sale => isSure({
   title: "Settle this sale?",
-  text: [written(titled(sale.title)), `: ${shown(sale.price)} from `, written(sale.buyer), `, ${shown(sale.net)} for `,
-    written(sale.from), `, and ${shown(sale.fee)} for the house. It can't be taken back.`],
+  text: [quote(titleOrNone(sale.title)), `: ${money(sale.price)} from `, quote(sale.buyer), `, ${money(sale.net)} for `,
+    quote(sale.from), `, and ${money(sale.fee)} for the house. It can't be taken back.`],
   yes: "It is paid, settle it", no: "Not yet",
 });
 
@@ -53,7 +53,7 @@ export function settle(item, after) {
     isMeant: async () => isMeant(await saleOf(item)), unless: "Nothing was settled.",
     act: async () => {
       const answer = await send(`/items/${item.item}/settle`);
-      const sentence = `Settled: ${shown(answer.price)} paid, ${shown(answer.fee)} fee, ${shown(answer.net)} for the seller.`;
+      const sentence = `Settled: ${money(answer.price)} paid, ${money(answer.fee)} fee, ${money(answer.net)} for the seller.`;
       await after?.().catch(() => {});
       tell(sentence);
       return sentence;
@@ -62,7 +62,7 @@ export function settle(item, after) {
 }
 
 // What is due and what waits to be settled, each as it is now: a list may be a minute old.
-async function waiting(visit) {
+async function readWaiting(visit) {
   const [list, { rate }] = await Promise.all([allItems(visit, ENOUGH), read("/house")]);
   const isOver = item => item.state === "sold" || item.state === "open" && hasEnded(item);
   const numbers = list.items.filter(isOver).sort((one, two) => one.end - two.end).slice(0, MOST).map(item => item.item);
@@ -76,24 +76,24 @@ const DUE = [["Item", SUBJECT], ["Price", AMOUNT], ["Bids", TEXT], ["Ended", TEX
 const SALES = [["Item", SUBJECT], ["Buyer", TEXT], ["Seller", TEXT], ["Closed", TEXT], ["Price", AMOUNT], ["Fee", AMOUNT],
   ["For the seller", AMOUNT], ["", TEXT]];
 
-const title = item => link(`item/${item.item}`, written(titled(item.title)));
-const party = (number, name) => link(`member/${number}`, written(name));
+const title = item => link(`item/${item.item}`, quote(titleOrNone(item.title)));
+const party = (number, name) => link(`member/${number}`, quote(name));
 
-const dueTable = items => table("Due to be closed", DUE, items.map(item => [title(item), shown(item.price), bidsInWords(item),
+const dueTable = items => table("Due to be closed", DUE, items.map(item => [title(item), money(item.price), bidsInWords(item),
   inWords(item.end)]));
 
 const saleRow = (sale, after) => [title(sale), party(sale.leader, sale.buyer), party(sale.seller, sale.from), inWords(sale.closed),
-  shown(sale.price), shown(sale.fee), shown(sale.net), settle(sale, after)];
+  money(sale.price), money(sale.fee), money(sale.net), settle(sale, after)];
 
 const none = text => make("p", { class: "soft" }, text);
 
-function closing(again) {
+function closeButton(again) {
   return action({
     button: "Close what is due", waits: "Closing..",
     act: async () => {
       const answer = await send("/close");
       await again().catch(() => {});
-      return closed(answer);
+      return closingInWords(answer);
     },
   }).node;
 }
@@ -101,9 +101,9 @@ function closing(again) {
 export async function settling(visit) {
   const toClose = make("div");
   const toSettle = make("div");
-  const refillDue = refilling(toClose);
-  const refillSales = refilling(toSettle);
-  const look = () => waiting(visit);
+  const refillDue = makeRefill(toClose);
+  const refillSales = makeRefill(toSettle);
+  const look = () => readWaiting(visit);
   const show = ({ list, due, sales }) => {
     refillDue(due, () => [due.length ? dueTable(due) : none("Nothing is due to be closed.")]);
     refillSales([list.moment, sales], () => [list.moment === null ? provenance(list) : null,
@@ -112,6 +112,6 @@ export async function settling(visit) {
   const again = async () => show(await look());
   await visit.follow(FRESH, look, show);
   return { title: "Close and settle", nodes: [
-    make("section", { class: "box" }, make("h2", {}, "Auctions whose end has come"), toClose, closing(again)),
+    make("section", { class: "box" }, make("h2", {}, "Auctions whose end has come"), toClose, closeButton(again)),
     make("section", {}, toSettle)] };
 }

@@ -11,10 +11,14 @@ const MINUTE = 60;
 const HOUR = 60 * MINUTE;
 const DAY = 24 * HOUR;
 
-let zone = parse("UTC0");
+/** @type {import("./zone.js").Zone} */
+let zone = { standard: { name: "UTC", offset: 0 }, summer: null, begins: null, ends: null };
 let isOfHouse = false;
 
-// Takes the rule that the house tells. One that isn't known here leaves UTC, and the foot of the page says so.
+/**
+ * Takes the rule that the house tells. One that isn't known here leaves UTC, and the foot of the page says so.
+ * @param {string} rule
+ */
 export function setZone(rule) {
   const found = parse(rule);
   isOfHouse = found !== null;
@@ -61,7 +65,7 @@ export const time = at => make("time", { datetime: new Date(at * 1000).toISOStri
 
 const some = (count, unit) => `${count} ${unit}${count === 1 ? "" : "s"}`;
 
-// How long so many seconds are, by their two greatest units.
+/** How long so many seconds are, by their two greatest units. @param {number} seconds @returns {string} */
 export function duration(seconds) {
   if (seconds >= DAY) {
     return `${some(Math.floor(seconds / DAY), "day")} ${some(Math.floor(seconds % DAY / HOUR), "hour")}`;

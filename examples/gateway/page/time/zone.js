@@ -24,7 +24,13 @@ function length(text) {
 // A rule counts what is to be added to get UTC: an offset is the other way round.
 const offset = text => 0 - length(text);
 
-// The parts of a rule, or null where it is none that is known here.
+/**
+ * @typedef {{ name: string, offset: number }} Clock what a clock goes by, with the seconds that it is ahead of UTC
+ * @typedef {{ date: string, time: number }} Turn when clocks are set
+ * @typedef {{ standard: Clock, summer: Clock | null, begins: Turn | null, ends: Turn | null }} Zone
+ */
+
+/** The parts of a rule, or null where it is none that is known here. @param {string} rule @returns {Zone | null} */
 export function parse(rule) {
   const found = RULE.exec(rule);
   if (!found) {
@@ -69,9 +75,9 @@ function dayOf(year, date) {
 
 const turn = (year, rule, before) => dayOf(year, rule.date) * DAY + rule.time - before.offset;
 
-// What a clock in the zone goes by at a moment: a name and an offset.
+/** What a clock in the zone goes by at a moment. @param {Zone} zone @param {number} moment @returns {Clock} */
 export function at(zone, moment) {
-  if (!zone.summer) {
+  if (!zone.summer || !zone.begins || !zone.ends) {
     return zone.standard;
   }
   const year = new Date((moment + zone.standard.offset) * 1000).getUTCFullYear();
@@ -81,8 +87,11 @@ export function at(zone, moment) {
   return isSummer ? zone.summer : zone.standard;
 }
 
-// The first moment at which a clock in the zone shows a day and a time. In an hour that is left out it is as if the
-// clock had not been set yet.
+/**
+ * The first moment at which a clock in the zone shows a day and a time. In an hour that is left out it is as if the clock
+ * had not been set yet.
+ * @param {Zone} zone @param {string} day @param {string} time @returns {number}
+ */
 export function momentOf(zone, day, time) {
   const shown = Date.parse(`${day}T${time}Z`) / 1000;
   const both = [zone.standard, zone.summer ?? zone.standard].map(part => shown - part.offset);

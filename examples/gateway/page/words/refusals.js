@@ -1,6 +1,6 @@
 // @ts-check
 // What a refusal means, in a sentence that says what happened, and what to do.
-import { shown } from "./money.js";
+import { money } from "./money.js";
 
 // Of the house's rules. Some mean another thing by what was tried: SPECIAL has those.
 const RULES = {
@@ -61,11 +61,11 @@ const FAULTS = {
 function low(floor, context) {
   const happened = context.floor !== undefined && context.floor < floor
     ? "Somebody bid more meanwhile." : "That is less than the next bid.";
-  return `${happened} The next bid is ${shown(floor)} or more.`;
+  return `${happened} The next bid is ${money(floor)} or more.`;
 }
 
 function higher(context) {
-  const own = context.maximum === undefined ? "" : `, which is ${shown(context.maximum)}`;
+  const own = context.maximum === undefined ? "" : `, which is ${money(context.maximum)}`;
   return `You lead already. A new maximum has to be more than your own${own}.`;
 }
 
