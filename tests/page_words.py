@@ -118,16 +118,28 @@ def reserves(page):
     check("reserves", results, ["", "", "Reserve met", "Reserve not met"])
 
 
+def imports_of(file):
+    """A module and all that it can't begin without."""
+    found, todo = set(), [file.resolve()]
+    while todo:
+        one = todo.pop()
+        if one not in found:
+            found.add(one)
+            todo += [(one.parent / name).resolve() for name in re.findall(r'from "(\.[^"]+)"', one.read_text())]
+    return found
+
+
 def files():
-    """The page's own files never read a text as HTML, name no other site, and import what is there. The page names all of
-    them, so that a browser asks for them at once."""
-    modules = sorted(file.relative_to(PAGE).as_posix() for file in PAGE.rglob("*.js"))
-    named = re.findall(r'<(?:link rel="modulepreload" href|script type="module" src)="([^"]+)"', (PAGE / "index.html").read_text())
-    check("modules that the page names", sorted(named), modules)
+    """The page's own files never read a text as HTML, name no other site, and import what is there. The page names all
+    that its scripts can't begin without, so that a browser asks for them at once."""
+    page = (PAGE / "index.html").read_text()
+    scripts, ahead = (re.findall(f'<{tag}="([^"]+)"', page) for tag in ("script type=\"module\" src", "link rel=\"modulepreload\" href"))
+    needed = set().union(*(imports_of(PAGE / name) for name in scripts))
+    check("modules that the page names", sorted([*scripts, *ahead]), sorted(str(file.relative_to(PAGE)) for file in needed))
     for file in filter(pathlib.Path.is_file, PAGE.rglob("*")):
         name, text = file.relative_to(PAGE), file.read_text()
         for word in NEVER:
             is_name = word == "http://" and text.count(word) == text.count("http://www.w3.org/2000/svg")
             check(f"{name}: {word}", word in text and not is_name, False)
-        for module in re.findall(r'from "(\.[^"]+)"', text):
+        for module in re.findall(r'(?:from |import\()"(\.[^"]+)"', text):
             check(f"{name} imports {module}", (file.parent / module).is_file(), True)

@@ -1,36 +1,54 @@
 // @ts-check
 // The page: who is signed in, which part of it is shown, and the clock that goes on.
 import { Refusal, read, readUntil } from "./exchange/api.js";
-import { accounts } from "./office/accounts.js";
 import { atTheFoot, readCity } from "./exchange/city.js";
-import { bids } from "./member/bids.js";
 import { category, front, search } from "./items/browse.js";
 import { caller, findOut } from "./exchange/caller.js";
 import { ahead, isKnown } from "./time/clock.js";
 import { entry, keepDrafts, noteFields, putDrafts } from "./exchange/history.js";
 import { nameOf } from "./exchange/known.js";
 import { isolate, link, make, part, put, replace, quote } from "./elements/dom.js";
-import { house } from "./office/house.js";
-import { listings } from "./member/listings.js";
 import { item } from "./items/item.js";
-import { member, members } from "./office/members.js";
 import { duration, setZone, tick, zoneInWords } from "./time/moments.js";
 import { tell } from "./elements/news.js";
-import { notices } from "./member/notices.js";
-import { questions } from "./member/questions.js";
-import { sell } from "./member/sell.js";
-import { settling } from "./office/settling.js";
-import { statement } from "./member/statement.js";
 import { markTitle, setTitle } from "./elements/title.js";
 import { Visit } from "./exchange/visit.js";
 import { countWaiting } from "./member/waiting.js";
-import { watches } from "./member/watches.js";
-import { won } from "./member/won.js";
 import { sentence } from "./words/refusals.js";
 
-// Each part of the page by the first word after #/. It makes a heading and what is below it.
-const PARTS = { "": front, category, search, item, member, bids, won, watches, listings, questions, sell, statement, notices,
-  house, members, settling, accounts };
+// Each part of the page by the first word after #/. It makes a heading and what is below it. Most come for items, so the
+// modules of the other parts are read after those.
+const PARTS = {
+  "": async () => front,
+  category: async () => category,
+  search: async () => search,
+  item: async () => item,
+  bids: async () => (await import("./member/bids.js")).bids,
+  won: async () => (await import("./member/won.js")).won,
+  watches: async () => (await import("./member/watches.js")).watches,
+  listings: async () => (await import("./member/listings.js")).listings,
+  questions: async () => (await import("./member/questions.js")).questions,
+  sell: async () => (await import("./member/sell.js")).sell,
+  statement: async () => (await import("./member/statement.js")).statement,
+  notices: async () => (await import("./member/notices.js")).notices,
+  house: async () => (await import("./office/house.js")).house,
+  member: async () => (await import("./office/members.js")).member,
+  members: async () => (await import("./office/members.js")).members,
+  settling: async () => (await import("./office/settling.js")).settling,
+  accounts: async () => (await import("./office/accounts.js")).accounts,
+};
+
+// What makes a part. A name that is none of ours leads to the items, also one that every object has.
+async function partOf(name) {
+  try {
+    return await (Object.hasOwn(PARTS, name) ? PARTS[name] : PARTS[""])();
+  } catch {
+    throw new Refusal({ error: "silence" });
+  }
+}
+
+// Reads all parts ahead, once the first one is there. Where that fails each is read when one goes there.
+const readAhead = () => Object.keys(PARTS).forEach(name => partOf(name).catch(() => {}));
 
 const OF_ALL = [["", "Items"]];
 const OF_MEMBERS = [["bids", "My bids"], ["won", "Won"], ["watches", "Watching"], ["listings", "My listings"],
@@ -43,6 +61,8 @@ const ABOVE = { category: "", item: "", search: "" };
 // How often countdowns are put anew, in milliseconds, and after how many seconds questions that wait are counted again.
 const TICK = 500;
 const WAITING = 60;
+// After so many milliseconds the other parts of the page are read.
+const AHEAD = 2000;
 
 const content = part("content");
 let visit = new Visit();
@@ -87,8 +107,7 @@ async function makePart(own, name, words) {
     return membersOnly();
   }
   try {
-    // A name that is none of ours leads to the items, also one that every object has.
-    return await (Object.hasOwn(PARTS, name) ? PARTS[name] : front)(own, ...words);
+    return await (await partOf(name))(own, ...words);
   } catch (error) {
     return failure(error);
   }
@@ -169,6 +188,7 @@ async function begin() {
   setInterval(foot, 10_000);
   setInterval(hearClock, 2_000);
   await show();
+  setTimeout(readAhead, AHEAD);
 }
 
 // Who is signed in. The name of a member takes a read, for which nothing waits.

@@ -58,6 +58,9 @@ export function label(button, text) {
   }
 }
 
+// The buttons whose second question is open.
+const asked = new WeakSet();
+
 /**
  * What a button does: a second question where there is one, and then the work.
  * @typedef {object} Deed
@@ -70,15 +73,19 @@ export function label(button, text) {
 
 /** @param {HTMLElement} button @param {HTMLElement} outcome @param {Deed} deed @param {any[]} values */
 async function press(button, outcome, { waits, context = () => ({}), isMeant = (..._) => true, unless = "", act }, values) {
-  if (button.getAttribute("aria-disabled") === "true") {
+  if (button.getAttribute("aria-disabled") === "true" || asked.has(button)) {
     return;
   }
-  outcome.classList.remove("refused");
-  if (!await isMeant(...values)) {
-    put(outcome, unless);
-    return;
+  asked.add(button);
+  let isSure = false;
+  await sayOutcome(outcome, () => ({ ...context(), isRead: true }), async () => {
+    isSure = await isMeant(...values);
+    return isSure ? "" : unless;
+  });
+  asked.delete(button);
+  if (isSure) {
+    await whileWaiting(button, waits, outcome, () => sayOutcome(outcome, context, () => act(...values)));
   }
-  await whileWaiting(button, waits, outcome, () => sayOutcome(outcome, context, () => act(...values)));
 }
 
 // A form of fields. `act` is given their values, and answers a sentence on what was done, or one with `isBad` where that

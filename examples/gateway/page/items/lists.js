@@ -63,9 +63,9 @@ export const allItems = (visit, enough = ENOUGH) => readList(visit, {
 });
 
 // How old a list is, or that it has the youngest items alone.
-export function provenance({ moment, isWhole }, newer = "An item's own page has its price of now.") {
+export function provenance({ items, moment, isWhole }, newer = "An item's own page has its price of now.") {
   if (moment !== null) {
-    return make("p", { class: "soft" }, "This list is ", age(moment), ` old. ${newer}`);
+    return make("p", { class: "soft" }, "This list is ", age(moment), ` old. ${items.length ? newer : ""}`);
   }
   return isWhole ? null : make("p", { class: "soft" },
     "The gateway has no list of all items just now. These are those that were listed last.");

@@ -3,7 +3,7 @@
 import { caller } from "../exchange/caller.js";
 import { whatNow } from "../exchange/city.js";
 import { make, replace } from "../elements/dom.js";
-import { settle } from "../office/settling.js";
+import { settle } from "../office/settle.js";
 import { rating } from "./rating.js";
 import { isSold } from "./standing.js";
 

@@ -1,19 +1,16 @@
 // @ts-check
 // What the house does at the end: it closes what is due, and settles sales.
 import { read, send } from "../exchange/api.js";
-import { caller } from "../exchange/caller.js";
 import { itemsOf, namesOf } from "../exchange/known.js";
 import { link, make, titleOrNone, quote } from "../elements/dom.js";
 import { action } from "../elements/form.js";
-import { tell } from "../elements/news.js";
 import { makeRefill } from "../elements/place.js";
-import { isSure } from "../elements/question.js";
 import { AMOUNT, SUBJECT, TEXT, table } from "../elements/table.js";
 import { allItems, provenance } from "../items/lists.js";
 import { bidsInWords } from "../items/standing.js";
 import { hasEnded, inWords } from "../time/moments.js";
 import { money } from "../words/money.js";
-import { feeOf } from "./fee.js";
+import { settle, withParties } from "./settle.js";
 
 // Without a catalogue so many items of each category are looked through.
 const ENOUGH = 1000;
@@ -24,42 +21,6 @@ const FRESH = 60;
 
 const closingInWords = answer => answer.sold + answer.unsold === 0 ? "Nothing was due."
   : `Closed: ${answer.sold} sold, ${answer.unsold} not sold.`;
-
-// A sale, with the names of its parties and what each gets.
-async function saleOf(item) {
-  const [names, { rate }] = await Promise.all([namesOf([item.seller, item.leader]), read("/house")]);
-  return withParties(item, names, rate);
-}
-
-function withParties(item, names, rate) {
-  const fee = feeOf(item.price, rate);
-  return { ...item, buyer: names.get(item.leader), from: names.get(item.seller), fee, net: item.price - fee };
-}
-
-const isMeant = sale => isSure({
-  title: "Settle this sale?",
-  text: [quote(titleOrNone(sale.title)), `: ${money(sale.price)} from `, quote(sale.buyer), `, ${money(sale.net)} for `,
-    quote(sale.from), `, and ${money(sale.fee)} for the house. It can't be taken back.`],
-  yes: "It is paid, settle it", no: "Not yet",
-});
-
-// A button that settles the sale of an item, for the house; else nothing.
-export function settle(item, after) {
-  if (!caller.isHouse || item.state !== "sold") {
-    return null;
-  }
-  return action({
-    button: "Settle this sale", waits: "Settling..", context: () => ({ tried: "settle" }),
-    isMeant: async () => isMeant(await saleOf(item)), unless: "Nothing was settled.",
-    act: async () => {
-      const answer = await send(`/items/${item.item}/settle`);
-      const sentence = `Settled: ${money(answer.price)} paid, ${money(answer.fee)} fee, ${money(answer.net)} for the seller.`;
-      await after?.().catch(() => {});
-      tell(sentence);
-      return sentence;
-    },
-  }).node;
-}
 
 // What is due and what waits to be settled, each as it is now: a list may be a minute old.
 async function readWaiting(visit) {
