@@ -72,7 +72,7 @@ help:
 	@echo "What is around the program, from examples/"
 	@echo "  make packages  installs Debian's packages that these need, as root"
 	@echo "  make gateway   has clients ask and bid through nginx and haproxy for PERIOD, and the house start anew RESTARTS times"
-	@echo "  make page      plays an auction on the page of the gateway in Chromium, by the house and three members, in five minutes"
+	@echo "  make page      plays an auction on the page of the gateway in Chromium, by the house and three members, in seven minutes"
 	@echo "  make backup    makes COPIES copies of a house that is served, and restores one"
 	@echo "  make deb       makes the package in out/, and tries it in a plain Debian in the folder DEBIAN"
 	@echo

@@ -20,8 +20,11 @@ JOB = pathlib.Path(__file__).resolve().parent.parent / "examples" / "gateway" / 
 KEEPS = """#!/bin/sh
 cat > "$(dirname "$0")/mails/$(date +%s%N).$$"
 """
-HIDES = """Object.defineProperty(document, "hidden", { get: () => arguments[0], configurable: true });
+HIDES = """performance.clearResourceTimings();
+Object.defineProperty(document, "hidden", { get: () => arguments[0], configurable: true });
 document.dispatchEvent(new Event("visibilitychange"));"""
+# Whether bids were read since the window is hidden.
+READ = """return performance.getEntriesByType("resource").some(one => one.name.includes("/me/bids/"))"""
 # A browser that is allowed to tell, and what it was told to tell.
 TOLD = """window.told = [];
 window.Notification = class { static permission = "granted"; constructor(text) { window.told.push(text); } };"""
@@ -102,18 +105,23 @@ def plain(title):
 
 def tells_the_window(ben, gateway, listings):
     """A window that nobody sees reads once a minute, says in its title that one was outbid, and has the browser tell."""
-    number = listings.list("A map in the background")
-    listings.bid("ben", number, 1_500)
-    go(ben, f"item/{number}", "A map in the background")
+    title = lambda: ben.page.run("return document.title")
     ben.page.run(TOLD)
-    ben.page.run(HIDES, True)
-    listings.bid("cid", number, 3_000)
-    ben.wait(lambda: ben.page.run("return document.title").startswith("(outbid) A map in the background"), "the title")
-    check("the browser tells", ben.page.run("return window.told"), ["You were outbid: A map in the background"])
-    ben.page.run(HIDES, False)
+    for part, heading in (("listings", "My listings"), ("item", "A map in the background")):
+        number = listings.list("A map in the background")
+        listings.bid("ben", number, 1_500)
+        go(ben, part if part != "item" else f"item/{number}", heading)
+        ben.page.run(HIDES, True)
+        # What leads is read when the window is left. An outbid after that is told.
+        ben.wait(lambda: ben.page.run(READ), "the first look")
+        listings.bid("cid", number, 3_000)
+        ben.wait(lambda: title().startswith(f"(outbid) {heading}"), "the title")
+        ben.wait(lambda: ben.page.run("return window.told.length"), "a notice of the browser")
+        check("the browser tells", ben.page.run("return window.told.splice(0)"), ["You were outbid: A map in the background"])
+        ben.page.run(HIDES, False)
     ben.write("textbox", "Your maximum", "100")
     ben.press("button", "Bid")
-    ben.wait(lambda: ben.page.run("return document.title").startswith("A map in the background"), "the title of now")
+    ben.wait(lambda: title().startswith("A map in the background"), "the title of now")
 
 
 # Rounds over items that are made up: restarts, and a mail that can't be sent.

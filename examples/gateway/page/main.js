@@ -13,6 +13,7 @@ import { duration, setZone, tick, zoneInWords } from "./time/moments.js";
 import { tell } from "./elements/news.js";
 import { markTitle, setTitle } from "./elements/title.js";
 import { Visit } from "./exchange/visit.js";
+import { watchWhileHidden } from "./member/outbid.js";
 import { countWaiting } from "./member/waiting.js";
 import { sentence } from "./words/refusals.js";
 
@@ -187,6 +188,7 @@ async function begin() {
   setInterval(tick, TICK);
   setInterval(foot, 10_000);
   setInterval(hearClock, 2_000);
+  watchWhileHidden();
   await show();
   setTimeout(readAhead, AHEAD);
 }

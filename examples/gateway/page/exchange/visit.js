@@ -48,11 +48,11 @@ export class Visit {
   }
 
   /**
-   * Does work again and again, each time so many seconds after the last. While nobody sees the page it rests, or works
-   * seldom where `hidden` has seconds for that. It begins at once when somebody sees it.
-   * @param {() => number} seconds @param {() => Promise<any>} work @param {number} [hidden]
+   * Does work again and again, each time so many seconds after the last. It rests while nobody sees the page, and begins
+   * at once when somebody does.
+   * @param {() => number} seconds @param {() => Promise<any>} work
    */
-  repeat(seconds, work, hidden = Infinity) {
+  repeat(seconds, work) {
     /** @type {ReturnType<typeof setTimeout> | undefined} */
     let timer;
     let isAtWork = false;
@@ -63,23 +63,9 @@ export class Visit {
         tell(OLD);
       }
     };
-    const wait = () => {
-      const pause = document.hidden ? hidden : seconds();
-      if (pause < Infinity) {
-        timer = setTimeout(go, 1000 * pause);
-      }
-    };
-    const turn = () => {
-      clearTimeout(timer);
-      if (document.hidden) {
-        wait();
-      } else {
-        go();
-      }
-    };
     const go = async () => {
       clearTimeout(timer);
-      if (this.isOver || isAtWork) {
+      if (this.isOver || isAtWork || document.hidden) {
         return;
       }
       isAtWork = true;
@@ -88,9 +74,9 @@ export class Visit {
         failed = 0;
       }, fails);
       isAtWork = false;
-      wait();
+      timer = setTimeout(go, 1000 * seconds());
     };
-    document.addEventListener("visibilitychange", turn, { signal: this.signal });
-    wait();
+    document.addEventListener("visibilitychange", go, { signal: this.signal });
+    timer = setTimeout(go, 1000 * seconds());
   }
 }

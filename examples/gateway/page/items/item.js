@@ -23,8 +23,6 @@ const OFTEN = 1;
 const OPEN = 4;
 const OVER = 30;
 const NEAR = 60;
-// While nobody sees the page.
-const HIDDEN = 60;
 
 function pace(item) {
   if (item.state !== "open") {
@@ -177,7 +175,7 @@ export async function item(visit, number) {
     markTitle(markOf(shownNow));
     tell("The end of this auction has come.");
   });
-  visit.repeat(() => pace(shownNow.item), refresh, HIDDEN);
+  visit.repeat(() => pace(shownNow.item), refresh);
   const of = make("p", { class: "of" }, `Lot ${first.item.lot}`);
   let isComplete = false;
   const fill = async () => {
