@@ -1,6 +1,6 @@
 // @ts-check
 // The page: who is signed in, which part of it is shown, and the clock that goes on.
-import { Refusal, read, readUntil } from "./exchange/api.js";
+import { Refusal, read, readAhead, readUntil } from "./exchange/api.js";
 import { atTheFoot, readCity } from "./exchange/city.js";
 import { category, front, search } from "./items/browse.js";
 import { caller, findOut } from "./exchange/caller.js";
@@ -48,8 +48,8 @@ async function partOf(name) {
   }
 }
 
-// Reads all parts ahead, once the first one is there. Where that fails each is read when one goes there.
-const readAhead = () => Object.keys(PARTS).forEach(name => partOf(name).catch(() => {}));
+// Reads all parts, once the first one is there. Where that fails each is read when one goes there.
+const readParts = () => Object.keys(PARTS).forEach(name => partOf(name).catch(() => {}));
 
 const OF_ALL = [["", "Items"]];
 const OF_MEMBERS = [["bids", "My bids"], ["won", "Won"], ["watches", "Watching"], ["listings", "My listings"],
@@ -167,8 +167,18 @@ async function hearClock() {
   }
 }
 
+// An item that the address names is read before it is known who asks: so its price is there a turn of the line sooner.
+function lookAhead() {
+  const number = /^#\/item\/(\d+)$/.exec(location.hash)?.[1];
+  if (number) {
+    readAhead(`/items/${number}`);
+    readAhead(`/me/bids/${number}`);
+  }
+}
+
 async function begin() {
   try {
+    lookAhead();
     const house = read("/house");
     await Promise.all([findOut(house), house.then(({ zone }) => setZone(zone)), readCity()]);
   } catch (error) {
@@ -190,7 +200,7 @@ async function begin() {
   setInterval(hearClock, 2_000);
   watchWhileHidden();
   await show();
-  setTimeout(readAhead, AHEAD);
+  setTimeout(readParts, AHEAD);
 }
 
 // Who is signed in. The name of a member takes a read, for which nothing waits.

@@ -55,8 +55,22 @@ function parse(text) {
   }
 }
 
+/** Reads that were begun before anybody needed them. Each is taken once. @type {Map<string, Promise<any>>} */
+const begun = new Map();
+
+/** @param {string} path */
+export function readAhead(path) {
+  const answer = exchange(path, {});
+  answer.catch(() => {});
+  begun.set(path, answer);
+}
+
 /** @param {string} path @returns {Promise<any>} */
-export const read = path => exchange(path, { signal: leaving });
+export function read(path) {
+  const answer = begun.get(path) ?? exchange(path, { signal: leaving });
+  begun.delete(path);
+  return answer;
+}
 
 /** @param {string} path @param {object} [body] @returns {Promise<any>} */
 export const send = (path, body = {}) => exchange(path, { method: "POST", body: JSON.stringify(body) });
