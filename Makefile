@@ -30,9 +30,10 @@ PICTURES ?=
 PAGES ?= 1000
 
 # Debian's packages of these five: nginx to util-linux are needed, the others are left out where they aren't there. The page
-# needs chromium-driver too.
-GATEWAY_PACKAGES = nginx-light haproxy apache2-bin apache2-utils sqlite3 openssl curl iproute2 procps util-linux nftables chromium-driver
-PAGE_PACKAGES = $(GATEWAY_PACKAGES)
+# needs chromium-driver too, and its modules and types are tested where nodejs and node-typescript are there.
+GATEWAY_PACKAGES = nginx-light haproxy apache2-bin apache2-utils sqlite3 openssl curl iproute2 procps python3 util-linux nftables \
+	chromium-driver
+PAGE_PACKAGES = $(GATEWAY_PACKAGES) nodejs node-typescript
 LOAD_PACKAGES = $(GATEWAY_PACKAGES) wrk
 BACKUP_PACKAGES = sqlite3 btrfs-progs
 DEB_PACKAGES = lintian debootstrap systemd-container
@@ -76,7 +77,7 @@ help:
 	@echo "  make packages  installs Debian's packages that these need, as root"
 	@echo "  make gateway   has clients ask and bid through nginx and haproxy for PERIOD, and the house start anew RESTARTS times"
 	@echo "  make load      has PAGES pages of an item open in its last minute, through the gateway, while a member bids (needs wrk)"
-	@echo "  make page      plays an auction on the page of the gateway in Chromium, by the house and three members, in five minutes"
+	@echo "  make page      plays an auction on the page of the gateway in Chromium, by the house and three members, in seven minutes"
 	@echo "  make backup    makes COPIES copies of a house that is served, and restores one"
 	@echo "  make deb       makes the package in out/, and tries it in a plain Debian in the folder DEBIAN"
 	@echo
@@ -251,6 +252,8 @@ load:
 
 page:
 	@echo "Debian's packages: $(PAGE_PACKAGES)"
+	if command -v node > /dev/null; then node --test tests/page_modules.mjs; fi
+	if command -v tsc > /dev/null; then tsc -p tests/page_types.json; fi
 	python3 tests/page.py crates/auction/out/auction $(PICTURES)
 
 backup:
@@ -263,4 +266,4 @@ deb:
 	python3 tests/package.py crates/auction/out/auction out $(DEBIAN)
 
 packages:
-	apt-get install -y --no-install-recommends $(LOAD_PACKAGES) $(BACKUP_PACKAGES) $(DEB_PACKAGES)
+	apt-get install -y --no-install-recommends $(PAGE_PACKAGES) wrk $(BACKUP_PACKAGES) $(DEB_PACKAGES)

@@ -6,7 +6,11 @@ a house with some history behind nginx and haproxy. They find all by roles and n
 
 - a whole bid by the keyboard; a purchase after a second question; a button that waits while the house is still, and
   bids once
-- Ben, who loses, gets no digit of the maximum by which Cid leads: in no answer, and nowhere on the page
+- nobody is sent a digit of what another has sealed, a maximum or a reserve: in no answer, nowhere on a page, and in no
+  file that is written for all (page_sealed.py)
+- what one won and listed, accounts, settling, a new band table, the city's own words (page_pages.py)
+- mails and other notices, each once, to whom they concern (page_notices.py)
+- the catalogue has all items, is written whole or not at all, and the page does without it (page_catalogue.py)
 - the countdown goes by the gateway's clock, also where the browser's is an hour wrong
 - names and texts that would do harm as HTML stay text, and turn nothing around them
 - all parts, light and dark, 360 and 1280 wide: names, roles, contrast, sizes, nothing wider than the window
@@ -15,20 +19,29 @@ a house with some history behind nginx and haproxy. They find all by roles and n
 - the file of a statement is the program's own, and the public record is what all reads tell
 - of many items and bids the youngest are shown, and the others when they are asked for
 - amounts, zones (beside the C library) and refusals (page_words.py)
+- what the page says is true at once: after an outbid, an end, a failed read, a lost answer, a sleep, a way back
+  (page_truth.py)
 
-PICTURES is a folder for pictures of three parts. It needs what gateway.py needs, and chromedriver. The last line is
+PICTURES is a folder for pictures of some parts. It needs what gateway.py needs, and chromedriver. The last line is
 'N checks, M wrong'.
 """
 import contextlib
+import os
 import pathlib
 import sys
 import tempfile
 
 import browser
+import page_catalogue as catalogue
+import page_notices as notices
+import page_pages as pages
 import page_play as play
+import page_sealed as sealed
+import page_truth as truth
 import page_words as words
+from bad_files import NOBODY
 from gateway_run import folder_of_nobody, missing_packages
-from page_house import (EVIL, EVIL_CATEGORY, EVIL_NAME, EVIL_TEXTS, EVIL_TITLES, MANY, MANY_BIDS, OPEN, PAST, furnished,
+from page_house import (BEN, EVIL, EVIL_CATEGORY, EVIL_NAME, EVIL_TEXTS, EVIL_TITLES, MANY, MANY_BIDS, OPEN, PAST, furnished,
                         with_many)
 from screen_reader import Reader
 from served import CHECKS, check
@@ -48,11 +61,11 @@ location.hash = arguments[0];"""
 EVIL_ITEM = len(PAST) + len(OPEN) + 1
 # The parts of the page, by who looks at them.
 PARTS = {
-    "ana": ["", "category/1", "category/4", "item/1", f"item/{EVIL_ITEM}", "questions", "sell", "statement", "house",
+    "ana": ["", "category/1", "category/4", "search/globe%20gores", "listings", "sell/1", "item/1", f"item/{EVIL_ITEM}", "questions", "sell", "statement", "notices", "house",
             "member/2", "nothing", "constructor"],
-    "ben": ["bids", "watches", "questions", "statement", "item/14", "item/15", "item/13", f"item/{EVIL_ITEM + 1}",
+    "ben": ["bids", "won", "watches", "questions", "statement", "item/14", "item/15", "item/13", f"item/{EVIL_ITEM + 1}",
             f"item/{EVIL_ITEM + 2}", "member/1", "item/999", "statement/2020-01-01/2020-12-31"],
-    "house": ["", "members", "settling", "house", "item/12", "member/4", "bids"],
+    "house": ["", "members", "settling", "accounts", "house", "item/12", "member/4", "bids"],
 }
 
 
@@ -86,7 +99,7 @@ def stays_text(reader):
         check(f"item {number}: its title", reader.find("heading", title) is not None, True)
         check(f"item {number}: its text", all(line in reader.text() for line in text.split("\u2029")), True)
     show(reader, f"item/{EVIL_ITEM}")
-    check("a question and its answer", reader.text().count(EVIL) >= 2, True)
+    reader.wait(lambda: reader.text().count(EVIL) >= 2, "a question and its answer")
     show(reader, "member/2" if reader.name == "house" else "member/1")
     show(reader, "member/4")
     check("a name", reader.find("heading", EVIL_NAME) is not None, True)
@@ -96,22 +109,57 @@ def stays_text(reader):
     check("no script of theirs", reader.page.run("return document.title"), "Items | The auction house")
 
 
+def comes_back_down(ben):
+    """Back leads to the same list, as long as it was, and to the same place in it."""
+    ben.press("link", "Print 200")
+    ben.wait_for("heading", "Print 200")
+    ben.page.run("history.back()")
+    ben.wait_for_text(f"{MANY} of {MANY} items")
+    link = ben.wait_for("link", "Print 200")
+    ben.wait(lambda: 0 < ben.box(link)[1] < 900, "the place in the list")
+
+
 def long_lists(program, folder):
-    """Of many items and bids the youngest are shown, and the others when they are asked for."""
-    with furnished(program, folder, with_many) as gateway, readers(gateway, "ben", wrong=None) as [ben]:
+    """Of many items and bids the youngest are shown, where there is no catalogue, and the others when they are asked for.
+    With a catalogue all are there, and what ends soonest is first."""
+    with furnished(program, folder, with_many, catalogue=0) as gateway, readers(gateway, "ben", wrong=None) as [ben]:
         show(ben, "category/1")
         ben.wait_for_text("200 of 200 items that were listed last")
-        ben.press("button", "Read older items")
+        ben.press("button", "Show more items")
         ben.wait_for_text(f"{MANY} of {MANY} items")
+        comes_back_down(ben)
         check("what ends first comes first", ben.all("heading")[2].name, "Print 1")
         ben.write("searchbox", "Find in titles", "Print 26")
-        ben.wait_for_text(f"2 of {MANY} items")
+        ben.wait_for_text(f"4 of {MANY} items")
         show(ben, "bids")
         check("bids that are shown", len(ben.all("row")), 1 + 100)
         ben.press("button", f"Read {MANY_BIDS - 100} older ones")
         ben.wait_for_text("All your bids are here.")
         check("all bids", len(ben.all("row")), 1 + MANY_BIDS)
+        show(ben, "")
+        ben.wait_for_text("These are those that were listed last.")
+        catalogue.written(gateway)
+        show(ben, "")
+        catalogue.shown(ben)
+        catalogue.searched(ben)
         play.no_faults([ben])
+
+
+def true_at_once(program, folder):
+    """What the page says goes with what is so."""
+    program_of_mail, mails = notices.mailbox(folder, NOBODY)
+    os.environ["SENDMAIL"] = str(program_of_mail)
+    with furnished(program, folder) as gateway:
+        with readers(gateway, "house", "ana", "ben", "cid", wrong=None, before=truth.BEFORE) as all_of_them:
+            house, ana, ben, cid = all_of_them
+            listings = truth.all_of_it(gateway, ana, ben, cid)
+            pages.all_of_it(gateway, listings, *all_of_them)
+            notices.gives_an_address(ben, gateway)
+            notices.tells_members(ben, gateway, listings, mails)
+            notices.tells_the_window(ben, gateway, listings)
+            for reader in all_of_them:
+                sealed.never_sent(reader, gateway.numbers[reader.name])
+            play.no_faults(all_of_them)
 
 
 def policy(gateway):
@@ -133,12 +181,12 @@ def picture(reader, folder, name, part=None, height=900):
 
 
 @contextlib.contextmanager
-def readers(gateway, *names, wrong):
-    """A browser for each, all of which end after this. The clock of one is wrong."""
+def readers(gateway, *names, wrong, before=""):
+    """A browser for each, all of which end after this. The clock of one is wrong. A script may run before the page's own."""
     with browser.driver() as address, contextlib.ExitStack() as ending:
         found = []
         for name in names:
-            found.append(Reader(address, gateway, name, play.WRONG_CLOCK if name == wrong else ""))
+            found.append(Reader(address, gateway, name, play.WRONG_CLOCK if name == wrong else before))
             ending.callback(found[-1].end)
             size(found[-1], 1280)
         yield found
@@ -155,7 +203,8 @@ def auction(gateway, house, ana, ben, cid, pictures):
     play.is_unsure(ben)
     play.talks(ana, ben)
     picture(ben, pictures, "item", f"item/{number}")
-    play.never_shown(ben)
+    picture(ben, pictures, "items", "")
+    sealed.never_sent(ben, BEN)
     play.countdown(cid, end)
     return number
 
@@ -182,6 +231,9 @@ def after_the_end(gateway, house, ana, ben, cid, pictures, folder):
     play.statements(gateway, ana, ben, cid)
     picture(ana, pictures, "statement", "statement", 1000)
     picture(ben, pictures, "bids", "bids", 820)
+    picture(cid, pictures, "won", "won", 800)
+    picture(ana, pictures, "listings", "listings", 900)
+    picture(house, pictures, "accounts", "accounts", 760)
     play.registers(house)
     play.allow_saving(house, folder)
     play.record(gateway, house, folder)
@@ -197,6 +249,8 @@ def main():
         print(f"Debian's packages that are missing: {' '.join(missing)}")
         return 1
     words.files()
+    catalogue.whole_or_not()
+    notices.told_once()
     with folder_of_nobody() as folder, tempfile.TemporaryDirectory() as saved, furnished(program, folder) as gateway:
         policy(gateway)
         with readers(gateway, "house", "ana", "ben", "cid", wrong="cid") as all_of_them:
@@ -204,13 +258,18 @@ def main():
             auction(gateway, house, ana, ben, cid, pictures)
             meanwhile(gateway, house, ana, ben)
             spreadsheet = after_the_end(gateway, house, ana, ben, cid, pictures, pathlib.Path(saved))
-            play.never_shown(ben)
+            truth.named_spreadsheet(spreadsheet, gateway)
+            for reader in all_of_them:
+                sealed.never_sent(reader, gateway.numbers[reader.name])
+            sealed.never_written(gateway.house() / "catalogue", 20)
             play.is_shown(cid)
             play.no_faults(all_of_them)
         gateway.stop()
         play.same_as_the_program(gateway, spreadsheet)
     with folder_of_nobody() as folder:
         long_lists(program, folder)
+    with folder_of_nobody() as folder:
+        true_at_once(program, folder)
     print(f"{len(CHECKS)} checks, {CHECKS.count(False)} wrong")
     return 1 if not all(CHECKS) else 0
 

@@ -44,6 +44,8 @@ PAST = [
 ]
 # Open: in how many hours it ends, the category, the title, the text, the start, the buy-now price, and what Cid and Ben bid.
 OPEN = [
+    (160, MAPS, "Survey of the marshes, in manuscript", "Six sheets. The reserve is well over the start.", 5_000, None,
+     [(CID, 868_417)]),
     (30, MAPS, "View of the city from the river, engraved", "A panorama in two sheets, joined. Some spots at the margin.",
      9_000, None, [(BEN, 14_000)]),
     (52, INSTRUMENTS, "Telescope of three draws, signed", "Brass and mahogany. The lens cap is lost.", 26_000, 60_000, []),
@@ -54,6 +56,8 @@ OPEN = [
     (140, INSTRUMENTS, "Globe of twelve inches, about 1890", "On a turned stand. The horizon ring has a crack.", 20_000,
      45_000, []),
 ]
+# What Ana has sealed.
+RESERVES = {"Survey of the marshes, in manuscript": 947_613}
 GLOBE = "Globe of twelve inches, about 1890"
 MANY, MANY_BIDS = 260, 110
 
@@ -82,7 +86,7 @@ def others(seller):
 
 def offered(number, seller, moment, end, category, title, text, start, buy_now=None):
     return command(seller, "/items", moment, category=category, end=end, lot=f"L{number}", title=title, text=text,
-                   start=start, buy_now=buy_now)
+                   start=start, buy_now=buy_now, reserve=RESERVES.get(title))
 
 
 def begun(now):
@@ -174,8 +178,10 @@ def as_owner(folder):
 
 
 @contextlib.contextmanager
-def furnished(program, folder, history=with_history):
-    """A gateway of a house with a history, which is stopped after this. What is due is closed on the page alone."""
+def furnished(program, folder, history=with_history, catalogue=3):
+    """A gateway of a house with a history, which is stopped after this. What is due is closed on the page alone. Its
+    catalogue is written each so many seconds, or never, where that is 0."""
     make_house(program, folder, history)
+    os.environ["CATALOGUE"] = str(catalogue)
     with running(program, folder, closes=0) as gateway:
         yield gateway

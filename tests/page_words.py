@@ -14,9 +14,9 @@ RULES = ["UTC0", "CET-1CEST,M3.5.0,M10.5.0/3", "EST5EDT,M3.2.0,M11.1.0", "AEST-1
          "XXX5:15:30YYY,59/3,299"]
 NO_RULES = ["", "UTC", "Europe/Berlin", "CET-1CEST,M3.5.0", "A0"]
 LAST = 4_102_444_799
-AMOUNTS = {"5": 500, "5.5": 550, "5.50": 550, "5,50": 550, " 1 234.50 ": 123450, "1,234.50": 123450, "1.234,5": 123450, "0.01": 1,
+AMOUNTS = {"5": 500, "5.5": 550, "5.50": 550, "5,50": 550, " 1 234.50 ": 123450, "5 000": 500_000, "1,234.50": 123450, "1.234,5": 123450, "0.01": 1,
            "10000000": 1_000_000_000, "0": 0}
-NO_AMOUNTS = ["", "five", "-5", "+5", "5.555", "1,234", "1.234", "1,23.45", "1e3", "5.", ".5", "0x10", "123456789", "٥", "5 €"]
+NO_AMOUNTS = ["", "12 50", "five", "-5", "+5", "5.555", "1,234", "1.234", "1,23.45", "1e3", "5.", ".5", "0x10", "123456789", "٥", "5 €"]
 SHOWN = {0: "0.00", 5: "0.05", 99999: "999.99", 100000: "1,000.00", 1_000_000_000: "10,000,000.00"}
 # Every word that an answer may have for why, beside those of the house's rules.
 FAULTS = ["memory", "store", "damaged", "member", "path", "date", "order", "silence", "head", "json", "field"]
@@ -37,9 +37,9 @@ def in_page(page, module, work, words):
 
 def amounts(page):
     texts = [*AMOUNTS, *NO_AMOUNTS]
-    results = in_page(page, "money.js", "words.map(it.cents)", texts)
+    results = in_page(page, "words/money.js", "words.map(it.cents)", texts)
     check("amounts that are read", dict(zip(texts, results)), {**AMOUNTS, **dict.fromkeys(NO_AMOUNTS)})
-    check("amounts that are shown", in_page(page, "money.js", "words.map(it.shown)", list(SHOWN)), list(SHOWN.values()))
+    check("amounts that are shown", in_page(page, "words/money.js", "words.map(it.money)", list(SHOWN)), list(SHOWN.values()))
 
 
 def zones(page, seed):
@@ -48,12 +48,12 @@ def zones(page, seed):
     for rule in RULES:
         with in_zone(rule):
             offsets(page, rule, [chosen.randrange(LAST) for _ in range(2000)] + turns(chosen))
-    check("what is no rule", in_page(page, "zone.js", "words.map(it.parse)", NO_RULES), [None] * len(NO_RULES))
+    check("what is no rule", in_page(page, "time/zone.js", "words.map(it.parse)", NO_RULES), [None] * len(NO_RULES))
 
 
 def offsets(page, rule, moments):
     wanted = [offset(moment) for moment in moments]
-    results = in_page(page, "zone.js", "words[1].map(moment => it.at(it.parse(words[0]), moment).offset)", [rule, moments])
+    results = in_page(page, "time/zone.js", "words[1].map(moment => it.at(it.parse(words[0]), moment).offset)", [rule, moments])
     wrong = [pair for pair in zip(moments, results, wanted) if pair[1] != pair[2]]
     check(f"offsets of {rule}", wrong[:3], [])
     backward(page, rule, moments)
@@ -89,7 +89,7 @@ def backward(page, rule, moments):
     minutes = sorted({moment // 60 * 60 for moment in moments})
     shown = [spelled(moment) for moment in minutes]
     work = "words[1].map(([day, time]) => it.momentOf(it.parse(words[0]), day, time))"
-    results = in_page(page, "zone.js", work, [rule, shown])
+    results = in_page(page, "time/zone.js", work, [rule, shown])
     wrong = [(moment, back) for moment, back, one in zip(minutes, results, shown) if back > moment or spelled(back) != one]
     check(f"moments of {rule}", wrong[:3], [])
 
@@ -99,7 +99,7 @@ def refusals(page):
     words = [[{"error": error, "floor": 600, "field": "maximum"}, {"tried": tried, "isRead": is_read}]
              for error in [*NUMBERS, *FAULTS] for tried in TRIED for is_read in (False, True)]
     words += [[{"error": "gateway", "why": why}, {"isRead": is_read}] for why in GATEWAY for is_read in (False, True)]
-    results = in_page(page, "words.js", "words.map(pair => it.sentence(...pair))", words)
+    results = in_page(page, "words/refusals.js", "words.map(pair => it.sentence(...pair))", words)
     for (refusal, context), sentence in zip(words, results):
         # No sentence shows a word that only programs read, such as NotHigher.
         is_plain = re.fullmatch(r"[A-Z][^{}]*[.]", sentence) and not re.search(r"[a-z][A-Z]|undefined|null", sentence)
@@ -107,24 +107,39 @@ def refusals(page):
     unlike = [sentence for (refusal, context), sentence in zip(words, results)
               if refusal["error"] in NUMBERS and context == {"tried": None, "isRead": False}]
     check("each has its own", len(set(unlike)), len(NUMBERS))
-    check("a faster bid", in_page(page, "words.js", "it.sentence(...words)", [{"error": "Low", "floor": 600}, {"floor": 550}]),
+    check("a faster bid", in_page(page, "words/refusals.js", "it.sentence(...words)", [{"error": "Low", "floor": 600}, {"floor": 550}]),
           "Somebody bid more meanwhile. The next bid is 6.00 or more.")
 
 
 def reserves(page):
     """Whether a reserve is met is shown where the interface has it."""
     items = [{}, {"met": None}, {"met": True}, {"met": False}]
-    results = in_page(page, "standing.js", "words.map(it.reserveInWords)", items)
+    results = in_page(page, "items/standing.js", "words.map(it.reserveInWords)", items)
     check("reserves", results, ["", "", "Reserve met", "Reserve not met"])
 
 
+def imports_of(file):
+    """A module and all that it can't begin without."""
+    found, todo = set(), [file.resolve()]
+    while todo:
+        one = todo.pop()
+        if one not in found:
+            found.add(one)
+            todo += [(one.parent / name).resolve() for name in re.findall(r'from "(\.[^"]+)"', one.read_text())]
+    return found
+
+
 def files():
-    """The page's own files never read a text as HTML, and name no other site."""
-    names = {file.name for file in PAGE.iterdir()}
-    for file in PAGE.iterdir():
-        text = file.read_text()
+    """The page's own files never read a text as HTML, name no other site, and import what is there. The page names all
+    that its scripts can't begin without, so that a browser asks for them at once."""
+    page = (PAGE / "index.html").read_text()
+    scripts, ahead = (re.findall(f'<{tag}="([^"]+)"', page) for tag in ("script type=\"module\" src", "link rel=\"modulepreload\" href"))
+    needed = set().union(*(imports_of(PAGE / name) for name in scripts))
+    check("modules that the page names", sorted([*scripts, *ahead]), sorted(str(file.relative_to(PAGE)) for file in needed))
+    for file in filter(pathlib.Path.is_file, PAGE.rglob("*")):
+        name, text = file.relative_to(PAGE), file.read_text()
         for word in NEVER:
             is_name = word == "http://" and text.count(word) == text.count("http://www.w3.org/2000/svg")
-            check(f"{file.name}: {word}", word in text and not is_name, False)
-        for module in re.findall(r'from "\./([^"]+)"', text):
-            check(f"{file.name} imports {module}", module in names, True)
+            check(f"{name}: {word}", word in text and not is_name, False)
+        for module in re.findall(r'(?:from |import\()"(\.[^"]+)"', text):
+            check(f"{name} imports {module}", (file.parent / module).is_file(), True)

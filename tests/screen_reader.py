@@ -3,6 +3,7 @@
 Nothing here looks into the page's elements: a part is found by its role and its name, and pressed where the browser
 draws it, or reached by the keyboard.
 """
+import contextlib
 import json
 import pathlib
 import time
@@ -96,10 +97,18 @@ class Reader:
 
     def announced(self):
         """What the parts say that are announced without being asked."""
+        return self.said_by([one["backendDOMNodeId"] for one in self.page.tool("Accessibility.getFullAXTree")["nodes"]
+                             if one.get("role", {}).get("value") == "status"])
+
+    def said(self, node):
+        """What a part says, with all that is in it."""
+        return self.said_by([node.number])
+
+    def said_by(self, numbers):
         tree = self.page.tool("Accessibility.getFullAXTree")["nodes"]
         children = {one["nodeId"]: one.get("childIds", []) for one in tree}
         texts = {one["nodeId"]: one["name"]["value"] for one in tree if one.get("role", {}).get("value") == "StaticText"}
-        todo = [one["nodeId"] for one in reversed(tree) if one.get("role", {}).get("value") == "status"]
+        todo = [one["nodeId"] for one in reversed(tree) if one.get("backendDOMNodeId") in numbers]
         found = []
         while todo:
             one = todo.pop()
@@ -111,14 +120,24 @@ class Reader:
         """What is wrong with the page as it is drawn, and which parts have no name."""
         return self.page.run(LOOKS) + [str(node) for node in self.tree() if node.role in USABLE and not node.name.strip()]
 
+    def box(self, node):
+        """Where a part is drawn in the window: left, top, right and bottom; or None where it isn't."""
+        quads = []
+        with contextlib.suppress(Refused):
+            quads = self.page.tool("DOM.getContentQuads", backendNodeId=node.number)["quads"]
+        xs, ys = [x for quad in quads for x in quad[0::2]], [y for quad in quads for y in quad[1::2]]
+        return (min(xs), min(ys), max(xs), max(ys)) if quads else None
+
     # What is done.
 
     def press(self, role, name):
         """Presses a part where it is drawn."""
-        node = self.wait_for(role, name)
+        self.press_node(self.wait_for(role, name))
+
+    def press_node(self, node):
         self.page.tool("DOM.scrollIntoViewIfNeeded", backendNodeId=node.number)
-        quad = self.page.tool("DOM.getContentQuads", backendNodeId=node.number)["quads"][0]
-        x, y = sum(quad[0::2]) / 4, sum(quad[1::2]) / 4
+        left, top, right, bottom = self.box(node)
+        x, y = (left + right) / 2, (top + bottom) / 2
         for kind in ("mousePressed", "mouseReleased"):
             self.page.tool("Input.dispatchMouseEvent", type=kind, x=x, y=y, button="left", clickCount=1)
         self.page.tool("Input.dispatchMouseEvent", type="mouseMoved", x=0, y=0)

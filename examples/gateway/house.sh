@@ -30,4 +30,5 @@ fi
 keep haproxy -db -q -f queue.cfg &
 keep $apart apache2 -D FOREGROUND -f "$PWD/sign_in.conf" &
 [ "${CLOSE:-60}" = 0 ] || close_due "${CLOSE:-60}" &
+[ "${CATALOGUE:-60}" = 0 ] || sh "$SCRIPTS/catalogue/each_minute.sh" "$PWD" "${CATALOGUE:-60}" &
 keep "$program" serve house --port "$HOUSE_PORT" --count "$count"

@@ -22,7 +22,7 @@ fail() {
 }
 
 check_needs() {
-    for command in nginx haproxy apache2 htpasswd sqlite3 openssl curl setsid unshare flock ip ps; do
+    for command in nginx haproxy apache2 htpasswd sqlite3 openssl curl setsid unshare flock ip ps python3; do
         command -v "$command" > /dev/null || fail "no $command: README.md has the packages"
     done
 }
@@ -47,6 +47,8 @@ make_certificate() {
 
 # Makes the files of a house that are missing.
 make_house() {
+    mkdir -p "houses/$1/addresses"
+    echo "https://$1:$port" > "houses/$1/origin"
     [ -e "houses/$1/page" ] || cp -r "$here/page" "houses/$1/"
     [ -e "houses/$1/cert.pem" ] || make_certificate "$1"
     cp "$here/queue.cfg" "$here/sign_in.conf" "houses/$1/"

@@ -1,0 +1,25 @@
+// @ts-check
+// A second question before what can't be taken back.
+import { make } from "./dom.js";
+
+// Whether somebody says yes, in a window over the page. Escape is a no, and the keyboard goes back where it was.
+export function isSure({ title, text, yes, no }) {
+  const heading = make("h2", { id: "question-title" }, title);
+  const answer = value => () => dialog.close(value);
+  const dialog = make("dialog", { "aria-labelledby": heading.id, "aria-describedby": "question-text" },
+    heading,
+    make("p", { id: "question-text" }, text),
+    make("div", { class: "row" },
+      make("button", { type: "button", click: answer("yes") }, yes),
+      make("button", { type: "button", class: "plain", autofocus: true, click: answer("no") }, no)));
+  document.body.append(dialog);
+  dialog.showModal();
+  // Who leaves the page has not said yes.
+  const leave = answer("no");
+  addEventListener("hashchange", leave);
+  return new Promise(done => dialog.addEventListener("close", () => {
+    removeEventListener("hashchange", leave);
+    dialog.remove();
+    done(dialog.returnValue === "yes");
+  }));
+}

@@ -1,0 +1,23 @@
+// @ts-check
+// The title of the window, with a word before it that is seen among other windows.
+import { isolate } from "./dom.js";
+
+let title = "";
+let mark = "";
+
+function show() {
+  document.title = `${mark}${isolate(title)} | The auction house`;
+}
+
+/** @param {string} text */
+export function setTitle(text) {
+  title = text;
+  mark = "";
+  show();
+}
+
+/** Puts a word before the title, or none. @param {string} word */
+export function markTitle(word) {
+  mark = word === "" ? "" : `(${word}) `;
+  show();
+}

@@ -1,0 +1,54 @@
+// @ts-check
+// The public record, which the interface tells in parts: as `auction replay --record` writes it, its keys in byte order.
+import { each, isUnknown, read, whole } from "../exchange/api.js";
+import { categories } from "../exchange/known.js";
+
+const numbers = count => Array.from({ length: count }, (_, place) => place + 1);
+
+const by = (...keys) => (one, two) => keys.map(key => one[key] - two[key]).find(difference => difference !== 0) ?? 0;
+
+async function itemsOf(list) {
+  const found = await each(list, one => whole(`/categories/${one.category}/items`, "items"));
+  return found.flat().sort(by("item"));
+}
+
+async function feedbackTo(members) {
+  const found = await each(members, one => whole(`/members/${one.member}/feedback`, "feedback"));
+  return found.flat().sort(by("item", "from"));
+}
+
+async function questionsOn(items) {
+  const found = await each(items, one => whole(`/items/${one.item}/questions`, "published"));
+  return found.flat().sort(by("item", "asker", "number"));
+}
+
+// The band tables by their numbers from 1. How many there are shows where one is not there.
+async function editions() {
+  const found = [];
+  for (let edition = 1; ; edition += 1) {
+    try {
+      found.push({ ...await read(`/bands/${edition}`), edition });
+    } catch (refusal) {
+      if (isUnknown(refusal)) {
+        return found;
+      }
+      throw refusal;
+    }
+  }
+}
+
+// The text of the record, and whether no command came while it was read.
+export async function publicRecord() {
+  const before = await read("/house");
+  const { bands } = await read("/bands");
+  const list = await categories();
+  const people = await each(numbers(before.members), number => read(`/members/${number}`));
+  const items = await itemsOf(list);
+  const record = {
+    bands, categories: list, clock: before.clock, editions: await editions(), feedback: await feedbackTo(people),
+    items, members: people.map(({ member, name }) => ({ member, name })), questions: await questionsOn(items),
+    rate: before.rate, zone: before.zone,
+  };
+  const isOfOneMoment = JSON.stringify(before) === JSON.stringify(await read("/house"));
+  return { text: JSON.stringify(record), clock: before.clock, isOfOneMoment };
+}

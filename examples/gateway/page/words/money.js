@@ -1,0 +1,43 @@
+// @ts-check
+// Amounts: the interface has whole cents, people write and read them with two decimals.
+
+export const MOST = 1_000_000_000;
+
+const GROUPS = /\B(?=(\d{3})+$)/g;
+
+// The name by which the city's money goes, after each amount; none, where the city gives none.
+let currency = "";
+
+/** @param {string} name */
+export function setCurrency(name) {
+  currency = name;
+}
+
+/** 1234567 is shown as 1,234,567. @param {number} whole */
+export const grouped = whole => String(whole).replace(GROUPS, ",");
+
+/** 123450 is shown as 1,234.50, and with the name of the money. @param {number} cents */
+export function money(cents) {
+  const amount = `${grouped(Math.floor(cents / 100))}.${String(cents % 100).padStart(2, "0")}`;
+  return currency === "" ? amount : `${amount}\u00a0${currency}`;
+}
+
+/** As a program reads it: 1234.50. @param {number} cents */
+export const plain = cents => `${Math.floor(cents / 100)}.${String(cents % 100).padStart(2, "0")}`;
+
+const PLAIN = /^(\d{1,8})(?:[.,](\d{1,2}))?$/;
+const SPACED = /^(\d{1,3}(?:[ \u00a0\u202f]\d{3})+)(?:[.,](\d{1,2}))?$/;
+const GROUPED = [/^(\d{1,3}(?:,\d{3})+)\.(\d{1,2})$/, /^(\d{1,3}(?:\.\d{3})+),(\d{1,2})$/];
+
+/**
+ * The cents that somebody wrote, or null. 1,234 and 1.234 may mean two amounts, so they are none. A space parts threes
+ * alone: 12 50 may be a slip for 12.50.
+ * @param {string} text @returns {number | null}
+ */
+export function cents(text) {
+  const found = [PLAIN, SPACED, ...GROUPED].map(form => form.exec(text.trim())).find(match => match !== null);
+  if (!found) {
+    return null;
+  }
+  return Number(found[1].replace(/\D/g, "")) * 100 + Number((found[2] ?? "").padEnd(2, "0"));
+}
