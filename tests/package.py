@@ -3,9 +3,10 @@
 
 build.sh of examples/package makes it in FOLDER, twice the same bytes. lintian has to say nothing of it, where lintian is there.
 Where a superuser runs this, and debootstrap and systemd-nspawn are there, a plain Debian boots that has no more than what the
-package names, and plain_debian.sh installs the package there, sets a house up, has members bid through nginx, ends the house in
-three ways, waits for a close by the timer, and removes it all. DEBIAN is the folder of that Debian; one that isn't there is
-made from Debian's archive, in some minutes, and kept. The last line is 'N checks, M wrong'.
+package names, and plain_debian.sh tries the package there: an older one is installed, which lacks a line of nginx's files; two
+cities are set up, members bid through nginx, the house ends in three ways, and the timer closes an item; the newer package is
+installed over the older one, and has to run at once; and it is removed, installed again and purged. DEBIAN is the folder of that
+Debian; one that isn't there is made from Debian's archive, in some minutes, and kept. The last line is 'N checks, M wrong'.
 """
 import os
 import pathlib
@@ -27,28 +28,46 @@ Type=exec
 ExecStart=/bin/sh -c "sh /trial/plain_debian.sh > /trial/printed 2>&1; systemctl poweroff"
 """
 PRICE = '"price":500'
+HOUSES = "/var/lib/auction/lindow/house /var/lib/auction/tarn/house "
 WANTED = {
-    "installed": "0", "waits for a house": "inactive", "set up printed": "", "members": "house 0 ana 1 ben 2 ",
-    "category": '{"category":1}', "item": '{"item":1}', "due": '{"item":2}',
+    "installed": "0", "set up lindow": "0", "set up tarn": "0", "members of lindow": "house 0 ana 1 ben 2 ",
+    "members of tarn": "house 0 ana 1 ben 2 ", "category": '{"category":1}', "item": '{"item":1}', "due": '{"item":2}',
     "bid": '{"count":1,"floor":550,"leader":2,"price":500}', "another page": '{"error":"gateway","why":"foreign"}',
-    "no sign-in": '{"error":"gateway","why":"sign-in"}', "another user, the queue": "7", "another user, the house": "7",
-    "another user, the files": "1", "after SIGTERM": PRICE, "after SIGKILL": PRICE, "after its count": PRICE,
-    "closed by the timer": '"state":"unsold"', "failed": "", "removed": "0", "nginx after it": "0",
-    "active after it": "inactive inactive inactive ", "purged": "0", "left": "/var/lib/auction ",
-    "the house": "/var/lib/auction/house", "end": "",
+    "no sign-in": '{"error":"gateway","why":"sign-in"}', "another city": '{"error":"gateway","why":"sign-in"}',
+    "another user, the queue": "7", "another user, the house": "7", "another user, house": "1", "another user, users": "1",
+    "another user, members.map": "1", "another user, key.pem": "1", "the house sees": "lindow",
+    "after SIGTERM": PRICE, "after SIGKILL": PRICE, "after its count": PRICE, "closed by the timer": '"state":"unsold"',
+    "header of the older package": "0", "upgraded": "0", "the same auction@lindow": "1", "the same auction-queue@lindow": "1",
+    "the same auction@tarn": "1", "program that runs": "/usr/bin/auction", "header of the newer package": "1",
+    "after the upgrade": PRICE, "failed": "", "removed": "0", "nginx after it": "0", "active after it": "",
+    "installed again": "0", "after it": PRICE, "purged": "0", "left": "/var/lib/auction ", "the houses": HOUSES, "end": "",
 }
 MOST_EXPOSED = 1.5
 
 
+def build(program, folder, examples=ROOT / "examples", **settings):
+    subprocess.run(["sh", examples / "package" / "build.sh", program, folder], env=os.environ | settings, check=True,
+                   stdout=subprocess.DEVNULL)
+    return max(pathlib.Path(folder).glob("auction_*.deb"), key=lambda file: file.stat().st_mtime)
+
+
 def built(program, folder):
     """The package, which is made twice."""
-    words = ["sh", ROOT / "examples" / "package" / "build.sh", program]
+    package = build(program, folder)
     with tempfile.TemporaryDirectory() as other:
-        for place in (folder, other):
-            subprocess.run([*words, place], check=True, stdout=subprocess.DEVNULL)
-        package = max(pathlib.Path(folder).glob("auction_*.deb"), key=lambda file: file.stat().st_mtime)
-        check("the same bytes", package.read_bytes() == (pathlib.Path(other) / package.name).read_bytes(), True)
+        check("the same bytes", package.read_bytes() == build(program, other).read_bytes(), True)
     return package
+
+
+def build_older(program, folder):
+    """A package of an older version, whose servers do not say to whom a browser may name a page."""
+    with tempfile.TemporaryDirectory() as name:
+        tree = pathlib.Path(name)
+        shutil.copytree(ROOT / "examples", tree / "examples")
+        shutil.copytree(ROOT / "docs", tree / "docs")
+        servers = tree / "examples" / "gateway" / "server.conf"
+        servers.write_text("".join(line for line in servers.read_text().splitlines(True) if "Referrer-Policy" not in line))
+        build(program, folder, tree / "examples", VERSION="0.9", SOURCE_DATE_EPOCH="0")
 
 
 def has_page(package):
@@ -68,11 +87,13 @@ def make_debian(place):
                     "http://deb.debian.org/debian"], check=True, stdout=subprocess.DEVNULL)
 
 
-def boot(debian, package):
+def boot(debian, program, package):
     """What plain_debian.sh tells in a Debian that forgets it all afterwards."""
     with tempfile.TemporaryDirectory() as name:
         trial = pathlib.Path(name)
-        shutil.copy(package, trial)
+        build_older(program, trial / "older")
+        (trial / "newer").mkdir()
+        shutil.copy(package, trial / "newer")
         shutil.copy(ROOT / "tests" / "plain_debian.sh", trial)
         (trial / "trial.service").write_text(UNIT)
         subprocess.run(["systemd-nspawn", "--quiet", "--boot", "--private-network", "--volatile=overlay", "--register=no",
@@ -108,7 +129,7 @@ def main():
     if os.geteuid() == 0 and shutil.which("systemd-nspawn") and (debian.exists() or shutil.which("debootstrap")):
         if not debian.exists():
             make_debian(debian)
-        judge(boot(debian, package))
+        judge(boot(debian, sys.argv[1], package))
     else:
         print("not installed: that needs a superuser, debootstrap and systemd-nspawn")
     print(f"{len(CHECKS)} checks, {CHECKS.count(False)} wrong")

@@ -1,22 +1,21 @@
 #!/bin/sh
-# Runs as root in a plain Debian that has booted with systemd, and in which /trial has the package: it installs and
-# runs it, as examples/service/README.md says, and removes it. Prints lines of a name and what was printed, of which
-# package.py knows what they have to be.
+# Runs as root in a plain Debian that has booted with systemd, and in which /trial has two packages: it installs the older
+# one, sets up two cities as examples/service/README.md says, runs them, installs the newer one over it, and removes it.
+# Prints lines of a name and what was printed, of which package.py knows what they have to be.
 set -u
 cd /trial
 export DEBIAN_FRONTEND=noninteractive
-name=auction.example
 
 say() {
     printf '%s: %s\n' "$1" "$2"
 }
 
-# What a member is answered through nginx.
+# What a member of a city is answered through nginx.
 ask() {
-    who=$1 path=$2
-    shift 2
-    curl -s --max-time 60 --cacert /etc/auction/cert.pem --resolve "$name:443:127.0.0.1" \
-        -u "$who:$(sed -n "s/^$who [0-9]* //p" passwords)" "$@" "https://$name/api$path"
+    city=$1 who=$2 path=$3
+    shift 3
+    curl -s --max-time 60 --cacert "/etc/auction/$city/cert.pem" --resolve "$city.example:443:127.0.0.1" \
+        -u "$who:$(sed -n "s/^$who [0-9]* //p" "$city.passwords")" "$@" "https://$city.example/api$path"
 }
 
 # Waits until a command succeeds, for two minutes at most.
@@ -30,57 +29,113 @@ wait_until() {
     say "waited in vain" "$1"
 }
 
+price() {
+    ask lindow ben /items/1 | tr ',' '\n' | grep price
+}
+
+set_up() {
+    say "set up $1" "$(sh /usr/share/auction/setup.sh "$1" "$1.example" 2>&1 > /dev/null; echo $?)"
+    sh /usr/share/auction/add_member.sh "/etc/auction/$1" house ana ben > "$1.passwords"
+    say "members of $1" "$(cut -d ' ' -f 1,2 "$1.passwords" | tr '\n' ' ')"
+    wait_until "ask $1 ben /me/bids/1 | grep -q bids"
+}
+
+trade() {
+    end=$(($(date +%s) + 20))
+    say category "$(ask lindow house /categories -d '{"name":"Books"}')"
+    say item "$(ask lindow ana /items -d '{"category":1,"end":4102444800,"lot":"A1","start":500,"text":"","title":"Atlas"}')"
+    say due "$(ask lindow ana /items -d "{\"category\":1,\"end\":$end,\"lot\":\"A2\",\"start\":500,\"text\":\"\",\"title\":\"Globe\"}")"
+    say bid "$(ask lindow ben /items/1/bids -d '{"maximum":500}')"
+    say "another page" "$(ask lindow ben /items/1/bids -d '{"maximum":900}' -H 'Origin: https://evil.example')"
+    say "no sign-in" "$(curl -s -k --resolve lindow.example:443:127.0.0.1 https://lindow.example/api/house)"
+    say "another city" "$(curl -s --cacert /etc/auction/tarn/cert.pem \
+        --resolve tarn.example:443:127.0.0.1 -u "ben:$(sed -n 's/^ben [0-9]* //p' lindow.passwords)" https://tarn.example/api/house)"
+}
+
+others_reach_nothing() {
+    runuser -u nobody -- curl -s --max-time 5 --unix-socket /run/auction/lindow/queue.sock http://house/house > /dev/null 2>&1
+    say "another user, the queue" "$?"
+    runuser -u nobody -- curl -s --max-time 5 http://127.0.0.1:8080/house > /dev/null 2>&1
+    say "another user, the house" "$?"
+    for file in /var/lib/auction/lindow/house /etc/auction/lindow/users /etc/auction/lindow/members.map /etc/auction/lindow/key.pem; do
+        runuser -u nobody -- cat "$file" > /dev/null 2>&1
+        say "another user, $(basename "$file")" "$?"
+    done
+    nsenter -t "$(systemctl show -P MainPID auction@lindow)" -m -- ls /var/lib/auction > seen
+    say "the house sees" "$(cat seen)"
+}
+
 # What is printed of the house once it is served again after what a line of shell does.
 again() {
-    before=$(systemctl show -P NRestarts auction)
+    before=$(systemctl show -P NRestarts auction@lindow)
     eval "$2"
-    wait_until "[ \"\$(systemctl show -P NRestarts auction)\" -gt $before ]"
-    say "$1" "$(ask ben /items/1 | tr ',' '\n' | grep price)"
+    wait_until "[ \"\$(systemctl show -P NRestarts auction@lindow)\" -gt $before ]"
+    say "$1" "$(price)"
+}
+
+starts_again() {
+    again "after SIGTERM" 'systemctl kill --kill-whom=main -s TERM auction@lindow'
+    again "after SIGKILL" 'systemctl kill --kill-whom=main -s KILL auction@lindow'
+    sed -i 's/^COUNT=.*/COUNT=5/' /etc/default/auction
+    systemctl restart auction@lindow
+    again "after its count" 'for _ in 1 2 3 4 5; do ask lindow ben /house > /dev/null; done'
+    sed -i 's/^COUNT=.*/COUNT=1000000/' /etc/default/auction
+    systemctl restart auction@lindow
+}
+
+expose() {
+    for unit in auction auction-queue auction-close; do
+        say "exposure of $unit" \
+            "$(systemd-analyze security "$unit@lindow.service" --no-pager | tail -1 | grep -o '[0-9]*\.[0-9]')"
+    done
+}
+
+pids() {
+    systemctl show -P MainPID "auction@$1" "auction-queue@$1" nginx | tr '\n' ' '
+}
+
+header() {
+    ask lindow ben /house -D - -o /dev/null | grep -ci "^$1:"
+}
+
+upgrade() {
+    for unit in auction@lindow auction-queue@lindow auction@tarn; do
+        systemctl show -P MainPID "$unit" > "$unit.before"
+    done
+    say "header of the older package" "$(header referrer-policy)"
+    say upgraded "$(apt-get install -y --no-install-recommends ./newer/auction_*.deb > upgrade.log 2>&1; echo $?)"
+    wait_until 'ask lindow ben /house | grep -q clock'
+    for unit in auction@lindow auction-queue@lindow auction@tarn; do
+        say "the same $unit" "$([ "$(systemctl show -P MainPID "$unit")" = "$(cat "$unit.before")" ]; echo $?)"
+    done
+    say "program that runs" "$(readlink "/proc/$(systemctl show -P MainPID auction@lindow)/exe")"
+    say "header of the newer package" "$(header referrer-policy)"
+    say "after the upgrade" "$(price)"
+}
+
+remove() {
+    say removed "$(apt-get remove -y auction > remove.log 2>&1; echo $?)"
+    say "nginx after it" "$(nginx -t > /dev/null 2>&1; echo $?)"
+    say "active after it" "$(systemctl list-units --plain --no-legend 'auction*' | tr '\n' ' ')"
+    say "installed again" "$(apt-get install -y --no-install-recommends ./newer/auction_*.deb > again.log 2>&1; echo $?)"
+    wait_until 'ask lindow ben /house | grep -q clock'
+    say "after it" "$(price)"
+    say purged "$(apt-get purge -y auction > purge.log 2>&1; echo $?)"
+    say left "$(find / -xdev -path /trial -prune -o -path /proc -prune -o -path /usr/share/doc -prune -o -name '*auction*' -print | sort | tr '\n' ' ')"
+    say "the houses" "$(find /var/lib/auction -name house -size +0 | sort | tr '\n' ' ')"
 }
 
 systemctl is-system-running --wait > /dev/null
-say installed "$(apt-get install -y --no-install-recommends ./auction_*.deb > install.log 2>&1; echo $?)"
-say "waits for a house" "$(systemctl is-active auction.service)"
-say "set up" "$(sh /usr/share/auction/setup.sh $name 2> setup.err; echo $?)"
-say "set up printed" "$(cat setup.err)"
-sh /usr/share/auction/add_member.sh /etc/auction house ana ben > passwords
-say members "$(cut -d ' ' -f 1,2 passwords | tr '\n' ' ')"
-wait_until 'ask ben /me/bids/1 | grep -q bids'
-
-end=$(($(date +%s) + 20))
-say category "$(ask house /categories -d '{"name":"Books"}')"
-say item "$(ask ana /items -d "{\"category\":1,\"end\":4102444800,\"lot\":\"A1\",\"start\":500,\"text\":\"\",\"title\":\"Atlas\"}")"
-say due "$(ask ana /items -d "{\"category\":1,\"end\":$end,\"lot\":\"A2\",\"start\":500,\"text\":\"\",\"title\":\"Globe\"}")"
-say bid "$(ask ben /items/1/bids -d '{"maximum":500}')"
-say "another page" "$(ask ben /items/1/bids -d '{"maximum":900}' -H 'Origin: https://evil.example')"
-say "no sign-in" "$(curl -s -k --resolve "$name:443:127.0.0.1" "https://$name/api/house")"
-
-runuser -u nobody -- curl -s --max-time 5 --unix-socket /run/auction/queue.sock http://house/house > /dev/null 2>&1
-say "another user, the queue" "$?"
-runuser -u nobody -- curl -s --max-time 5 http://127.0.0.1:8080/house > /dev/null 2>&1
-say "another user, the house" "$?"
-runuser -u nobody -- cat /var/lib/auction/house /etc/auction/users /etc/auction/members.map /etc/auction/key.pem > /dev/null 2>&1
-say "another user, the files" "$?"
-
-again "after SIGTERM" 'systemctl kill --kill-whom=main -s TERM auction'
-again "after SIGKILL" 'systemctl kill --kill-whom=main -s KILL auction'
-sed -i 's/^COUNT=.*/COUNT=5/' /etc/default/auction
-systemctl restart auction
-again "after its count" 'for _ in 1 2 3 4 5; do ask ben /house > /dev/null; done'
-wait_until 'ask ben /items/2 | grep -q "\"state\":\"unsold\""'
-say "closed by the timer" "$(ask ben /items/2 | tr ',' '\n' | grep state)"
-
-for unit in auction auction-queue auction-close; do
-    say "exposure of $unit" "$(systemd-analyze security "$unit.service" --no-pager | tail -1 | grep -o '[0-9]*\.[0-9]')"
-done
+say installed "$(apt-get install -y --no-install-recommends ./older/auction_*.deb > install.log 2>&1; echo $?)"
+set_up lindow
+set_up tarn
+trade
+others_reach_nothing
+starts_again
+wait_until 'ask lindow ben /items/2 | grep -q "\"state\":\"unsold\""'
+say "closed by the timer" "$(ask lindow ben /items/2 | tr ',' '\n' | grep state)"
+expose
+upgrade
 say failed "$(systemctl list-units --failed --plain --no-legend)"
-
-say removed "$(apt-get remove -y auction > remove.log 2>&1; echo $?)"
-say "nginx after it" "$(nginx -t > /dev/null 2>&1; echo $?)"
-say "active after it" "$(systemctl is-active auction auction-queue auction-close.timer | tr '\n' ' ')"
-say "kept by remove" "$(cd /etc/auction && echo *)"
-say purged "$(apt-get purge -y auction > purge.log 2>&1; echo $?)"
-say left "$(find / -xdev -path /trial -prune -o -path /proc -prune -o -path /usr/share/doc -prune -o -name '*auction*' -print | sort | tr '\n' ' ')"
-say "the house" "$(find /var/lib/auction -name house -size +0)"
+remove
 say end "$(systemctl list-units --failed --plain --no-legend)"
-systemctl poweroff

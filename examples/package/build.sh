@@ -1,10 +1,11 @@
 #!/bin/sh
 # build.sh PROGRAM FOLDER: makes the package auction_VERSION_ARCHITECTURE.deb in a folder, by dpkg-deb alone.
-# The version is the program's. SOURCE_DATE_EPOCH is the time of all files, so that a build can be repeated.
+# The version is the program's, where VERSION is not another. SOURCE_DATE_EPOCH is the time of all files, so that a build can
+# be repeated.
 set -eu
 here=$(cd "$(dirname "$0")" && pwd)
 program=$1 folder=$2
-version=$("$program" --version)
+version=${VERSION:-$("$program" --version)}
 version=${version#auction }
 architecture=$(dpkg --print-architecture)
 date=${SOURCE_DATE_EPOCH:-$(git -C "$here" log -1 --format=%ct)}
@@ -28,22 +29,12 @@ put() {
     done
 }
 
-# The configuration of nginx with the places of the package in it.
+# nginx: what the gateway's servers have, and what a city's have here, with the places of the package.
 put_gateway() {
-    put usr/share/auction gateway/maps.conf gateway/server.conf gateway/site.conf
-    (cd "$root/usr/share/auction" &&
-        sed -i 's,include houses/\*/members.map,include /etc/auction/members.map,' maps.conf &&
-        sed -i -e '1s,.*,# The house of a host name. setup.sh puts the name for HOST.,' \
-            -e '2i include /usr/share/auction/maps.conf;' \
-            -e 's,unix:houses/HOST/run/queue.sock,unix:/run/auction/queue.sock,' \
-            -e 's,houses/HOST/users,/etc/auction/users,' \
-            -e 's,houses/HOST/page,/usr/share/auction/page,' \
-            -e 's,listen 127.0.0.1:PORT ssl;,listen 443 ssl;,' \
-            -e 's,https://HOST:PORT,https://HOST,' \
-            -e 's,include server.conf;,include /usr/share/auction/server.conf;\n    ssl_certificate /etc/auction/cert.pem;\n    ssl_certificate_key /etc/auction/key.pem;,' \
-            site.conf)
-    put etc/auction gateway/queue.cfg
-    sed -i 's,unix@run/queue.sock mode 600,unix@/run/auction/queue.sock mode 660,' "$root/etc/auction/queue.cfg"
+    put usr/share/auction/nginx gateway/maps.conf gateway/server.conf $(cd "$here/.." && echo service/nginx/*)
+    sed -i 's,include houses/\*/members.map,include /etc/auction/*/members.map,' "$root/usr/share/auction/nginx/maps.conf"
+    put usr/share/auction gateway/queue.cfg
+    sed -i 's,unix@run/queue.sock mode 600,unix@queue.sock mode 660,' "$root/usr/share/auction/queue.cfg"
 }
 
 put_documents() {
@@ -71,8 +62,7 @@ put_control() {
 
 install -D -m 755 "$program" "$root/usr/bin/auction"
 "${STRIP:-strip}" --strip-unneeded --remove-section=.comment --remove-section=.note "$root/usr/bin/auction"
-put lib/systemd/system service/auction.service service/auction-queue.service service/auction-close.service \
-    service/auction-close.timer
+put lib/systemd/system $(cd "$here/.." && echo service/*.service service/*.timer)
 put etc/default package/auction
 put_gateway
 put usr/share/auction service/setup.sh gateway/add_member.sh
