@@ -32,10 +32,11 @@ PICTURES ?=
 GATEWAY_PACKAGES = nginx-light haproxy openssl curl iproute2 procps util-linux chromium-driver
 PAGE_PACKAGES = $(GATEWAY_PACKAGES)
 BACKUP_PACKAGES = sqlite3 btrfs-progs
+SERVICE_PACKAGES = prometheus
 DEB_PACKAGES = lintian debootstrap systemd-container
 
 .PHONY: help demo session test auction program cases rows fuzz mutated twins memory allocations statement random file \
-	office kills stops cuts stalls counts wrong giving documents openapi gateway page backup deb packages
+	office kills stops cuts stalls counts wrong giving documents openapi gateway page backup service deb packages
 
 help:
 	@echo "For a newcomer"
@@ -74,6 +75,7 @@ help:
 	@echo "  make gateway   has clients ask and bid through nginx and haproxy for PERIOD, and the house start anew RESTARTS times"
 	@echo "  make page      plays an auction on the page of the gateway in Chromium, by the house and three members, in five minutes"
 	@echo "  make backup    makes COPIES copies of a house that is served, and restores one"
+	@echo "  make service   gives the alert rules of the service what they have to tell of"
 	@echo "  make deb       makes the package in out/, and tries it in a plain Debian in the folder DEBIAN"
 	@echo
 	@echo "Tests of the crates that make test has left"
@@ -249,10 +251,14 @@ backup:
 	@echo "Debian's packages: $(BACKUP_PACKAGES)"
 	python3 tests/backup.py crates/auction/out/auction $(COPIES)
 
+service:
+	@echo "Debian's packages: $(SERVICE_PACKAGES)"
+	python3 tests/alerts.py
+
 deb:
 	@echo "Debian's packages: $(DEB_PACKAGES)"
 	mkdir -p out
 	python3 tests/package.py crates/auction/out/auction out $(DEBIAN)
 
 packages:
-	apt-get install -y --no-install-recommends $(GATEWAY_PACKAGES) $(BACKUP_PACKAGES) $(DEB_PACKAGES)
+	apt-get install -y --no-install-recommends $(GATEWAY_PACKAGES) $(BACKUP_PACKAGES) $(SERVICE_PACKAGES) $(DEB_PACKAGES)

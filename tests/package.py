@@ -2,11 +2,13 @@
 """Makes the Debian package and tries it: `package.py PROGRAM FOLDER [DEBIAN]`.
 
 build.sh of examples/package makes it in FOLDER, twice the same bytes. lintian has to say nothing of it, where lintian is there.
-Where a superuser runs this, and debootstrap and systemd-nspawn are there, a plain Debian boots that has no more than what the
-package names, and plain_debian.sh tries the package there: an older one is installed, which lacks a line of nginx's files; two
-cities are set up, members bid through nginx, the house ends in three ways, and the timer closes an item; the newer package is
-installed over the older one, and has to run at once; and it is removed, installed again and purged. DEBIAN is the folder of that
-Debian; one that isn't there is made from Debian's archive, in some minutes, and kept. The last line is 'N checks, M wrong'.
+What the gateway's queue does, that of the service does too, but for the lines of DIFFERENT. Where a superuser runs this, and
+debootstrap and systemd-nspawn are there, a plain Debian boots that has no more than what the package names, and plain_debian.sh
+tries the package there: an older one is installed, which lacks a line of nginx's files; two cities are set up, members bid
+through nginx, the house ends in three ways, and the timer closes an item. One house has a full disk for a moment and is then
+damaged, beside the other, and its watch, its alarm and Debian's Prometheus tell. The newer package is installed over the older
+one, and has to run at once; and it is removed, installed again and purged. DEBIAN is the folder of that Debian; one that isn't
+there is made from Debian's archive, in some minutes, and kept. The last line is 'N checks, M wrong'.
 """
 import os
 import pathlib
@@ -20,7 +22,7 @@ from sent import PATIENCE
 from served import CHECKS, check
 
 ROOT = pathlib.Path(__file__).resolve().parent.parent
-PACKAGES = "systemd,systemd-sysv,dbus,adduser,nginx-light,haproxy,curl,openssl"
+PACKAGES = "systemd,systemd-sysv,dbus,adduser,nginx-light,haproxy,curl,openssl,python3,prometheus"
 UNIT = """[Unit]
 After=multi-user.target
 [Service]
@@ -37,12 +39,17 @@ WANTED = {
     "another user, the queue": "7", "another user, the house": "7", "another user, house": "1", "another user, users": "1",
     "another user, members.map": "1", "another user, key.pem": "1", "the house sees": "lindow",
     "after SIGTERM": PRICE, "after SIGKILL": PRICE, "after its count": PRICE, "closed by the timer": '"state":"unsold"',
+    "a full disk": '{"error":"store"}', "its line": "status 500 to POST /items after: store", "with room again": "0",
+    "a damaged house": "failed", "the other city": PRICE, "alerts": "1", "series": "6", "waited in vain": None,
+    "the watch failed too": "0", "alarms": "1", "started with wrong words": "1",
     "header of the older package": "0", "upgraded": "0", "the same auction@lindow": "1", "the same auction-queue@lindow": "1",
     "the same auction@tarn": "1", "program that runs": "/usr/bin/auction", "header of the newer package": "1",
     "after the upgrade": PRICE, "failed": "", "removed": "0", "nginx after it": "0", "active after it": "",
     "installed again": "0", "after it": PRICE, "purged": "0", "left": "/var/lib/auction ", "the houses": HOUSES, "end": "",
 }
 MOST_EXPOSED = 1.5
+# What of the gateway's queue that of the service does in its own way.
+DIFFERENT = {"bind unix@run/queue.sock mode 600"}
 
 
 def build(program, folder, examples=ROOT / "examples", **settings):
@@ -75,6 +82,17 @@ def has_page(package):
     listing = subprocess.run(["dpkg-deb", "--contents", package], capture_output=True, text=True, check=True).stdout
     packed = set(re.findall(r" \./usr/share/auction/page/(\S+)$", listing, re.M))
     check("the page", packed, {file.name for file in (ROOT / "examples" / "gateway" / "page").iterdir()})
+
+
+def lines_of(file):
+    """The lines of a configuration of haproxy that are no comments, without their places."""
+    return {line.strip() for line in file.read_text().splitlines() if line.strip() and not line.strip().startswith("#")}
+
+
+def has_queue():
+    """The queue of the service does what that of the gateway does, on which the premise of the proofs rests."""
+    gateway, service = (ROOT / "examples" / name / "queue.cfg" for name in ("gateway", "service"))
+    check("the queue", lines_of(gateway) - lines_of(service), DIFFERENT)
 
 
 def lint(package):
@@ -121,6 +139,7 @@ def main():
     package = built(*sys.argv[1:3])
     print(f"{package}: {package.stat().st_size} bytes")
     has_page(package)
+    has_queue()
     if shutil.which("lintian"):
         lint(package)
     else:

@@ -52,6 +52,77 @@ trade() {
         --resolve tarn.example:443:127.0.0.1 -u "ben:$(sed -n 's/^ben [0-9]* //p' lindow.passwords)" https://tarn.example/api/house)"
 }
 
+# Prometheus reads what the queues and the watches tell, by the rules of the package.
+begin_to_watch() {
+    cp /usr/share/doc/auction/examples/prometheus.yml /etc/prometheus/
+    systemctl restart prometheus
+}
+
+# What Prometheus answers to a query, as its number, or nothing.
+query() {
+    curl -s --data-urlencode "query=$1" http://127.0.0.1:9090/api/v1/query | grep -o '"[0-9]*"\]' | tr -d '"]'
+}
+
+alarms() {
+    journalctl -t auction-alarm -o cat | grep -c "^$1 has failed"
+}
+
+# A disk that is full for a moment: the house is started anew, and goes on.
+fill_disk() {
+    systemctl stop auction@tarn
+    cp -a /var/lib/auction/tarn /trial/tarn
+    mount -t tmpfs -o size=700k,mode=700,uid=auction,gid=auction tmpfs /var/lib/auction/tarn
+    cp -a /trial/tarn/. /var/lib/auction/tarn/
+    systemctl start auction@tarn
+    ask tarn house /categories -d '{"name":"Books"}' > /dev/null
+    for lot in $(seq 1000); do
+        ask tarn ana /items -d "{\"category\":1,\"end\":4102444800,\"lot\":\"$lot\",\"start\":500,\"text\":\"\",\"title\":\"Atlas\"}" > answer
+        ! grep -q store answer || break
+    done
+    say "a full disk" "$(cat answer)"
+    say "its line" "$(journalctl -u auction-queue@tarn -o cat | grep -o 'status 500 to POST /items.*: store' | sed 's/after [0-9]* ms/after/' | head -1)"
+    mount -o remount,size=10m /var/lib/auction/tarn
+    begun=$(date +%s)
+    wait_until 'ask tarn ana /items/1 | grep -q Atlas'
+    say "with room again" "$([ $(($(date +%s) - begun)) -lt 30 ]; echo $?)"
+}
+
+# A house that is damaged fails its unit, somebody is told, and another city goes on.
+damage() {
+    systemctl stop auction@tarn
+    cp -a /var/lib/auction/tarn/house whole
+    printf damaged > /var/lib/auction/tarn/house
+    begun=$(date +%s)
+    systemctl start auction@tarn
+    wait_until 'systemctl is-failed --quiet auction@tarn'
+    say "a damaged house" "$(systemctl is-failed auction@tarn)"
+    echo "failed after $(($(date +%s) - begun)) s" >&2
+    wait_until '[ "$(alarms auction@tarn.service)" -gt 0 ]'
+    say "the other city" "$(ask lindow ben /items/1 | tr ',' '\n' | grep price)"
+}
+
+# What was seen meanwhile; then the house is whole again.
+mend() {
+    wait_until "[ -n \"\$(query 'ALERTS{alertname=\"AuctionAway\", alertstate=\"firing\", city=\"tarn\"}')\" ]"
+    say "alerts" "$(query 'count(ALERTS{alertname="AuctionAway", alertstate="firing"})')"
+    say "series" "$(query 'count({__name__=~"auction_.*|haproxy_backend_current_queue", city="lindow"})')"
+    say "the watch failed too" "$([ "$(alarms auction-watch@tarn.service)" -gt 0 ]; echo $?)"
+    say "alarms" "$(alarms auction@tarn.service)"
+    cp -a whole /var/lib/auction/tarn/house
+    systemctl reset-failed auction@tarn
+    systemctl start auction@tarn
+    wait_until 'ask tarn ana /items/1 | grep -q Atlas'
+    sed -i 's/^COUNT=.*/COUNT=none/' /etc/default/auction
+    systemctl restart auction@tarn
+    wait_until 'systemctl is-failed --quiet auction@tarn'
+    say "started with wrong words" "$(($(systemctl show -P NRestarts auction@tarn) + 1))"
+    sed -i 's/^COUNT=.*/COUNT=1000000/' /etc/default/auction
+    systemctl stop auction@tarn
+    umount /var/lib/auction/tarn
+    systemctl reset-failed
+    systemctl start auction@tarn
+}
+
 others_reach_nothing() {
     runuser -u nobody -- curl -s --max-time 5 --unix-socket /run/auction/lindow/queue.sock http://house/house > /dev/null 2>&1
     say "another user, the queue" "$?"
@@ -129,13 +200,17 @@ systemctl is-system-running --wait > /dev/null
 say installed "$(apt-get install -y --no-install-recommends ./older/auction_*.deb > install.log 2>&1; echo $?)"
 set_up lindow
 set_up tarn
+begin_to_watch
 trade
+fill_disk
+damage
 others_reach_nothing
 starts_again
 wait_until 'ask lindow ben /items/2 | grep -q "\"state\":\"unsold\""'
 say "closed by the timer" "$(ask lindow ben /items/2 | tr ',' '\n' | grep state)"
 expose
-upgrade
+mend
 say failed "$(systemctl list-units --failed --plain --no-legend)"
+upgrade
 remove
 say end "$(systemctl list-units --failed --plain --no-legend)"

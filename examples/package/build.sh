@@ -22,7 +22,7 @@ put() {
     mkdir -p "$place"
     for file in "$@"; do
         case $file in
-            *.sh | *.py) mode=755 ;;
+            *.sh | *.py | */alarm) mode=755 ;;
             *) mode=644 ;;
         esac
         install -m "$mode" "$here/../$file" "$place/"
@@ -33,14 +33,13 @@ put() {
 put_gateway() {
     put usr/share/auction/nginx gateway/maps.conf gateway/server.conf $(cd "$here/.." && echo service/nginx/*)
     sed -i 's,include houses/\*/members.map,include /etc/auction/*/members.map,' "$root/usr/share/auction/nginx/maps.conf"
-    put usr/share/auction gateway/queue.cfg
-    sed -i 's,unix@run/queue.sock mode 600,unix@queue.sock mode 660,' "$root/usr/share/auction/queue.cfg"
 }
 
 put_documents() {
     documents=$root/usr/share/doc/auction
     put usr/share/doc/auction package/copyright service/README.md
     put usr/share/doc/auction/examples/backup backup/copy_house.py backup/restore_house.py backup/README.md
+    put usr/share/doc/auction/examples service/prometheus.yml
     put usr/share/auction bands.csv
     printf 'auction (%s) unstable; urgency=medium\n\n  * Packaged.\n\n -- %s  %s\n' "$version" \
         "$(sed -n 's/^Maintainer: //p' "$here/control")" "$(date -u -R -d "@$date")" |
@@ -64,8 +63,9 @@ install -D -m 755 "$program" "$root/usr/bin/auction"
 "${STRIP:-strip}" --strip-unneeded --remove-section=.comment --remove-section=.note "$root/usr/bin/auction"
 put lib/systemd/system $(cd "$here/.." && echo service/*.service service/*.timer)
 put etc/default package/auction
+put etc/auction service/alarm
 put_gateway
-put usr/share/auction service/setup.sh gateway/add_member.sh
+put usr/share/auction service/setup.sh service/watch.sh service/queue.cfg service/alerts.yml gateway/add_member.sh
 put usr/share/auction/page $(cd "$here/.." && echo gateway/page/*)
 put_documents
 put_control

@@ -47,7 +47,8 @@ make_links() {
 }
 
 start() {
-    systemctl enable --quiet --now "auction@$city.service" "auction-queue@$city.service" "auction-close@$city.timer"
+    systemctl enable --quiet --now "auction@$city.service" "auction-queue@$city.service" "auction-close@$city.timer" \
+        "auction-watch@$city.timer"
     ln -sf /usr/share/auction/nginx/all.conf /etc/nginx/sites-enabled/auction
     systemctl reload-or-restart nginx.service
     until [ -S "/run/auction/$city/queue.sock" ]; do

@@ -1,0 +1,51 @@
+#!/bin/sh
+# watch.sh CITY: asks the house of a city what it is, by its queue, and writes what Prometheus reads of it to
+# /run/auction-watch/CITY.prom. Ends with 1 where no answer comes within a minute, or another one than a house's.
+set -u
+city=$1
+unit=auction@$city.service
+
+# What the house says: a page with its clock, or an error.
+asked() {
+    curl --silent --show-error --max-time 60 --unix-socket "/run/auction/$city/queue.sock" --header 'x-member: 0' http://house/house
+}
+
+connections() {
+    curl --silent --max-time 5 http://127.0.0.1:9180/nginx | sed -n 's/^Active connections: \([0-9]*\).*/\1/p'
+}
+
+# A line of Prometheus, where there is a number.
+write() {
+    [ -z "$2" ] || echo "$1 $2"
+}
+
+write_metrics() {
+    {
+        write auction_up "$1"
+        write auction_watched_seconds "$(date +%s)"
+        write auction_clock_seconds "$clock"
+        write auction_disk_free_bytes "$(df --block-size=1 --output=avail "/var/lib/auction/$city" | tail -1)"
+        write auction_connections "$(connections)"
+    } > "/run/auction-watch/$city.begun"
+    mv "/run/auction-watch/$city.begun" "/run/auction-watch/$city.prom"
+}
+
+answer=$(asked)
+clock=$(echo "$answer" | sed -n 's/.*"clock":\([0-9]*\),.*/\1/p')
+if [ -n "$clock" ]; then
+    write_metrics 1
+    exit 0
+fi
+write_metrics 0
+echo "the house of $city answers: ${answer:-nothing}"
+if [ "$answer" = '{"error":"store"}' ]; then
+    # A house whose file failed answers nothing else until it is started anew.
+    echo "it is started anew"
+    systemctl restart "$unit"
+    exit 0
+fi
+# One that failed thirty times may start now. Within ten minutes of those systemd refuses.
+if systemctl is-failed --quiet "$unit"; then
+    systemctl start "$unit"
+fi
+exit 1
