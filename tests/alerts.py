@@ -28,6 +28,7 @@ SIGNALS = {
     "AuctionStartsAgain": ("haproxy_backend_retry_warnings_total" + QUEUE, "5+1x60", "5+2x60"),
     "AuctionConnections": ("auction_connections" + WATCH, "1000x15", "1001x15"),
     "AuctionDiskFull": ("auction_disk_free_bytes" + WATCH, "1000000000x15", "999999999x15"),
+    "AuctionCopyOld": ("auction_newest_copy_seconds" + WATCH, "0+60x180", "0x240"),
     "AuctionClockApart": ("auction_clock_seconds" + WATCH, "1+60x15", "1000+60x15"),
 }
 
@@ -54,6 +55,7 @@ def main():
         for alert, (series, well, ill) in SIGNALS.items():
             check(f"{alert} where all is well", fires(folder, alert, series, well), "silent")
             check(f"{alert} where it isn't", fires(folder, alert, series, ill), "fires")
+        check("no copy", fires(folder, "AuctionCopyOld", "auction_up" + WATCH, "1x90"), "fires")
         unread = 'up{job="auction-watch", city="lindow"}'
         check("nothing can be read", fires(folder, "AuctionUnwatched", unread, "0x15"), "fires")
     print(f"{len(CHECKS)} checks, {CHECKS.count(False)} wrong")

@@ -2,12 +2,14 @@
 """Makes the Debian package and tries it: `package.py PROGRAM FOLDER [DEBIAN]`.
 
 build.sh of examples/package makes it in FOLDER, twice the same bytes. lintian has to say nothing of it, where lintian is there.
-What the gateway's queue does, that of the service does too, but for the lines of DIFFERENT. Where a superuser runs this, and
+What the gateway's queue does, that of the service does too, but for the lines of DIFFERENT. Each link of the documents in the
+package leads to a file of it, and bash completes what the program's help has. Where a superuser runs this, and
 debootstrap and systemd-nspawn are there, a plain Debian boots that has no more than what the package names, and plain_debian.sh
 tries the package there: an older one is installed, which lacks a line of nginx's files; two cities are set up, members bid
 through nginx, the house ends in three ways, and the timer closes an item. One house has a full disk for a moment and is then
 damaged, beside the other, and its watch, its alarm and Debian's Prometheus tell. The newer package is installed over the older
-one, and has to run at once; and it is removed, installed again and purged. DEBIAN is the folder of that Debian; one that isn't
+one, and has to run at once; a copy is taken; and the package is removed, installed again and purged. Then such a Debian that
+never had a house boots, and fresh_debian.sh restores the city from the copy, whose members sign in as before. DEBIAN is the folder of that Debian; one that isn't
 there is made from Debian's archive, in some minutes, and kept. The last line is 'N checks, M wrong'.
 """
 import os
@@ -27,7 +29,7 @@ UNIT = """[Unit]
 After=multi-user.target
 [Service]
 Type=exec
-ExecStart=/bin/sh -c "sh /trial/plain_debian.sh > /trial/printed 2>&1; systemctl poweroff"
+ExecStart=/bin/sh -c "sh /trial/SCRIPT >> /trial/printed 2>&1; systemctl poweroff"
 """
 PRICE = '"price":500'
 HOUSES = "/var/lib/auction/lindow/house /var/lib/auction/tarn/house "
@@ -45,9 +47,20 @@ WANTED = {
     "header of the older package": "0", "upgraded": "0", "the same auction@lindow": "1", "the same auction-queue@lindow": "1",
     "the same auction@tarn": "1", "program that runs": "/usr/bin/auction", "header of the newer package": "1",
     "after the upgrade": PRICE, "failed": "", "removed": "0", "nginx after it": "0", "active after it": "",
-    "installed again": "0", "after it": PRICE, "purged": "0", "left": "/var/lib/auction ", "the houses": HOUSES, "end": "",
+    "installed again": "0", "after it": PRICE, "purged": "0", "left": "/var/backups/auction /var/lib/auction ",
+    "copied": "success", "its age": "the newest copy is 0 minutes old",
+    "a copy has": "./house ./settings/cert.pem ./settings/host ./settings/key.pem ./settings/members.map ./settings/site.conf "
+                  "./settings/users ",
+    "fresh, installed": "0", "fresh, restored": "0", "fresh, the price": PRICE,
+    "fresh, a bid": '{"count":2,"floor":550,"leader":2,"price":500}', "fresh, no sign-in": '{"error":"gateway","why":"sign-in"}',
+    "fresh, owner": "auction 600", "fresh, rights": "root:www-data 640 root:root 600 ", "fresh, restored again": "0",
+    "fresh, the price again": PRICE, "fresh, a third time": "is there already", "fresh, failed": "",
+    "the houses": HOUSES, "end": "",
 }
+LINK = re.compile(r"\]\((?!https?:)([^)#\s]+)(?:#[^)\s]*)?\)")
+FENCED = re.compile(r"^```.*?^```$", re.M | re.S)
 MOST_EXPOSED = 1.5
+SCRIPTS = ["plain_debian.sh", "fresh_debian.sh"]
 # What of the gateway's queue that of the service does in its own way.
 DIFFERENT = {"bind unix@run/queue.sock mode 600"}
 
@@ -71,7 +84,10 @@ def build_older(program, folder):
     with tempfile.TemporaryDirectory() as name:
         tree = pathlib.Path(name)
         shutil.copytree(ROOT / "examples", tree / "examples")
-        shutil.copytree(ROOT / "docs", tree / "docs")
+        for part in ("docs", "bench"):
+            shutil.copytree(ROOT / part, tree / part, ignore=shutil.ignore_patterns("plain"))
+        for file in ("README.md", "crates.txt"):
+            shutil.copy(ROOT / file, tree)
         servers = tree / "examples" / "gateway" / "server.conf"
         servers.write_text("".join(line for line in servers.read_text().splitlines(True) if "Referrer-Policy" not in line))
         build(program, folder, tree / "examples", VERSION="0.9", SOURCE_DATE_EPOCH="0")
@@ -82,6 +98,35 @@ def has_page(package):
     listing = subprocess.run(["dpkg-deb", "--contents", package], capture_output=True, text=True, check=True).stdout
     packed = set(re.findall(r" \./usr/share/auction/page/(\S+)$", listing, re.M))
     check("the page", packed, {file.name for file in (ROOT / "examples" / "gateway" / "page").iterdir()})
+
+
+def has_documents(package):
+    """The documents are in the package, and each of their links leads to another file of it."""
+    with tempfile.TemporaryDirectory() as name:
+        subprocess.run(["dpkg-deb", "--extract", package, name], check=True)
+        folder = pathlib.Path(name).resolve() / "usr" / "share" / "doc" / "auction"
+        pages = sorted(folder.rglob("*.md"))
+        check("documents", {"RUNNING.md", "HTTP.md"} <= {page.name for page in pages}, True)
+        for page in pages:
+            for target in LINK.findall(FENCED.sub("", page.read_text())):
+                check(f"{page.relative_to(folder)} to {target}", (page.parent / target).exists(), True)
+
+
+def completed(*words):
+    result = subprocess.run(["bash", ROOT / "tests" / "completion.sh", "auction", *words], capture_output=True, text=True)
+    return set(result.stdout.split())
+
+
+def has_completion(program):
+    """bash completes each command and each option that the program's help has."""
+    commands = set(re.findall(r"^  ([a-z]+)  ", helped(program), re.M))
+    check("commands", completed(""), commands | {"--version", "--help"})
+    for command in commands - {"help"}:
+        check(f"options of {command}", completed(command, "--"), set(re.findall(r"^ +(?:-\w, )?(--[a-z]+)", helped(program, command), re.M)))
+
+
+def helped(program, *words):
+    return subprocess.run([program, *words, "--help"], capture_output=True, text=True, check=True).stdout
 
 
 def lines_of(file):
@@ -101,23 +146,46 @@ def lint(package):
 
 
 def make_debian(place):
-    subprocess.run(["debootstrap", "--variant=minbase", f"--include={PACKAGES}", "bookworm", place,
-                    "http://deb.debian.org/debian"], check=True, stdout=subprocess.DEVNULL)
+    result = subprocess.run(["debootstrap", "--variant=minbase", f"--include={PACKAGES}", "bookworm", place,
+                             "http://deb.debian.org/debian"], stdout=subprocess.DEVNULL)
+    if result.returncode != 0:
+        shutil.rmtree(place, ignore_errors=True)
 
 
-def boot(debian, program, package):
-    """What plain_debian.sh tells in a Debian that forgets it all afterwards."""
+def has_debian(place):
+    """Whether there is a plain Debian at a place, which is made where nothing is, with all that the package needs."""
+    if os.geteuid() != 0 or not shutil.which("systemd-nspawn"):
+        print("not installed: that needs a superuser and systemd-nspawn")
+        return False
+    if not place.exists() and shutil.which("debootstrap"):
+        make_debian(place)
+    lists = place / "var" / "lib" / "dpkg" / "info"
+    lacking = [package for package in PACKAGES.split(",") if not (lists / f"{package}.list").exists()]
+    if lacking:
+        print(f"not installed: {place} lacks {', '.join(lacking)}; debootstrap makes one where nothing is, from Debian's archive")
+    return not lacking
+
+
+def boot(debian, trial, script):
+    """Runs a script in a Debian that forgets it all afterwards, but for what is in the folder of the trial."""
+    (trial / "trial.service").write_text(UNIT.replace("SCRIPT", script))
+    subprocess.run(["systemd-nspawn", "--quiet", "--boot", "--private-network", "--volatile=overlay", "--register=no",
+                    "--keep-unit", f"--directory={debian}", f"--bind={trial}:/trial",
+                    f"--bind-ro={trial}/trial.service:/etc/systemd/system/trial.service", "systemd.wants=trial.service"],
+                   stdin=subprocess.DEVNULL, capture_output=True, timeout=2 * PATIENCE)
+
+
+def tried(debian, program, package):
+    """What the scripts tell: one tries the package, one restores its copy where no house was."""
     with tempfile.TemporaryDirectory() as name:
         trial = pathlib.Path(name)
         build_older(program, trial / "older")
         (trial / "newer").mkdir()
         shutil.copy(package, trial / "newer")
-        shutil.copy(ROOT / "tests" / "plain_debian.sh", trial)
-        (trial / "trial.service").write_text(UNIT)
-        subprocess.run(["systemd-nspawn", "--quiet", "--boot", "--private-network", "--volatile=overlay", "--register=no",
-                        "--keep-unit", f"--directory={debian}", f"--bind={trial}:/trial",
-                        f"--bind-ro={trial}/trial.service:/etc/systemd/system/trial.service", "systemd.wants=trial.service"],
-                       stdin=subprocess.DEVNULL, capture_output=True, timeout=2 * PATIENCE)
+        for script in ("asking.sh", *SCRIPTS):
+            shutil.copy(ROOT / "tests" / script, trial)
+        for script in SCRIPTS:
+            boot(debian, trial, script)
         file = trial / "printed"
         return file.read_text() if file.exists() else "it did not boot"
 
@@ -131,6 +199,7 @@ def judge(text):
         exposure = printed.get(f"exposure of {unit}")
         print(f"{unit}: exposure {exposure}")
         check(f"exposure of {unit}", exposure is not None and float(exposure) < MOST_EXPOSED, True)
+    print(f"a city restored on a fresh machine in {printed.get('fresh, seconds')} s, from the boot to the last bid")
     if not all(CHECKS):
         print(text)
 
@@ -140,17 +209,15 @@ def main():
     print(f"{package}: {package.stat().st_size} bytes")
     has_page(package)
     has_queue()
+    has_documents(package)
+    has_completion(sys.argv[1])
     if shutil.which("lintian"):
         lint(package)
     else:
         print("lintian is missing, so nobody read the package")
     debian = pathlib.Path((sys.argv[3:] + [f"{sys.argv[2]}/debian"])[0])
-    if os.geteuid() == 0 and shutil.which("systemd-nspawn") and (debian.exists() or shutil.which("debootstrap")):
-        if not debian.exists():
-            make_debian(debian)
-        judge(boot(debian, sys.argv[1], package))
-    else:
-        print("not installed: that needs a superuser, debootstrap and systemd-nspawn")
+    if has_debian(debian):
+        judge(tried(debian, sys.argv[1], package))
     print(f"{len(CHECKS)} checks, {CHECKS.count(False)} wrong")
     return 1 if not all(CHECKS) else 0
 

@@ -6,32 +6,7 @@ set -u
 cd /trial
 export DEBIAN_FRONTEND=noninteractive
 
-say() {
-    printf '%s: %s\n' "$1" "$2"
-}
-
-# What a member of a city is answered through nginx.
-ask() {
-    city=$1 who=$2 path=$3
-    shift 3
-    curl -s --max-time 60 --cacert "/etc/auction/$city/cert.pem" --resolve "$city.example:443:127.0.0.1" \
-        -u "$who:$(sed -n "s/^$who [0-9]* //p" "$city.passwords")" "$@" "https://$city.example/api$path"
-}
-
-# Waits until a command succeeds, for two minutes at most.
-wait_until() {
-    for _ in $(seq 600); do
-        if eval "$1"; then
-            return 0
-        fi
-        sleep 0.2
-    done
-    say "waited in vain" "$1"
-}
-
-price() {
-    ask lindow ben /items/1 | tr ',' '\n' | grep price
-}
+. ./asking.sh
 
 set_up() {
     say "set up $1" "$(sh /usr/share/auction/setup.sh "$1" "$1.example" 2>&1 > /dev/null; echo $?)"
@@ -184,6 +159,15 @@ upgrade() {
     say "after the upgrade" "$(price)"
 }
 
+# A copy for fresh_debian.sh, of which the timer makes one each hour.
+copy() {
+    systemctl start auction-copy@lindow
+    say copied "$(systemctl show -P Result auction-copy@lindow)"
+    say "its age" "$(journalctl -u auction-copy@lindow -o cat | grep -o 'the newest copy is .*, [0-9]* minutes old' | sed 's/is .*,/is/')"
+    say "a copy has" "$(cd /var/backups/auction/lindow/2* && find . -type f | sort | tr '\n' ' ')"
+    cp -a /var/backups/auction/lindow/2* /trial/copy
+}
+
 remove() {
     say removed "$(apt-get remove -y auction > remove.log 2>&1; echo $?)"
     say "nginx after it" "$(nginx -t > /dev/null 2>&1; echo $?)"
@@ -212,5 +196,6 @@ expose
 mend
 say failed "$(systemctl list-units --failed --plain --no-legend)"
 upgrade
+copy
 remove
 say end "$(systemctl list-units --failed --plain --no-legend)"

@@ -37,8 +37,12 @@ put_gateway() {
 
 put_documents() {
     documents=$root/usr/share/doc/auction
-    put usr/share/doc/auction package/copyright service/README.md
-    put usr/share/doc/auction/examples/backup backup/copy_house.py backup/restore_house.py backup/README.md
+    put usr/share/doc/auction package/copyright ../README.md ../crates.txt
+    put usr/share/doc/auction/docs $(cd "$here/.." && echo ../docs/*.md ../docs/*.png ../docs/openapi.yaml)
+    put usr/share/doc/auction/bench ../bench/README.md ../bench/TABLE.md
+    for part in service backup gateway; do
+        put "usr/share/doc/auction/examples/$part" $(cd "$here/.." && echo "$part"/*.md)
+    done
     put usr/share/doc/auction/examples service/prometheus.yml
     put usr/share/auction bands.csv
     printf 'auction (%s) unstable; urgency=medium\n\n  * Packaged.\n\n -- %s  %s\n' "$version" \
@@ -46,6 +50,10 @@ put_documents() {
         gzip -9n > "$documents/changelog.gz"
     mkdir -p "$root/usr/share/man/man1"
     gzip -9n < "$here/../../docs/auction.1" > "$root/usr/share/man/man1/auction.1.gz"
+}
+
+put_completion() {
+    install -D -m 644 "$here/completion.bash" "$root/usr/share/bash-completion/completions/auction"
 }
 
 put_control() {
@@ -65,9 +73,12 @@ put lib/systemd/system $(cd "$here/.." && echo service/*.service service/*.timer
 put etc/default package/auction
 put etc/auction service/alarm
 put_gateway
+put usr/share/auction backup/copy_house.py backup/restore_house.py backup/copy_city.py backup/restore_city.sh \
+    backup/snapshot_house.sh
 put usr/share/auction service/setup.sh service/watch.sh service/queue.cfg service/alerts.yml gateway/add_member.sh
 put usr/share/auction/page $(cd "$here/.." && echo gateway/page/*)
 put_documents
+put_completion
 put_control
 find "$root" -exec touch -h -d "@$date" {} +
 mkdir -p "$folder"

@@ -10,6 +10,12 @@ asked() {
     curl --silent --show-error --max-time 60 --unix-socket "/run/auction/$city/queue.sock" --header 'x-member: 0' http://house/house
 }
 
+# When the newest copy was begun.
+newest_copy() {
+    name=$(ls "/var/backups/auction/$city" 2> /dev/null | grep '^[0-9]' | tail -1)
+    [ -z "$name" ] || date -d "$name" +%s
+}
+
 connections() {
     curl --silent --max-time 5 http://127.0.0.1:9180/nginx | sed -n 's/^Active connections: \([0-9]*\).*/\1/p'
 }
@@ -25,6 +31,7 @@ write_metrics() {
         write auction_watched_seconds "$(date +%s)"
         write auction_clock_seconds "$clock"
         write auction_disk_free_bytes "$(df --block-size=1 --output=avail "/var/lib/auction/$city" | tail -1)"
+        write auction_newest_copy_seconds "$(newest_copy)"
         write auction_connections "$(connections)"
     } > "/run/auction-watch/$city.begun"
     mv "/run/auction-watch/$city.begun" "/run/auction-watch/$city.prom"
