@@ -32,7 +32,7 @@ PICTURES ?=
 GATEWAY_PACKAGES = nginx-light haproxy openssl curl iproute2 procps util-linux chromium-driver
 PAGE_PACKAGES = $(GATEWAY_PACKAGES)
 BACKUP_PACKAGES = sqlite3 btrfs-progs
-SERVICE_PACKAGES = prometheus
+SERVICE_PACKAGES = prometheus haproxy
 DEB_PACKAGES = lintian debootstrap systemd-container
 
 .PHONY: help demo session test auction program cases rows fuzz mutated twins memory allocations statement random file \
@@ -75,7 +75,7 @@ help:
 	@echo "  make gateway   has clients ask and bid through nginx and haproxy for PERIOD, and the house start anew RESTARTS times"
 	@echo "  make page      plays an auction on the page of the gateway in Chromium, by the house and three members, in five minutes"
 	@echo "  make backup    makes COPIES copies of a house that is served, and restores one"
-	@echo "  make service   gives the alert rules of the service what they have to tell of"
+	@echo "  make service   gives the alert rules of the service what they have to tell of, and asks a house through its queue"
 	@echo "  make deb       makes the package in out/, and tries it in a plain Debian in the folder DEBIAN"
 	@echo
 	@echo "Tests of the crates that make test has left"
@@ -112,7 +112,7 @@ has-tests:
 demo test auction wrong giving: has-kit
 session: has-bin has-curl
 program cases fuzz mutated twins memory allocations file office kills stops cuts stalls counts documents: has-program
-gateway page backup deb: has-program
+gateway page backup service deb: has-program
 rows random file statement memory allocations: has-tests
 cases openapi: has-cases
 memory allocations stops cuts: has-cc
@@ -254,6 +254,7 @@ backup:
 service:
 	@echo "Debian's packages: $(SERVICE_PACKAGES)"
 	python3 tests/alerts.py
+	python3 tests/service_queue.py crates/auction/out/auction
 
 deb:
 	@echo "Debian's packages: $(DEB_PACKAGES)"

@@ -21,5 +21,6 @@ say "fresh, restored again" "$(sh /usr/share/auction/restore_city.sh /trial/copy
 wait_until 'ask lindow ben /me/bids/1 | grep -q bids'
 say "fresh, the price again" "$(price)"
 say "fresh, a third time" "$(sh /usr/share/auction/restore_city.sh /trial/copy lindow 2>&1 | grep -o 'is there already')"
+say "fresh, killed by its filter" "$(journalctl -u auction@lindow -o cat | grep -c 'status=31/SYS')"
 say "fresh, failed" "$(systemctl list-units --failed --plain --no-legend)"
 say "fresh, seconds" "$(($(date +%s) - begun))"

@@ -8,7 +8,8 @@ debootstrap and systemd-nspawn are there, a plain Debian boots that has no more 
 tries the package there: an older one is installed, which lacks a line of nginx's files; two cities are set up, members bid
 through nginx, the house ends in three ways, and the timer closes an item. One house has a full disk for a moment and is then
 damaged, beside the other, and its watch, its alarm and Debian's Prometheus tell. The newer package is installed over the older
-one, and has to run at once; a copy is taken; and the package is removed, installed again and purged. Then such a Debian that
+one, and has to run at once; a clock that was far ahead, and one that is days behind, let no command through, until a copy is
+restored, or somebody says that the clock is right; a copy is taken; and the package is removed, installed again and purged. Then such a Debian that
 never had a house boots, and fresh_debian.sh restores the city from the copy, whose members sign in as before. DEBIAN is the folder of that Debian; one that isn't
 there is made from Debian's archive, in some minutes, and kept. The last line is 'N checks, M wrong'.
 """
@@ -32,7 +33,7 @@ Type=exec
 ExecStart=/bin/sh -c "sh /trial/SCRIPT >> /trial/printed 2>&1; systemctl poweroff"
 """
 PRICE = '"price":500'
-HOUSES = "/var/lib/auction/lindow/house /var/lib/auction/tarn/house "
+HOUSES = "/var/lib/auction/lindow/house /var/lib/auction/mere/house /var/lib/auction/tarn/house "
 WANTED = {
     "installed": "0", "set up lindow": "0", "set up tarn": "0", "members of lindow": "house 0 ana 1 ben 2 ",
     "members of tarn": "house 0 ana 1 ben 2 ", "category": '{"category":1}', "item": '{"item":1}', "due": '{"item":2}',
@@ -48,13 +49,16 @@ WANTED = {
     "the same auction@tarn": "1", "program that runs": "/usr/bin/auction", "header of the newer package": "1",
     "after the upgrade": PRICE, "failed": "", "removed": "0", "nginx after it": "0", "active after it": "",
     "installed again": "0", "after it": PRICE, "purged": "0", "left": "/var/backups/auction /var/lib/auction ",
+    "a clock ahead": '{"error":"gateway","why":"clock"}', "a read meanwhile": "200", "the watch says": "no command is let through",
+    "restored after it": "0", "a command after it": "201", "days behind": '{"error":"gateway","why":"clock"}',
+    "another day": "1", "the right day": "0", "a command then": "201",
     "copied": "success", "its age": "the newest copy is 0 minutes old",
     "a copy has": "./house ./settings/cert.pem ./settings/host ./settings/key.pem ./settings/members.map ./settings/site.conf "
                   "./settings/users ",
     "fresh, installed": "0", "fresh, restored": "0", "fresh, the price": PRICE,
     "fresh, a bid": '{"count":2,"floor":550,"leader":2,"price":500}', "fresh, no sign-in": '{"error":"gateway","why":"sign-in"}',
     "fresh, owner": "auction 600", "fresh, rights": "root:www-data 640 root:root 600 ", "fresh, restored again": "0",
-    "fresh, the price again": PRICE, "fresh, a third time": "is there already", "fresh, failed": "",
+    "fresh, the price again": PRICE, "fresh, a third time": "is there already", "fresh, killed by its filter": "0", "fresh, failed": "",
     "the houses": HOUSES, "end": "",
 }
 LINK = re.compile(r"\]\((?!https?:)([^)#\s]+)(?:#[^)\s]*)?\)")
@@ -62,7 +66,8 @@ FENCED = re.compile(r"^```.*?^```$", re.M | re.S)
 MOST_EXPOSED = 1.5
 SCRIPTS = ["plain_debian.sh", "fresh_debian.sh"]
 # What of the gateway's queue that of the service does in its own way.
-DIFFERENT = {"bind unix@run/queue.sock mode 600"}
+DIFFERENT = {"bind unix@run/queue.sock mode 600", "timeout queue 55s", "retries 30", "option http-server-close",
+             'server house "127.0.0.1:${HOUSE_PORT}" maxconn 1'}
 
 
 def build(program, folder, examples=ROOT / "examples", **settings):

@@ -81,6 +81,7 @@ mend() {
     wait_until "[ -n \"\$(query 'ALERTS{alertname=\"AuctionAway\", alertstate=\"firing\", city=\"tarn\"}')\" ]"
     say "alerts" "$(query 'count(ALERTS{alertname="AuctionAway", alertstate="firing"})')"
     say "series" "$(query 'count({__name__=~"auction_.*|haproxy_backend_current_queue", city="lindow"})')"
+    wait_until '[ "$(alarms auction-watch@tarn.service)" -gt 0 ]'
     say "the watch failed too" "$([ "$(alarms auction-watch@tarn.service)" -gt 0 ]; echo $?)"
     say "alarms" "$(alarms auction@tarn.service)"
     cp -a whole /var/lib/auction/tarn/house
@@ -122,9 +123,10 @@ again() {
 starts_again() {
     again "after SIGTERM" 'systemctl kill --kill-whom=main -s TERM auction@lindow'
     again "after SIGKILL" 'systemctl kill --kill-whom=main -s KILL auction@lindow'
-    sed -i 's/^COUNT=.*/COUNT=5/' /etc/default/auction
+    sed -i 's/^COUNT=.*/COUNT=1/' /etc/default/auction
     systemctl restart auction@lindow
-    again "after its count" 'for _ in 1 2 3 4 5; do ask lindow ben /house > /dev/null; done'
+    price > /dev/null
+    again "after its count" 'systemctl restart auction-queue@lindow'
     sed -i 's/^COUNT=.*/COUNT=1000000/' /etc/default/auction
     systemctl restart auction@lindow
 }
@@ -159,13 +161,61 @@ upgrade() {
     say "after the upgrade" "$(price)"
 }
 
+# What the house of a city answers to a command, as a status.
+command_status() {
+    ask "$1" house /categories -d "{\"name\":\"$2\"}" -o /dev/null -w '%{http_code}'
+}
+
+# One close in the year 2036, as of a machine that booted with a wrong clock. The kept connection would hold up who comes beside it.
+close_ahead() {
+    systemctl stop auction-close@tarn.timer auction-watch@tarn.timer auction-queue@tarn
+    nsenter -t "$(systemctl show -P MainPID auction@tarn)" -n -- \
+        curl -s -X POST http://127.0.0.1:8080/close -H 'x-member: 0' -H 'x-moment: 2082758400' > /dev/null
+    systemctl start auction-queue@tarn auction-watch@tarn.timer
+}
+
+newest() {
+    ls -d "/var/backups/auction/$1"/2* | tail -1
+}
+
+clock_ahead() {
+    systemctl start auction-copy@tarn
+    close_ahead
+    say "a clock ahead" "$(ask tarn house /categories -d '{"name":"Maps"}')"
+    say "a read meanwhile" "$(ask tarn ana /house -o /dev/null -w '%{http_code}')"
+    wait_until 'journalctl -u auction-watch@tarn -o cat | grep -q "no command is let through"'
+    say "the watch says" "$(journalctl -u auction-watch@tarn -o cat | grep -o 'no command is let through' | head -1)"
+    say "restored after it" "$(sh /usr/share/auction/restore_city.sh "$(newest tarn)" tarn > restored.log 2>&1; echo $?)"
+    cat restored.log
+    wait_until 'ask tarn ana /house | grep -q clock'
+    say "a command after it" "$(command_status tarn Maps)"
+}
+
+# A house whose last command is three days old.
+days_behind() {
+    install -d -o auction -g auction -m 700 /var/lib/auction/mere
+    runuser -u auction -- auction init /var/lib/auction/mere/house --bands /usr/share/auction/bands.csv --rate 1000 --zone UTC0 > /dev/null
+    runuser -u auction -- auction serve /var/lib/auction/mere/house --port 8090 --count 2 > /dev/null &
+    wait_until 'curl -s -X POST http://127.0.0.1:8090/close -H "x-member: 0" -H "x-moment: $(($(date +%s) - 259200))" > /dev/null'
+    curl -s http://127.0.0.1:8090/house > /dev/null
+    wait
+    sh /usr/share/auction/setup.sh mere mere.example > /dev/null 2>&1
+    sh /usr/share/auction/add_member.sh /etc/auction/mere house > mere.passwords
+    wait_until 'ask mere house /house | grep -q clock'
+    say "days behind" "$(ask mere house /categories -d '{"name":"Maps"}')"
+    say "another day" "$(sh /usr/share/auction/clock_is_right.sh mere 2020-01-01 > /dev/null 2>&1; echo $?)"
+    say "the right day" "$(sh /usr/share/auction/clock_is_right.sh mere "$(date +%F)" > /dev/null 2>&1; echo $?)"
+    say "a command then" "$(command_status mere Maps)"
+    systemctl reset-failed
+}
+
 # A copy for fresh_debian.sh, of which the timer makes one each hour.
 copy() {
     systemctl start auction-copy@lindow
     say copied "$(systemctl show -P Result auction-copy@lindow)"
     say "its age" "$(journalctl -u auction-copy@lindow -o cat | grep -o 'the newest copy is .*, [0-9]* minutes old' | sed 's/is .*,/is/')"
-    say "a copy has" "$(cd /var/backups/auction/lindow/2* && find . -type f | sort | tr '\n' ' ')"
-    cp -a /var/backups/auction/lindow/2* /trial/copy
+    say "a copy has" "$(cd "$(newest lindow)" && find . -type f | sort | tr '\n' ' ')"
+    cp -a "$(newest lindow)" /trial/copy
 }
 
 remove() {
@@ -196,6 +246,8 @@ expose
 mend
 say failed "$(systemctl list-units --failed --plain --no-legend)"
 upgrade
+clock_ahead
+days_behind
 copy
 remove
 say end "$(systemctl list-units --failed --plain --no-legend)"

@@ -75,7 +75,8 @@ put etc/auction service/alarm
 put_gateway
 put usr/share/auction backup/copy_house.py backup/restore_house.py backup/copy_city.py backup/restore_city.sh \
     backup/snapshot_house.sh
-put usr/share/auction service/setup.sh service/watch.sh service/queue.cfg service/alerts.yml gateway/add_member.sh
+put usr/share/auction service/setup.sh service/watch.sh service/clock_is_right.sh \
+    service/queue.cfg service/alerts.yml gateway/add_member.sh
 put usr/share/auction/page $(cd "$here/.." && echo gateway/page/*)
 put_documents
 put_completion

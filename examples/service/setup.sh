@@ -47,8 +47,10 @@ make_links() {
 }
 
 start() {
-    systemctl enable --quiet --now "auction@$city.service" "auction-queue@$city.service" "auction-close@$city.timer" \
-        "auction-watch@$city.timer" "auction-copy@$city.timer"
+    set -- "auction@$city.service" "auction-queue@$city.service" "auction-close@$city.timer" "auction-watch@$city.timer" \
+        "auction-copy@$city.timer"
+    systemctl enable --quiet "$@"
+    systemctl start "$@"
     ln -sf /usr/share/auction/nginx/all.conf /etc/nginx/sites-enabled/auction
     systemctl reload-or-restart nginx.service
     until [ -S "/run/auction/$city/queue.sock" ]; do

@@ -1,6 +1,7 @@
 #!/bin/sh
 # watch.sh CITY: asks the house of a city what it is, by its queue, and writes what Prometheus reads of it to
-# /run/auction-watch/CITY.prom. Ends with 1 where no answer comes within a minute, or another one than a house's.
+# /run/auction-watch/CITY.prom. Ends with 1 where no answer comes within a minute, or another one than a house's, and where
+# the queue lets no command through, since the two clocks are apart.
 set -u
 city=$1
 unit=auction@$city.service
@@ -37,10 +38,26 @@ write_metrics() {
     mv "/run/auction-watch/$city.begun" "/run/auction-watch/$city.prom"
 }
 
-answer=$(asked)
+# Whether the house's clock and the machine's are within a day. A new house has 0.
+is_near() {
+    apart=$(($(date +%s) - $1))
+    [ "$1" = 0 ] || { [ "$apart" -le 86400 ] && [ "$apart" -ge -86400 ]; }
+}
+
+fail_by_clock() {
+    echo "no command is let through: the clock of the house is $(date -d "@$clock" +%FT%T), the machine's $(date +%FT%T)"
+    exit 1
+}
+
+# A queue that is started anew, as by an upgrade, breaks off what it has begun.
+answer=$(asked) || {
+    sleep 2
+    answer=$(asked)
+}
 clock=$(echo "$answer" | sed -n 's/.*"clock":\([0-9]*\),.*/\1/p')
 if [ -n "$clock" ]; then
     write_metrics 1
+    is_near "$clock" || fail_by_clock
     exit 0
 fi
 write_metrics 0
