@@ -32,11 +32,12 @@ PICTURES ?=
 GATEWAY_PACKAGES = nginx-light haproxy openssl curl iproute2 procps util-linux chromium-driver
 PAGE_PACKAGES = $(GATEWAY_PACKAGES)
 BACKUP_PACKAGES = sqlite3 btrfs-progs
+REPLICA_PACKAGES = glusterfs-server iproute2 procps
 SERVICE_PACKAGES = prometheus haproxy
 DEB_PACKAGES = lintian debootstrap systemd-container
 
 .PHONY: help demo session test auction program cases rows fuzz mutated twins memory allocations statement random file \
-	office kills stops cuts stalls counts wrong giving documents openapi gateway page backup service deb packages
+	office kills stops cuts stalls counts wrong giving documents openapi gateway page backup service replica deb packages
 
 help:
 	@echo "For a newcomer"
@@ -76,6 +77,7 @@ help:
 	@echo "  make page      plays an auction on the page of the gateway in Chromium, by the house and three members, in five minutes"
 	@echo "  make backup    makes COPIES copies of a house that is served, and restores one"
 	@echo "  make service   gives the alert rules of the service what they have to tell of, and asks a house through its queue"
+	@echo "  make replica   serves a house on a volume that three machines keep, kills them and cuts one off, as root, in two minutes"
 	@echo "  make deb       makes the package in out/, and tries it in a plain Debian in the folder DEBIAN"
 	@echo
 	@echo "Tests of the crates that make test has left"
@@ -112,7 +114,7 @@ has-tests:
 demo test auction wrong giving: has-kit
 session: has-bin has-curl
 program cases fuzz mutated twins memory allocations file office kills stops cuts stalls counts documents: has-program
-gateway page backup service deb: has-program
+gateway page backup service replica deb: has-program
 rows random file statement memory allocations: has-tests
 cases openapi: has-cases
 memory allocations stops cuts: has-cc
@@ -256,10 +258,14 @@ service:
 	python3 tests/alerts.py
 	python3 tests/service_queue.py crates/auction/out/auction
 
+replica:
+	@echo "Debian's packages: $(REPLICA_PACKAGES)"
+	python3 tests/replica.py crates/auction/out/auction
+
 deb:
 	@echo "Debian's packages: $(DEB_PACKAGES)"
 	mkdir -p out
 	python3 tests/package.py crates/auction/out/auction out $(DEBIAN)
 
 packages:
-	apt-get install -y --no-install-recommends $(GATEWAY_PACKAGES) $(BACKUP_PACKAGES) $(SERVICE_PACKAGES) $(DEB_PACKAGES)
+	apt-get install -y --no-install-recommends $(GATEWAY_PACKAGES) $(BACKUP_PACKAGES) $(SERVICE_PACKAGES) $(REPLICA_PACKAGES) $(DEB_PACKAGES)

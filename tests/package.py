@@ -9,7 +9,7 @@ tries the package there: an older one is installed, which lacks a line of nginx'
 through nginx, the house ends in three ways, and the timer closes an item. One house has a full disk for a moment and is then
 damaged, beside the other, and its watch, its alarm and Debian's Prometheus tell. The newer package is installed over the older
 one, and has to run at once; a clock that was far ahead, and one that is days behind, let no command through, until a copy is
-restored, or somebody says that the clock is right; a copy is taken; and the package is removed, installed again and purged. Then such a Debian that
+restored, or somebody says that the clock is right; a city is taken over from a server that ends; a copy is taken; and the package is removed, installed again and purged. Then such a Debian that
 never had a house boots, and fresh_debian.sh restores the city from the copy, whose members sign in as before. DEBIAN is the folder of that Debian; one that isn't
 there is made from Debian's archive, in some minutes, and kept. The last line is 'N checks, M wrong'.
 """
@@ -52,6 +52,7 @@ WANTED = {
     "a clock ahead": '{"error":"gateway","why":"clock"}', "a read meanwhile": "200", "the watch says": "no command is let through",
     "restored after it": "0", "a command after it": "201", "days behind": '{"error":"gateway","why":"clock"}',
     "another day": "1", "the right day": "0", "a command then": "201",
+    "taken over": "0", "not before the other one ended": "0", "a command after the take-over": "201",
     "copied": "success", "its age": "the newest copy is 0 minutes old",
     "a copy has": "./house ./settings/cert.pem ./settings/host ./settings/key.pem ./settings/members.map ./settings/site.conf "
                   "./settings/users ",

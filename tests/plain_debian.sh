@@ -209,6 +209,22 @@ days_behind() {
     systemctl reset-failed
 }
 
+# A city is taken over from another server, which ends after some seconds and has the house's lock until then.
+take_over() {
+    for unit in auction-close@mere.timer auction-watch@mere.timer auction-copy@mere.timer auction-queue@mere auction@mere; do
+        systemctl disable --quiet --now "$unit"
+    done
+    runuser -u auction -- auction serve /var/lib/auction/mere/house --port 8090 --count 1000 > /dev/null 2>&1 &
+    other=$!
+    sleep 1
+    (sleep 6; kill "$other") &
+    begun=$(date +%s)
+    say "taken over" "$(sh /usr/share/auction/take_over.sh mere > /dev/null 2>&1; echo $?)"
+    say "not before the other one ended" "$([ $(($(date +%s) - begun)) -ge 5 ]; echo $?)"
+    wait_until 'ask mere house /house | grep -q clock'
+    say "a command after the take-over" "$(command_status mere Prints)"
+}
+
 # A copy for fresh_debian.sh, of which the timer makes one each hour.
 copy() {
     systemctl start auction-copy@lindow
@@ -248,6 +264,7 @@ say failed "$(systemctl list-units --failed --plain --no-legend)"
 upgrade
 clock_ahead
 days_behind
+take_over
 copy
 remove
 say end "$(systemctl list-units --failed --plain --no-legend)"

@@ -40,7 +40,7 @@ put_documents() {
     put usr/share/doc/auction package/copyright ../README.md ../crates.txt
     put usr/share/doc/auction/docs $(cd "$here/.." && echo ../docs/*.md ../docs/*.png ../docs/openapi.yaml)
     put usr/share/doc/auction/bench ../bench/README.md ../bench/TABLE.md
-    for part in service backup gateway; do
+    for part in service backup gateway replica; do
         put "usr/share/doc/auction/examples/$part" $(cd "$here/.." && echo "$part"/*.md)
     done
     put usr/share/doc/auction/examples service/prometheus.yml
@@ -75,6 +75,7 @@ put etc/auction service/alarm
 put_gateway
 put usr/share/auction backup/copy_house.py backup/restore_house.py backup/copy_city.py backup/restore_city.sh \
     backup/snapshot_house.sh
+put usr/share/auction $(cd "$here/.." && echo replica/*.sh)
 put usr/share/auction service/setup.sh service/watch.sh service/clock_is_right.sh \
     service/queue.cfg service/alerts.yml gateway/add_member.sh
 put usr/share/auction/page $(cd "$here/.." && echo gateway/page/*)
