@@ -36,10 +36,12 @@ GATEWAY_PACKAGES = nginx-light haproxy apache2-bin apache2-utils sqlite3 openssl
 PAGE_PACKAGES = $(GATEWAY_PACKAGES) nodejs node-typescript
 LOAD_PACKAGES = $(GATEWAY_PACKAGES) wrk
 BACKUP_PACKAGES = sqlite3 btrfs-progs
+REPLICA_PACKAGES = glusterfs-server iproute2 procps
+SERVICE_PACKAGES = prometheus haproxy
 DEB_PACKAGES = lintian debootstrap systemd-container
 
 .PHONY: help demo session test auction program cases rows fuzz mutated twins memory allocations statement random file \
-	office kills stops cuts stalls counts wrong giving documents openapi gateway load page backup deb packages
+	office kills stops cuts stalls counts wrong giving documents openapi gateway load page backup service replica deb packages
 
 help:
 	@echo "For a newcomer"
@@ -79,6 +81,8 @@ help:
 	@echo "  make load      has PAGES pages of an item open in its last minute, through the gateway, while a member bids (needs wrk)"
 	@echo "  make page      plays an auction on the page of the gateway in Chromium, by the house and three members, in seven minutes"
 	@echo "  make backup    makes COPIES copies of a house that is served, and restores one"
+	@echo "  make service   gives the alert rules of the service what they have to tell of, and asks a house through its queue"
+	@echo "  make replica   serves a house on a volume that three machines keep, kills them and cuts one off, as root, in two minutes"
 	@echo "  make deb       makes the package in out/, and tries it in a plain Debian in the folder DEBIAN"
 	@echo
 	@echo "Tests of the crates that make test has left"
@@ -115,7 +119,7 @@ has-tests:
 demo test auction wrong giving: has-kit
 session: has-bin has-curl
 program cases fuzz mutated twins memory allocations file office kills stops cuts stalls counts documents: has-program
-gateway load page backup deb: has-program
+gateway load page backup service replica deb: has-program
 rows random file statement memory allocations: has-tests
 cases openapi: has-cases
 memory allocations stops cuts: has-cc
@@ -260,10 +264,20 @@ backup:
 	@echo "Debian's packages: $(BACKUP_PACKAGES)"
 	python3 tests/backup.py crates/auction/out/auction $(COPIES)
 
+service:
+	@echo "Debian's packages: $(SERVICE_PACKAGES)"
+	python3 tests/alerts.py
+	python3 tests/service_queue.py crates/auction/out/auction
+
+replica:
+	@echo "Debian's packages: $(REPLICA_PACKAGES)"
+	python3 tests/replica.py crates/auction/out/auction
+
 deb:
 	@echo "Debian's packages: $(DEB_PACKAGES)"
 	mkdir -p out
 	python3 tests/package.py crates/auction/out/auction out $(DEBIAN)
 
 packages:
-	apt-get install -y --no-install-recommends $(PAGE_PACKAGES) wrk $(BACKUP_PACKAGES) $(DEB_PACKAGES)
+	apt-get install -y --no-install-recommends $(PAGE_PACKAGES) wrk $(BACKUP_PACKAGES) $(SERVICE_PACKAGES) \
+		$(REPLICA_PACKAGES) $(DEB_PACKAGES)

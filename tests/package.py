@@ -2,10 +2,16 @@
 """Makes the Debian package and tries it: `package.py PROGRAM FOLDER [DEBIAN]`.
 
 build.sh of examples/package makes it in FOLDER, twice the same bytes. lintian has to say nothing of it, where lintian is there.
-Where a superuser runs this, and debootstrap and systemd-nspawn are there, a plain Debian boots that has no more than what the
-package names, and plain_debian.sh installs the package there, sets a house up, has members bid through nginx, ends the house in
-three ways, waits for a close by the timer, and removes it all. DEBIAN is the folder of that Debian; one that isn't there is
-made from Debian's archive, in some minutes, and kept. The last line is 'N checks, M wrong'.
+What the gateway's queue does, that of the service does too, but for the lines of DIFFERENT. Each link of the documents in the
+package leads to a file of it, and bash completes what the program's help has. Where a superuser runs this, and
+debootstrap and systemd-nspawn are there, a plain Debian boots that has no more than what the package names, and plain_debian.sh
+tries the package there: an older one is installed, which lacks a line of nginx's files; two cities are set up, members bid
+through nginx, the house ends in three ways, and the timer closes an item. One house has a full disk for a moment and is then
+damaged, beside the other, and its watch, its alarm and Debian's Prometheus tell. The newer package is installed over the older
+one, and has to run at once; a clock that was far ahead, and one that is days behind, let no command through, until a copy is
+restored, or somebody says that the clock is right; a city is taken over from a server that ends; a copy is taken; and the package is removed, installed again and purged. Then such a Debian that
+never had a house boots, and fresh_debian.sh restores the city from the copy, whose members sign in as before. DEBIAN is the folder of that Debian; one that isn't
+there is made from Debian's archive, in some minutes, and kept. The last line is 'N checks, M wrong'.
 """
 import os
 import pathlib
@@ -19,36 +25,81 @@ from sent import PATIENCE
 from served import CHECKS, check
 
 ROOT = pathlib.Path(__file__).resolve().parent.parent
-PACKAGES = "systemd,systemd-sysv,dbus,adduser,nginx-light,haproxy,curl,openssl"
+PACKAGES = "systemd,systemd-sysv,dbus,adduser,nginx-light,haproxy,curl,openssl,python3,prometheus"
 UNIT = """[Unit]
 After=multi-user.target
 [Service]
 Type=exec
-ExecStart=/bin/sh -c "sh /trial/plain_debian.sh > /trial/printed 2>&1; systemctl poweroff"
+ExecStart=/bin/sh -c "sh /trial/SCRIPT >> /trial/printed 2>&1; systemctl poweroff"
 """
 PRICE = '"price":500'
+HOUSES = "/var/lib/auction/lindow/house /var/lib/auction/mere/house /var/lib/auction/tarn/house "
 WANTED = {
-    "installed": "0", "waits for a house": "inactive", "set up printed": "", "members": "house 0 ana 1 ben 2 ",
-    "category": '{"category":1}', "item": '{"item":1}', "due": '{"item":2}',
+    "installed": "0", "set up lindow": "0", "set up tarn": "0", "members of lindow": "house 0 ana 1 ben 2 ",
+    "members of tarn": "house 0 ana 1 ben 2 ", "category": '{"category":1}', "item": '{"item":1}', "due": '{"item":2}',
     "bid": '{"count":1,"floor":550,"leader":2,"price":500}', "another page": '{"error":"gateway","why":"foreign"}',
-    "no sign-in": '{"error":"gateway","why":"sign-in"}', "another user, the queue": "7", "another user, the house": "7",
-    "another user, the files": "1", "after SIGTERM": PRICE, "after SIGKILL": PRICE, "after its count": PRICE,
-    "closed by the timer": '"state":"unsold"', "failed": "", "removed": "0", "nginx after it": "0",
-    "active after it": "inactive inactive inactive ", "purged": "0", "left": "/var/lib/auction ",
-    "the house": "/var/lib/auction/house", "end": "",
+    "no sign-in": '{"error":"gateway","why":"sign-in"}', "another city": '{"error":"gateway","why":"sign-in"}',
+    "another user, the queue": "7", "another user, the house": "7", "another user, house": "1", "another user, users": "1",
+    "another user, members.map": "1", "another user, key.pem": "1", "the house sees": "lindow",
+    "after SIGTERM": PRICE, "after SIGKILL": PRICE, "after its count": PRICE, "closed by the timer": '"state":"unsold"',
+    "a full disk": '{"error":"store"}', "its line": "status 500 to POST /items after: store", "with room again": "0",
+    "a damaged house": "failed", "the other city": PRICE, "alerts": "1", "series": "6", "waited in vain": None,
+    "the watch failed too": "0", "alarms": "1", "started with wrong words": "1",
+    "header of the older package": "0", "upgraded": "0", "the same auction@lindow": "1", "the same auction-queue@lindow": "1",
+    "the same auction@tarn": "1", "program that runs": "/usr/bin/auction", "header of the newer package": "1",
+    "after the upgrade": PRICE, "failed": "", "removed": "0", "nginx after it": "0", "active after it": "",
+    "installed again": "0", "after it": PRICE, "purged": "0", "left": "/var/backups/auction /var/lib/auction ",
+    "a clock ahead": '{"error":"gateway","why":"clock"}', "a read meanwhile": "200", "the watch says": "no command is let through",
+    "restored after it": "0", "a command after it": "201", "days behind": '{"error":"gateway","why":"clock"}',
+    "another day": "1", "the right day": "0", "a command then": "201",
+    "taken over": "0", "not before the other one ended": "0", "a command after the take-over": "201",
+    "copied": "success", "its age": "the newest copy is 0 minutes old",
+    "a copy has": "./house ./settings/cert.pem ./settings/host ./settings/key.pem ./settings/members.map ./settings/site.conf "
+                  "./settings/users ",
+    "fresh, installed": "0", "fresh, restored": "0", "fresh, the price": PRICE,
+    "fresh, a bid": '{"count":2,"floor":550,"leader":2,"price":500}', "fresh, no sign-in": '{"error":"gateway","why":"sign-in"}',
+    "fresh, owner": "auction 600", "fresh, rights": "root:www-data 640 root:root 600 ", "fresh, restored again": "0",
+    "fresh, the price again": PRICE, "fresh, a third time": "is there already", "fresh, killed by its filter": "0", "fresh, failed": "",
+    "the houses": HOUSES, "end": "",
 }
+LINK = re.compile(r"\]\((?!https?:)([^)#\s]+)(?:#[^)\s]*)?\)")
+FENCED = re.compile(r"^```.*?^```$", re.M | re.S)
 MOST_EXPOSED = 1.5
+SCRIPTS = ["plain_debian.sh", "fresh_debian.sh"]
+# What of the gateway's queue that of the service does in its own way: nginx counts what a name asks there.
+DIFFERENT = {"http-request track-sc0 req.hdr(x-member) table members unless { req.hdr(x-member) 0 }",
+             'http-request return status 429 content-type application/json string \'{"error":"gateway","why":"often"}\' '
+             "if { sc_http_req_rate(0) gt 200 }",
+             "bind unix@run/queue.sock mode 600", "timeout queue 55s", "retries 30", "option http-server-close",
+             'server house "127.0.0.1:${HOUSE_PORT}" maxconn 1'}
+
+
+def build(program, folder, examples=ROOT / "examples", **settings):
+    subprocess.run(["sh", examples / "package" / "build.sh", program, folder], env=os.environ | settings, check=True,
+                   stdout=subprocess.DEVNULL)
+    return max(pathlib.Path(folder).glob("auction_*.deb"), key=lambda file: file.stat().st_mtime)
 
 
 def built(program, folder):
     """The package, which is made twice."""
-    words = ["sh", ROOT / "examples" / "package" / "build.sh", program]
+    package = build(program, folder)
     with tempfile.TemporaryDirectory() as other:
-        for place in (folder, other):
-            subprocess.run([*words, place], check=True, stdout=subprocess.DEVNULL)
-        package = max(pathlib.Path(folder).glob("auction_*.deb"), key=lambda file: file.stat().st_mtime)
-        check("the same bytes", package.read_bytes() == (pathlib.Path(other) / package.name).read_bytes(), True)
+        check("the same bytes", package.read_bytes() == build(program, other).read_bytes(), True)
     return package
+
+
+def build_older(program, folder):
+    """A package of an older version, whose servers do not say to whom a browser may name a page."""
+    with tempfile.TemporaryDirectory() as name:
+        tree = pathlib.Path(name)
+        shutil.copytree(ROOT / "examples", tree / "examples")
+        for part in ("docs", "bench"):
+            shutil.copytree(ROOT / part, tree / part, ignore=shutil.ignore_patterns("plain"))
+        for file in ("README.md", "crates.txt"):
+            shutil.copy(ROOT / file, tree)
+        servers = tree / "examples" / "gateway" / "server.conf"
+        servers.write_text("".join(line for line in servers.read_text().splitlines(True) if "Referrer-Policy" not in line))
+        build(program, folder, tree / "examples", VERSION="0.9", SOURCE_DATE_EPOCH="0")
 
 
 def has_page(package):
@@ -58,27 +109,93 @@ def has_page(package):
     check("the page", packed, {file.name for file in (ROOT / "examples" / "gateway" / "page").iterdir()})
 
 
+def has_documents(package):
+    """The documents are in the package, and each of their links leads to another file of it."""
+    with tempfile.TemporaryDirectory() as name:
+        subprocess.run(["dpkg-deb", "--extract", package, name], check=True)
+        folder = pathlib.Path(name).resolve() / "usr" / "share" / "doc" / "auction"
+        pages = sorted(folder.rglob("*.md"))
+        check("documents", {"RUNNING.md", "HTTP.md"} <= {page.name for page in pages}, True)
+        for page in pages:
+            for target in LINK.findall(FENCED.sub("", page.read_text())):
+                check(f"{page.relative_to(folder)} to {target}", (page.parent / target).exists(), True)
+
+
+def completed(*words):
+    result = subprocess.run(["bash", ROOT / "tests" / "completion.sh", "auction", *words], capture_output=True, text=True)
+    return set(result.stdout.split())
+
+
+def has_completion(program):
+    """bash completes each command and each option that the program's help has."""
+    commands = set(re.findall(r"^  ([a-z]+)  ", helped(program), re.M))
+    check("commands", completed(""), commands | {"--version", "--help"})
+    for command in commands - {"help"}:
+        check(f"options of {command}", completed(command, "--"), set(re.findall(r"^ +(?:-\w, )?(--[a-z]+)", helped(program, command), re.M)))
+
+
+def helped(program, *words):
+    return subprocess.run([program, *words, "--help"], capture_output=True, text=True, check=True).stdout
+
+
+def lines_of(text):
+    """The lines of a configuration of haproxy that are no comments, without their places."""
+    return {line.strip() for line in text.splitlines() if line.strip() and not line.strip().startswith("#")}
+
+
+def has_queue():
+    """The queue of the service does what that of the gateway does, on which the premise of the proofs rests. The gateway's
+    other sections are of its sign-in."""
+    gateway, service = ((ROOT / "examples" / name / "queue.cfg").read_text() for name in ("gateway", "service"))
+    check("the queue", lines_of(gateway.partition("# How often a member asks")[0]) - lines_of(service), DIFFERENT)
+
+
 def lint(package):
     result = subprocess.run(["lintian", "--fail-on", "warning,error", package], capture_output=True, text=True)
     check("lintian", (result.returncode, result.stdout), (0, ""))
 
 
 def make_debian(place):
-    subprocess.run(["debootstrap", "--variant=minbase", f"--include={PACKAGES}", "bookworm", place,
-                    "http://deb.debian.org/debian"], check=True, stdout=subprocess.DEVNULL)
+    result = subprocess.run(["debootstrap", "--variant=minbase", f"--include={PACKAGES}", "bookworm", place,
+                             "http://deb.debian.org/debian"], stdout=subprocess.DEVNULL)
+    if result.returncode != 0:
+        shutil.rmtree(place, ignore_errors=True)
 
 
-def boot(debian, package):
-    """What plain_debian.sh tells in a Debian that forgets it all afterwards."""
+def has_debian(place):
+    """Whether there is a plain Debian at a place, which is made where nothing is, with all that the package needs."""
+    if os.geteuid() != 0 or not shutil.which("systemd-nspawn"):
+        print("not installed: that needs a superuser and systemd-nspawn")
+        return False
+    if not place.exists() and shutil.which("debootstrap"):
+        make_debian(place)
+    lists = place / "var" / "lib" / "dpkg" / "info"
+    lacking = [package for package in PACKAGES.split(",") if not (lists / f"{package}.list").exists()]
+    if lacking:
+        print(f"not installed: {place} lacks {', '.join(lacking)}; debootstrap makes one where nothing is, from Debian's archive")
+    return not lacking
+
+
+def boot(debian, trial, script):
+    """Runs a script in a Debian that forgets it all afterwards, but for what is in the folder of the trial."""
+    (trial / "trial.service").write_text(UNIT.replace("SCRIPT", script))
+    subprocess.run(["systemd-nspawn", "--quiet", "--boot", "--private-network", "--volatile=overlay", "--register=no",
+                    "--keep-unit", f"--directory={debian}", f"--bind={trial}:/trial",
+                    f"--bind-ro={trial}/trial.service:/etc/systemd/system/trial.service", "systemd.wants=trial.service"],
+                   stdin=subprocess.DEVNULL, capture_output=True, timeout=2 * PATIENCE)
+
+
+def tried(debian, program, package):
+    """What the scripts tell: one tries the package, one restores its copy where no house was."""
     with tempfile.TemporaryDirectory() as name:
         trial = pathlib.Path(name)
-        shutil.copy(package, trial)
-        shutil.copy(ROOT / "tests" / "plain_debian.sh", trial)
-        (trial / "trial.service").write_text(UNIT)
-        subprocess.run(["systemd-nspawn", "--quiet", "--boot", "--private-network", "--volatile=overlay", "--register=no",
-                        "--keep-unit", f"--directory={debian}", f"--bind={trial}:/trial",
-                        f"--bind-ro={trial}/trial.service:/etc/systemd/system/trial.service", "systemd.wants=trial.service"],
-                       stdin=subprocess.DEVNULL, capture_output=True, timeout=2 * PATIENCE)
+        build_older(program, trial / "older")
+        (trial / "newer").mkdir()
+        shutil.copy(package, trial / "newer")
+        for script in ("asking.sh", *SCRIPTS):
+            shutil.copy(ROOT / "tests" / script, trial)
+        for script in SCRIPTS:
+            boot(debian, trial, script)
         file = trial / "printed"
         return file.read_text() if file.exists() else "it did not boot"
 
@@ -92,6 +209,7 @@ def judge(text):
         exposure = printed.get(f"exposure of {unit}")
         print(f"{unit}: exposure {exposure}")
         check(f"exposure of {unit}", exposure is not None and float(exposure) < MOST_EXPOSED, True)
+    print(f"a city restored on a fresh machine in {printed.get('fresh, seconds')} s, from the boot to the last bid")
     if not all(CHECKS):
         print(text)
 
@@ -100,17 +218,16 @@ def main():
     package = built(*sys.argv[1:3])
     print(f"{package}: {package.stat().st_size} bytes")
     has_page(package)
+    has_queue()
+    has_documents(package)
+    has_completion(sys.argv[1])
     if shutil.which("lintian"):
         lint(package)
     else:
         print("lintian is missing, so nobody read the package")
     debian = pathlib.Path((sys.argv[3:] + [f"{sys.argv[2]}/debian"])[0])
-    if os.geteuid() == 0 and shutil.which("systemd-nspawn") and (debian.exists() or shutil.which("debootstrap")):
-        if not debian.exists():
-            make_debian(debian)
-        judge(boot(debian, package))
-    else:
-        print("not installed: that needs a superuser, debootstrap and systemd-nspawn")
+    if has_debian(debian):
+        judge(tried(debian, sys.argv[1], package))
     print(f"{len(CHECKS)} checks, {CHECKS.count(False)} wrong")
     return 1 if not all(CHECKS) else 0
 

@@ -1,86 +1,270 @@
 #!/bin/sh
-# Runs as root in a plain Debian that has booted with systemd, and in which /trial has the package: it installs and
-# runs it, as examples/service/README.md says, and removes it. Prints lines of a name and what was printed, of which
-# package.py knows what they have to be.
+# Runs as root in a plain Debian that has booted with systemd, and in which /trial has two packages: it installs the older
+# one, sets up two cities as examples/service/README.md says, runs them, installs the newer one over it, and removes it.
+# Prints lines of a name and what was printed, of which package.py knows what they have to be.
 set -u
 cd /trial
 export DEBIAN_FRONTEND=noninteractive
-name=auction.example
 
-say() {
-    printf '%s: %s\n' "$1" "$2"
+. ./asking.sh
+
+set_up() {
+    say "set up $1" "$(sh /usr/share/auction/setup.sh "$1" "$1.example" 2>&1 > /dev/null; echo $?)"
+    sh /usr/share/auction/add_member.sh "/etc/auction/$1" house ana ben > "$1.passwords"
+    say "members of $1" "$(cut -d ' ' -f 1,2 "$1.passwords" | tr '\n' ' ')"
+    wait_until "ask $1 ben /me/bids/1 | grep -q bids"
 }
 
-# What a member is answered through nginx.
-ask() {
-    who=$1 path=$2
-    shift 2
-    curl -s --max-time 60 --cacert /etc/auction/cert.pem --resolve "$name:443:127.0.0.1" \
-        -u "$who:$(sed -n "s/^$who [0-9]* //p" passwords)" "$@" "https://$name/api$path"
+trade() {
+    end=$(($(date +%s) + 20))
+    say category "$(ask lindow house /categories -d '{"name":"Books"}')"
+    say item "$(ask lindow ana /items -d '{"category":1,"end":4102444800,"lot":"A1","start":500,"text":"","title":"Atlas"}')"
+    say due "$(ask lindow ana /items -d "{\"category\":1,\"end\":$end,\"lot\":\"A2\",\"start\":500,\"text\":\"\",\"title\":\"Globe\"}")"
+    say bid "$(ask lindow ben /items/1/bids -d '{"maximum":500}')"
+    say "another page" "$(ask lindow ben /items/1/bids -d '{"maximum":900}' -H 'Origin: https://evil.example')"
+    say "no sign-in" "$(curl -s -k --resolve lindow.example:443:127.0.0.1 https://lindow.example/api/house)"
+    say "another city" "$(curl -s --cacert /etc/auction/tarn/cert.pem \
+        --resolve tarn.example:443:127.0.0.1 -u "ben:$(sed -n 's/^ben [0-9]* //p' lindow.passwords)" https://tarn.example/api/house)"
 }
 
-# Waits until a command succeeds, for two minutes at most.
-wait_until() {
-    for _ in $(seq 600); do
-        if eval "$1"; then
-            return 0
-        fi
-        sleep 0.2
+# Prometheus reads what the queues and the watches tell, by the rules of the package.
+begin_to_watch() {
+    cp /usr/share/doc/auction/examples/prometheus.yml /etc/prometheus/
+    systemctl restart prometheus
+}
+
+# What Prometheus answers to a query, as its number, or nothing.
+query() {
+    curl -s --data-urlencode "query=$1" http://127.0.0.1:9090/api/v1/query | grep -o '"[0-9]*"\]' | tr -d '"]'
+}
+
+alarms() {
+    journalctl -t auction-alarm -o cat | grep -c "^$1 has failed"
+}
+
+# A disk that is full for a moment: the house is started anew, and goes on.
+fill_disk() {
+    systemctl stop auction@tarn
+    cp -a /var/lib/auction/tarn /trial/tarn
+    mount -t tmpfs -o size=700k,mode=700,uid=auction,gid=auction tmpfs /var/lib/auction/tarn
+    cp -a /trial/tarn/. /var/lib/auction/tarn/
+    systemctl start auction@tarn
+    ask tarn house /categories -d '{"name":"Books"}' > /dev/null
+    for lot in $(seq 1000); do
+        ask tarn ana /items -d "{\"category\":1,\"end\":4102444800,\"lot\":\"$lot\",\"start\":500,\"text\":\"\",\"title\":\"Atlas\"}" > answer
+        ! grep -q store answer || break
     done
-    say "waited in vain" "$1"
+    say "a full disk" "$(cat answer)"
+    say "its line" "$(journalctl -u auction-queue@tarn -o cat | grep -o 'status 500 to POST /items.*: store' | sed 's/after [0-9]* ms/after/' | head -1)"
+    mount -o remount,size=10m /var/lib/auction/tarn
+    begun=$(date +%s)
+    wait_until 'ask tarn ana /items/1 | grep -q Atlas'
+    say "with room again" "$([ $(($(date +%s) - begun)) -lt 30 ]; echo $?)"
+}
+
+# A house that is damaged fails its unit, somebody is told, and another city goes on.
+damage() {
+    systemctl stop auction@tarn
+    cp -a /var/lib/auction/tarn/house whole
+    printf damaged > /var/lib/auction/tarn/house
+    begun=$(date +%s)
+    systemctl start auction@tarn
+    wait_until 'systemctl is-failed --quiet auction@tarn'
+    say "a damaged house" "$(systemctl is-failed auction@tarn)"
+    echo "failed after $(($(date +%s) - begun)) s" >&2
+    wait_until '[ "$(alarms auction@tarn.service)" -gt 0 ]'
+    say "the other city" "$(ask lindow ben /items/1 | tr ',' '\n' | grep price)"
+}
+
+# What was seen meanwhile; then the house is whole again.
+mend() {
+    wait_until "[ -n \"\$(query 'ALERTS{alertname=\"AuctionAway\", alertstate=\"firing\", city=\"tarn\"}')\" ]"
+    say "alerts" "$(query 'count(ALERTS{alertname="AuctionAway", alertstate="firing"})')"
+    say "series" "$(query 'count({__name__=~"auction_.*|haproxy_backend_current_queue", city="lindow"})')"
+    wait_until '[ "$(alarms auction-watch@tarn.service)" -gt 0 ]'
+    say "the watch failed too" "$([ "$(alarms auction-watch@tarn.service)" -gt 0 ]; echo $?)"
+    say "alarms" "$(alarms auction@tarn.service)"
+    cp -a whole /var/lib/auction/tarn/house
+    systemctl reset-failed auction@tarn
+    systemctl start auction@tarn
+    wait_until 'ask tarn ana /items/1 | grep -q Atlas'
+    sed -i 's/^COUNT=.*/COUNT=none/' /etc/default/auction
+    systemctl restart auction@tarn
+    wait_until 'systemctl is-failed --quiet auction@tarn'
+    say "started with wrong words" "$(($(systemctl show -P NRestarts auction@tarn) + 1))"
+    sed -i 's/^COUNT=.*/COUNT=1000000/' /etc/default/auction
+    systemctl stop auction@tarn
+    umount /var/lib/auction/tarn
+    systemctl reset-failed
+    systemctl start auction@tarn
+}
+
+others_reach_nothing() {
+    runuser -u nobody -- curl -s --max-time 5 --unix-socket /run/auction/lindow/queue.sock http://house/house > /dev/null 2>&1
+    say "another user, the queue" "$?"
+    runuser -u nobody -- curl -s --max-time 5 http://127.0.0.1:8080/house > /dev/null 2>&1
+    say "another user, the house" "$?"
+    for file in /var/lib/auction/lindow/house /etc/auction/lindow/users /etc/auction/lindow/members.map /etc/auction/lindow/key.pem; do
+        runuser -u nobody -- cat "$file" > /dev/null 2>&1
+        say "another user, $(basename "$file")" "$?"
+    done
+    nsenter -t "$(systemctl show -P MainPID auction@lindow)" -m -- ls /var/lib/auction > seen
+    say "the house sees" "$(cat seen)"
 }
 
 # What is printed of the house once it is served again after what a line of shell does.
 again() {
-    before=$(systemctl show -P NRestarts auction)
+    before=$(systemctl show -P NRestarts auction@lindow)
     eval "$2"
-    wait_until "[ \"\$(systemctl show -P NRestarts auction)\" -gt $before ]"
-    say "$1" "$(ask ben /items/1 | tr ',' '\n' | grep price)"
+    wait_until "[ \"\$(systemctl show -P NRestarts auction@lindow)\" -gt $before ]"
+    say "$1" "$(price)"
+}
+
+starts_again() {
+    again "after SIGTERM" 'systemctl kill --kill-whom=main -s TERM auction@lindow'
+    again "after SIGKILL" 'systemctl kill --kill-whom=main -s KILL auction@lindow'
+    sed -i 's/^COUNT=.*/COUNT=1/' /etc/default/auction
+    systemctl restart auction@lindow
+    price > /dev/null
+    again "after its count" 'systemctl restart auction-queue@lindow'
+    sed -i 's/^COUNT=.*/COUNT=1000000/' /etc/default/auction
+    systemctl restart auction@lindow
+}
+
+expose() {
+    for unit in auction auction-queue auction-close; do
+        say "exposure of $unit" \
+            "$(systemd-analyze security "$unit@lindow.service" --no-pager | tail -1 | grep -o '[0-9]*\.[0-9]')"
+    done
+}
+
+pids() {
+    systemctl show -P MainPID "auction@$1" "auction-queue@$1" nginx | tr '\n' ' '
+}
+
+header() {
+    ask lindow ben /house -D - -o /dev/null | grep -ci "^$1:"
+}
+
+upgrade() {
+    for unit in auction@lindow auction-queue@lindow auction@tarn; do
+        systemctl show -P MainPID "$unit" > "$unit.before"
+    done
+    say "header of the older package" "$(header referrer-policy)"
+    say upgraded "$(apt-get install -y --no-install-recommends ./newer/auction_*.deb > upgrade.log 2>&1; echo $?)"
+    wait_until 'ask lindow ben /house | grep -q clock'
+    for unit in auction@lindow auction-queue@lindow auction@tarn; do
+        say "the same $unit" "$([ "$(systemctl show -P MainPID "$unit")" = "$(cat "$unit.before")" ]; echo $?)"
+    done
+    say "program that runs" "$(readlink "/proc/$(systemctl show -P MainPID auction@lindow)/exe")"
+    say "header of the newer package" "$(header referrer-policy)"
+    say "after the upgrade" "$(price)"
+}
+
+# What the house of a city answers to a command, as a status.
+command_status() {
+    ask "$1" house /categories -d "{\"name\":\"$2\"}" -o /dev/null -w '%{http_code}'
+}
+
+# One close in the year 2036, as of a machine that booted with a wrong clock. The kept connection would hold up who comes beside it.
+close_ahead() {
+    systemctl stop auction-close@tarn.timer auction-watch@tarn.timer auction-queue@tarn
+    nsenter -t "$(systemctl show -P MainPID auction@tarn)" -n -- \
+        curl -s -X POST http://127.0.0.1:8080/close -H 'x-member: 0' -H 'x-moment: 2082758400' > /dev/null
+    systemctl start auction-queue@tarn auction-watch@tarn.timer
+}
+
+newest() {
+    ls -d "/var/backups/auction/$1"/2* | tail -1
+}
+
+clock_ahead() {
+    systemctl start auction-copy@tarn
+    close_ahead
+    say "a clock ahead" "$(ask tarn house /categories -d '{"name":"Maps"}')"
+    say "a read meanwhile" "$(ask tarn ana /house -o /dev/null -w '%{http_code}')"
+    wait_until 'journalctl -u auction-watch@tarn -o cat | grep -q "no command is let through"'
+    say "the watch says" "$(journalctl -u auction-watch@tarn -o cat | grep -o 'no command is let through' | head -1)"
+    say "restored after it" "$(sh /usr/share/auction/restore_city.sh "$(newest tarn)" tarn > restored.log 2>&1; echo $?)"
+    cat restored.log
+    wait_until 'ask tarn ana /house | grep -q clock'
+    say "a command after it" "$(command_status tarn Maps)"
+}
+
+# A house whose last command is three days old.
+days_behind() {
+    install -d -o auction -g auction -m 700 /var/lib/auction/mere
+    runuser -u auction -- auction init /var/lib/auction/mere/house --bands /usr/share/auction/bands.csv --rate 1000 --zone UTC0 > /dev/null
+    runuser -u auction -- auction serve /var/lib/auction/mere/house --port 8090 --count 2 > /dev/null &
+    wait_until 'curl -s -X POST http://127.0.0.1:8090/close -H "x-member: 0" -H "x-moment: $(($(date +%s) - 259200))" > /dev/null'
+    curl -s http://127.0.0.1:8090/house > /dev/null
+    wait
+    sh /usr/share/auction/setup.sh mere mere.example > /dev/null 2>&1
+    sh /usr/share/auction/add_member.sh /etc/auction/mere house > mere.passwords
+    wait_until 'ask mere house /house | grep -q clock'
+    say "days behind" "$(ask mere house /categories -d '{"name":"Maps"}')"
+    say "another day" "$(sh /usr/share/auction/clock_is_right.sh mere 2020-01-01 > /dev/null 2>&1; echo $?)"
+    say "the right day" "$(sh /usr/share/auction/clock_is_right.sh mere "$(date +%F)" > /dev/null 2>&1; echo $?)"
+    say "a command then" "$(command_status mere Maps)"
+    systemctl reset-failed
+}
+
+# A city is taken over from another server, which ends after some seconds and has the house's lock until then.
+take_over() {
+    for unit in auction-close@mere.timer auction-watch@mere.timer auction-copy@mere.timer auction-queue@mere auction@mere; do
+        systemctl disable --quiet --now "$unit"
+    done
+    runuser -u auction -- auction serve /var/lib/auction/mere/house --port 8090 --count 1000 > /dev/null 2>&1 &
+    other=$!
+    sleep 1
+    (sleep 6; kill "$other") &
+    begun=$(date +%s)
+    say "taken over" "$(sh /usr/share/auction/take_over.sh mere > /dev/null 2>&1; echo $?)"
+    say "not before the other one ended" "$([ $(($(date +%s) - begun)) -ge 5 ]; echo $?)"
+    wait_until 'ask mere house /house | grep -q clock'
+    say "a command after the take-over" "$(command_status mere Prints)"
+}
+
+# A copy for fresh_debian.sh, of which the timer makes one each hour.
+copy() {
+    systemctl start auction-copy@lindow
+    say copied "$(systemctl show -P Result auction-copy@lindow)"
+    say "its age" "$(journalctl -u auction-copy@lindow -o cat | grep -o 'the newest copy is .*, [0-9]* minutes old' | sed 's/is .*,/is/')"
+    say "a copy has" "$(cd "$(newest lindow)" && find . -type f | sort | tr '\n' ' ')"
+    cp -a "$(newest lindow)" /trial/copy
+}
+
+remove() {
+    say removed "$(apt-get remove -y auction > remove.log 2>&1; echo $?)"
+    say "nginx after it" "$(nginx -t > /dev/null 2>&1; echo $?)"
+    say "active after it" "$(systemctl list-units --plain --no-legend 'auction*' | tr '\n' ' ')"
+    say "installed again" "$(apt-get install -y --no-install-recommends ./newer/auction_*.deb > again.log 2>&1; echo $?)"
+    wait_until 'ask lindow ben /house | grep -q clock'
+    say "after it" "$(price)"
+    say purged "$(apt-get purge -y auction > purge.log 2>&1; echo $?)"
+    say left "$(find / -xdev -path /trial -prune -o -path /proc -prune -o -path /usr/share/doc -prune -o -name '*auction*' -print | sort | tr '\n' ' ')"
+    say "the houses" "$(find /var/lib/auction -name house -size +0 | sort | tr '\n' ' ')"
 }
 
 systemctl is-system-running --wait > /dev/null
-say installed "$(apt-get install -y --no-install-recommends ./auction_*.deb > install.log 2>&1; echo $?)"
-say "waits for a house" "$(systemctl is-active auction.service)"
-say "set up" "$(sh /usr/share/auction/setup.sh $name 2> setup.err; echo $?)"
-say "set up printed" "$(cat setup.err)"
-sh /usr/share/auction/add_member.sh /etc/auction house ana ben > passwords
-say members "$(cut -d ' ' -f 1,2 passwords | tr '\n' ' ')"
-wait_until 'ask ben /me/bids/1 | grep -q bids'
-
-end=$(($(date +%s) + 20))
-say category "$(ask house /categories -d '{"name":"Books"}')"
-say item "$(ask ana /items -d "{\"category\":1,\"end\":4102444800,\"lot\":\"A1\",\"start\":500,\"text\":\"\",\"title\":\"Atlas\"}")"
-say due "$(ask ana /items -d "{\"category\":1,\"end\":$end,\"lot\":\"A2\",\"start\":500,\"text\":\"\",\"title\":\"Globe\"}")"
-say bid "$(ask ben /items/1/bids -d '{"maximum":500}')"
-say "another page" "$(ask ben /items/1/bids -d '{"maximum":900}' -H 'Origin: https://evil.example')"
-say "no sign-in" "$(curl -s -k --resolve "$name:443:127.0.0.1" "https://$name/api/house")"
-
-runuser -u nobody -- curl -s --max-time 5 --unix-socket /run/auction/queue.sock http://house/house > /dev/null 2>&1
-say "another user, the queue" "$?"
-runuser -u nobody -- curl -s --max-time 5 http://127.0.0.1:8080/house > /dev/null 2>&1
-say "another user, the house" "$?"
-runuser -u nobody -- cat /var/lib/auction/house /etc/auction/users /etc/auction/members.map /etc/auction/key.pem > /dev/null 2>&1
-say "another user, the files" "$?"
-
-again "after SIGTERM" 'systemctl kill --kill-whom=main -s TERM auction'
-again "after SIGKILL" 'systemctl kill --kill-whom=main -s KILL auction'
-sed -i 's/^COUNT=.*/COUNT=5/' /etc/default/auction
-systemctl restart auction
-again "after its count" 'for _ in 1 2 3 4 5; do ask ben /house > /dev/null; done'
-wait_until 'ask ben /items/2 | grep -q "\"state\":\"unsold\""'
-say "closed by the timer" "$(ask ben /items/2 | tr ',' '\n' | grep state)"
-
-for unit in auction auction-queue auction-close; do
-    say "exposure of $unit" "$(systemd-analyze security "$unit.service" --no-pager | tail -1 | grep -o '[0-9]*\.[0-9]')"
-done
+say installed "$(apt-get install -y --no-install-recommends ./older/auction_*.deb > install.log 2>&1; echo $?)"
+set_up lindow
+set_up tarn
+begin_to_watch
+trade
+fill_disk
+damage
+others_reach_nothing
+starts_again
+wait_until 'ask lindow ben /items/2 | grep -q "\"state\":\"unsold\""'
+say "closed by the timer" "$(ask lindow ben /items/2 | tr ',' '\n' | grep state)"
+expose
+mend
 say failed "$(systemctl list-units --failed --plain --no-legend)"
-
-say removed "$(apt-get remove -y auction > remove.log 2>&1; echo $?)"
-say "nginx after it" "$(nginx -t > /dev/null 2>&1; echo $?)"
-say "active after it" "$(systemctl is-active auction auction-queue auction-close.timer | tr '\n' ' ')"
-say "kept by remove" "$(cd /etc/auction && echo *)"
-say purged "$(apt-get purge -y auction > purge.log 2>&1; echo $?)"
-say left "$(find / -xdev -path /trial -prune -o -path /proc -prune -o -path /usr/share/doc -prune -o -name '*auction*' -print | sort | tr '\n' ' ')"
-say "the house" "$(find /var/lib/auction -name house -size +0)"
+upgrade
+clock_ahead
+days_behind
+take_over
+copy
+remove
 say end "$(systemctl list-units --failed --plain --no-legend)"
-systemctl poweroff

@@ -6,8 +6,9 @@ log anew with another salt. Between these two moments the file stands still, and
 then of the log, is what a crash could have left. If the file's time or size, or the log's salt, is another one after the
 copying, both are copied again.
 
-SQLite reads the whole copy, makes one file of the two, and looks for faults. Then the copy gets its name. It holds what the
-house had answered when this began. Nobody is disturbed.
+SQLite reads the whole copy, makes one file of the two, and looks for faults. What is no house of version 2 is refused. Then the
+copy gets its name. It holds what the house had answered when this began. Nobody is disturbed. A copy that fails leaves nothing
+behind.
 """
 import contextlib
 import os
@@ -21,10 +22,12 @@ import time
 STILL = 0.1
 TIMES = 1000
 SALT = slice(16, 24)
+VERSION = 2
+TABLES = {"band", "bid", "category", "edition", "feedback", "house", "item", "later_band", "member", "question", "reserve", "watch"}
 
 
 class Unsound(Exception):
-    """SQLite's words for what is wrong with a copy."""
+    """What is wrong with a copy."""
 
 
 def log_of(house):
@@ -62,13 +65,26 @@ def copy_both(house, copy):
     return state(house) == before
 
 
+def version_of(database):
+    """The version of a house, of which there is none where the tables are not those of a house."""
+    tables = {name for (name,) in database.execute("SELECT name FROM sqlite_schema WHERE type = 'table'")}
+    if "house" not in tables:
+        return None
+    rows = database.execute("SELECT version FROM house").fetchall()
+    version = rows[0][0] if len(rows) == 1 else None
+    return None if version == VERSION and tables != TABLES else version
+
+
 def make_one_file(copy):
-    """Has SQLite write the copy's log into its file, and look for faults."""
+    """Has SQLite write the copy's log into its file, and look for faults. It has to be a house."""
     with contextlib.closing(sqlite3.connect(copy)) as database:
         faults = [fault for (fault,) in database.execute("PRAGMA integrity_check") if fault != "ok"]
         faults += [f"row {row} of {table}" for table, row, *_ in database.execute("PRAGMA foreign_key_check")]
+        version = version_of(database)
     if faults:
         raise Unsound("; ".join(faults[:3]))
+    if version != VERSION:
+        raise Unsound("it is no house" if version is None else f"it is a house of version {version}, not of {VERSION}")
 
 
 def keep(file):
@@ -78,22 +94,38 @@ def keep(file):
     os.close(handle)
 
 
-def copy_house(house, copy):
-    """Makes the copy, and tells how many times it was begun."""
-    begun = copy.with_name(copy.name + ".begun")
+def remove(copy):
+    for file in (copy, log_of(copy), copy.with_name(copy.name + "-shm")):
+        file.unlink(missing_ok=True)
+
+
+def make_sound(house, begun):
+    """Makes a sound copy, and tells how many times it was begun."""
     for times in range(1, TIMES + 1):
         if copy_both(house, begun):
-            break
-    else:
-        raise Unsound("the house never stood still")
-    make_one_file(begun)
-    keep(begun)
+            make_one_file(begun)
+            keep(begun)
+            return times
+    raise Unsound("the house never stood still")
+
+
+def copy_house(house, copy):
+    """Makes the copy, and tells how many times it was begun. One that fails leaves no room taken."""
+    begun = copy.with_name(copy.name + ".begun")
+    try:
+        times = make_sound(house, begun)
+    except BaseException:
+        remove(begun)
+        raise
     begun.rename(copy)
     keep(copy.parent)
     return times
 
 
 def main():
+    if len(sys.argv) != 3:
+        print("copy_house.py: its words are HOUSE COPY", file=sys.stderr)
+        return 2
     house, copy = (pathlib.Path(word).resolve() for word in sys.argv[1:])
     os.umask(0o077)
     if copy.exists():

@@ -1,8 +1,9 @@
 #!/usr/bin/env python3
 """Puts a copy in the place of a house that nobody serves: `restore_house.py COPY HOUSE`.
 
-COPY is a file that copy_house.py has made. The house that was there is kept as HOUSE.before. It is refused where SQLite finds a
-fault in the copy, where somebody serves the house, and where HOUSE.before is there already.
+COPY is a file that copy_house.py has made. The house that was there is kept as HOUSE.before, and the copy gets its owner and its
+rights. Where none was there, it gets the owner of the folder, and no other user reads it. It is refused where SQLite finds a
+fault in the copy, where the copy is no house, where somebody serves the house, and where HOUSE.before is there already.
 """
 import contextlib
 import os
@@ -11,7 +12,7 @@ import shutil
 import sqlite3
 import sys
 
-from copy_house import Unsound, keep, log_of, make_one_file
+from copy_house import Unsound, keep, log_of, make_one_file, remove
 
 # A log of fewer bytes holds nothing.
 LEAST_LOG = 100
@@ -24,12 +25,32 @@ def end_log(house):
         database.rollback()
 
 
-def give_to_owner(file, house):
-    """Gives a file the owner and the rights of a house."""
-    owner = house.stat()
-    if (owner.st_uid, owner.st_gid) != (os.getuid(), os.getgid()):
-        os.chown(file, owner.st_uid, owner.st_gid)
-    shutil.copymode(house, file)
+def give_to(owner, file):
+    """Gives a file to the owner of another, or of a folder."""
+    status = owner.stat()
+    if (status.st_uid, status.st_gid) != (os.getuid(), os.getgid()):
+        os.chown(file, status.st_uid, status.st_gid)
+
+
+def put_aside(house, before):
+    """Keeps the house that is there under another name, as one file. What is damaged is kept as it is, with its log."""
+    log = log_of(house)
+    # SQLite may change a damaged house, and its log, as soon as it opens them.
+    shutil.copy2(house, before)
+    if log.exists():
+        shutil.copy2(log, log_of(before))
+    try:
+        end_log(house)
+    except sqlite3.OperationalError:
+        remove(before)
+        raise
+    except sqlite3.DatabaseError:
+        house.unlink()
+    else:
+        log_of(before).unlink(missing_ok=True)
+        house.rename(before)
+    # A log must not lie beside another file than its own.
+    log.unlink(missing_ok=True)
 
 
 def restore_house(copy, house):
@@ -39,21 +60,30 @@ def restore_house(copy, house):
         raise Unsound(f"{copy} has a log beside it: copy_house.py makes one file")
     if before.exists():
         raise Unsound(f"{before} is there already")
-    log_of(begun).unlink(missing_ok=True)
-    shutil.copyfile(copy, begun)
-    make_one_file(begun)
-    keep(begun)
-    if house.exists():
-        end_log(house)
-        give_to_owner(begun, house)
-        # A log that is left holds nothing, and must not lie beside another file.
-        log_of(house).unlink(missing_ok=True)
-        house.rename(before)
+    try:
+        shutil.copyfile(copy, begun)
+        make_one_file(begun)
+        keep(begun)
+        if house.exists():
+            shutil.copymode(house, begun)
+            give_to(house, begun)
+            put_aside(house, before)
+        else:
+            give_to(house.parent, begun)
+    except BaseException:
+        remove(begun)
+        raise
+    # The log of a house that is lost is kept too.
+    if log_of(house).exists():
+        log_of(house).rename(log_of(before))
     begun.rename(house)
     keep(house.parent)
 
 
 def main():
+    if len(sys.argv) != 3:
+        print("restore_house.py: its words are COPY HOUSE", file=sys.stderr)
+        return 2
     copy, house = (pathlib.Path(word).resolve() for word in sys.argv[1:])
     os.umask(0o077)
     try:

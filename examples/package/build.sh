@@ -1,10 +1,11 @@
 #!/bin/sh
 # build.sh PROGRAM FOLDER: makes the package auction_VERSION_ARCHITECTURE.deb in a folder, by dpkg-deb alone.
-# The version is the program's. SOURCE_DATE_EPOCH is the time of all files, so that a build can be repeated.
+# The version is the program's, where VERSION is not another. SOURCE_DATE_EPOCH is the time of all files, so that a build can
+# be repeated.
 set -eu
 here=$(cd "$(dirname "$0")" && pwd)
 program=$1 folder=$2
-version=$("$program" --version)
+version=${VERSION:-$("$program" --version)}
 version=${version#auction }
 architecture=$(dpkg --print-architecture)
 date=${SOURCE_DATE_EPOCH:-$(git -C "$here" log -1 --format=%ct)}
@@ -21,41 +22,41 @@ put() {
     mkdir -p "$place"
     for file in "$@"; do
         case $file in
-            *.sh | *.py) mode=755 ;;
+            *.sh | *.py | */alarm) mode=755 ;;
             *) mode=644 ;;
         esac
         install -m "$mode" "$here/../$file" "$place/"
     done
 }
 
-# The configuration of nginx with the places of the package in it.
-put_gateway() {
-    put usr/share/auction gateway/maps.conf gateway/server.conf gateway/site.conf
-    (cd "$root/usr/share/auction" &&
-        sed -i 's,include houses/\*/members.map,include /etc/auction/members.map,' maps.conf &&
-        sed -i -e '1s,.*,# The house of a host name. setup.sh puts the name for HOST.,' \
-            -e '2i include /usr/share/auction/maps.conf;' \
-            -e 's,unix:houses/HOST/run/queue.sock,unix:/run/auction/queue.sock,' \
-            -e 's,houses/HOST/users,/etc/auction/users,' \
-            -e 's,houses/HOST/page,/usr/share/auction/page,' \
-            -e 's,listen 127.0.0.1:PORT ssl;,listen 443 ssl;,' \
-            -e 's,https://HOST:PORT,https://HOST,' \
-            -e 's,include server.conf;,include /usr/share/auction/server.conf;\n    ssl_certificate /etc/auction/cert.pem;\n    ssl_certificate_key /etc/auction/key.pem;,' \
-            site.conf)
-    put etc/auction gateway/queue.cfg
-    sed -i 's,unix@run/queue.sock mode 600,unix@/run/auction/queue.sock mode 660,' "$root/etc/auction/queue.cfg"
+# The page of the gateway. Here members sign in by the browser's own window, so what its form needs stays out.
+put_page() {
+    page=$root/usr/share/auction/page
+    cp -r "$here/../gateway/page" "$page"
+    (cd "$page" && rm password.html session.js sign-in.css sign-in.html)
+    sed -i '/class="own"/d; /"session.js"/d; /"sign-in.css"/d' "$page/index.html"
+    find "$page" -type d -exec chmod 755 {} + -o -exec chmod 644 {} +
 }
 
 put_documents() {
     documents=$root/usr/share/doc/auction
-    put usr/share/doc/auction package/copyright service/README.md
-    put usr/share/doc/auction/examples/backup backup/copy_house.py backup/restore_house.py backup/README.md
+    put usr/share/doc/auction package/copyright ../README.md ../crates.txt
+    put usr/share/doc/auction/docs $(cd "$here/.." && echo ../docs/*.md ../docs/*.png ../docs/openapi.yaml)
+    put usr/share/doc/auction/bench ../bench/README.md ../bench/TABLE.md
+    for part in service backup gateway replica; do
+        put "usr/share/doc/auction/examples/$part" $(cd "$here/.." && echo "$part"/*.md)
+    done
+    put usr/share/doc/auction/examples service/prometheus.yml
     put usr/share/auction bands.csv
     printf 'auction (%s) unstable; urgency=medium\n\n  * Packaged.\n\n -- %s  %s\n' "$version" \
         "$(sed -n 's/^Maintainer: //p' "$here/control")" "$(date -u -R -d "@$date")" |
         gzip -9n > "$documents/changelog.gz"
     mkdir -p "$root/usr/share/man/man1"
     gzip -9n < "$here/../../docs/auction.1" > "$root/usr/share/man/man1/auction.1.gz"
+}
+
+put_completion() {
+    install -D -m 644 "$here/completion.bash" "$root/usr/share/bash-completion/completions/auction"
 }
 
 put_control() {
@@ -71,13 +72,18 @@ put_control() {
 
 install -D -m 755 "$program" "$root/usr/bin/auction"
 "${STRIP:-strip}" --strip-unneeded --remove-section=.comment --remove-section=.note "$root/usr/bin/auction"
-put lib/systemd/system service/auction.service service/auction-queue.service service/auction-close.service \
-    service/auction-close.timer
+put lib/systemd/system $(cd "$here/.." && echo service/*.service service/*.timer)
 put etc/default package/auction
-put_gateway
-put usr/share/auction service/setup.sh service/add_member.sh
-put usr/share/auction/page $(cd "$here/.." && echo gateway/page/*)
+put etc/auction service/alarm
+put usr/share/auction/nginx $(cd "$here/.." && echo service/nginx/*)
+put usr/share/auction backup/copy_house.py backup/restore_house.py backup/copy_city.py backup/restore_city.sh \
+    backup/snapshot_house.sh
+put usr/share/auction $(cd "$here/.." && echo replica/*.sh)
+put usr/share/auction service/setup.sh service/watch.sh service/clock_is_right.sh \
+    service/queue.cfg service/alerts.yml service/add_member.sh
+put_page
 put_documents
+put_completion
 put_control
 find "$root" -exec touch -h -d "@$date" {} +
 mkdir -p "$folder"

@@ -1,0 +1,75 @@
+#!/bin/sh
+# watch.sh CITY: asks the house of a city what it is, by its queue, and writes what Prometheus reads of it to
+# /run/auction-watch/CITY.prom. Ends with 1 where no answer comes within a minute, or another one than a house's, and where
+# the queue lets no command through, since the two clocks are apart.
+set -u
+city=$1
+unit=auction@$city.service
+
+# What the house says: a page with its clock, or an error.
+asked() {
+    curl --silent --show-error --max-time 60 --unix-socket "/run/auction/$city/queue.sock" --header 'x-member: 0' http://house/house
+}
+
+# When the newest copy was begun.
+newest_copy() {
+    name=$(ls "/var/backups/auction/$city" 2> /dev/null | grep '^[0-9]' | tail -1)
+    [ -z "$name" ] || date -d "$name" +%s
+}
+
+connections() {
+    curl --silent --max-time 5 http://127.0.0.1:9180/nginx | sed -n 's/^Active connections: \([0-9]*\).*/\1/p'
+}
+
+# A line of Prometheus, where there is a number.
+write() {
+    [ -z "$2" ] || echo "$1 $2"
+}
+
+write_metrics() {
+    {
+        write auction_up "$1"
+        write auction_watched_seconds "$(date +%s)"
+        write auction_clock_seconds "$clock"
+        write auction_disk_free_bytes "$(df --block-size=1 --output=avail "/var/lib/auction/$city" | tail -1)"
+        write auction_newest_copy_seconds "$(newest_copy)"
+        write auction_connections "$(connections)"
+    } > "/run/auction-watch/$city.begun"
+    mv "/run/auction-watch/$city.begun" "/run/auction-watch/$city.prom"
+}
+
+# Whether the house's clock and the machine's are within a day. A new house has 0.
+is_near() {
+    apart=$(($(date +%s) - $1))
+    [ "$1" = 0 ] || { [ "$apart" -le 86400 ] && [ "$apart" -ge -86400 ]; }
+}
+
+fail_by_clock() {
+    echo "no command is let through: the clock of the house is $(date -d "@$clock" +%FT%T), the machine's $(date +%FT%T)"
+    exit 1
+}
+
+# A queue that is started anew, as by an upgrade, breaks off what it has begun.
+answer=$(asked) || {
+    sleep 2
+    answer=$(asked)
+}
+clock=$(echo "$answer" | sed -n 's/.*"clock":\([0-9]*\),.*/\1/p')
+if [ -n "$clock" ]; then
+    write_metrics 1
+    is_near "$clock" || fail_by_clock
+    exit 0
+fi
+write_metrics 0
+echo "the house of $city answers: ${answer:-nothing}"
+if [ "$answer" = '{"error":"store"}' ]; then
+    # A house whose file failed answers nothing else until it is started anew.
+    echo "it is started anew"
+    systemctl restart "$unit"
+    exit 0
+fi
+# One that failed thirty times may start now. Within ten minutes of those systemd refuses.
+if systemctl is-failed --quiet "$unit"; then
+    systemctl start "$unit"
+fi
+exit 1

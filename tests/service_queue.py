@@ -1,0 +1,195 @@
+#!/usr/bin/env python3
+"""Asks a house through the queue of examples/service: `service_queue.py PROGRAM`.
+
+haproxy is started with the service's queue.cfg before a house in a file. 25,000 messages go through it, and the house has to end
+after three connections, since each takes 9,999. A command is taken after the kept connection was idle for longer than the house
+waits, and after the house was killed and started again. Where the clock of the house and that of the machine are three days
+apart, either way, no command is let through, but for one that says that the clock is right, and reads are. A house whose file
+may not grow has a line for its 500. haproxy is of Debian's package. The last line is 'N checks, M wrong'.
+"""
+import contextlib
+import os
+import pathlib
+import re
+import shutil
+import socket
+import subprocess
+import sys
+import tempfile
+import threading
+import time
+
+from house_file import limited
+from sent import PATIENCE, next_answer
+from served import CHECKS, SETTINGS, Program, check, exchange, held_port, message
+
+QUEUE = pathlib.Path(__file__).resolve().parent.parent / "examples" / "service" / "queue.cfg"
+HAPROXY = shutil.which("haproxy", path=f"{os.environ['PATH']}:/usr/sbin")
+DAY = 86_400
+# A connection that was idle for so long is ended by the house.
+IDLE = 31
+MESSAGES, CONNECTIONS = 25_000, 3
+APART = (503, b'{"error":"gateway","why":"clock"}')
+CLOSED = (200, b'{"sold":0,"unsold":0}')
+
+
+class Queue:
+    """haproxy before the house of a port, in a folder of its own, and a client of it."""
+
+    def __init__(self, port, folder):
+        self.folder = pathlib.Path(folder)
+        with (self.folder / "lines").open("ab") as lines:
+            self.process = subprocess.Popen([HAPROXY, "-db", "-f", QUEUE], cwd=folder, stdout=lines, stderr=lines,
+                                            env={**os.environ, "HOUSE_PORT": str(port)})
+        self.connection = self.answers = None
+
+    def connect(self):
+        deadline = time.monotonic() + PATIENCE
+        while True:
+            self.connection = socket.socket(socket.AF_UNIX)
+            self.connection.settimeout(PATIENCE)
+            try:
+                self.connection.connect(str(self.folder / "queue.sock"))
+                break
+            except OSError:
+                self.connection.close()
+                if time.monotonic() > deadline:
+                    raise
+                time.sleep(0.05)
+        self.answers = self.connection.makefile("rb")
+
+    def ask(self, method, path, body="", fields=""):
+        """What the queue answers: a status and a body."""
+        if self.connection is None:
+            self.connect()
+        head = f"{method} {path} HTTP/1.1\r\nhost: h\r\nx-member: 0\r\n{fields}content-length: {len(body)}\r\n\r\n"
+        self.connection.sendall((head + body).encode())
+        answer = next_answer(self.answers)
+        if answer is None:
+            self.connection = None
+            return None
+        head, body = answer.split(b"\r\n\r\n", 1)
+        return int(head.split()[1]), body
+
+    def tells(self, pattern):
+        """Whether a line comes that is wanted: haproxy writes one once its answer was sent."""
+        deadline = time.monotonic() + PATIENCE
+        while time.monotonic() < deadline:
+            if re.search(pattern, (self.folder / "lines").read_text()):
+                return True
+            time.sleep(0.05)
+        return False
+
+    def end(self):
+        self.process.terminate()
+        self.process.wait()
+
+
+class House:
+    """A house in a file, and the server of it, which is started and ended on one port."""
+
+    def __init__(self, program, port, file="house", before=None):
+        self.program, self.port, self.file, self.before, self.process = program, port, file, before, None
+
+    def serve(self, count):
+        self.process = subprocess.Popen([self.program.path, "serve", self.file, "--port", str(self.port), "--count", str(count)],
+                                        cwd=self.program.folder, stdout=subprocess.PIPE, preexec_fn=self.before)
+        check("listens", self.process.stdout.readline(), b"listening\n")
+
+    def kill(self):
+        self.process.kill()
+        self.process.wait()
+
+
+@contextlib.contextmanager
+def queued(program, folder, port, name):
+    """The queue before a house of this name, which is made, and its end."""
+    check(f"{name} made", program.ended("init", name, "--bands", "bands.csv", *SETTINGS)[0], 0)
+    place = folder / f"queue of {name}"
+    place.mkdir()
+    queue = Queue(port, place)
+    try:
+        yield queue
+    finally:
+        queue.end()
+
+
+def kept(program, folder, port):
+    """Messages through few connections."""
+    house = House(program, port)
+    with queued(program, folder, port, "house") as queue:
+        house.serve(CONNECTIONS)
+        check("a command before the clock is known", queue.ask("POST", "/close"), APART)
+        check("the first look", queue.ask("GET", "/house")[0], 200)
+        check("a command of a new house", queue.ask("POST", "/close"), CLOSED)
+        statuses = [queue.ask(*words)[0] for words in [("GET", "/house"), ("POST", "/close")] * (MESSAGES // 2)]
+        check("all are answered", statuses.count(200), MESSAGES)
+        queue.end()
+    check("in three connections", (house.process.communicate(timeout=PATIENCE)[0], house.process.returncode),
+          (b"served %d\n" % CONNECTIONS, 0))
+
+
+def starts(program, folder, port):
+    """Commands after a long silence, and after a start."""
+    house = House(program, port, "still")
+    with queued(program, folder, port, "still") as queue:
+        house.serve(1_000)
+        check("known", queue.ask("GET", "/house")[0], 200)
+        time.sleep(IDLE)
+        check("after a silence", queue.ask("POST", "/members", '{"name":"Ana"}'), (201, b'{"member":1}'))
+        house.kill()
+        again = threading.Timer(5, house.serve, [1_000])
+        again.start()
+        check("after a start", queue.ask("POST", "/members", '{"name":"Ben"}'), (201, b'{"member":2}'))
+        again.join()
+        house.kill()
+
+
+def apart(program, folder, port, days):
+    """Commands while the clocks are some days apart."""
+    name = f"apart by {days}"
+    house = House(program, port, name)
+    with queued(program, folder, port, name) as queue:
+        house.serve(1_000)
+        exchange(port, message("POST", "/close", 0, int(time.time()) + days * DAY))
+        check("a look", queue.ask("GET", "/house")[0], 200)
+        check(f"a close, {days} days apart", queue.ask("POST", "/close"), APART)
+        check("its line", queue.tells("status 503 to POST /close after [0-9]+ ms: clock"), True)
+        status = queue.ask("POST", "/close", fields="x-clock: right\r\n")[0]
+        # The house takes no command that lies before its clock.
+        check(f"the clock is right, {days} days apart", status, 200 if days < 0 else 409)
+        check("a close after it", queue.ask("POST", "/close")[0], 200 if days < 0 else 503)
+        house.kill()
+
+
+def failing(program, folder, port):
+    """The line of an answer that says that the file failed."""
+    house = House(program, port, "full", limited(300_000))
+    with queued(program, folder, port, "full") as queue:
+        house.serve(1_000)
+        check("a look", queue.ask("GET", "/house")[0], 200)
+        for number in range(10_000):
+            answer = queue.ask("POST", "/members", f'{{"name":"member {number}"}}')
+            if answer[0] != 201:
+                break
+        check("the file is full", answer, (500, b'{"error":"store"}'))
+        check("its line", queue.tells("status 500 to POST /members after [0-9]+ ms: store"), True)
+        house.kill()
+
+
+def main():
+    with tempfile.TemporaryDirectory() as name, held_port() as port:
+        folder = pathlib.Path(name)
+        (folder / "bands.csv").write_text("at,step\n0,5\n100,25\n500,50\n")
+        program = Program(str(pathlib.Path(sys.argv[1]).resolve()), name)
+        kept(program, folder, port)
+        starts(program, folder, port)
+        apart(program, folder, port, -3)
+        apart(program, folder, port, 3)
+        failing(program, folder, port)
+    print(f"{len(CHECKS)} checks, {CHECKS.count(False)} wrong")
+    return 1 if not all(CHECKS) else 0
+
+
+if __name__ == "__main__":
+    sys.exit(main())
