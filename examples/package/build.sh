@@ -40,9 +40,11 @@ put_page() {
 
 put_documents() {
     documents=$root/usr/share/doc/auction
-    put usr/share/doc/auction package/copyright ../README.md ../crates.txt
+    put usr/share/doc/auction package/copyright ../README.md ../CHANGELOG.md ../crates.txt
     put usr/share/doc/auction/docs $(cd "$here/.." && echo ../docs/*.md ../docs/*.png ../docs/openapi.yaml)
-    put usr/share/doc/auction/bench ../bench/README.md ../bench/TABLE.md
+    put usr/share/doc/auction/bench ../bench/README.md ../bench/TABLE.md ../bench/figures.json
+    # Sources aren't in the package, so no link leads to one.
+    sed -i 's,\[\([^]]*\)\](\(\.\./\)*crates/[^)]*),\1,g' "$documents"/docs/*.md
     for part in service backup gateway replica; do
         put "usr/share/doc/auction/examples/$part" $(cd "$here/.." && echo "$part"/*.md)
     done
