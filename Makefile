@@ -144,6 +144,7 @@ program:
 	python3 tests/program.py crates/auction/out/auction
 	python3 tests/streams.py crates/auction/out/auction
 	python3 tests/served.py crates/auction/out/auction
+	python3 tests/at_once.py crates/auction/out/auction
 	python3 tests/served_pages.py crates/auction/out/auction
 	python3 tests/office.py crates/auction/out/auction
 	python3 tests/living_house.py crates/auction/out/auction

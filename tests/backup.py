@@ -44,6 +44,10 @@ def script(name, *words, before=None):
     return result.returncode, result.stdout.strip(), result.stderr.strip()
 
 
+# How many seconds pass between two commands: 10,000 are answered over a connection, and must outlast all copies.
+PAUSE = 0.004
+
+
 class Sender(threading.Thread):
     """Sends commands over one connection until it is told to stop, and counts those that were answered."""
 
@@ -55,6 +59,7 @@ class Sender(threading.Thread):
     def run(self):
         while not self.is_over and self.client.asks(next(self.texts).text()):
             self.answered += 1
+            time.sleep(PAUSE)
         self.client.connection.close()
 
     def stop(self):

@@ -1,87 +1,114 @@
 //! Houses in files.
-ghost use Rattle.std.specs.Prelude.{◌≡◌, [], false, true, IfOk};
-ghost use Rattle.house_rows.specs.Tables.{tables_of};
-ghost use Rattle.house_rows.specs.Text.{is_plain};
-ghost use Rattle.sqlite.specs.Held.{state};
-ghost use Rattle.store.specs.Kept.{IsHonest, content, is_failed};
-ghost use Rattle.store_house.specs.Opening.{IsSoundHouse};
+ghost use Rattle.std.specs.Prelude.{◌≡◌, ℕ, List, [], true, false, IfOk, IsTrue};
+ghost use Rattle.sqlite.specs.Files.{image_of};
+ghost use Rattle.sqlite_disk.specs.declared.Files.{Files};
+ghost use Rattle.sqlite_std_file.specs.File.{IsFresh, file_is_usable};
+ghost use Rattle.sqlite_wal.specs.Files.{image_at};
 
-use house_rows::{KeepFault, Settings};
-use sqlite::{Alter, Connection, Error, ErrorCode, File, FileStore};
-use std::alloc::Global;
+use house_rows::KeepFault;
+use sqlite::{FileFrom, Files, Start, Unknown};
+use sqlite_disk::Disk;
+use sqlite_std_file::OpenError;
 use std::{fs, io};
-use store::SqlKeep;
 
-// Why a file can't be opened as a database.
-fn file_fault(error: &Error) -> KeepFault {
+/// What stands for a file, which no code can read: its path, and what it and its log hold before they
+/// are opened. An opening uses its value up, so whoever is given one opens one file.
+pub trait Place: Start {
+    ghost name: { List ℕ };
+}
+
+impl Place for Unknown {
+    ghost name = { [] };
+}
+
+// Why a file can't be opened.
+fn open_fault(error: &OpenError) -> KeepFault {
     match error {
-        Error::SqliteFailure(ErrorCode::OutOfMemory) => KeepFault::Memory,
-        Error::SqliteFailure(ErrorCode::NotADatabase | ErrorCode::DatabaseCorrupt) =>
-            KeepFault::Damaged,
+        OpenError::OutOfMemory => KeepFault::Memory,
+        OpenError::Io(error) if error.kind() == io::ErrorKind::OutOfMemory => KeepFault::Memory,
         _ => KeepFault::Store,
     }
 }
 
-/// A store in a file.
-pub trait StoreInFile: Sized + Alter + Drop {
-    /// A connection with the database in a file, which is made where it is missing.
-    fn make_file(rt: &HostRuntime, path: &str) -> Result<Connection<Self>, KeepFault>;
-
-    /// A connection with the database in a file that is there. An empty one is no house, and stays
-    /// empty.
-    fn find_file(rt: &HostRuntime, path: &str) -> Result<Connection<Self>, KeepFault>;
-}
-
-impl StoreInFile for FileStore<File> {
-    fn make_file(rt: &HostRuntime, path: &str) -> Result<Connection<FileStore<File>>, KeepFault> {
-        Connection::open(rt, path).map_err(|error| file_fault(&error))
+// A file and its log, which are made where they are missing. Every other process is refused them as
+// long as they are held. A name that SQLite takes for no file is refused.
+fn make_files<T: Place>(
+    rt: &HostRuntime,
+    path: &str,
+    first: T,
+) -> Result<Files<FileFrom<T>>, KeepFault>
+    ensures log { IfOk result (λ files. IsTrue (file_is_usable T.Start files.log)) }
+    ensures db { IfOk result (λ files. IsTrue (file_is_usable T.Start files.db)) }
+    ensures fresh { path.now ≡ T.name
+        → IfOk result (λ files. IsFresh true files.log × IsFresh false files.db) }
+{
+    if path == ":memory:" || path.starts_with("file:") {
+        return Err(KeepFault::Store);
     }
-
-    fn find_file(rt: &HostRuntime, path: &str) -> Result<Connection<FileStore<File>>, KeepFault> {
-        match fs::metadata(rt, path) {
-            Ok(file) if file.len() == 0 => Err(KeepFault::Damaged),
-            Ok(_) => FileStore::make_file(rt, path),
-            Err(error) if error.kind() == io::ErrorKind::OutOfMemory => Err(KeepFault::Memory),
-            Err(_) => Err(KeepFault::Store),
-        }
+    match sqlite_std_file::open(rt, path, first) {
+        Ok(files) => Ok(files),
+        Err(error) => Err(open_fault(&error)),
     }
 }
 
-/// A new house in a file.
-pub fn create_house<S: StoreInFile>(
+/// A file that is there, and its log. An empty file is no house, and stays empty.
+pub fn find_files<T: Place>(
     rt: &HostRuntime,
-    alloc: Global,
     path: &str,
-    settings: Settings,
-) -> Result<SqlKeep<S>, KeepFault>
-    ensures empty { IfOk result (λ keep. IsHonest S.Store keep
-        → content S.Store keep ≡ tables_of settings []) }
-    ensures opens { IfOk result (λ keep. IsHonest S.Store keep → is_plain settings.zone ≡ true
-        → IsSoundHouse (state S.Store keep.conn).now) }
-    ensures works { IfOk result (λ keep. is_failed keep ≡ false) }
+    first: T,
+) -> Result<Files<FileFrom<T>>, KeepFault>
+    ensures log { IfOk result (λ files. IsTrue (file_is_usable T.Start files.log)) }
+    ensures db { IfOk result (λ files. IsTrue (file_is_usable T.Start files.db)) }
+    ensures fresh { path.now ≡ T.name
+        → IfOk result (λ files. IsFresh true files.log × IsFresh false files.db) }
 {
-    SqlKeep::create(alloc, S::make_file(rt, path)?, settings)
+    match fs::metadata(rt, path) {
+        Ok(file) if file.len() == 0 => Err(KeepFault::Damaged),
+        Ok(_) => make_files(rt, path, first),
+        Err(error) if error.kind() == io::ErrorKind::OutOfMemory => Err(KeepFault::Memory),
+        Err(_) => Err(KeepFault::Store),
+    }
 }
 
-/// The keep of the house in a file.
-pub fn open_keep<S: StoreInFile>(
-    rt: &HostRuntime,
-    alloc: Global,
-    path: &str,
-) -> Result<SqlKeep<S>, KeepFault>
-    ensures { IfOk result (λ keep. is_failed keep ≡ false) }
-{
-    SqlKeep::open(alloc, S::find_file(rt, path)?)
+/// A disk whose files lie at paths of this machine.
+pub trait DiskInFile: Sized + Disk + Drop {
+    /// Stands for a file and its log.
+    type First: Place;
+
+    /// What is so of the two as they were opened, before anything was done to them.
+    ghost are_fresh: { Files Self → Type 0 };
+
+    /// A file and its log, which are made where they are missing.
+    fn make_files(
+        rt: &HostRuntime,
+        path: &str,
+        first: Self::First,
+    ) -> Result<Files<Self>, KeepFault>
+        ensures fresh { path.now ≡ Self.First.name → IfOk result are_fresh }
+        ensures shown { path.now ≡ Self.First.name → IfOk result (λ files.
+            image_of Self.Disk files ≡ image_at Self.First.Start) };
+
+    /// A file that is there, and its log. An empty file is no house, and stays empty.
+    fn find_files(
+        rt: &HostRuntime,
+        path: &str,
+        first: Self::First,
+    ) -> Result<Files<Self>, KeepFault>
+        ensures fresh { path.now ≡ Self.First.name → IfOk result are_fresh }
+        ensures shown { path.now ≡ Self.First.name → IfOk result (λ files.
+            image_of Self.Disk files ≡ image_at Self.First.Start) };
 }
 
-/// The keep of the house in a file, which is made one of version 2 where it is of version 1, and
-/// whether it was.
-pub fn upgrade_keep<S: StoreInFile>(
-    rt: &HostRuntime,
-    alloc: Global,
-    path: &str,
-) -> Result<(SqlKeep<S>, bool), KeepFault>
-    ensures { IfOk result (λ upgraded. is_failed upgraded.0 ≡ false) }
-{
-    SqlKeep::upgrade(alloc, S::find_file(rt, path)?)
+impl<T: Place> DiskInFile for FileFrom<T> {
+    type First = T;
+
+    ghost are_fresh = { λ files. IsFresh true files.log × IsFresh false files.db };
+
+    fn make_files(rt: &HostRuntime, path: &str, first: T) -> Result<Files<FileFrom<T>>, KeepFault> {
+        make_files(rt, path, first)
+    }
+
+    fn find_files(rt: &HostRuntime, path: &str, first: T) -> Result<Files<FileFrom<T>>, KeepFault> {
+        find_files(rt, path, first)
+    }
 }

@@ -1,8 +1,10 @@
 //! Keeps that the program makes and opens.
-ghost use Rattle.std.specs.Prelude.{◌≡◌, [], false, IfErr, IfOk};
+ghost use Rattle.std.specs.Prelude.{◌≡◌, ℕ, List, [], Bool, IfErr, IfOk, IfSome};
 ghost use Rattle.house_rows.specs.Tables.{tables_of};
+ghost use Rattle.house_rows.specs.declared.settings.Settings.{Settings as TheSettings};
 
-use crate::files::{StoreInFile, create_house, open_keep, upgrade_keep};
+use crate::files::Place;
+use crate::stores::StoreInFile;
 use house_rows::{Ends, Keep, KeepFault, Settings};
 use std::alloc::Global;
 use store::SqlKeep;
@@ -22,50 +24,111 @@ impl KeepInMemory for ListKeep {
     }
 }
 
-/// A keep in a file.
+/// A keep in a file. Where none is made or opened, what is left of the file is given back, if it could
+/// be opened.
 pub trait KeepInFile: Sized + Keep + Drop + Ends {
+    /// Stands for the file.
+    type First: Place;
+
+    /// What is left of the file and its log where no keep of a house in them is made or opened.
+    type Rest: Drop;
+
+    /// What is so of a keep that was opened at a path.
+    ghost is_opened: { List ℕ → Self → Type 0 };
+
+    /// What is so of one that was made at a path, of a new house.
+    ghost is_new: { List ℕ → TheSettings → Self → Type 0 };
+
+    /// What is so of one that was opened at a path and upgraded, where its house was of version 1.
+    ghost is_upgraded: { List ℕ → Bool → Self → Type 0 };
+
+    /// What is so of what is left of a file at a path that holds what it held.
+    ghost is_held: { List ℕ → Self.Rest → Type 0 };
+
+    /// The same, or it holds a new house.
+    ghost is_made: { List ℕ → TheSettings → Self.Rest → Type 0 };
+
+    /// The same, or it holds its house upgraded.
+    ghost is_grown: { List ℕ → Self.Rest → Type 0 };
+
     /// That of a new house.
     fn create(
         rt: &HostRuntime,
         alloc: Global,
         path: &str,
         settings: Settings,
-    ) -> Result<Self, KeepFault>
-        ensures { IfOk result (λ keep. Self.is_honest keep
-            → Self.content keep ≡ tables_of settings []) };
+        first: Self::First,
+    ) -> Result<Self, (KeepFault, Option<Self::Rest>)>
+        ensures made { IfOk result (is_new path.now settings) }
+        ensures left { IfErr result (λ e. IfSome e.1 (is_made path.now settings)) };
 
     /// That of the house in the file.
-    fn open(rt: &HostRuntime, alloc: Global, path: &str) -> Result<Self, KeepFault>
-        ensures { IfOk result (λ keep. Self.is_failed keep ≡ false) };
+    fn open(
+        rt: &HostRuntime,
+        alloc: Global,
+        path: &str,
+        first: Self::First,
+    ) -> Result<Self, (KeepFault, Option<Self::Rest>)>
+        ensures opened { IfOk result (is_opened path.now) }
+        ensures left { IfErr result (λ e. IfSome e.1 (is_held path.now)) };
 
     /// That of the house in the file, which is made one of version 2 where it is of version 1, and
     /// whether it was.
-    fn upgrade(rt: &HostRuntime, alloc: Global, path: &str) -> Result<(Self, bool), KeepFault>
-        ensures { IfOk result (λ upgraded. Self.is_failed upgraded.0 ≡ false) };
+    fn upgrade(
+        rt: &HostRuntime,
+        alloc: Global,
+        path: &str,
+        first: Self::First,
+    ) -> Result<(Self, bool), (KeepFault, Option<Self::Rest>)>
+        ensures upgraded { IfOk result (λ r. is_upgraded path.now r.1 r.0) }
+        ensures left { IfErr result (λ e. IfSome e.1 (is_grown path.now)) };
 }
 
 impl<S: StoreInFile> KeepInFile for SqlKeep<S>
 where
     SqlKeep<S>: Ends,
 {
+    type First = S::First;
+
+    type Rest = S::Rest;
+
+    ghost is_opened = { S.is_opened };
+
+    ghost is_new = { S.is_new };
+
+    ghost is_upgraded = { S.is_upgraded };
+
+    ghost is_held = { S.is_held };
+
+    ghost is_made = { S.is_made };
+
+    ghost is_grown = { S.is_grown };
+
     fn create(
         rt: &HostRuntime,
         alloc: Global,
         path: &str,
         settings: Settings,
-    ) -> Result<SqlKeep<S>, KeepFault> {
-        create_house(rt, alloc, path, settings)
+        first: S::First,
+    ) -> Result<SqlKeep<S>, (KeepFault, Option<S::Rest>)> {
+        S::create_keep(rt, alloc, path, settings, first)
     }
 
-    fn open(rt: &HostRuntime, alloc: Global, path: &str) -> Result<SqlKeep<S>, KeepFault> {
-        open_keep(rt, alloc, path)
+    fn open(
+        rt: &HostRuntime,
+        alloc: Global,
+        path: &str,
+        first: S::First,
+    ) -> Result<SqlKeep<S>, (KeepFault, Option<S::Rest>)> {
+        S::open_keep(rt, alloc, path, first)
     }
 
     fn upgrade(
         rt: &HostRuntime,
         alloc: Global,
         path: &str,
-    ) -> Result<(SqlKeep<S>, bool), KeepFault> {
-        upgrade_keep(rt, alloc, path)
+        first: S::First,
+    ) -> Result<(SqlKeep<S>, bool), (KeepFault, Option<S::Rest>)> {
+        S::upgrade_keep(rt, alloc, path, first)
     }
 }

@@ -5,7 +5,7 @@ use device::{Failure, Reading, Writing};
 use site_connections::{Connection, Connections};
 use site_serve::{ServeFault, Served};
 use std::io::{self, Read};
-use std::net::{Shutdown, TcpListener, TcpStream};
+use std::net::{Ipv4Addr, Shutdown, TcpListener, TcpStream};
 use std::time::Duration;
 
 // How many seconds a connection may be still before it is given up.
@@ -52,11 +52,13 @@ impl Listener {
     }
 }
 
-// A connection that is given up where it is still, for reading and for writing.
+// A connection that is given up where it is still, for reading and for writing. The last piece of its
+// answers is sent at once, and not held back until the one before is acknowledged (RFC 896).
 fn set_up(stream: &TcpStream) -> io::Result<Connection<Reading<TcpStream>, Writing<TcpStream>>> {
     let still = Some(Duration::from_secs(STILL));
     stream.set_read_timeout(still)?;
     stream.set_write_timeout(still)?;
+    stream.set_nodelay(true)?;
     Ok(Connection {
         source: Reading::new(stream.try_clone()?),
         sink: Writing::new(stream.try_clone()?),
@@ -76,6 +78,21 @@ fn hang_up(stream: &TcpStream) {
         match reader.read(&mut piece) {
             Ok(count) if count > 0 => {}
             _ => return,
+        }
+    }
+}
+
+/// Connections that come to a port of this machine.
+pub trait Listen: Sized + Connections + Drop {
+    /// So many that come to it.
+    fn listen(rt: &HostRuntime, port: u16, count: u64) -> Result<Self, Failure>;
+}
+
+impl Listen for Listener {
+    fn listen(rt: &HostRuntime, port: u16, count: u64) -> Result<Listener, Failure> {
+        match TcpListener::bind(rt, (Ipv4Addr::LOCALHOST, port)) {
+            Ok(listener) => Ok(Listener::new(listener, count)),
+            Err(_) => Err(Failure),
         }
     }
 }

@@ -17,6 +17,8 @@ mod houses;
 mod input;
 mod listener;
 mod program;
+mod remains;
+mod stores;
 
 use std::process::ExitCode;
 

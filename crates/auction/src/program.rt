@@ -1,20 +1,30 @@
 //! The program's run: words in, an exit status out.
-ghost use Rattle.std.specs.Prelude.{◌≡◌, ◌≤◌, ◌⊎◌, false, IfErr, IfOk};
+ghost use Rattle.std.specs.Prelude.{◌≡◌, ◌≤◌, ◌⊎◌, IfErr, IfOk, OnOk};
+ghost use Rattle.auction.specs.Remains.{IsEndedAs, IsLeftAs};
+ghost use Rattle.auction.specs.Runs.{HasAnswered, HasAsked, HasDone, HasServed, HasTabled, IsAsked, IsLeftBy, IsMadeBy, IsServedOver, IsUpgradedAs, MayHaveAnswered, MayHaveTabled};
+ghost use Rattle.auction.specs.Tasks.{IsDone, IsLeftOf};
+ghost use Rattle.auction_runs.specs.Faults.{IsOfKeep, IsOfSettings};
+ghost use Rattle.auction_runs.specs.Listed.{HasTaken, IsOrderedOver};
+ghost use Rattle.auction_runs.specs.Stated.{HasRead};
+ghost use Rattle.auction_runs.specs.Over.{IsOver, IsReadOver};
+ghost use Rattle.auction_words.specs.Houses.{IsNew, IsSetBy};
+ghost use Rattle.settle.specs.Statement.{Account as TheAccount};
 ghost use Rattle.settle.specs.Zoned.{IsZoneOf};
 ghost use Rattle.site.specs.Answers.{zone_of};
+ghost use Rattle.site_connections.specs.Turns.{ServesOne, TakesOne};
 ghost use Rattle.site_serve.specs.Serving.{keep_of};
-ghost use Rattle.auction_runs.specs.Faults.{IsOfKeep, IsOfSettings};
-ghost use Rattle.auction_words.specs.Houses.{IsNew};
 
-use crate::copies::{CopiedKeep, StoreInMemory};
-use crate::files::StoreInFile;
+use crate::copies::{CopiedKeep, Copies, StoreInMemory};
+use crate::files::{DiskInFile, Place};
 use crate::houses::{KeepInFile, KeepInMemory};
 use crate::input::{open_input, open_source};
-use crate::listener::Listener;
+use crate::listener::{Listen, Listener};
+use crate::remains::{Remains, refuse_house};
+use crate::stores::StoreInFile;
 use auction_runs::{
-    Fault, Inquiry, Raise, Run, Trial, answer_each, audit_from_run, audit_run, bands_run,
-    finish_run, import_run, init_run, replay_run, serve_run, statement_run, surplus_from_run,
-    surplus_run, upgrade_run,
+    Fault, Inquiry, MOST, Raise, Run, Trial, answer_each, audit_from_run, audit_run, bands_run,
+    begin_site, finish_run, import_run, init_run, replay_run, serve_run, statement_run,
+    surplus_from_run, surplus_run, upgrade_run,
 };
 use auction_words::{
     AuditWords, BandsWords, Beginning, HouseWords, ImportWords, Replay, Serve, StatementWords,
@@ -22,15 +32,14 @@ use auction_words::{
 };
 use clap::Error;
 use device::{Reading, Writing};
-use house_rows::{Ends, KeepFault, Rows};
+use house_rows::{Ends, Rows};
 use office::Lister;
 use site::Site;
-use sqlite::{File, FileStore};
+use sqlite::{FileFrom, FileStore, Unknown};
 use sqlite_disk::Memory;
 use std::alloc::Global;
 use std::env;
 use std::io::{self, BufWriter, ErrorKind, Write};
-use std::net::{Ipv4Addr, TcpListener};
 use store::SqlKeep;
 use store_list::ListKeep;
 
@@ -43,7 +52,7 @@ pub fn run(rt: &HostRuntime) -> u8
 {
     let alloc = rt.alloc();
     match words(rt, alloc) {
-        Ok(words) => start::<FileStore<File>>(rt, alloc, words.as_slice()),
+        Ok(words) => start_at::<Unknown, Listener>(rt, alloc, words.as_slice(), Unknown),
         Err(error) => no_words(rt, error.kind()),
     }
 }
@@ -71,46 +80,104 @@ fn no_memory(rt: &HostRuntime) -> u8
     finish_run(&mut rt.stderr(), Err(Fault::Memory))
 }
 
+// The same, with houses in files that hold whatever `first` stands for.
+fn start_at<T: Place, C: Listen>(rt: &HostRuntime, alloc: Global, words: &[String], first: T) -> u8
+    ensures { result ≤ 2 }
+{
+    start_on::<FileFrom<T>, C>(rt, alloc, words, first)
+}
+
+// The same, with houses in the files of a disk.
+fn start_on<D: DiskInFile, C: Listen>(
+    rt: &HostRuntime,
+    alloc: Global,
+    words: &[String],
+    first: D::First,
+) -> u8
+    ensures { result ≤ 2 }
+{
+    start::<FileStore<D>, C>(rt, alloc, words, first)
+}
+
 // Does what the words ask for, with houses in the files of a store. Here alone the keeps are named,
 // and that in a file over any store: what runs over any keep can't be called of it by its full name.
-fn start<S: StoreInFile>(rt: &HostRuntime, alloc: Global, words: &[String]) -> u8
+fn start<S: StoreInFile, C: Listen>(
+    rt: &HostRuntime,
+    alloc: Global,
+    words: &[String],
+    first: S::First,
+) -> u8
 where
     SqlKeep<S>: Ends,
     ensures { result ≤ 2 }
 {
-    start_over::<SqlKeep<S>, ListKeep>(rt, alloc, words)
+    start_over::<SqlKeep<S>, ListKeep, C>(rt, alloc, words, first)
 }
 
-// Does what the words ask for, over keeps in files and in memory.
-fn start_over<F: KeepInFile, M: KeepInMemory>(
+// Does what the words ask for, over keeps in files and in memory, and closes the file.
+fn start_over<F: KeepInFile, M: KeepInMemory, C: Listen>(
     rt: &HostRuntime,
     alloc: Global,
     words: &[String],
+    first: F::First,
 ) -> u8
     ensures { result ≤ 2 }
 {
     match read_task(alloc, words) {
-        Ok(Some(task)) => do_task::<F, M>(rt, alloc, &task),
+        Ok(Some(task)) => {
+            let (status, _) = do_task::<F, M, C>(rt, alloc, &task, first);
+            status
+        }
         // Words that ask for nothing are refused there.
         Ok(None) => REFUSED,
         Err(error) => refuse(rt, &error),
     }
 }
 
-// Does what is asked for.
-fn do_task<F: KeepInFile, M: KeepInMemory>(rt: &HostRuntime, alloc: Global, task: &Task<'_>) -> u8
-    ensures { result ≤ 1 }
+// Does what is asked for, and gives the exit status and what is left of the file.
+fn do_task<F: KeepInFile, M: KeepInMemory, C: Listen>(
+    rt: &HostRuntime,
+    alloc: Global,
+    task: &Task<'_>,
+    first: F::First,
+) -> (u8, Remains<F::Rest, F::Left>)
+    ensures done { result.0 ≡ 0 → IsDone F.content F.is_failed F.is_honest F.may_leave F.is_ended
+        F.is_opened F.is_new F.is_upgraded
+        (λ zone. TakesOne (ServesOne F.content F.is_failed F.is_honest F.may_leave zone
+        C.Input.left C.Input.has_failed C.Output.taken C.Output.handed_on C.Output.has_failed
+        MOST) C.accepts C.ends) task.now result.1 }
+    ensures left { IsLeftOf F.content F.is_failed F.is_honest F.may_leave F.is_ended F.is_left
+        F.is_opened F.is_new F.is_upgraded F.is_held F.is_made F.is_grown
+        (λ zone. TakesOne (ServesOne F.content F.is_failed F.is_honest F.may_leave zone
+        C.Input.left C.Input.has_failed C.Output.taken C.Output.handed_on C.Output.has_failed
+        MOST) C.accepts C.ends) task.now result.1 }
+    ensures within { result.0 ≤ 1 }
 {
     match task {
-        Task::Init(path, house) => init_file::<F>(rt, alloc, path, house),
-        Task::Serve(path, asked) => serve_file::<F>(rt, alloc, path, *asked),
-        Task::Replay(house, asked) => replay_input::<M>(rt, alloc, house, *asked),
-        Task::Import(path, asked) => import_file::<F>(rt, alloc, path, *asked),
-        Task::Statement(path, asked) => statement_file::<F>(rt, alloc, path, asked),
-        Task::Bands(path, asked) => bands_file::<F>(rt, alloc, path, *asked),
-        Task::Upgrade(path) => upgrade_file::<F>(rt, alloc, path),
-        Task::Audit(begun, asked) => audit::<M>(rt, alloc, begun, *asked),
-        Task::Surplus(begun, asked) => surplus::<M>(rt, alloc, begun, *asked),
+        Task::Init(path, house) => init_file::<F>(rt, alloc, path, house, first),
+        Task::Serve(path, asked) => serve_file::<F, C>(rt, alloc, path, *asked, first),
+        Task::Import(path, asked) => import_file::<F>(rt, alloc, path, *asked, first),
+        Task::Statement(path, asked) => statement_file::<F>(rt, alloc, path, asked, first),
+        Task::Bands(path, asked) => bands_file::<F>(rt, alloc, path, *asked, first),
+        Task::Upgrade(path) => upgrade_file::<F>(rt, alloc, path, first),
+        Task::Replay(house, asked) => {
+            (
+                replay_input::<M>(rt, alloc, house, *asked),
+                Remains::Unopened,
+            )
+        }
+        Task::Audit(begun, asked) => {
+            (
+                audit::<M, F::First>(rt, alloc, begun, *asked, first),
+                Remains::Unopened,
+            )
+        }
+        Task::Surplus(begun, asked) => {
+            (
+                surplus::<M, F::First>(rt, alloc, begun, *asked, first),
+                Remains::Unopened,
+            )
+        }
     }
 }
 
@@ -125,83 +192,148 @@ fn refuse(rt: &HostRuntime, error: &Error) -> u8
     if error.exit_code() == 0 { 0 } else { REFUSED }
 }
 
-// A new house in a file.
-fn new_file<K: KeepInFile>(
-    rt: &HostRuntime,
-    alloc: Global,
-    path: &str,
-    words: &HouseWords<'_>,
-) -> Result<K, Fault>
-    ensures new { IfOk result (λ keep. K.is_honest keep → IsNew words.now (K.content keep)) }
-    ensures fault { IfErr result (λ fault. IsOfSettings words.now fault ⊎ IsOfKeep fault) }
-{
-    let settings = read_settings(rt, alloc, words)?;
-    Ok(K::create(rt, alloc, path, settings)?)
-}
-
 // Makes a new house in a file.
 fn init_file<K: KeepInFile>(
     rt: &HostRuntime,
     alloc: Global,
     path: &str,
     words: &HouseWords<'_>,
-) -> u8
-    ensures { result ≤ 1 }
+    first: K::First,
+) -> (u8, Remains<K::Rest, K::Left>)
+    ensures made { result.0 ≡ 0 → IsEndedAs (HasDone (IsMadeBy
+        (K.is_new path.now) words.now) K.is_ended) result.1 }
+    ensures left { IsLeftAs (IsLeftBy (K.is_made path.now) words.now)
+        (HasDone (IsMadeBy
+        (K.is_new path.now) words.now) (IsOver K.is_ended K.is_left)) result.1 }
+    ensures within { result.0 ≤ 1 }
 {
-    let mut errors = rt.stderr();
-    match new_file::<K>(rt, alloc, path, words) {
-        Ok(keep) => init_run(&mut rt.stdout(), &mut errors, keep),
-        Err(fault) => finish_run(&mut errors, Err(fault)),
+    let settings = match read_settings(rt, alloc, words) {
+        Ok(settings) => settings,
+        Err(fault) => return refuse_house(rt, Fault::from(fault), None),
+    };
+    match K::create(rt, alloc, path, settings, first) {
+        Ok(keep) => {
+            let (status, left) = init_run(&mut rt.stdout(), &mut rt.stderr(), keep);
+            (status, Remains::Ended(left))
+        }
+        Err((fault, rest)) => refuse_house(rt, Fault::from(fault), rest),
     }
 }
 
-// The site of the house in a file.
-fn open_site<K: KeepInFile>(
+// Answers connections over a site, and gives its keep back.
+fn answer_site<K: KeepInFile, C: Listen>(
     rt: &HostRuntime,
     alloc: Global,
-    path: &str,
-) -> Result<Site<K>, KeepFault>
-    ensures zone { IfOk result (λ site. K.is_honest (keep_of site)
-        → IsZoneOf (K.content (keep_of site)).settings.zone (zone_of site)) }
-    ensures works { IfOk result (λ site. K.is_failed (keep_of site) ≡ false) }
+    site: Site<K>,
+    asked: Serve,
+) -> (Result<(), Fault>, K)
+    requires zone { K.is_honest (keep_of site)
+        → IsZoneOf (K.content (keep_of site)).settings.zone (zone_of site) }
+    ensures all { OnOk result.0 (HasAnswered K.content K.is_honest
+        (λ zone. TakesOne (ServesOne K.content K.is_failed K.is_honest K.may_leave zone
+        C.Input.left C.Input.has_failed C.Output.taken C.Output.handed_on C.Output.has_failed
+        MOST) C.accepts C.ends)
+        asked.count (keep_of site) result.1) }
+    ensures fault { IfErr result.0 (λ fault. (fault ≡ Fault.Write) ⊎ (fault ≡ Fault.Socket)) }
+    ensures some { MayHaveAnswered K.content K.is_honest
+        (λ zone. TakesOne (ServesOne K.content K.is_failed K.is_honest K.may_leave zone
+        C.Input.left C.Input.has_failed C.Output.taken C.Output.handed_on C.Output.has_failed
+        MOST) C.accepts C.ends)
+        asked.count (keep_of site) result.1 }
 {
-    Site::new(alloc, K::open(rt, alloc, path)?)
+    match C::listen(rt, asked.port, asked.count) {
+        Ok(mut connections) => {
+            answer_each(alloc, &mut connections, asked.count, &mut rt.stdout(), site)
+        }
+        Err(_) => (Err(Fault::Socket), site.end()),
+    }
 }
 
-// The site of the house in a file, and then a listener. A fault of the file is reported before one
-// of the socket.
-fn open_file<K: KeepInFile>(
+// Answers connections over a keep, and gives it back. That its zone can't be read is reported before
+// that nobody can listen.
+fn answer_keep<K: KeepInFile, C: Listen>(
+    rt: &HostRuntime,
+    alloc: Global,
+    keep: K,
+    asked: Serve,
+) -> (Result<(), Fault>, K)
+    ensures all { OnOk result.0 (HasAnswered K.content K.is_honest
+        (λ zone. TakesOne (ServesOne K.content K.is_failed K.is_honest K.may_leave zone
+        C.Input.left C.Input.has_failed C.Output.taken C.Output.handed_on C.Output.has_failed
+        MOST) C.accepts C.ends)
+        asked.count keep result.1) }
+    ensures fault { IfErr result.0 (λ fault. ((fault ≡ Fault.Write) ⊎ (fault ≡ Fault.Socket))
+        ⊎ IsOfKeep fault) }
+    ensures some { MayHaveAnswered K.content K.is_honest
+        (λ zone. TakesOne (ServesOne K.content K.is_failed K.is_honest K.may_leave zone
+        C.Input.left C.Input.has_failed C.Output.taken C.Output.handed_on C.Output.has_failed
+        MOST) C.accepts C.ends)
+        asked.count keep result.1 }
+{
+    match begin_site(alloc, keep) {
+        Ok(site) => answer_site::<K, C>(rt, alloc, site, asked),
+        Err((fault, keep)) => (Err(fault), keep),
+    }
+}
+
+// Answers connections over a keep, and ends it.
+fn serve_keep<K: KeepInFile, C: Listen>(
+    rt: &HostRuntime,
+    alloc: Global,
+    keep: K,
+    asked: Serve,
+) -> (u8, K::Left)
+    ensures served { result.0 ≡ 0 → HasServed K.content K.is_honest K.is_ended
+        (λ zone. TakesOne (ServesOne K.content K.is_failed K.is_honest K.may_leave zone
+        C.Input.left C.Input.has_failed C.Output.taken C.Output.handed_on C.Output.has_failed
+        MOST) C.accepts C.ends)
+        asked.count keep result.1 }
+    ensures left { IsServedOver K.content K.is_honest K.is_ended K.is_left
+        (λ zone. TakesOne (ServesOne K.content K.is_failed K.is_honest K.may_leave zone
+        C.Input.left C.Input.has_failed C.Output.taken C.Output.handed_on C.Output.has_failed
+        MOST) C.accepts C.ends)
+        asked.count keep result.1 }
+    ensures within { result.0 ≤ 1 }
+{
+    let (answered, keep) = answer_keep::<K, C>(rt, alloc, keep, asked);
+    serve_run(
+        &mut rt.stdout(),
+        &mut rt.stderr(),
+        answered,
+        keep,
+        asked.count,
+    )
+}
+
+// Answers connections over the house in a file.
+fn serve_file<K: KeepInFile, C: Listen>(
     rt: &HostRuntime,
     alloc: Global,
     path: &str,
     asked: Serve,
-) -> Result<(Site<K>, Listener), Fault>
-    ensures { IfErr result (λ fault. (fault ≡ Fault.Socket) ⊎ IsOfKeep fault) }
+    first: K::First,
+) -> (u8, Remains<K::Rest, K::Left>)
+    ensures served { result.0 ≡ 0 → IsEndedAs (HasDone (K.is_opened path.now)
+        (HasServed K.content K.is_honest K.is_ended
+        (λ zone. TakesOne (ServesOne K.content K.is_failed K.is_honest K.may_leave zone
+        C.Input.left C.Input.has_failed C.Output.taken C.Output.handed_on C.Output.has_failed
+        MOST) C.accepts C.ends)
+        asked.count)) result.1 }
+    ensures left { IsLeftAs (K.is_held path.now) (HasDone (K.is_opened path.now)
+        (IsServedOver K.content K.is_honest K.is_ended K.is_left
+        (λ zone. TakesOne (ServesOne K.content K.is_failed K.is_honest K.may_leave zone
+        C.Input.left C.Input.has_failed C.Output.taken C.Output.handed_on C.Output.has_failed
+        MOST) C.accepts C.ends)
+        asked.count)) result.1 }
+    ensures within { result.0 ≤ 1 }
 {
-    let site = open_site::<K>(rt, alloc, path)?;
-    match TcpListener::bind(rt, (Ipv4Addr::LOCALHOST, asked.port)) {
-        Ok(listener) => Ok((site, Listener::new(listener, asked.count))),
-        Err(_) => Err(Fault::Socket),
+    match K::open(rt, alloc, path, first) {
+        Ok(keep) => {
+            let (status, left) = serve_keep::<K, C>(rt, alloc, keep, asked);
+            (status, Remains::Ended(left))
+        }
+        Err((fault, rest)) => refuse_house(rt, Fault::from(fault), rest),
     }
-}
-
-// Answers connections over the house in a file, and gives its keep back.
-fn answer_file<K: KeepInFile>(
-    rt: &HostRuntime,
-    alloc: Global,
-    path: &str,
-    asked: Serve,
-) -> Result<K, Fault> {
-    let (site, mut listener) = open_file::<K>(rt, alloc, path, asked)?;
-    answer_each(alloc, &mut listener, asked.count, &mut rt.stdout(), site)
-}
-
-// Answers connections over the house in a file, and ends it.
-fn serve_file<K: KeepInFile>(rt: &HostRuntime, alloc: Global, path: &str, asked: Serve) -> u8
-    ensures { result ≤ 1 }
-{
-    let answered = answer_file::<K>(rt, alloc, path, asked);
-    serve_run(&mut rt.stdout(), &mut rt.stderr(), answered, asked.count)
 }
 
 // A new house in memory.
@@ -237,120 +369,167 @@ fn replay_input<K: KeepInMemory>(
     }
 }
 
-// Lists the rows of a lot file in the house in a file, and prints what became of them.
-fn import_into<K: KeepInFile, W: Write>(
+// Lists the rows of a lot file in the house of a keep, and ends it.
+fn import_keep<K: KeepInFile, W: Write>(
     rt: &HostRuntime,
     alloc: Global,
-    path: &str,
+    keep: K,
     asked: ImportWords<'_>,
     output: &mut W,
-) -> u8
-    ensures { result ≤ 1 }
+) -> (u8, K::Left)
+    ensures imported { result.0 ≡ 0 → HasTaken K.content K.is_failed K.is_honest K.may_leave
+        (λ last. K.is_ended last result.1)
+        (record { member = asked.entry.member; moment = asked.entry.moment }) keep }
+    ensures left { IsOrderedOver K.content K.is_failed K.is_honest K.may_leave K.is_ended
+        K.is_left (record { member = asked.entry.member; moment = asked.entry.moment }) keep
+        result.1 }
+    ensures within { result.0 ≤ 1 }
 {
-    let mut errors = rt.stderr();
-    match K::open(rt, alloc, path) {
-        Ok(keep) => {
-            let lots = open_input(rt, asked.lots);
-            let by = Lister {
-                member: asked.member,
-                moment: asked.moment,
-            };
-            import_run(alloc, keep, lots, by, output, &mut errors)
-        }
-        Err(fault) => finish_run(&mut errors, Err(Fault::from(fault))),
-    }
+    let lots = open_input(rt, asked.lots);
+    let by = Lister {
+        member: asked.member,
+        moment: asked.moment,
+    };
+    import_run(alloc, keep, lots, by, output, &mut rt.stderr())
 }
 
-// The same, with what is printed held back until it is much.
+// Lists the rows of a lot file in the house in a file, and prints what became of them. What is printed
+// is held back until it is much.
 fn import_file<K: KeepInFile>(
     rt: &HostRuntime,
     alloc: Global,
     path: &str,
     asked: ImportWords<'_>,
-) -> u8
-    ensures { result ≤ 1 }
+    first: K::First,
+) -> (u8, Remains<K::Rest, K::Left>)
+    ensures imported { result.0 ≡ 0 → IsEndedAs (HasDone (K.is_opened path.now)
+        (λ given left. HasTaken K.content K.is_failed K.is_honest K.may_leave
+        (λ last. K.is_ended last left)
+        (record { member = asked.entry.member; moment = asked.entry.moment }) given)) result.1 }
+    ensures left { IsLeftAs (K.is_held path.now) (HasDone (K.is_opened path.now)
+        (IsOrderedOver K.content K.is_failed K.is_honest K.may_leave K.is_ended K.is_left
+        (record { member = asked.entry.member; moment = asked.entry.moment }))) result.1 }
+    ensures within { result.0 ≤ 1 }
 {
-    match BufWriter::new(alloc, rt.stdout()) {
-        Ok(mut output) => import_into::<K, _>(rt, alloc, path, asked, &mut output),
-        Err(_) => no_memory(rt),
+    let Ok(mut output) = BufWriter::new(alloc, rt.stdout()) else {
+        return refuse_house(rt, Fault::Memory, None);
+    };
+    match K::open(rt, alloc, path, first) {
+        Ok(keep) => {
+            let (status, left) = import_keep::<K, _>(rt, alloc, keep, asked, &mut output);
+            (status, Remains::Ended(left))
+        }
+        Err((fault, rest)) => refuse_house(rt, Fault::from(fault), rest),
     }
 }
 
-// The house in a file, and what is asked of it. A fault of what is asked is reported before one of
-// the file.
-fn open_inquiry<K: KeepInFile>(
+// Prints a statement from the house of a keep, and ends it.
+fn state_keep<K: KeepInFile>(
     rt: &HostRuntime,
     alloc: Global,
-    path: &str,
-    words: &StatementWords<'_>,
-) -> Result<(K, Inquiry), Fault> {
-    let asked = Inquiry::read(words)?;
-    let keep = K::open(rt, alloc, path)?;
-    Ok((keep, asked))
+    keep: K,
+    asked: Inquiry,
+) -> (u8, K::Left)
+    ensures stated { result.0 ≡ 0 → (account : TheAccount) × HasRead K.content K.is_failed
+        K.is_honest K.may_leave (λ last. K.is_ended last result.1) asked keep account }
+    ensures left { IsReadOver K.content K.is_failed K.is_honest K.may_leave K.is_ended K.is_left
+        keep result.1 }
+    ensures within { result.0 ≤ 1 }
+{
+    let mut sink = Writing::new(rt.stdout());
+    statement_run(alloc, keep, asked, &mut sink, &mut rt.stderr())
 }
 
-// Prints a statement from the house in a file.
+// Prints a statement from the house in a file. A fault of what is asked is reported before one of the
+// file.
 fn statement_file<K: KeepInFile>(
     rt: &HostRuntime,
     alloc: Global,
     path: &str,
     words: &StatementWords<'_>,
-) -> u8
-    ensures { result ≤ 1 }
+    first: K::First,
+) -> (u8, Remains<K::Rest, K::Left>)
+    ensures stated { result.0 ≡ 0 → IsEndedAs (HasDone (K.is_opened path.now)
+        (λ given left. HasAsked K.content K.is_failed K.is_honest K.may_leave
+        (λ last. K.is_ended last left) words.now given)) result.1 }
+    ensures left { IsLeftAs (K.is_held path.now) (HasDone (K.is_opened path.now)
+        (IsReadOver K.content K.is_failed K.is_honest K.may_leave K.is_ended K.is_left)) result.1 }
+    ensures within { result.0 ≤ 1 }
 {
-    let mut errors = rt.stderr();
-    match open_inquiry::<K>(rt, alloc, path, words) {
-        Ok((keep, asked)) => {
-            let mut sink = Writing::new(rt.stdout());
-            statement_run(alloc, keep, asked, &mut sink, &mut errors)
+    let asked = match Inquiry::read(words) {
+        Ok(asked) => asked,
+        Err(fault) => return refuse_house(rt, fault, None),
+    };
+    match K::open(rt, alloc, path, first) {
+        Ok(keep) => {
+            let (status, left) = state_keep::<K>(rt, alloc, keep, asked);
+            (status, Remains::Ended(left))
         }
-        Err(fault) => finish_run(&mut errors, Err(fault)),
+        Err((fault, rest)) => refuse_house(rt, Fault::from(fault), rest),
     }
 }
 
-// The rows of a band table in a file, and then the house in another. A fault of the table is
-// reported before one of the house.
-fn table_and_house<K: KeepInFile>(
-    rt: &HostRuntime,
-    alloc: Global,
-    path: &str,
-    csv: &str,
-) -> Result<(K, Rows<(u64, u64)>), Fault> {
+// The rows of a band table in a file.
+fn read_rows(rt: &HostRuntime, alloc: Global, csv: &str) -> Result<Rows<(u64, u64)>, Fault> {
     let bands = match read_bands(rt, alloc, csv) {
         Ok(bands) => bands,
         Err(fault) => return Err(Fault::Bands(fault)),
     };
-    let Ok(rows) = bands.rows().to_vec(alloc) else {
-        return Err(Fault::Memory);
-    };
-    let keep = K::open(rt, alloc, path)?;
-    Ok((keep, Rows::new(rows)))
+    match bands.rows().to_vec(alloc) {
+        Ok(rows) => Ok(Rows::new(rows)),
+        Err(_) => Err(Fault::Memory),
+    }
 }
 
-// Sets a band table in the house in a file.
+// Sets a band table in the house in a file. A fault of the table is reported before one of the house.
 fn bands_file<K: KeepInFile>(
     rt: &HostRuntime,
     alloc: Global,
     path: &str,
     asked: BandsWords<'_>,
-) -> u8
-    ensures { result ≤ 1 }
+    first: K::First,
+) -> (u8, Remains<K::Rest, K::Left>)
+    ensures set { result.0 ≡ 0 → IsEndedAs (HasDone (K.is_opened path.now)
+        (λ given left. HasTabled K.content K.is_honest K.may_leave (λ last. K.is_ended last left)
+        asked.entry.moment given)) result.1 }
+    ensures left { IsLeftAs (K.is_held path.now) (HasDone (K.is_opened path.now)
+        (MayHaveTabled K.content K.is_honest K.may_leave K.is_ended K.is_left
+        asked.entry.moment)) result.1 }
+    ensures within { result.0 ≤ 1 }
 {
-    let mut errors = rt.stderr();
-    match table_and_house::<K>(rt, alloc, path, asked.csv) {
-        Ok((keep, rows)) => bands_run(&mut rt.stdout(), &mut errors, keep, rows, asked.moment),
-        Err(fault) => finish_run(&mut errors, Err(fault)),
+    let rows = match read_rows(rt, alloc, asked.csv) {
+        Ok(rows) => rows,
+        Err(fault) => return refuse_house(rt, fault, None),
+    };
+    match K::open(rt, alloc, path, first) {
+        Ok(keep) => {
+            let moment = asked.moment;
+            let (status, left) = bands_run(&mut rt.stdout(), &mut rt.stderr(), keep, rows, moment);
+            (status, Remains::Ended(left))
+        }
+        Err((fault, rest)) => refuse_house(rt, Fault::from(fault), rest),
     }
 }
 
 // Makes the house in a file one of version 2.
-fn upgrade_file<K: KeepInFile>(rt: &HostRuntime, alloc: Global, path: &str) -> u8
-    ensures { result ≤ 1 }
+fn upgrade_file<K: KeepInFile>(
+    rt: &HostRuntime,
+    alloc: Global,
+    path: &str,
+    first: K::First,
+) -> (u8, Remains<K::Rest, K::Left>)
+    ensures upgraded { result.0 ≡ 0 → IsEndedAs (HasDone (IsUpgradedAs
+        (K.is_upgraded path.now)) K.is_ended) result.1 }
+    ensures left { IsLeftAs (K.is_grown path.now)
+        (HasDone (IsUpgradedAs (K.is_upgraded path.now)) (IsOver K.is_ended K.is_left)) result.1 }
+    ensures within { result.0 ≤ 1 }
 {
-    let mut errors = rt.stderr();
-    match K::upgrade(rt, alloc, path) {
-        Ok((keep, upgraded)) => upgrade_run(&mut rt.stdout(), &mut errors, keep, upgraded),
-        Err(fault) => finish_run(&mut errors, Err(Fault::from(fault))),
+    match K::upgrade(rt, alloc, path, first) {
+        Ok((keep, upgraded)) => {
+            let (status, left) = upgrade_run(&mut rt.stdout(), &mut rt.stderr(), keep, upgraded);
+            (status, Remains::Ended(left))
+        }
+        Err((fault, rest)) => refuse_house(rt, Fault::from(fault), rest),
     }
 }
 
@@ -398,23 +577,24 @@ fn audit_files<K: KeepInMemory>(
 }
 
 // Compares the messages of two files over copies of the house in a third.
-fn audit_copies<K: CopiedKeep>(
+fn audit_copies<K: CopiedKeep, T: Place>(
     rt: &HostRuntime,
     alloc: Global,
     path: &str,
     asked: AuditWords<'_>,
+    first: T,
 ) -> u8
     ensures { result ≤ 1 }
 {
     let mut errors = rt.stderr();
-    match K::open_twice(rt, alloc, path) {
-        Ok((left_keep, right_keep)) => {
+    match K::open_twice(rt, alloc, path, first) {
+        Ok(Copies { left, right, .. }) => {
             let left = Run {
-                keep: left_keep,
+                keep: left,
                 source: open_source(rt, asked.left),
             };
             let right = Run {
-                keep: right_keep,
+                keep: right,
                 source: open_source(rt, asked.right),
             };
             let caller = asked.member;
@@ -425,29 +605,33 @@ fn audit_copies<K: CopiedKeep>(
 }
 
 // The same, of copies in a store in memory.
-fn audit_house<S: StoreInMemory>(
+fn audit_house<S: StoreInMemory, T: Place>(
     rt: &HostRuntime,
     alloc: Global,
     path: &str,
     asked: AuditWords<'_>,
+    first: T,
 ) -> u8
     ensures { result ≤ 1 }
 {
-    audit_copies::<SqlKeep<S>>(rt, alloc, path, asked)
+    audit_copies::<SqlKeep<S>, T>(rt, alloc, path, asked, first)
 }
 
 // Compares the messages of two files.
-fn audit<M: KeepInMemory>(
+fn audit<M: KeepInMemory, T: Place>(
     rt: &HostRuntime,
     alloc: Global,
     begun: &Beginning<'_>,
     asked: AuditWords<'_>,
+    first: T,
 ) -> u8
     ensures { result ≤ 1 }
 {
     match begun {
         Beginning::New(house) => audit_files::<M>(rt, alloc, house, asked),
-        Beginning::House(path) => audit_house::<FileStore<Memory>>(rt, alloc, path, asked),
+        Beginning::House(path) => audit_house::<FileStore<Memory>, T>(
+            rt, alloc, path, asked, first,
+        ),
     }
 }
 
@@ -484,17 +668,18 @@ fn surplus_file<K: KeepInMemory>(
 }
 
 // Raises a bid of the messages of a file, over copies of the house in another.
-fn surplus_copies<K: CopiedKeep>(
+fn surplus_copies<K: CopiedKeep, T: Place>(
     rt: &HostRuntime,
     alloc: Global,
     path: &str,
     asked: SurplusWords<'_>,
+    first: T,
 ) -> u8
     ensures { result ≤ 1 }
 {
     let mut errors = rt.stderr();
-    match K::open_twice(rt, alloc, path) {
-        Ok((left, right)) => {
+    match K::open_twice(rt, alloc, path, first) {
+        Ok(Copies { left, right, .. }) => {
             let trial = Trial {
                 left,
                 right,
@@ -507,28 +692,32 @@ fn surplus_copies<K: CopiedKeep>(
 }
 
 // The same, of copies in a store in memory.
-fn surplus_house<S: StoreInMemory>(
+fn surplus_house<S: StoreInMemory, T: Place>(
     rt: &HostRuntime,
     alloc: Global,
     path: &str,
     asked: SurplusWords<'_>,
+    first: T,
 ) -> u8
     ensures { result ≤ 1 }
 {
-    surplus_copies::<SqlKeep<S>>(rt, alloc, path, asked)
+    surplus_copies::<SqlKeep<S>, T>(rt, alloc, path, asked, first)
 }
 
 // Raises a bid of the messages of a file.
-fn surplus<M: KeepInMemory>(
+fn surplus<M: KeepInMemory, T: Place>(
     rt: &HostRuntime,
     alloc: Global,
     begun: &Beginning<'_>,
     asked: SurplusWords<'_>,
+    first: T,
 ) -> u8
     ensures { result ≤ 1 }
 {
     match begun {
         Beginning::New(house) => surplus_file::<M>(rt, alloc, house, asked),
-        Beginning::House(path) => surplus_house::<FileStore<Memory>>(rt, alloc, path, asked),
+        Beginning::House(path) => surplus_house::<FileStore<Memory>, T>(
+            rt, alloc, path, asked, first,
+        ),
     }
 }

@@ -5,4 +5,5 @@ pub mod Outcomes
 pub mod Raises
 pub mod RaisesFrom
 pub mod Rows
+pub mod Served
 pub mod Zones

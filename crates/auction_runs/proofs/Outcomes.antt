@@ -1,7 +1,9 @@
 -- What is known of a run by how it ended.
-use Rattle.std.proofs.Common.{◌≡◌, ℕ, List, Option, Ok, Err, inl, inr, sym, subst}
-use Rattle.std.specs.Prelude.{IfOk, IsOk, OnOk, Result}
+use Rattle.std.proofs.Common.{◌≡◌, ◌⊎◌, ℕ, List, Option, Ok, Err, inl, inr, sym, subst}
+use Rattle.std.specs.Prelude.{IfErr, IfOk, IsOk, OnErr, OnOk, Result}
 use Rattle.site_serve.specs.Serving.{IsFlushed}
+use Rattle.auction_runs.specs.Faults.{IsOfKeep}
+use Rattle.auction_runs.specs.declared.fault.Fault.{Fault}
 
 -- what a run promises where it goes well, it has done where it went well
 pub where_done : {T E P : Type 0} (r : Result T E) → IsOk r → OnOk r P → P
@@ -16,6 +18,37 @@ of_value P r x gave p = subst (λ v. IfOk v P) gave p
 pub on_ok_then : {T E P Q : Type 0} (r : Result T E) → OnOk r P → (P → Q) → OnOk r Q
 on_ok_then (Ok x) p f = f p
 on_ok_then (Err e) p f = tt
+
+-- what is so whatever a result is
+pub always : {T E P : Type 0} (r : Result T E) → P → OnOk r P
+always (Ok x) p = p
+always (Err e) p = tt
+
+-- both facts of a value
+pub both : {T E : Type 0} {P Q : T → Type 0} (r : Result T E) → IsOk r → IfOk r P → IfOk r Q
+    → (x : T) × P x × Q x
+both (Ok x) done p q = (x, p, q)
+both (Err e) done p q = absurd cc
+
+-- those of a value that a run which went well was given
+pub both_of : {T U E F : Type 0} {P Q : T → Type 0} (s : Result T E) (r : Result U F) → IsOk r
+    → OnOk r (IsOk s) → OnOk r (IfOk s P) → IfOk s Q → (x : T) × P x × Q x
+both_of s (Ok u) done ok p q = both s ok p q
+both_of s (Err e) done ok p q = absurd cc
+
+-- what is so of the fault of a run whose keep was ended
+pub err_after : {T : Type 0} {P Q : Fault → Type 0} (r s : Result T Fault)
+    → IfErr r (λ fault. (s ≡ Err fault) ⊎ IsOfKeep fault) → IfErr s Q
+    → ((fault : Fault) → Q fault → P fault) → ((fault : Fault) → IsOfKeep fault → P fault)
+    → IfErr r P
+err_after (Ok x) s why q f g = tt
+err_after {Q = Q} (Err e) s (inl is) q f g = f e (subst (λ v. IfErr v Q) is q)
+err_after (Err e) s (inr kept) q f g = g e kept
+
+-- what is so of a result, whichever it is
+pub either_end : {T E P Q : Type 0} (r : Result T E) → OnOk r P → OnErr r Q → P ⊎ Q
+either_end (Ok x) p q = inl p
+either_end (Err e) p q = inr q
 
 -- what follows of a value
 pub if_ok_then : {T E : Type 0} {P Q : T → Type 0} (r : Result T E) → IfOk r P

@@ -1,6 +1,6 @@
 -- The rows of a lot file that was imported.
-use Rattle.std.proofs.Common.{◌≡◌, ◌≢◌, ◌∙◌, ◌++◌, ℕ, ◌≤◌, List, [], ◌∷◌, Bool, true, Option, Some, None, Result, Ok, Err, ap, arith, subst}
-use Rattle.std.specs.Prelude.{IfOk, OnOk, is_some}
+use Rattle.std.proofs.Common.{◌≡◌, ◌≢◌, ◌∙◌, ◌++◌, ℕ, ◌≤◌, List, [], ◌∷◌, Bool, true, Option, Some, None, Result, Ok, Err, ap, arith, subst, sym}
+use Rattle.std.specs.Prelude.{IfOk, is_some}
 use Rattle.std.specs.Io.KnownBytes.{Appends, Keeps}
 use Rattle.std.specs.List.{FoldsTo}
 use Rattle.house_rows.specs.Keeping.{IsRead}
@@ -21,11 +21,11 @@ use Rattle.steps.specs.Reading.{records_of}
 use Rattle.auction_runs.specs.Listed.{HasAll, HasDealt, HasTaken, IsHad}
 use Rattle.auction_runs.specs.declared.fault.Fault.{Fault}
 
--- what follows where a result that is the same went well, from what is so of both
-pub ok_of_both : {T E F Done : Type 0} (P Q : T → Type 0) (r : Result T E) (s : Result T F)
-    → IfOk r (λ x. s ≡ Ok x) → OnOk r Done → IfOk s P → ((x : T) → Done → P x → Q x) → IfOk r Q
-ok_of_both P Q (Ok x) s same done p f = f x done (subst (λ v. IfOk v P) same p)
-ok_of_both P Q (Err e) s same done p f = tt
+-- what follows of a result that is the same
+pub ok_of_same : {T E F : Type 0} (P Q : T → Type 0) (r : Result T E) (s : Result T F)
+    → IfOk r (λ x. s ≡ Ok x) → IfOk s P → ((x : T) → P x → Q x) → IfOk r Q
+ok_of_same P Q (Ok x) s same p f = f x (subst (λ v. IfOk v P) same p)
+ok_of_same P Q (Err e) s same p f = tt
 
 -- what grew and was then kept has grown
 grown : (a b c : Option (List ℕ)) (x : List ℕ) → Keeps b c → Appends a b x → Appends a c x
@@ -86,6 +86,33 @@ dealt content is_failed is_honest may_leave is_ended remaining by given begun ho
                 found.shown;
           });
     }
+
+-- an import that left this keep, of which that is so, left one of which it is so
+abbrev pub taken_so : {K : Type 0} (content : K → Tables) (is_failed : K → Bool)
+    (is_honest : K → Type 0) (may_leave : K → Tables → Type 0) (P : K → Type 0) (by : Lister)
+    (given kept : K) → P kept
+    → HasTaken content is_failed is_honest may_leave (λ last. last ≡ kept) by given
+    → HasTaken content is_failed is_honest may_leave P by given
+taken_so content is_failed is_honest may_leave P by given kept so house = record {
+  asked = house.asked;
+  member = house.member;
+  zone = house.zone;
+  kept_zone = house.kept_zone;
+  left = house.left;
+  ordered = house.ordered;
+  ended = subst P (sym house.ended) so;
+}
+
+-- and so with its rows
+pub dealt_so : {K : Type 0} (content : K → Tables) (is_failed : K → Bool)
+    (is_honest : K → Type 0) (may_leave : K → Tables → Type 0) (P : K → Type 0) (by : Lister)
+    (text : List ℕ) (before after : Option (List ℕ)) (given kept : K) (report : Imported) → P kept
+    → HasDealt content is_failed is_honest may_leave (λ last. last ≡ kept) by text before after given report
+    → HasDealt content is_failed is_honest may_leave P by text before after given report
+dealt_so content is_failed is_honest may_leave P by text before after given kept report so run = record {
+  house = taken_so content is_failed is_honest may_leave P by given kept so run.house;
+  listed = run.listed;
+}
 
 -- a count of refused rows never falls
 grows : (t : Imported) (o : Outcome) → t.refused ≤ (counted t o).refused

@@ -4,10 +4,12 @@ pub mod Faults
 pub mod Inquired
 pub mod Lines
 pub mod Listed
+pub mod Over
 pub mod Printed
 pub mod Raised
 pub mod RaisedFrom
 pub mod Replayed
+pub mod Served
 pub mod Setup
 pub mod Stated
 pub mod Tabled

@@ -1,5 +1,5 @@
 -- What an import does to a house, and what it prints.
-use Rattle.std.specs.Prelude.{◌≡◌, ◌≢◌, ◌++◌, ℕ, List, [], Bool, true, Option, is_some}
+use Rattle.std.specs.Prelude.{◌≡◌, ◌≢◌, ◌⊎◌, ◌++◌, ℕ, List, [], Bool, true, Option, is_some}
 use Rattle.std.specs.Io.KnownBytes.{Appends}
 use Rattle.std.specs.List.{FoldsTo}
 use Rattle.house_rows.specs.Keeping.{IsRead}
@@ -16,6 +16,7 @@ use Rattle.settle.specs.declared.zone.Zone.{Zone}
 use Rattle.site.specs.Answers.{IsStep}
 use Rattle.site_request.specs.declared.asked.Asked.{Asked}
 use Rattle.steps.specs.Reading.{records_of}
+use Rattle.auction_runs.specs.Over.{IsOver}
 
 -- the keep was asked whether the member is registered, who is
 pub record IsKnown {K : Type 0} (content : K → Tables) (is_failed : K → Bool)
@@ -36,6 +37,31 @@ pub record HasTaken {K : Type 0} (content : K → Tables) (is_failed : K → Boo
   pub left : K
   pub ordered : HasOrdered (IsStep content is_failed is_honest may_leave zone) by asked left
   pub ended : is_ended left
+
+-- a keep was read, and then took orders of some lots, of the member at the moment
+pub record HasOrderedIn {K : Type 0} (content : K → Tables) (is_failed : K → Bool)
+    (is_honest : K → Type 0) (may_leave : K → Tables → Type 0) (by : Lister) (given last : K) :
+    Type 0 where
+  pub asked : K
+  pub read : IsRead content is_failed is_honest may_leave given asked
+  pub zone : Zone
+  pub kept_zone : is_honest asked → IsZoneOf (content asked).settings.zone zone
+  pub ordered : HasOrdered (IsStep content is_failed is_honest may_leave zone) by asked last
+
+-- nothing else changed it, and it may have been read alone
+abbrev pub HasOrderedOnly : {K : Type 0} → (K → Tables) → (K → Bool) → (K → Type 0)
+    → (K → Tables → Type 0) → Lister → K → K → Type 0
+HasOrderedOnly content is_failed is_honest may_leave by given last =
+    IsRead content is_failed is_honest may_leave given last
+    ⊎ HasOrderedIn content is_failed is_honest may_leave by given last
+
+-- this is left of a keep that took orders of lots, however that ended
+pub record IsOrderedOver {K L : Type 0} (content : K → Tables) (is_failed : K → Bool)
+    (is_honest : K → Type 0) (may_leave : K → Tables → Type 0) (is_ended is_left : K → L → Type 0)
+    (by : Lister) (given : K) (left : L) : Type 0 where
+  pub last : K
+  pub ordered : HasOrderedOnly content is_failed is_honest may_leave by given last
+  pub over : IsOver is_ended is_left last left
 
 -- these are the orders of the rows of a lot file, which were dealt with in turn; what became of each
 -- was printed, and the totals

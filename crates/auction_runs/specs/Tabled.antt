@@ -10,9 +10,10 @@ use Rattle.house_rows.specs.Runs.{entry}
 use Rattle.house_rows.specs.Tables.{Tables, band_tables, tables_of}
 use Rattle.house_rows.specs.Verdict.{IsHistory, verdict}
 use Rattle.auction_runs.specs.Faults.{IsOfKeep}
+use Rattle.auction_runs.specs.Over.{IsOver}
 use Rattle.auction_runs.specs.Printed.{edition_line}
 use Rattle.auction_runs.specs.declared.fault.Fault.{Fault}
-use Rattle.auction_runs.specs.declared.fault.Fault.TheVariants.{Refused, Write}
+use Rattle.auction_runs.specs.declared.fault.Fault.TheVariants.{Refused}
 
 -- the house's command was accepted over the tables of a history, the new tables are those with it,
 -- and this is its edition. No crash takes it back
@@ -57,10 +58,20 @@ pub record HasTabled {K : Type 0} (content : K → Tables) (is_honest : K → Ty
   pub set : HasSet content is_honest may_leave is_ended moment command given edition
   pub printed : Appends before after (edition_line edition)
 
--- why no edition was printed: no table was set, the keep's end failed, or the output did
-abbrev pub IsUnprinted : {K : Type 0} → (K → Tables) → (K → Type 0) → (K → Tables → Type 0)
-    → (K → Type 0) → ℕ → Command → K → Fault → Type 0
-IsUnprinted {K} content is_honest may_leave is_ended moment command given fault =
-    ((left : K) × IsUndone content is_honest moment command given left fault)
-    ⊎ (((edition : ℕ) × HasSet content is_honest may_leave is_ended moment command given edition)
-    × (fault ≡ Write))
+-- A crash after the command leaves what it could leave before, or over the tables of a history by
+-- whose verdict the command is accepted those of the history with it.
+pub record MayTable {K : Type 0} (content : K → Tables) (is_honest : K → Type 0)
+    (may_leave : K → Tables → Type 0) (moment : ℕ) (command : Command) (old new : K) : Type 0 where
+  pub honest : is_honest new → is_honest old
+  pub left : is_honest new → (settings : Settings) (h : History) → IsHistory settings h
+      → content old ≡ tables_of settings h → (t : Tables) → may_leave new t
+      → may_leave old t ⊎ ((verdict settings h moment 0 command ≡ None)
+      × (t ≡ tables_of settings (entry moment 0 command ∷ h)))
+
+-- this is left of a keep that was given the command, however that ended
+pub record IsTabledOver {K L : Type 0} (content : K → Tables) (is_honest : K → Type 0)
+    (may_leave : K → Tables → Type 0) (is_ended is_left : K → L → Type 0) (moment : ℕ)
+    (command : Command) (given : K) (left : L) : Type 0 where
+  pub last : K
+  pub may : MayTable content is_honest may_leave moment command given last
+  pub over : IsOver is_ended is_left last left

@@ -1,10 +1,11 @@
 //! `bands`: a band table that is set in the house in a file.
-ghost use Rattle.std.specs.Prelude.{◌≡◌, ◌≤◌, IfErr, IfOk, OnOk};
+ghost use Rattle.std.specs.Prelude.{◌≡◌, ◌≤◌, IfErr, IfOk, IsOk, OnOk};
 ghost use Rattle.std.specs.Io.KnownBytes.{Appends};
 ghost use Rattle.house_rows.specs.declared.command.Command.TheVariants as command;
 ghost use Rattle.auction_runs.specs.Printed.{edition_line};
-ghost use Rattle.auction_runs.specs.Tabled.{HasSet, HasTabled, IsTabled, IsUndone, IsUnprinted};
+ghost use Rattle.auction_runs.specs.Tabled.{HasSet, HasTabled, IsTabled, IsTabledOver, IsUndone, MayTable};
 
+use crate::ended::outcome_after_end;
 use crate::fault::{Fault, finish_run};
 use house::decide;
 use house_rows::{Command, Ends, Keep, Rows};
@@ -19,6 +20,7 @@ fn order<K: Keep>(keep: &mut K, moment: u64, command: &Command) -> Result<u32, F
         (IsTabled K.content K.may_leave moment command.now keep.old keep.new) }
     ensures fault { IfErr result
         (IsUndone K.content K.is_honest moment command.now keep.old keep.new) }
+    ensures may { MayTable K.content K.is_honest K.may_leave moment command.now keep.old keep.new }
 {
     // The fault is matched, since a `?` on what holds a change isn't covered by the borrow check.
     match decide(keep, moment, HOUSE, command) {
@@ -44,48 +46,47 @@ fn tell<W: Write>(output: &mut W, edition: u32) -> Result<(), Fault>
 }
 
 // Sets the table, and ends the keep however that ended.
-fn set<K: Keep + Ends>(mut keep: K, moment: u64, command: &Command) -> Result<u32, Fault>
-    ensures set { IfOk result (HasSet K.content K.is_honest K.may_leave K.is_ended moment
-        command.now keep) }
-    ensures fault { IfErr result (λ fault. (left : K)
+fn set<K: Keep + Ends>(mut keep: K, moment: u64, command: &Command) -> (Result<u32, Fault>, K::Left)
+    ensures set { IfOk result.0 (HasSet K.content K.is_honest K.may_leave
+        (λ last. K.is_ended last result.1) moment command.now keep) }
+    ensures fault { IfErr result.0 (λ fault. (left : K)
         × IsUndone K.content K.is_honest moment command.now keep left fault) }
+    ensures over { IsTabledOver K.content K.is_honest K.may_leave K.is_ended K.is_left moment
+        command.now keep result.1 }
 {
     let edition = order(&mut keep, moment, command);
-    let ended = keep.end();
-    let edition = edition?;
-    ended?;
-    Ok(edition)
+    let (ended, left) = keep.end();
+    (outcome_after_end(edition, ended), left)
 }
 
-// Sets the table, ends the keep, and reports the edition.
-fn set_and_tell<W: Write, K: Keep + Ends>(
-    output: &mut W,
-    keep: K,
-    moment: u64,
-    command: &Command,
-) -> Result<(), Fault>
-    ensures set { OnOk result (HasTabled K.content K.is_honest K.may_leave K.is_ended moment
-        command.now (W.contents output.old) (W.contents output.new) keep) }
-    ensures fault { IfErr result (IsUnprinted K.content K.is_honest K.may_leave K.is_ended moment
-        command.now keep) }
+// Reports the edition of a table, once it is set.
+fn tell_set<W: Write>(output: &mut W, set: Result<u32, Fault>) -> Result<(), Fault>
+    ensures report { OnOk result (IfOk set (λ edition.
+        Appends (W.contents output.old) (W.contents output.new) (edition_line edition))) }
+    ensures set { OnOk result (IsOk set) }
 {
-    let edition = set(keep, moment, command)?;
-    tell(output, edition)
+    tell(output, set?)
 }
 
-/// Sets a band table in a house, ends its keep, reports the edition, and gives the exit status. A
-/// fault is written in its line on `errors`, and so is the refusal of the house.
+/// Sets a band table in a house, ends its keep, reports the edition, and gives the exit status and
+/// what is left of the keep. A fault is written in its line on `errors`, and so is the refusal of the
+/// house.
 pub fn bands_run<W: Write, E: Write, K: Keep + Ends>(
     output: &mut W,
     errors: &mut E,
     keep: K,
     bands: Rows<(u64, u64)>,
     moment: u64,
-) -> u8
-    ensures set { result ≡ 0 → HasTabled K.content K.is_honest K.may_leave K.is_ended moment
-        (command.SetBands bands) (W.contents output.old) (W.contents output.new) keep }
-    ensures within { result ≤ 1 }
+) -> (u8, K::Left)
+    ensures set { result.0 ≡ 0 → HasTabled K.content K.is_honest K.may_leave
+        (λ last. K.is_ended last result.1) moment (command.SetBands bands)
+        (W.contents output.old) (W.contents output.new) keep }
+    ensures over { IsTabledOver K.content K.is_honest K.may_leave K.is_ended K.is_left moment
+        (command.SetBands bands) keep result.1 }
+    ensures within { result.0 ≤ 1 }
 {
     let command = Command::SetBands { bands };
-    finish_run(errors, set_and_tell(output, keep, moment, &command))
+    let (edition, left) = set(keep, moment, &command);
+    let status = finish_run(errors, tell_set(output, edition));
+    (status, left)
 }

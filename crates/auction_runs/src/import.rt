@@ -1,34 +1,31 @@
 //! `import`: the rows of a lot file, listed in a house.
 ghost use Rattle.std.specs.Prelude.{◌≡◌, ◌≤◌, ◌↔◌, ℕ, List, Ok, Some, IfOk, IsOk, OnOk};
 ghost use Rattle.std.specs.Io.KnownBytes.{Keeps};
-ghost use Rattle.auction_runs.specs.Listed.{HasAll, HasDealt, HasTaken, IsKnown};
+ghost use Rattle.auction_runs.specs.Listed.{HasAll, HasDealt, HasOrderedOnly, HasTaken, IsKnown, IsOrderedOver};
+ghost use Rattle.house_rows.specs.Keeping.{IsRead};
 ghost use Rattle.site.specs.Answers.{IsReadable};
 
+use crate::ended::outcome_after_end;
 use crate::fault::{Fault, finish_run};
-use crate::serve::site_over;
-use house_rows::{Ends, Keep};
+use crate::serve::begin_site;
+use house_rows::{Ends, Keep, KeepFault};
 use office::{ImportFault, Imported, Lister, check_member, check_zone, import};
 use std::alloc::Global;
 use std::io::{Read, Write};
 
-// Hands on what was printed, and ends the keep, however the import ended. Its own fault is reported
-// before theirs.
-fn finish<W: Write, K: Ends>(
+// Hands on what was printed, however the import ended. Its own fault is reported before that.
+fn hand_on<W: Write>(
     output: &mut W,
-    keep: K,
     imported: Result<Imported, ImportFault>,
 ) -> Result<Imported, Fault>
     ensures same { IfOk result (λ report. imported ≡ Ok report) }
     ensures kept { Keeps (W.contents output.old) (W.contents output.new) }
-    ensures ended { OnOk result (K.is_ended keep) }
 {
     let flushed = output.flush();
-    let ended = keep.end();
     let report = imported?;
     if flushed.is_err() {
         return Err(Fault::Write);
     }
-    ended?;
     Ok(report)
 }
 
@@ -44,33 +41,42 @@ fn check_import<R: Drop, K: Keep>(
     ensures known { OnOk result
         (IsKnown K.content K.is_failed K.is_honest K.may_leave member keep.old keep.new) }
     ensures same { IfOk result (λ reader. lots ≡ Ok reader) }
+    ensures read { IsRead K.content K.is_failed K.is_honest K.may_leave keep.old keep.new }
 {
     check_zone(keep)?;
     check_member(keep, member)?;
     lots
 }
 
-// Lists the rows.
-fn list_all<R: Read + Drop, W: Write, K: Keep + Drop + Ends>(
+// Lists the rows, and gives the keep back.
+fn list_all<R: Read + Drop, W: Write, K: Keep + Drop>(
     alloc: Global,
     keep: K,
     lots: Result<R, Fault>,
     by: Lister,
     output: &mut W,
-) -> Result<Imported, Fault>
-    ensures listed { IfOk result (λ report. (reader : R) → lots ≡ Ok reader → (text : List ℕ)
+) -> (Result<Imported, Fault>, K)
+    ensures listed { IfOk result.0 (λ report. (reader : R) → lots ≡ Ok reader → (text : List ℕ)
         → R.remaining reader ≡ Some text
-        → HasDealt K.content K.is_failed K.is_honest K.may_leave K.is_ended by text
+        → HasDealt K.content K.is_failed K.is_honest K.may_leave (λ last. last ≡ result.1) by text
         (W.contents output.old) (W.contents output.new) keep report) }
-    ensures open { OnOk result (IsOk lots) }
-    ensures ended { OnOk result
-        (HasTaken K.content K.is_failed K.is_honest K.may_leave K.is_ended by keep) }
+    ensures open { OnOk result.0 (IsOk lots) }
+    ensures taken { OnOk result.0
+        (HasTaken K.content K.is_failed K.is_honest K.may_leave (λ last. last ≡ result.1) by keep) }
+    ensures ordered { HasOrderedOnly K.content K.is_failed K.is_honest K.may_leave by keep
+        result.1 }
 {
     let mut keep = keep;
-    let lots = check_import(&mut keep, lots, by.member)?;
-    let mut site = site_over(alloc, keep)?;
+    let lots = match check_import(&mut keep, lots, by.member) {
+        Ok(lots) => lots,
+        Err(fault) => return (Err(fault), keep),
+    };
+    let mut site = match begin_site(alloc, keep) {
+        Ok(site) => site,
+        Err((fault, keep)) => return (Err(fault), keep),
+    };
     let imported = import(alloc, &mut site, by, lots, output);
-    finish(output, site.end(), imported)
+    (hand_on(output, imported), site.end())
 }
 
 // The exit status for what became of the rows.
@@ -81,9 +87,26 @@ fn status(report: Imported) -> u8
     if report.refused == 0 { 0 } else { 1 }
 }
 
-/// Lists each row of a lot file for a member at a moment, ends the keep, and gives the exit status:
-/// 0 where each row was listed or there already, and else 1. A fault is written in its line on
-/// `errors`; what was printed before it stays.
+// The exit status for what became of a file, where the keep was ended.
+fn finish<E: Write>(
+    errors: &mut E,
+    listed: Result<Imported, Fault>,
+    ended: Result<(), KeepFault>,
+) -> u8
+    ensures had { result ≡ 0 → IfOk listed (λ report. report.refused ≡ 0) }
+    ensures listed { result ≡ 0 → IsOk listed }
+    ensures ended { result ≡ 0 → IsOk ended }
+    ensures within { result ≤ 1 }
+{
+    match outcome_after_end(listed, ended) {
+        Ok(report) => status(report),
+        Err(fault) => finish_run(errors, Err(fault)),
+    }
+}
+
+/// Lists each row of a lot file for a member at a moment, ends the keep, and gives the exit status
+/// and what is left of the keep: 0 where each row was listed or there already, and else 1. A fault is
+/// written in its line on `errors`; what was printed before it stays.
 pub fn import_run<R: Read + Drop, W: Write, E: Write, K: Keep + Drop + Ends>(
     alloc: Global,
     keep: K,
@@ -91,19 +114,20 @@ pub fn import_run<R: Read + Drop, W: Write, E: Write, K: Keep + Drop + Ends>(
     by: Lister,
     output: &mut W,
     errors: &mut E,
-) -> u8
-    ensures listed { result ≡ 0 → (reader : R) → lots ≡ Ok reader → (text : List ℕ)
+) -> (u8, K::Left)
+    ensures listed { result.0 ≡ 0 → (reader : R) → lots ≡ Ok reader → (text : List ℕ)
         → R.remaining reader ≡ Some text
-        → HasAll K.content K.is_failed K.is_honest K.may_leave K.is_ended by text
-        (W.contents output.old) (W.contents output.new) keep }
-    ensures open { result ≡ 0 → IsOk lots }
+        → HasAll K.content K.is_failed K.is_honest K.may_leave (λ last. K.is_ended last result.1)
+        by text (W.contents output.old) (W.contents output.new) keep }
+    ensures open { result.0 ≡ 0 → IsOk lots }
     // Also where the reader doesn't say what its bytes are.
-    ensures ended { result ≡ 0
-        → HasTaken K.content K.is_failed K.is_honest K.may_leave K.is_ended by keep }
-    ensures within { result ≤ 1 }
+    ensures ended { result.0 ≡ 0 → HasTaken K.content K.is_failed K.is_honest K.may_leave
+        (λ last. K.is_ended last result.1) by keep }
+    ensures over { IsOrderedOver K.content K.is_failed K.is_honest K.may_leave K.is_ended K.is_left
+        by keep result.1 }
+    ensures within { result.0 ≤ 1 }
 {
-    match list_all(alloc, keep, lots, by, output) {
-        Ok(report) => status(report),
-        Err(fault) => finish_run(errors, Err(fault)),
-    }
+    let (listed, keep) = list_all(alloc, keep, lots, by, output);
+    let (ended, left) = keep.end();
+    (finish(errors, listed, ended), left)
 }

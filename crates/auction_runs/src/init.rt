@@ -1,10 +1,11 @@
 //! `init`: a new house in a file.
-ghost use Rattle.std.specs.Prelude.{◌≡◌, ◌≤◌, OnOk};
+ghost use Rattle.std.specs.Prelude.{◌≡◌, ◌≤◌, IsOk, OnOk};
 ghost use Rattle.std.specs.Io.KnownBytes.{Appends};
+ghost use Rattle.auction_runs.specs.Over.{IsOver};
 ghost use Rattle.auction_runs.specs.Printed.{created};
 
 use crate::fault::{Fault, finish_run};
-use house_rows::Ends;
+use house_rows::{Ends, KeepFault};
 use std::io::Write;
 
 // Reports that a house is made.
@@ -17,21 +18,28 @@ fn tell<W: Write>(output: &mut W) -> Result<(), Fault>
     }
 }
 
-// Ends the keep, and reports that the house is made.
-fn finish<W: Write, K: Ends>(output: &mut W, keep: K) -> Result<(), Fault>
+// Reports that the house is made, where its keep was ended.
+fn finish<W: Write>(output: &mut W, ended: Result<(), KeepFault>) -> Result<(), Fault>
     ensures report { OnOk result (Appends (W.contents output.old) (W.contents output.new) created) }
-    ensures ended { OnOk result (K.is_ended keep) }
+    ensures ended { OnOk result (IsOk ended) }
 {
-    keep.end()?;
+    ended?;
     tell(output)
 }
 
-/// Ends the keep of a new house, reports that it is made, and gives the exit status. A fault is
-/// written in its line on `errors`.
-pub fn init_run<W: Write, E: Write, K: Ends>(output: &mut W, errors: &mut E, keep: K) -> u8
-    ensures done { result ≡ 0 → Appends (W.contents output.old) (W.contents output.new) created }
-    ensures ended { result ≡ 0 → K.is_ended keep }
-    ensures within { result ≤ 1 }
+/// Ends the keep of a new house, reports that it is made, and gives the exit status and what is left
+/// of the keep. A fault is written in its line on `errors`.
+pub fn init_run<W: Write, E: Write, K: Ends>(
+    output: &mut W,
+    errors: &mut E,
+    keep: K,
+) -> (u8, K::Left)
+    ensures done { result.0 ≡ 0 → Appends (W.contents output.old) (W.contents output.new) created }
+    ensures ended { result.0 ≡ 0 → K.is_ended keep result.1 }
+    ensures over { IsOver K.is_ended K.is_left keep result.1 }
+    ensures within { result.0 ≤ 1 }
 {
-    finish_run(errors, finish(output, keep))
+    let (ended, left) = keep.end();
+    let status = finish_run(errors, finish(output, ended));
+    (status, left)
 }

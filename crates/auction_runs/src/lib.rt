@@ -11,6 +11,7 @@
 mod audit;
 mod audit_from;
 mod bands;
+mod ended;
 mod fault;
 mod import;
 mod init;
@@ -29,7 +30,7 @@ pub use fault::{Fault, Side, finish_run};
 pub use import::import_run;
 pub use init::init_run;
 pub use replay::replay_run;
-pub use serve::{answer_each, serve_run};
+pub use serve::{MOST, answer_each, begin_site, serve_run};
 pub use statement::{Inquiry, statement_run};
 pub use surplus::{Raise, Trial, surplus_run};
 pub use surplus_from::surplus_from_run;

@@ -2,30 +2,50 @@
 ghost use Rattle.std.specs.Prelude.{◌≡◌, ◌≤◌, ◌⊎◌, IfErr, IfOk, IsOk, OnOk};
 ghost use Rattle.std.specs.Io.KnownBytes.{Appends};
 ghost use Rattle.auction_runs.specs.Faults.{IsOfKeep};
+ghost use Rattle.auction_runs.specs.Over.{IsOver};
 ghost use Rattle.auction_runs.specs.Printed.{listening, served};
+ghost use Rattle.auction_runs.specs.Served.{HasTakenSome};
 ghost use Rattle.settle.specs.Zoned.{IsZoneOf};
 ghost use Rattle.site.specs.Answers.{zone_of};
 ghost use Rattle.site_connections.specs.Turns.{ServesOne, TakesEach, TakesOne};
 ghost use Rattle.site_serve.specs.Serving.{keep_of};
 
+use crate::ended::outcome_after_end;
 use crate::fault::{Fault, finish_run};
-use house_rows::{Ends, Keep};
+use house_rows::{Ends, Keep, KeepFault};
 use site::Site;
 use site_connections::{Connections, serve_each};
 use std::alloc::Global;
 use std::io::Write;
 
-// How many messages of a connection are answered.
-const MOST: u64 = 10_000;
+/// How many messages of a connection are answered.
+pub const MOST: u64 = 10_000;
 
-/// The site over a keep.
+/// The site over a keep. After an error the keep is given back.
+pub fn begin_site<K: Keep + Drop>(alloc: Global, keep: K) -> Result<Site<K>, (Fault, K)>
+    ensures keep { IfOk result (λ site. keep_of site ≡ keep) }
+    ensures zone { K.is_honest keep → IfOk result (λ site.
+        IsZoneOf (K.content keep).settings.zone (zone_of site)) }
+    ensures fault { IfErr result (λ e. IsOfKeep e.0) }
+    ensures back { IfErr result (λ e. e.1 ≡ keep) }
+{
+    match Site::new(alloc, keep) {
+        Ok(site) => Ok(site),
+        Err((fault, keep)) => Err((Fault::from(fault), keep)),
+    }
+}
+
+/// As `begin_site`, and after an error the keep is dropped.
 pub fn site_over<K: Keep + Drop>(alloc: Global, keep: K) -> Result<Site<K>, Fault>
     ensures keep { IfOk result (λ site. keep_of site ≡ keep) }
     ensures zone { K.is_honest keep → IfOk result (λ site.
         IsZoneOf (K.content keep).settings.zone (zone_of site)) }
     ensures fault { IfErr result IsOfKeep }
 {
-    Ok(Site::new(alloc, keep)?)
+    match begin_site(alloc, keep) {
+        Ok(site) => Ok(site),
+        Err((fault, _)) => Err(fault),
+    }
 }
 
 // Reports that connections are waited for.
@@ -62,6 +82,10 @@ fn serve_all<C: Connections, K: Keep + Drop>(
         C.Input.left C.Input.has_failed C.Output.taken C.Output.handed_on C.Output.has_failed MOST)
         C.accepts C.ends) count
         (connections.old, keep_of site.old) (connections.new, keep_of site.new)) }
+    ensures some { HasTakenSome (TakesOne
+        (ServesOne K.content K.is_failed K.is_honest K.may_leave (zone_of site.old)
+        C.Input.left C.Input.has_failed C.Output.taken C.Output.handed_on C.Output.has_failed MOST)
+        C.accepts C.ends) count (connections.old, keep_of site.old) (keep_of site.new) }
     ensures fault { IfErr result (λ fault. fault ≡ Fault.Socket) }
 {
     match serve_each(alloc, connections, count, site, MOST) {
@@ -85,6 +109,10 @@ fn listen<W: Write, C: Connections, K: Keep + Drop>(
         C.Input.left C.Input.has_failed C.Output.taken C.Output.handed_on C.Output.has_failed MOST)
         C.accepts C.ends) count
         (connections.old, keep_of site.old) (connections.new, keep_of site.new)) }
+    ensures some { HasTakenSome (TakesOne
+        (ServesOne K.content K.is_failed K.is_honest K.may_leave (zone_of site.old)
+        C.Input.left C.Input.has_failed C.Output.taken C.Output.handed_on C.Output.has_failed MOST)
+        C.accepts C.ends) count (connections.old, keep_of site.old) (keep_of site.new) }
     ensures fault { IfErr result (λ fault. (fault ≡ Fault.Write) ⊎ (fault ≡ Fault.Socket)) }
 {
     tell_listening(output)?;
@@ -99,50 +127,58 @@ pub fn answer_each<W: Write, C: Connections, K: Keep + Drop>(
     count: u64,
     output: &mut W,
     site: Site<K>,
-) -> Result<K, Fault>
-    ensures report { OnOk result
+) -> (Result<(), Fault>, K)
+    ensures report { OnOk result.0
         (Appends (W.contents output.old) (W.contents output.new) listening) }
-    ensures each { IfOk result (λ keep. TakesEach (TakesOne
+    ensures each { OnOk result.0 (TakesEach (TakesOne
         (ServesOne K.content K.is_failed K.is_honest K.may_leave (zone_of site)
         C.Input.left C.Input.has_failed C.Output.taken C.Output.handed_on C.Output.has_failed MOST)
-        C.accepts C.ends) count (connections.old, keep_of site) (connections.new, keep)) }
-    ensures fault { IfErr result (λ fault. (fault ≡ Fault.Write) ⊎ (fault ≡ Fault.Socket)) }
+        C.accepts C.ends) count (connections.old, keep_of site) (connections.new, result.1)) }
+    ensures some { HasTakenSome (TakesOne
+        (ServesOne K.content K.is_failed K.is_honest K.may_leave (zone_of site)
+        C.Input.left C.Input.has_failed C.Output.taken C.Output.handed_on C.Output.has_failed MOST)
+        C.accepts C.ends) count (connections.old, keep_of site) result.1 }
+    ensures fault { IfErr result.0 (λ fault. (fault ≡ Fault.Write) ⊎ (fault ≡ Fault.Socket)) }
 {
     let mut site = site;
     let answered = listen(alloc, connections, count, output, &mut site);
-    let keep = site.end();
-    match answered {
-        Ok(()) => Ok(keep),
-        Err(fault) => Err(fault),
-    }
+    (answered, site.end())
 }
 
-// Ends the keep, and reports how many connections were answered.
-fn finish<W: Write, K: Ends>(output: &mut W, keep: K, count: u64) -> Result<(), Fault>
+// Reports how many connections were answered, where they were and the keep was ended.
+fn finish<W: Write>(
+    output: &mut W,
+    answered: Result<(), Fault>,
+    ended: Result<(), KeepFault>,
+    count: u64,
+) -> Result<(), Fault>
     ensures report { OnOk result
         (Appends (W.contents output.old) (W.contents output.new) (served count)) }
-    ensures ended { OnOk result (K.is_ended keep) }
+    ensures answered { OnOk result (IsOk answered) }
+    ensures ended { OnOk result (IsOk ended) }
 {
-    keep.end()?;
+    outcome_after_end(answered, ended)?;
     tell_served(output, count)
 }
 
-/// Ends the keep over which so many connections were answered, reports their number, and gives the
-/// exit status. A fault, one of serving them too, is written in its line on `errors`.
+/// Ends the keep over which connections were answered, reports how many were asked for where all
+/// were answered, and gives the exit status and what is left of the keep. A fault, one of answering
+/// them too, is written in its line on `errors`.
 pub fn serve_run<W: Write, E: Write, K: Ends>(
     output: &mut W,
     errors: &mut E,
-    answered: Result<K, Fault>,
+    answered: Result<(), Fault>,
+    keep: K,
     count: u64,
-) -> u8
-    ensures done { result ≡ 0 → Appends (W.contents output.old) (W.contents output.new)
+) -> (u8, K::Left)
+    ensures done { result.0 ≡ 0 → Appends (W.contents output.old) (W.contents output.new)
         (served count) }
-    ensures ok { result ≡ 0 → IsOk answered }
-    ensures ended { result ≡ 0 → IfOk answered K.is_ended }
-    ensures within { result ≤ 1 }
+    ensures ok { result.0 ≡ 0 → IsOk answered }
+    ensures ended { result.0 ≡ 0 → K.is_ended keep result.1 }
+    ensures over { IsOver K.is_ended K.is_left keep result.1 }
+    ensures within { result.0 ≤ 1 }
 {
-    match answered {
-        Ok(keep) => finish_run(errors, finish(output, keep, count)),
-        Err(fault) => finish_run(errors, Err(fault)),
-    }
+    let (ended, left) = keep.end();
+    let status = finish_run(errors, finish(output, answered, ended, count));
+    (status, left)
 }

@@ -1,10 +1,13 @@
 //! `statement`: what a member sold and bought in a period.
-ghost use Rattle.std.specs.Prelude.{◌≡◌, ◌≤◌, IfErr, IfOk, OnOk};
+ghost use Rattle.std.specs.Prelude.{◌≡◌, ◌≤◌, IfErr, IfOk, IsOk, OnOk};
 ghost use Rattle.std.specs.Io.KnownBytes.{Appends};
 ghost use Rattle.settle.specs.Calendar.{day_text};
 ghost use Rattle.auction_runs.specs.Inquired.{IsUnasked};
-ghost use Rattle.auction_runs.specs.Stated.{HasRead, HasStated, account_text};
+ghost use Rattle.auction_runs.specs.Over.{IsReadOver};
+ghost use Rattle.auction_runs.specs.Stated.{HasRead, HasStated, IsAccount, account_text};
+ghost use Rattle.house_rows.specs.Keeping.{IsRead};
 
+use crate::ended::outcome_after_end;
 use crate::fault::{Fault, finish_run};
 use auction_words::StatementWords;
 use device::Sink;
@@ -84,50 +87,65 @@ fn write<W: Sink>(
     sink.flush().map_err(|_| Fault::Write)
 }
 
-// The statement from a keep, which is ended.
+// The statement from a keep.
+fn read_statement<K: Keep>(alloc: Global, keep: &mut K, asked: Inquiry) -> Result<Statement, Fault>
+    ensures shown { K.is_honest keep.new → IfOk result (IsAccount (K.content keep.old) asked) }
+    ensures read { IsRead K.content K.is_failed K.is_honest K.may_leave keep.old keep.new }
+{
+    Ok(statement(alloc, keep, asked.member, asked.from, asked.to)?)
+}
+
+// And what is left of the keep, which is ended.
 fn make_statement<K: Keep + Drop + Ends>(
     alloc: Global,
     keep: K,
     asked: Inquiry,
-) -> Result<Statement, Fault>
-    ensures { IfOk result
-        (HasRead K.content K.is_failed K.is_honest K.may_leave K.is_ended asked keep) }
+) -> (Result<Statement, Fault>, K::Left)
+    ensures made { IfOk result.0 (HasRead K.content K.is_failed K.is_honest K.may_leave
+        (λ last. K.is_ended last result.1) asked keep) }
+    ensures over { IsReadOver K.content K.is_failed K.is_honest K.may_leave K.is_ended K.is_left
+        keep result.1 }
 {
     let mut keep = keep;
-    let statement = statement(alloc, &mut keep, asked.member, asked.from, asked.to)?;
-    keep.end()?;
-    Ok(statement)
+    let made = read_statement(alloc, &mut keep, asked);
+    let (ended, left) = keep.end();
+    (outcome_after_end(made, ended), left)
 }
 
-// Writes the statement from a keep, which is ended before.
-fn state<W: Sink, K: Keep + Drop + Ends>(
+// Writes a statement, once it is made.
+fn write_made<W: Sink>(
     alloc: Global,
-    keep: K,
-    asked: Inquiry,
     sink: &mut W,
+    made: Result<Statement, Fault>,
+    csv: bool,
 ) -> Result<(), Fault>
-    ensures stated { OnOk result (HasStated K.content K.is_failed K.is_honest K.may_leave K.is_ended
-        asked (W.taken sink.old) (W.taken sink.new) keep) }
+    ensures written { OnOk result (IfOk made (λ statement.
+        Appends (W.taken sink.old) (W.taken sink.new) (account_text csv statement))) }
     ensures handed_on { OnOk result (W.handed_on sink.new ≡ W.taken sink.new) }
+    ensures made { OnOk result (IsOk made) }
 {
-    let csv = asked.csv;
-    let statement = make_statement(alloc, keep, asked)?;
+    let statement = made?;
     write(alloc, sink, &statement, csv)
 }
 
-/// Writes the statement of a member from a keep, which is ended before, and gives the exit status.
-/// A fault is written in its line on `errors`.
+/// Writes the statement of a member from a keep, which is ended before, and gives the exit status and
+/// what is left of the keep, which was only read. A fault is written in its line on `errors`.
 pub fn statement_run<W: Sink, E: Write, K: Keep + Drop + Ends>(
     alloc: Global,
     keep: K,
     asked: Inquiry,
     sink: &mut W,
     errors: &mut E,
-) -> u8
-    ensures stated { result ≡ 0 → HasStated K.content K.is_failed K.is_honest K.may_leave K.is_ended
-        asked (W.taken sink.old) (W.taken sink.new) keep }
-    ensures handed_on { result ≡ 0 → W.handed_on sink.new ≡ W.taken sink.new }
-    ensures within { result ≤ 1 }
+) -> (u8, K::Left)
+    ensures stated { result.0 ≡ 0 → HasStated K.content K.is_failed K.is_honest K.may_leave
+        (λ last. K.is_ended last result.1) asked (W.taken sink.old) (W.taken sink.new) keep }
+    ensures handed_on { result.0 ≡ 0 → W.handed_on sink.new ≡ W.taken sink.new }
+    ensures over { IsReadOver K.content K.is_failed K.is_honest K.may_leave K.is_ended K.is_left
+        keep result.1 }
+    ensures within { result.0 ≤ 1 }
 {
-    finish_run(errors, state(alloc, keep, asked, sink))
+    let csv = asked.csv;
+    let (made, left) = make_statement(alloc, keep, asked);
+    let status = finish_run(errors, write_made(alloc, sink, made, csv));
+    (status, left)
 }

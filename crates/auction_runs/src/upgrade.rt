@@ -1,10 +1,11 @@
 //! `upgrade`: a house of version 1 in a file is made one of version 2.
-ghost use Rattle.std.specs.Prelude.{◌≡◌, ◌≤◌, OnOk};
+ghost use Rattle.std.specs.Prelude.{◌≡◌, ◌≤◌, IsOk, OnOk};
 ghost use Rattle.std.specs.Io.KnownBytes.{Appends};
+ghost use Rattle.auction_runs.specs.Over.{IsOver};
 ghost use Rattle.auction_runs.specs.Printed.{upgraded_line, upgraded_word};
 
 use crate::fault::{Fault, finish_run};
-use house_rows::Ends;
+use house_rows::{Ends, KeepFault};
 use std::io::Write;
 
 // What is reported of a house that is upgraded, and of one that was of version 2 before.
@@ -25,28 +26,35 @@ fn tell<W: Write>(output: &mut W, upgraded: bool) -> Result<(), Fault>
     }
 }
 
-// Ends the keep, and reports whether its house is upgraded.
-fn finish<W: Write, K: Ends>(output: &mut W, keep: K, upgraded: bool) -> Result<(), Fault>
+// Reports whether the house is upgraded, where its keep was ended.
+fn finish<W: Write>(
+    output: &mut W,
+    ended: Result<(), KeepFault>,
+    upgraded: bool,
+) -> Result<(), Fault>
     ensures report { OnOk result
         (Appends (W.contents output.old) (W.contents output.new) (upgraded_line upgraded)) }
-    ensures ended { OnOk result (K.is_ended keep) }
+    ensures ended { OnOk result (IsOk ended) }
 {
-    keep.end()?;
+    ended?;
     tell(output, upgraded)
 }
 
 /// Ends the keep of a house that is upgraded, or was of version 2 before, reports which it is, and
-/// gives the exit status. A fault is written in its line on `errors`.
+/// gives the exit status and what is left of the keep. A fault is written in its line on `errors`.
 pub fn upgrade_run<W: Write, E: Write, K: Ends>(
     output: &mut W,
     errors: &mut E,
     keep: K,
     upgraded: bool,
-) -> u8
-    ensures done { result ≡ 0
+) -> (u8, K::Left)
+    ensures done { result.0 ≡ 0
         → Appends (W.contents output.old) (W.contents output.new) (upgraded_line upgraded) }
-    ensures ended { result ≡ 0 → K.is_ended keep }
-    ensures within { result ≤ 1 }
+    ensures ended { result.0 ≡ 0 → K.is_ended keep result.1 }
+    ensures over { IsOver K.is_ended K.is_left keep result.1 }
+    ensures within { result.0 ≤ 1 }
 {
-    finish_run(errors, finish(output, keep, upgraded))
+    let (ended, left) = keep.end();
+    let status = finish_run(errors, finish(output, ended, upgraded));
+    (status, left)
 }

@@ -1,14 +1,21 @@
 //! Keeps that can be ended.
-ghost use Rattle.std.specs.Prelude.{OnOk};
+ghost use Rattle.std.specs.Prelude.{OnErr, OnOk};
 
 use crate::fault::KeepFault;
 
 /// A keep that can be ended: one in a file closes it.
-pub trait Ends {
-    /// What is so of a keep whose end went well.
-    ghost is_ended: { Self → Type 0 };
+pub trait Ends: Sized {
+    /// What is left of the keep: of one in a file its files.
+    type Left: Drop;
 
-    /// Ends the keep.
-    fn end(self) -> Result<(), KeepFault>
-        ensures { OnOk result (is_ended self) };
+    /// What is so of what is left of a keep whose end went well.
+    ghost is_ended: { Self → Self.Left → Type 0 };
+
+    /// What is so of what is left of a keep whose end failed.
+    ghost is_left: { Self → Self.Left → Type 0 };
+
+    /// Ends the keep, and gives what is left of it. Whoever drops that closes the files.
+    fn end(self) -> (Result<(), KeepFault>, Self::Left)
+        ensures ended { OnOk result.0 (is_ended self result.1) }
+        ensures left { OnErr result.0 (is_left self result.1) };
 }

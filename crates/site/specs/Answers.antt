@@ -156,6 +156,11 @@ IsReported closes (Err f) (Ok v) = ⊥
 abbrev pub IsReadable : List ℕ → Type 0
 IsReadable zone = IsPlainText zone × IsSome (read_whole zone)
 
+-- what became of a site that was begun, without the keep that is given back where it wasn't
+abbrev pub without_keep : {S K : Type 0} → Result S (KeepFault × K) → Result S KeepFault
+without_keep (Ok site) = Ok site
+without_keep (Err given) = Err given.0
+
 -- why a site can't be made over a keep: Store exactly where the keep has failed, and Damaged only
 -- where the zone can't be read. Where it can't, the fault is Damaged, unless memory was refused
 -- before the zone was looked at

@@ -15,7 +15,7 @@ ghost use Rattle.site_request.specs.declared.asked.Asked.{Asked as TheAsked};
 ghost use Rattle.site_replies.specs.Texts.{fault_text};
 ghost use Rattle.wire.specs.Frame.{IsFrame};
 ghost use Rattle.wire.specs.declared.fault.WireFault.{WireFault};
-ghost use Rattle.site.specs.Answers.{IsAppended, IsBegun, IsDown, IsReadable, IsStep, IsReported, broken_text, zone_of};
+ghost use Rattle.site.specs.Answers.{IsAppended, IsBegun, IsDown, IsReadable, IsStep, IsReported, broken_text, without_keep, zone_of};
 ghost use Rattle.site.specs.Lent.{LendsKeep};
 
 use house_rows::{Counts, Keep, KeepFault, Settings};
@@ -86,28 +86,46 @@ fn are_blank(newest: u32, counts: Counts, clock: u64) -> bool
     newest == 1 && counts.members == 0 && counts.categories == 0 && counts.items == 0 && clock == 0
 }
 
+// What the engine over a keep needs beside it: the zone that is kept, and the routes.
+fn prepare<K: Keep>(alloc: Global, keep: &K) -> Result<(Zone, Routes), KeepFault>
+    ensures zone { K.is_honest keep.now → IfOk result (λ parts.
+        IsZoneOf (K.content keep.now).settings.zone parts.0) }
+    ensures bands { K.is_honest keep.now → OnOk result
+        (IsBandTable (K.content keep.now).settings.bands) }
+    ensures faults { IsBegun result (K.is_honest keep.now) (K.is_failed keep.now)
+        (K.content keep.now) }
+{
+    let zone = read_zone(keep.settings()?)?;
+    let routes = Routes::new(alloc)?;
+    Ok((zone, routes))
+}
+
 impl<K: Keep + Drop> Site<K> {
-    /// The engine over a keep, by the zone that is kept, which is read once.
+    /// The engine over a keep, by the zone that is kept, which is read once. After an error the keep is
+    /// given back.
     ///
     /// Damaged is answered where the kept zone is no rule that can be read, and Memory where memory
     /// was refused.
-    pub fn new(alloc: Global, keep: K) -> Result<Site<K>, KeepFault>
+    pub fn new(alloc: Global, keep: K) -> Result<Site<K>, (KeepFault, K)>
         ensures keep { IfOk result (λ site. site.keep ≡ keep) }
         ensures zone { K.is_honest keep → IfOk result (λ site.
             IsZoneOf (K.content keep).settings.zone (zone_of site)) }
         ensures bands { K.is_honest keep → OnOk result
             (IsBandTable (K.content keep).settings.bands) }
-        ensures faults { IsBegun result (K.is_honest keep) (K.is_failed keep) (K.content keep) }
+        ensures faults { IsBegun (without_keep result) (K.is_honest keep) (K.is_failed keep)
+            (K.content keep) }
+        ensures back { IfErr result (λ e. e.1 ≡ keep) }
     {
-        let zone = read_zone(keep.settings()?)?;
-        let routes = Routes::new(alloc)?;
-        Ok(Site {
-            alloc,
-            routes,
-            scratch: Scratch::new(alloc),
-            writer: ReplyWriter::new(alloc, zone),
-            keep,
-        })
+        match prepare(alloc, &keep) {
+            Ok((zone, routes)) => Ok(Site {
+                alloc,
+                routes,
+                scratch: Scratch::new(alloc),
+                writer: ReplyWriter::new(alloc, zone),
+                keep,
+            }),
+            Err(fault) => Err((fault, keep)),
+        }
     }
 
     /// Gives the keep back.

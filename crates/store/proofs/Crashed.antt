@@ -14,14 +14,14 @@ use Rattle.sqlite_trees.proofs.Doubt.{clean_of, no_doubt}
 use Rattle.sqlite_store.specs.FileStore.{files, recovers, state, view}
 use Rattle.sqlite_store.specs.Laws.{settled_at}
 use Rattle.sqlite_store.specs.declared.store.FileStore.{FileStore}
-use Rattle.sqlite.proofs.Theorems.{next_run}
+use Rattle.sqlite.proofs.Theorems.{next_run, opens_again}
 use Rattle.sqlite.specs.Effect.{Database}
 use Rattle.sqlite.specs.Files.{file_state, over_files}
 use Rattle.sqlite.specs.Start.{FindsIn}
 use Rattle.sqlite.specs.State.{State}
 use Rattle.store_rows.specs.Tables.{IsAtRest, tables_in}
 use Rattle.store.specs.Kept.{House, MayLeave, content}
-use Rattle.store.specs.Opening.{IsCrashed}
+use Rattle.store.specs.Opening.{IsCrashed, MayHold}
 
 -- of a disk that was honest, what a crash leaves of the two files is what it leaves of the store
 may_leave_of : {D : Type 0} {g : Ghosts D} (it : FileStore D g) → IsClean (view it) → (left : Image) → outcomes g (files it).0 (files it).1 left
@@ -51,3 +51,10 @@ module _ {D : Type 0} {g : Ghosts D} (before : House (FileStore D g)) (left : Im
 
   pub found_same : SeenMayStay g → IsAtRest (file_state before.conn) → tables_in opened.committed.trees ≡ content over_files before
   found_same stays rests = settled_tables stays before opened.committed.trees recovered rests
+
+-- what a crash leaves of the files of a keep holds a database that the crash may leave
+pub holds_left : {D : Type 0} {g : Ghosts D} (before : House (FileStore D g)) (left : Image)
+    → IsCrashed g before left → MayHold before left
+holds_left before left crashed =
+    opens_again before.conn.store crashed.numbered crashed.sound left
+    (may_leave_of before.conn.store crashed.honest left crashed.left_so)

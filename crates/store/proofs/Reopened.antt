@@ -1,5 +1,5 @@
 -- What an opening of two files finds, and what it leaves of them where it fails.
-use Rattle.std.proofs.Common.{◌≡◌, ◌∙◌, ◌⊎◌, IsTrue, ap, arith, inl, inr, refl, subst, sym}
+use Rattle.std.proofs.Common.{◌≡◌, ◌∙◌, ◌⊎◌, Bool, true, false, IsTrue, ap, arith, inl, inr, refl, subst, sym}
 use Rattle.std.proofs.Math.Logic.{∥∥₁_map}
 use Rattle.std.proofs.lemmas.Bool.{and_from, and_parts}
 use Rattle.sqlite_disk.specs.Disk.{MoreFaults}
@@ -12,7 +12,7 @@ use Rattle.sqlite_store.specs.FileStore.{faults, files, is_shielded, recovers, v
 use Rattle.sqlite_store.specs.Laws.{settled_at}
 use Rattle.sqlite_store.specs.declared.store.FileStore.{FileStore}
 use Rattle.sqlite.specs.Effect.{Database, IsDatabase}
-use Rattle.sqlite.specs.Files.{AreFound, FailsToOpenFiles, Finds, IsOpened, LeavesFiles, faults_left, faults_of, file_state, image_of, over_files}
+use Rattle.sqlite.specs.Files.{AreFound, FailsToOpenFiles, Finds, HoldsDatabase, IsOpened, LeavesFiles, faults_left, faults_of, file_state, image_of, over_files}
 use Rattle.sqlite.specs.Held.{AreDatabases, Held}
 use Rattle.sqlite.specs.Start.{FindsIn}
 use Rattle.sqlite.specs.State.{HasCleanDisk}
@@ -24,11 +24,13 @@ use Rattle.sqlite.specs.declared.file.Leftover.TheVariants.{Store}
 use Rattle.sqlite_schema.specs.declared.schema.Schema.{Schema}
 use Rattle.sqlite_trees.specs.Tree.{Trees}
 use Rattle.sqlite_trees.specs.View.{IsClean, IsQuiet}
-use Rattle.store_house.specs.Opening.{Follows, IsSoundHouse}
+use Rattle.store_house.specs.Opening.{Follows, IsSoundHouse, Upgraded, first_tables_in}
 use Rattle.store_house.proofs.OpenLemmas.{one_schema}
+use Rattle.store_rows.specs.Schema.{no_schema}
 use Rattle.store_rows.specs.Tables.{IsAtRest, tables_in}
+use Rattle.house_rows.specs.Tables.{Tables}
 use Rattle.store.specs.Kept.{House, MayLeave, content}
-use Rattle.store.specs.Opening.{FindsLeft, HoldsSoundHouse, IsCrashed}
+use Rattle.store.specs.Opening.{FindsLeft, HoldsNoTable, HoldsSoundHouse, IsCrashed, IsFound, IsUpgradedIn, LeavesFilesOr, tables_after}
 use Rattle.store.proofs.Crashed.{clean_if_files, found_left, found_same, recovered, settled_tables}
 
 -- the trees of a house that an opening takes are those of no other database
@@ -51,6 +53,48 @@ module _ {D : Type 0} (g : Ghosts D) (given : Files D) where
       let early : HasCleanDisk (file_state c) = omega (arith, follows.clean, sure) in
       let is : found ≡ (file_state c).committed.trees = settled_at c.store stays found (opens early).0.is_open (follows.crash sure found may) in
       (subst (AreFound g given) (sym is) (finds early).reads, λ db held. is ∙ (finds early).holds db held)
+
+  -- what is committed over files is what an opening of them finds
+  found_at : SeenMayStay g → (c : Held (FileStore D g)) (db : Trees) → IsOpened c → Finds given c
+      → recovers c.store db → IsFound g given db
+  found_at stays c db opened finds may =
+      let is : db ≡ (file_state c).committed.trees = settled_at c.store stays db opened.0.is_open may in
+      record {
+        found = subst (AreFound g given) (sym is) finds.reads;
+        holds = λ other held. is ∙ finds.holds other held;
+      }
+
+  -- a store in which a house was being made holds what the files held, or a crash finds that house
+  pub leaves_or : SeenMayStay g → (New : Trees → Type 0) (c : Held (FileStore D g)) (store : FileStore D g)
+      → (HasCleanDisk (file_state c) → IsOpened c) → (HasCleanDisk (file_state c) → Finds given c)
+      → (IsClean (view store) → HasCleanDisk (file_state c))
+      → (IsClean (view store) → (db : Trees) → recovers store db → recovers c.store db ⊎ New db)
+      → IsTrue (view store).is_clean → LeavesFilesOr New given (Store store)
+  leaves_or stays New c store opens finds was crash clean =
+      let sure : IsClean (view store) = no_doubt _ clean in
+      let early = was sure in
+      inr (
+        store,
+        refl,
+        λ db may. elim (crash sure db may) [
+          | inl old ↦ inl (found_at stays c db (opens early) (finds early) old)
+          | inr new ↦ inr new
+        ],
+      )
+
+  -- the house that was committed over files is upgraded
+  pub upgraded_in : SeenMayStay g → (c : Held (FileStore D g)) (db : Trees) → IsOpened c → Finds given c
+      → Upgraded (file_state c).committed.trees db → IsUpgradedIn g given db
+  upgraded_in stays c db opened finds new =
+      ((file_state c).committed.trees, record { found = finds.reads; holds = finds.holds }, new)
+
+  -- files over which a connection lists no table hold none
+  pub holds_no_table : (c : Held (FileStore D g)) → IsOpened c → Finds given c → (file_state c).now.schema ≡ no_schema
+      → HoldsNoTable (image_of g given)
+  holds_no_table c opened finds none db sound held =
+      let committed : Database = (file_state c).committed in
+      let schema : committed.schema ≡ db.schema = one_schema committed db (opened.1 opened.0.is_open).1 (finds.holds db.trees held) sound in
+      sym schema ∙ ap (λ (d : Database). d.schema) (sym opened.0.clean) ∙ none
 
   -- files of which no sound house was committed hold none
   pub holds_none : (c : Held (FileStore D g)) → IsOpened c → Finds given c → ¬ IsSoundHouse (file_state c).committed → ¬ HoldsSoundHouse (image_of g given)
@@ -112,3 +156,10 @@ pub clean_before : {D : Type 0} (g : Ghosts D) (log db newer_log newer_db : D) �
 clean_before g log db newer_log newer_db first second clean =
     let parts = and_parts _ _ clean in
     and_from _ _ (first parts.0) (second parts.1)
+
+-- an upgrade leaves the tables of what was committed, of version 1 or 2
+pub upgraded_tables : (first : Bool) (t : Tables) (committed db : Trees) → committed ≡ db
+    → (first ≡ true → t ≡ first_tables_in committed) → (first ≡ false → t ≡ tables_in committed)
+    → t ≡ tables_after first db
+upgraded_tables true t committed db same first kept = first refl ∙ ap first_tables_in same
+upgraded_tables false t committed db same first kept = kept refl ∙ ap tables_in same

@@ -1,10 +1,7 @@
 //! How a keep in a file ends.
-ghost use Rattle.std.specs.Prelude.{◌≡◌, ◌≢◌, false, IfErr, IfOk, IsErrOf, IsTrue, OnErr, OnOk};
+ghost use Rattle.std.specs.Prelude.{◌≢◌, IsErrOf, OnErr, OnOk};
 ghost use Rattle.house_rows.specs.declared.fault.KeepFault.TheVariants.{Damaged};
-ghost use Rattle.sqlite.specs.Files.{IsClosed, file_state};
-ghost use Rattle.sqlite_wal.specs.Reads.{AreClean};
-ghost use Rattle.store.specs.Closing.{HoldHouse, IsEnded, IsLeft};
-ghost use Rattle.store_rows.specs.Tables.{tables_in};
+ghost use Rattle.store.specs.Closing.{IsEnded, IsLeft};
 
 use crate::keep::SqlKeep;
 use house_rows::{Ends, KeepFault};
@@ -25,43 +22,27 @@ impl<D: Disk + Drop> SqlKeep<FileStore<D>> {
     /// Ends the keep, and gives its files back. Where no call has answered Store, the database file
     /// then holds the house alone, with no need of its log. After an `Err` a crash of file and log
     /// leaves nothing that it could not have left before.
-    pub fn close_files(self) -> Result<Files<D>, (KeepFault, FileStore<D>)>
-        ensures usable { IfOk result (λ files. IsTrue (D.Disk.is_usable files.log)
-            × IsTrue (D.Disk.is_usable files.db)) }
-        ensures house { IfOk result (λ files. AreClean D.Disk files.log files.db
-            → self.failed ≡ false → HoldHouse D.Disk files
-            (tables_in (file_state self.conn).now.trees)) }
-        ensures left { IfErr result (λ e. IsClosed self.conn e.1) }
-        ensures sound { IfErr result (λ e. e.0 ≢ Damaged) }
+    pub fn close_files(self) -> (Result<(), KeepFault>, Files<D>)
+        ensures ended { OnOk result.0 (IsEnded D.Disk self result.1) }
+        ensures left { OnErr result.0 (IsLeft D.Disk self result.1) }
+        ensures sound { ¬ (IsErrOf result.0 Damaged) }
     {
         let SqlKeep { conn, .. } = self;
         match conn.close_files() {
-            Ok(files) => Ok(files),
-            Err((error, store)) => Err((close_fault(&error), store)),
-        }
-    }
-
-    /// As `close_files`, and the files are closed. It gives nothing back that a clause could name: so
-    /// after Ok there are such files, after an `Err` such a store, and a clause doesn't say which.
-    pub fn close(self) -> Result<(), KeepFault>
-        ensures ended { OnOk result (IsEnded D.Disk self) }
-        ensures left { OnErr result (IsLeft self) }
-        ensures sound { ¬ (IsErrOf result Damaged) }
-    {
-        match self.close_files() {
-            Ok(_) => Ok(()),
-            Err((fault, store)) => {
-                drop(store.close());
-                Err(fault)
-            }
+            Ok(files) => (Ok(()), files),
+            Err((error, store)) => (Err(close_fault(&error)), store.close()),
         }
     }
 }
 
 impl<D: Disk + Drop> Ends for SqlKeep<FileStore<D>> {
+    type Left = Files<D>;
+
     ghost is_ended = { IsEnded D.Disk };
 
-    fn end(self) -> Result<(), KeepFault> {
-        self.close()
+    ghost is_left = { IsLeft D.Disk };
+
+    fn end(self) -> (Result<(), KeepFault>, Files<D>) {
+        self.close_files()
     }
 }

@@ -1,5 +1,5 @@
 //! How a keep begins: in an empty database, or over a house that is there.
-ghost use Rattle.std.specs.Prelude.{◌≡◌, ◌≢◌, ◌↔◌, ◌⊎◌, [], true, false, IfErr, IfOk, IsErrAnd, IsErrOf, OnErr};
+ghost use Rattle.std.specs.Prelude.{◌≡◌, ◌≢◌, ◌↔◌, ◌⊎◌, [], true, false, IfErr, IfOk, IsErrAnd, IsErrOf, OnErr, OnOk};
 ghost use Rattle.sqlite.specs.Held.{state};
 ghost use Rattle.sqlite.specs.State.{HasCleanDisk};
 ghost use Rattle.sqlite_trees.specs.View.{IsClean};
@@ -46,6 +46,8 @@ impl<S: Alter + Drop> SqlKeep<S> {
         ensures only { IfOk result (λ k. IsHonest S.Store k → (tables : Tables)
             → MayLeave S.Store k tables → tables ≡ content S.Store k) }
         ensures works { IfOk result (λ k. k.failed ≡ false) }
+        ensures clean { IfOk result (λ k. IsHonest S.Store k → HasCleanDisk (state S.Store conn)) }
+        ensures blank { OnOk result ((state S.Store conn).now.schema ≡ no_schema) }
         ensures left { IfErr result (λ e. IsBackOrNew S.Store conn e.1 settings) }
         ensures same { IfErr result (λ e. e.0 ≡ Damaged → e.1 ≡ conn) }
         ensures damaged { IsErrAnd result (λ e. e.0 ≡ Damaged) ↔ ((conn.in_transaction ≡ true)
@@ -165,6 +167,8 @@ impl<S: Alter + Drop> SqlKeep<S> {
         ensures kept { IfOk result (λ r. IsHonest S.Store r.0 → r.1 ≡ false
             → (state S.Store r.0.conn).now.trees ≡ (state S.Store conn).committed.trees) }
         ensures follows { IfOk result (λ r. r.1 ≡ false → Follows S.Store conn r.0.conn.store) }
+        ensures clean { IfOk result (λ r. IsHonest S.Store r.0
+            → HasCleanDisk (state S.Store conn)) }
         ensures only { IfOk result (λ r. IsHonest S.Store r.0 → (tables : Tables)
             → MayLeave S.Store r.0 tables → tables ≡ content S.Store r.0) }
         ensures works { IfOk result (λ r. r.0.failed ≡ false) }

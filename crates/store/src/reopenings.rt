@@ -2,7 +2,8 @@
 ghost use Rattle.std.specs.Prelude.{◌≡◌, ◌⊎◌, false, IfErr, IfOk};
 ghost use Rattle.house_rows.specs.Tables.{Tables};
 ghost use Rattle.house_rows.specs.declared.fault.KeepFault.TheVariants.{Damaged};
-ghost use Rattle.sqlite.specs.Files.{HoldsDatabase, IsCleanLeft, LeavesFiles, faults_left, faults_of, file_state, image_of, over_files};
+ghost use Rattle.sqlite.specs.Files.{Finds, HoldsDatabase, IsCleanLeft, IsOpened, LeavesFiles, faults_left, faults_of, file_state, image_of, over_files};
+ghost use Rattle.sqlite.specs.State.{HasCleanDisk};
 ghost use Rattle.sqlite.specs.Start.{FindsIn};
 ghost use Rattle.sqlite.specs.Held.{Held};
 ghost use Rattle.sqlite_store.specs.declared.store.FileStore.{FileStore};
@@ -16,7 +17,7 @@ ghost use Rattle.store_house.specs.Opening.{AreNumbered};
 ghost use Rattle.store_rows.specs.Fitting.{HouseRowFits};
 ghost use Rattle.store_rows.specs.Tables.{IsAtRest, house_row_in, tables_in};
 ghost use Rattle.store.specs.Kept.{House, IsHonest, MayLeave, content, is_failed};
-ghost use Rattle.store.specs.Opening.{FindsLeft, HoldsSoundHouse, IsCrashed};
+ghost use Rattle.store.specs.Opening.{FindsLeft, HoldsSoundHouse, IsCrashed, MayHold};
 
 use crate::keep::SqlKeep;
 use house_rows::KeepFault;
@@ -36,6 +37,11 @@ pub fn openings_find_what_crashes_leave<D: Disk, E: Disk>()
         → tables_in (file_state opened).committed.trees ≡ content over_files before }
 {}
 
+/// Whatever a crash leaves of the files of a keep holds one of the databases that the crash may leave.
+pub fn crashes_leave_databases<D: Disk>()
+    ensures { (before : _) (left : Image) → IsCrashed D.Disk before left → MayHold before left }
+{}
+
 // Which fault it is that files can't be opened.
 fn file_fault(error: &Error) -> KeepFault
     ensures { result ≡ Damaged → (error.now ≡ SqliteFailure NotADatabase)
@@ -46,6 +52,29 @@ fn file_fault(error: &Error) -> KeepFault
         Error::SqliteFailure(ErrorCode::NotADatabase | ErrorCode::DatabaseCorrupt) =>
             KeepFault::Damaged,
         _ => KeepFault::Store,
+    }
+}
+
+/// The connection with the database that a log and a database file hold. After an error what is left of
+/// them is given back.
+pub(crate) fn connect<D: Disk + Drop>(
+    alloc: Global,
+    files: Files<D>,
+    options: Options,
+) -> Result<Connection<FileStore<D>>, (KeepFault, Leftover<D>)>
+    ensures opened { IfOk result (λ c. HasCleanDisk (file_state c) → IsOpened c) }
+    ensures found { IfOk result (λ c. HasCleanDisk (file_state c) → Finds files c) }
+    ensures left { IfErr result (λ e. IsCleanLeft e.1 → LeavesFiles files e.1) }
+    ensures damaged { IfErr result (λ e. e.0 ≡ Damaged → IsCleanLeft e.1
+        → (¬ (HoldsSoundHouse (image_of D.Disk files)))
+        ⊎ MoreFaults (faults_of D.Disk files) (faults_left e.1)) }
+{
+    if !files.may_be_used() {
+        return Err((KeepFault::Store, Leftover::Files(files)));
+    }
+    match Connection::open_files(alloc, files, options) {
+        Ok(conn) => Ok(conn),
+        Err((error, left)) => Err((file_fault(&error), left)),
     }
 }
 
@@ -78,15 +107,12 @@ impl<D: Disk + Drop> SqlKeep<FileStore<D>> {
             → (¬ (HoldsSoundHouse (image_of D.Disk files)))
             ⊎ MoreFaults (faults_of D.Disk files) (faults_left e.1)) }
     {
-        if !files.may_be_used() {
-            return Err((KeepFault::Store, Leftover::Files(files)));
-        }
-        match Connection::open_files(alloc, files, options) {
+        match connect(alloc, files, options) {
             Ok(conn) => match SqlKeep::open_or_return(alloc, conn) {
                 Ok(keep) => Ok(keep),
                 Err((fault, store)) => Err((fault, Leftover::Store(store))),
             },
-            Err((error, left)) => Err((file_fault(&error), left)),
+            Err(left) => Err(left),
         }
     }
 }

@@ -229,6 +229,8 @@ pub fn upgrade_house<S: Alter + Drop>(
         → r.1 ≡ false
         → (state S.Store r.0.conn).now.trees ≡ (state S.Store conn).committed.trees) }
     ensures follows { IfOk result (λ r. r.1 ≡ false → Follows S.Store conn r.0.conn.store) }
+    ensures clean { IfOk result (λ r. HasCleanDisk (state S.Store r.0.conn)
+        → HasCleanDisk (state S.Store conn)) }
     ensures left { IfErr result (λ e. e.0 ≢ Store → Follows S.Store conn e.1) }
     ensures grown { IfErr result (λ e. FollowsOrGrows S.Store conn e.1) }
     ensures damaged { IfErr result (λ e. e.0 ≡ Damaged → IsClean (S.Store.view e.1)

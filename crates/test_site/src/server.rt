@@ -23,7 +23,10 @@ pub(crate) struct Left {
 /// A new house, of the zone UTC0.
 pub(crate) fn new_site(alloc: Global) -> Result<Site<ListKeep>, Fault> {
     let keep = ListKeep::create(alloc, &FixedBytes, settings(alloc, "UTC0")?)?;
-    Ok(Site::new(alloc, keep)?)
+    match Site::new(alloc, keep) {
+        Ok(site) => Ok(site),
+        Err((fault, _)) => Err(Fault::from(fault)),
+    }
 }
 
 /// Answers the messages of a setup.

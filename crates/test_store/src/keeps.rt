@@ -75,8 +75,8 @@ pub(crate) fn site_over<K: Keep + Drop>(
     alloc: Global,
     house: Result<K, KeepFault>,
 ) -> Result<Site<K>, KeepFault> {
-    match house {
-        Ok(keep) => Site::new(alloc, keep),
-        Err(fault) => Err(fault),
+    match Site::new(alloc, house?) {
+        Ok(site) => Ok(site),
+        Err((fault, _)) => Err(fault),
     }
 }

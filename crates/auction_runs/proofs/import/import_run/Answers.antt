@@ -1,11 +1,27 @@
-use Rattle.auction_runs.proofs.Rows.{has_all}
+use Rattle.auction_runs.proofs.Outcomes.{both, where_done}
+use Rattle.auction_runs.proofs.Rows.{dealt_so, has_all, taken_so}
 use Rattle.auction_runs.proofs.import.import_run.Goals as goal
 
-pub returns-in-Ok-clause-listed : goal.returns-in-Ok-clause-listed
-returns-in-Ok-clause-listed g c =
+pub returns-clause-ended : goal.returns-clause-ended
+returns-clause-ended g c =
     let k = g.K.Keep in
-    λ ends reader is text gives.
-    has_all k.content k.is_failed k.is_honest k.may_leave g.K.Ends.is_ended c.args.by text
-    (g.W.Write.contents c.args.output.now) (g.W.Write.contents c.list_all.new.output)
-    c.args.keep c.in-Ok.report (c.status.ensures.had.0 ends)
-    (c.in-Ok.ensures.listed reader is text gives)
+    let listed = c.list_all-listed in
+    λ e. taken_so k.content k.is_failed k.is_honest k.may_leave
+    (λ last. g.K.Ends.is_ended last c.end-ended.result.1) c.args.by c.args.keep listed.result.1
+    (where_done c.end-ended.result.0 (c.finish.ensures.ended e) c.end-ended.ensures.ended)
+    (where_done listed.result.0 (c.finish.ensures.listed e) listed.ensures.taken)
+
+pub returns-clause-listed : goal.returns-clause-listed
+returns-clause-listed g c =
+    let k = g.K.Keep in
+    let listed = c.list_all-listed in
+    λ e reader is text gives.
+    let found = both listed.result.0 (c.finish.ensures.listed e) (c.finish.ensures.had e) listed.ensures.listed in
+    let so = where_done c.end-ended.result.0 (c.finish.ensures.ended e) c.end-ended.ensures.ended in
+    has_all k.content k.is_failed k.is_honest k.may_leave
+    (λ last. g.K.Ends.is_ended last c.end-ended.result.1) c.args.by text
+    (g.W.Write.contents c.args.output.now) (g.W.Write.contents listed.new.output) c.args.keep found.0
+    found.1 (dealt_so k.content k.is_failed k.is_honest k.may_leave
+    (λ last. g.K.Ends.is_ended last c.end-ended.result.1) c.args.by text
+    (g.W.Write.contents c.args.output.now) (g.W.Write.contents listed.new.output) c.args.keep
+    listed.result.1 found.0 so (found.2 reader is text gives))

@@ -1,34 +1,35 @@
-use Rattle.auction_runs.proofs.Outcomes.{on_ok_then}
-use Rattle.auction_runs.proofs.Rows.{dealt, ok_of_both, taken}
+use Rattle.std.proofs.Common.{refl, ◌≡◌}
+use Rattle.auction_runs.proofs.Outcomes.{always}
+use Rattle.auction_runs.proofs.Rows.{dealt, ok_of_same, taken}
 use Rattle.office.specs.Imports.{keep_of}
 use Rattle.site.specs.Answers.{zone_of}
 use Rattle.auction_runs.proofs.import.list_all.Goals as goal
 
-pub returns-clause-ended : goal.returns-clause-ended
-returns-clause-ended g c =
+pub returns-clause-taken : goal.returns-clause-taken
+returns-clause-taken g c =
     let k = g.K.Keep in
-    on_ok_then c.finish.result c.finish.ensures.ended (λ ended.
-    taken k.content k.is_failed k.is_honest k.may_leave g.K.Ends.is_ended c.args.by
-    c.args.keep c.check_import.new.keep (keep_of c.in_ok-site.site)
-    (keep_of c.import-imported.new.site) c.end.result (zone_of c.in_ok-site.site)
-    c.in_ok-lots.ensures.known.read
-    c.in_ok-lots.ensures.known.known c.in_ok-site.ensures.keep
-    c.in_ok-site.ensures.zone c.import-imported.ensures.ordered c.end.ensures ended)
+    let site = c.in-Ok-begin_site.site in
+    let known = c.in-Ok.ensures.known in
+    always c.hand_on.result (
+    taken k.content k.is_failed k.is_honest k.may_leave (λ last. last ≡ c.end.result) c.args.by
+    c.args.keep c.check_import.new.keep (keep_of site) (keep_of c.import-imported.new.site)
+    c.end.result (zone_of site) known.read known.known c.in-Ok-begin_site.ensures.keep
+    c.in-Ok-begin_site.ensures.zone c.import-imported.ensures.ordered c.end.ensures refl)
 
 pub returns-clause-listed : goal.returns-clause-listed
 returns-clause-listed g c =
     let k = g.K.Keep in
-    let site = c.in_ok-site.site in
+    let site = c.in-Ok-begin_site.site in
     let after = c.import-imported.new.site in
-    ok_of_both _ _ c.finish.result c.import-imported.result c.finish.ensures.same
-    c.finish.ensures.ended c.import-imported.ensures.imported
-    (λ report ended. dealt k.content k.is_failed k.is_honest k.may_leave g.K.Ends.is_ended
+    let known = c.in-Ok.ensures.known in
+    ok_of_same _ _ c.hand_on.result c.import-imported.result c.hand_on.ensures.same
+    c.import-imported.ensures.imported
+    (λ report. dealt k.content k.is_failed k.is_honest k.may_leave (λ last. last ≡ c.end.result)
     g.R.Read.remaining c.args.by c.args.keep (keep_of site)
-    (taken k.content k.is_failed k.is_honest k.may_leave g.K.Ends.is_ended c.args.by
+    (taken k.content k.is_failed k.is_honest k.may_leave (λ last. last ≡ c.end.result) c.args.by
     c.args.keep c.check_import.new.keep (keep_of site) (keep_of after)
-    c.end.result (zone_of site) c.in_ok-lots.ensures.known.read
-    c.in_ok-lots.ensures.known.known c.in_ok-site.ensures.keep
-    c.in_ok-site.ensures.zone c.import-imported.ensures.ordered c.end.ensures ended)
-    c.args.lots c.in_ok-lots.lots (g.W.Write.contents c.args.output.now)
-    (g.W.Write.contents c.import-imported.new.output) (g.W.Write.contents c.finish.new.output) report
-    c.in_ok-lots.ensures.same c.in_ok-site.ensures.keep c.finish.ensures.kept)
+    c.end.result (zone_of site) known.read known.known c.in-Ok-begin_site.ensures.keep
+    c.in-Ok-begin_site.ensures.zone c.import-imported.ensures.ordered c.end.ensures refl)
+    c.args.lots c.in-Ok.lots (g.W.Write.contents c.args.output.now)
+    (g.W.Write.contents c.import-imported.new.output) (g.W.Write.contents c.hand_on.new.output) report
+    c.in-Ok.ensures.same c.in-Ok-begin_site.ensures.keep c.hand_on.ensures.kept)

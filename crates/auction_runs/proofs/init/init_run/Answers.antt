@@ -1,10 +1,14 @@
-use Rattle.auction_runs.proofs.Outcomes.{where_done}
+use Rattle.auction_runs.proofs.Outcomes.{either_end, where_done}
 use Rattle.auction_runs.proofs.init.init_run.Goals as goal
 
 pub returns-clause-done : goal.returns-clause-done
 returns-clause-done g c =
-    λ e. where_done c.finish.result (c.finish_run.ensures.done.0 e) c.finish.ensures.report
+    λ e. where_done c.finish.result (c.finish_run-status.ensures.done.0 e) c.finish.ensures.report
 
 pub returns-clause-ended : goal.returns-clause-ended
-returns-clause-ended g c =
-    λ e. where_done c.finish.result (c.finish_run.ensures.done.0 e) c.finish.ensures.ended
+returns-clause-ended g c = λ e.
+    where_done c.end-ended.result.0 (where_done c.finish.result (c.finish_run-status.ensures.done.0 e)
+    c.finish.ensures.ended) c.end-ended.ensures.ended
+
+pub returns-clause-over : goal.returns-clause-over
+returns-clause-over g c = either_end c.end-ended.result.0 c.end-ended.ensures.ended c.end-ended.ensures.left

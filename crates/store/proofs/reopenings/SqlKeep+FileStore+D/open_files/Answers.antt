@@ -3,7 +3,7 @@ use Rattle.sqlite.specs.Files.{file_state}
 use Rattle.sqlite.specs.State.{HasCleanDisk}
 use Rattle.sqlite_trees.proofs.Doubt.{no_doubt}
 use Rattle.store_rows.specs.Tables.{tables_in}
-use Rattle.store.proofs.Reopened.{finds_left, holds_none, leaves_files, refused}
+use Rattle.store.proofs.Reopened.{finds_left, holds_none, leaves_files}
 use Rattle.store.proofs.reopenings.SqlKeep+FileStore+D.open_files.Goals as goal
 
 pub returns-in-Ok-open_or_return-clause-holds : goal.returns-in-Ok-open_or_return-clause-holds
@@ -30,6 +30,3 @@ returns-in-Err-open_or_return-clause-damaged g c is clean =
     let last = no_doubt _ clean in
     let sure : HasCleanDisk (file_state c.in-Ok.conn) = omega (arith, refuses.left.clean, last) in
     inl (holds_none g.D.Disk c.args.files c.in-Ok.conn (c.in-Ok.ensures.opened sure) (c.in-Ok.ensures.found sure) (refuses.damaged is last))
-
-pub returns-in-Err-clause-damaged : goal.returns-in-Err-clause-damaged
-returns-in-Err-clause-damaged g c is clean = refused g.D.Disk c.args.files c.in-Err.left c.in-Err.error (c.file_fault.ensures is) (c.in-Err.ensures.cause clean)

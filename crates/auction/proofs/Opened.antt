@@ -1,0 +1,53 @@
+-- What keeps have by what their files showed as they were opened.
+use Rattle.std.proofs.Common.{◌≡◌, ◌∙◌, ℕ, List, [], Bool, false, Result, Ok, Err, subst, sym}
+use Rattle.std.specs.Prelude.{IfOk}
+use Rattle.house_rows.specs.Tables.{Tables, tables_of}
+use Rattle.house_rows.specs.declared.settings.Settings.{Settings}
+use Rattle.sqlite.specs.Files.{HoldsDatabase}
+use Rattle.sqlite_trees.specs.Tree.{Trees}
+use Rattle.sqlite_wal.specs.Recovery.{Image}
+use Rattle.store.specs.Opened.{IsMade, IsOpened, IsUpgraded}
+use Rattle.store.specs.Opening.{HoldsNoTable, HoldsTables, tables_after}
+use Rattle.store_rows.specs.Tables.{tables_in}
+
+-- as files hold what they showed
+abbrev pub bytes_of : List ℕ → List ℕ → Image
+bytes_of log db = record { log = log; db = db }
+
+module _ {K : Type 0} (content : K → Tables) (is_failed : K → Bool) (is_honest : K → Type 0)
+    (may_leave : K → Tables → Type 0) (name path : List ℕ) (image seen : Image)
+    (same : path ≡ name → seen ≡ image) (keep : K)
+    (only : is_honest keep → (t : Tables) → may_leave keep t → t ≡ content keep)
+    (works : is_failed keep ≡ false) where
+  pub opened_of : (is_honest keep → (db : Trees) → HoldsDatabase seen db → content keep ≡ tables_in db)
+      → IsOpened content is_failed is_honest may_leave name image path keep
+  opened_of holds = record {
+    found = λ at honest t held.
+        holds honest held.db (subst (λ i. HoldsDatabase i held.db) (sym (same at)) held.holds)
+        ∙ sym held.tables;
+    begun = record { only = only; works = works };
+  }
+
+  pub made_of : (settings : Settings) → (is_honest keep → HoldsNoTable seen)
+      → (is_honest keep → content keep ≡ tables_of settings [])
+      → IsMade content is_failed is_honest may_leave name image path settings keep
+  made_of settings blank empty = record {
+    blank = λ at honest. subst HoldsNoTable (same at) (blank honest);
+    empty = empty;
+    begun = record { only = only; works = works };
+  }
+
+  pub upgraded_of : (was_first : Bool) → (is_honest keep → (db : Trees) → HoldsDatabase seen db
+      → content keep ≡ tables_after was_first db)
+      → IsUpgraded content is_failed is_honest may_leave name image path was_first keep
+  upgraded_of was_first holds = record {
+    found = λ at honest db held.
+        holds honest db (subst (λ i. HoldsDatabase i db) (sym (same at)) held);
+    begun = record { only = only; works = works };
+  }
+
+-- what is so of files is so where they were opened
+pub shown_of : {T E : Type 0} {P Q : T → Type 0} (r : Result T E) → IfOk r P
+    → ((x : T) → P x → Q x) → IfOk r Q
+shown_of (Ok x) p f = f x p
+shown_of (Err e) p f = tt

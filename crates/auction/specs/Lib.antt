@@ -1,0 +1,4 @@
+pub mod Copies
+pub mod Remains
+pub mod Runs
+pub mod Tasks
