@@ -48,6 +48,7 @@ put_documents() {
     for part in service backup gateway replica; do
         put "usr/share/doc/auction/examples/$part" $(cd "$here/.." && echo "$part"/*.md)
     done
+    put usr/share/doc/auction/examples/gateway/catalogue gateway/catalogue/README.md
     put usr/share/doc/auction/examples service/prometheus.yml
     put usr/share/auction bands.csv
     printf 'auction (%s) unstable; urgency=medium\n\n  * Packaged.\n\n -- %s  %s\n' "$version" \
