@@ -2,15 +2,16 @@
 """What lies in the file of a house, beside its log and alone: `house_file.py PROGRAM`.
 
 After each command that has ended the file is copied without its log, and has to be the whole house, for the
-program and for SQLite. While a house is served nobody else opens it, and nothing is lost by the try. A server that
+program and for SQLite. Nobody but its user may read it. While a house is served nobody else opens it, and nothing is lost by the try. A server that
 is killed leaves all that it acknowledged in the file with its log; and where that log is cut, wherever that is, the
 house as some of the accepted commands left it, and later ones not without the earlier. Where files may not grow, a
-command is answered that the store failed, and so is all after it, and the house holds what was accepted before. The last
-line is 'N checks, M wrong'.
+command is answered that the store failed, and so is all after it on its connection, with which the server ends; and the house
+holds what was accepted before. The last line is 'N checks, M wrong'.
 
 Four sizes are the limit for `init`, five for `serve`; a log of twelve commands is cut after each of its pages and
 within some; a copy is read after the `statement` of a house whose server was killed.
 """
+import os
 import pathlib
 import resource
 import shutil
@@ -20,7 +21,7 @@ import sys
 import tempfile
 
 from sent import answers_in
-from served import CHECKS, MESSAGES, READS, SETTINGS, Program, check, exchange, fault, message, served
+from served import CHECKS, MESSAGES, READS, SETTINGS, STORE_FAILED, Program, check, exchange, fault, message, served
 
 # A read of each thing that the messages before the reads leave.
 SIGHTS = [*READS, message("GET", "/members/2", 1), message("GET", "/me/watches", 2),
@@ -75,6 +76,17 @@ def alone(program, folder, init):
     program.answers("house", [b"".join(COMMANDS)])
     check("a served house alone", rows(folder, copied(folder, "house", "kept")), TABLES)
     check("a served house", seen(program, copied(folder, "house", "kept")), seen_after(program, init, len(COMMANDS)))
+
+
+def private(program, folder, init):
+    """A house is its user's alone, and so is its log, however open new files are."""
+    open_to_all = Program(program.path, program.folder, lambda: os.umask(0))
+    check("made", open_to_all.ended("init", "private", *init), (0, b"created\n", b""))
+    with open_to_all.serving("private", 1) as server:
+        modes = {name: (folder / name).stat().st_mode & 0o777 for name in ("private", "private-wal")}
+        check("while it is served", modes, {"private": 0o600, "private-wal": 0o600})
+        exchange(server.port, COMMANDS[0])
+    check("once it is ended", (folder / "private").stat().st_mode & 0o777, 0o600)
 
 
 def together(program, folder, init):
@@ -133,11 +145,12 @@ def full(program, folder, init):
         file = f"full-{size}"
         check(f"{file} made", program.ended("init", file, *init), (0, b"created\n", b""))
         tight = Program(program.path, program.folder, limited(size))
-        replies, _ = tight.answers(file, [b"".join(COMMANDS + SIGHTS)])
+        replies, ending = tight.answers(file, [b"".join(COMMANDS + SIGHTS)])
         answers, _ = answers_in(replies[0])
         first = answers.index(FAILED) if FAILED in answers else len(COMMANDS)
         failed = len(COMMANDS + SIGHTS) - first if FAILED in answers else 0
         check(f"{file} fails after it", (len(answers), answers.count(FAILED)), (len(COMMANDS + SIGHTS), failed))
+        check(f"{file} ended", ending, STORE_FAILED if failed else served(1))
         check(f"{file} seen", seen(program, file) in states[first:first + 2], True)
 
 
@@ -148,6 +161,7 @@ def main():
         program = Program(str(pathlib.Path(sys.argv[1]).resolve()), path)
         init = ["--bands", "bands.csv", *SETTINGS]
         alone(program, folder, init)
+        private(program, folder, init)
         together(program, folder, init)
         killed(program, folder, init)
         full(program, folder, init)

@@ -2,11 +2,13 @@
 """Runs the program on words and devices that are right and wrong: `program.py PROGRAM`.
 
 Each case has its exit status, what goes to standard output and the line on standard error. Where
-`clap` refuses the words, its text is only looked at for where it goes and how it begins. The last
-line is 'N cases, M wrong'.
+`clap` refuses the words, its text is only looked at for where it goes and how it begins. Faults of
+each kind of line, with a number, a name or neither, are written in one call. The last line is
+'N cases, M wrong'.
 """
 import os
 import pathlib
+import socket
 import subprocess
 import sys
 import tempfile
@@ -229,10 +231,34 @@ def cases(folder, full):
                lambda result: (result.returncode, result.stderr) == (1, b"auction: output: Write\n"))
 
 
+def pieces(program, words):
+    """What a run writes to standard error, by calls: each gives a packet of such a socket."""
+    ours, its = socket.socketpair(socket.AF_UNIX, socket.SOCK_SEQPACKET)
+    with ours, its:
+        subprocess.run([program, *words], stdout=subprocess.DEVNULL, stderr=its, timeout=PATIENCE)
+        its.close()
+        return list(iter(lambda: ours.recv(65536), b""))
+
+
+def lines_in_pieces(program, folder):
+    """How many faults were looked at, and those whose line came in more than one call, with their pieces."""
+    table, broken = folder / "row.csv", folder / "broken.http"
+    table.write_text("at,step\n0,5\nx,7\n")
+    broken.write_text("GET /x HTTP/1.1\r\n")
+    faults = [(["serve", str(folder / "missing"), "--port", "1", "--count", "1"], b"auction: file: Store\n"),
+              ([*REPLAY, "--bands", str(table)], b"auction: bands: Row 2\n"),
+              (["audit", str(broken), str(broken), "--member", "2"], b"auction: LEFT is no list of messages\n")]
+    given = [(words, line, pieces(program, words)) for words, line in faults]
+    return len(faults), [(words, found) for words, line, found in given if found != [line]]
+
+
 def main():
     program = str(pathlib.Path(sys.argv[1]).resolve())
-    count = wrong = 0
     with tempfile.TemporaryDirectory() as name, open("/dev/full", "wb") as full:
+        count, in_pieces = lines_in_pieces(program, pathlib.Path(name))
+        wrong = len(in_pieces)
+        for words, found in in_pieces:
+            print(f"{words}: a line in {found}")
         for case, words, devices, judge in cases(pathlib.Path(name), full):
             result = subprocess.run([program, *words], stderr=subprocess.PIPE, timeout=PATIENCE, **devices)
             count += 1

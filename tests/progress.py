@@ -55,10 +55,10 @@ def crates_of(words, folder):
     return {crate: below[crate] for crate in below if crate in wanted}
 
 
-def earlier_minutes():
-    """The processor minutes that an earlier run took, by crate and step."""
+def minutes_in(path):
+    """The processor minutes that a run took, by crate and step, from the file that it left."""
     minutes = {}
-    for line in EARLIER.read_text().splitlines()[1:]:
+    for line in path.read_text().splitlines()[1:]:
         crate, *numbers = line.split()
         if len(numbers) == len(STEPS) + 1 and crate != "sum":
             minutes[crate] = {step: float(number) for step, number in zip(STEPS, numbers) if number != "-"}
@@ -69,7 +69,7 @@ class Work:
     """What is to be done, in processor minutes of an earlier run, and how much of it is done."""
 
     def __init__(self, crates, folder):
-        earlier = earlier_minutes()
+        earlier = minutes_in(EARLIER)
         average = sum(sum(steps.values()) for steps in earlier.values()) / len(earlier)
         self.below, self.ended, self.begun = crates, set(), time.monotonic()
         self.expected = {crate: dict(earlier.get(crate, {"proof": average})) for crate in crates}

@@ -179,6 +179,10 @@ def served(count):
     return 0, b"listening\nserved %d\n" % count, b""
 
 
+# How serving ends after a connection on which the store failed.
+STORE_FAILED = 1, b"listening\n", b"auction: file: Store\n"
+
+
 def compare(program, init):
     """Compares what is served with what `replay` answers."""
     for number, pieces in enumerate([1, 3, len(MESSAGES)]):

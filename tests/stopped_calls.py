@@ -3,26 +3,38 @@
 
 For `init`, for `serve` of each of the thirteen commands and for `upgrade` of each house that is kept, the k-th call fails and
 each later one on the same file, k from 1 on until a run ends with no stop; or each EVERYth k. A write at which it stops
-writes half. In the opening, `serve` ends with `file: Store`. Else the answer is the command's own, or that the store failed,
-and then every later one to a read and to a command is so too. The files that are left, as they are and without what was not
-synced, are opened again: SQLite finds a sound database, both it and the program find the house before the command or after
-it, after it where that was answered as accepted, and the program takes another command. Of an upgrade they find the house
-as it was or upgraded, and that where it was reported. The last lines tell what was found by command, and 'S stops, W wrong'.
+writes half. In the opening, `serve` ends with `file: Store`. Else the answer is the command's own, or that the store failed.
+Then a read and a command on its connection are answered so too, no other connection is taken, and `serve` ends with
+`file: Store`. The files that are left, as they are and without what was not synced, are opened again: SQLite finds a sound
+database, both it and the program find the house before the command or after it, after it where that was answered as accepted,
+and the program takes another command. Of an upgrade they find the house as it was or upgraded, and that where it was reported.
+The last lines tell what was found by command, and 'S stops, W wrong'.
 
 Seen on the proved program: 1,886 stops; with EVERY 12, as in the gate, 159. None was wrong.
 """
 import collections
+import socket
 import sys
 
 from file_calls import COMMANDS, NONE, Disk, Versions, prepared
 from first_version import UPGRADED
 from house_file import FAILED
-from served import CHECKS, MESSAGES, check, exchange, fault
+from kills import Client
+from sent import next_answer
+from served import CHECKS, MESSAGES, STORE_FAILED, check, exchange, fault, served
 
 READ = MESSAGES[-1]
 LATER = MESSAGES[0].replace(b"Ana", b"Eve")
-# How serving may end after a stop.
-ENDINGS = [(0, b""), (1, b"auction: file: Store\n")]
+
+
+def on_one_connection(port, command):
+    """What a command is answered, and what two messages after it are: where it failed a read and another command, else reads."""
+    client, replies = Client(port), []
+    for text in (command, READ, None):
+        client.connection.sendall(text or (LATER if replies[0] == FAILED else READ))
+        replies.append(next_answer(client.answers))
+    client.connection.shutdown(socket.SHUT_WR)
+    return replies
 
 
 class Stops:
@@ -58,16 +70,16 @@ class Stops:
             self.judge("init", Disk((b"", b"")), [0] if made else [NONE, 0])
 
     def session(self, place, stop):
-        """Serves a command and two messages after it: what these are answered, and how serving ends."""
+        """Serves a command, two messages after it, and a read on another connection, unless the store failed before: what these
+        are answered, and how serving ends."""
         calls = self.calls
         calls.lay("house", calls.states[place][0])
-        with calls.noting(**stop).serving("house", 3) as server:
+        with calls.noting(**stop).serving("house", 2) as server:
             self.opening = len(calls.trace.read_bytes())
-            replies = []
-            if server.is_listening:
-                replies.append(exchange(server.port, COMMANDS[place]))
-                replies += [exchange(server.port, text) for text in ([READ, LATER] if replies[0] == FAILED else [READ, READ])]
-        return replies, server.ending
+            replies = on_one_connection(server.port, COMMANDS[place]) if server.is_listening else [FAILED]
+            if FAILED not in replies:
+                replies.append(exchange(server.port, READ))
+        return replies if server.is_listening else [], server.ending
 
     def serve(self, place):
         """Stops `serve` of one command, in its opening only of the first."""
@@ -83,7 +95,9 @@ class Stops:
             if not replies:
                 check(f"{name}, stopped at {stop}", ending, fault("file: Store"))
             else:
-                check(f"{name}, stopped at {stop}, ends", (ending[0], ending[2]) in ENDINGS or ending, True)
+                # The call may be one of the end, which nobody is answered.
+                endings = [STORE_FAILED] if FAILED in replies else [STORE_FAILED, served(2)]
+                check(f"{name}, stopped at {stop}, ends", ending in endings or ending, True)
                 first = replies.index(FAILED) if FAILED in replies else len(replies)
                 check(f"{name}, stopped at {stop}, answers", replies, own[:first] + [FAILED] * (len(replies) - first))
             acted = bool(replies) and replies[0] == own[0]

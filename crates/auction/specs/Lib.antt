@@ -1,4 +1,3 @@
 pub mod Copies
 pub mod Remains
-pub mod Runs
 pub mod Tasks

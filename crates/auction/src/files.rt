@@ -9,7 +9,9 @@ use house_rows::KeepFault;
 use sqlite::{FileFrom, Files, Start, Unknown};
 use sqlite_disk::Disk;
 use sqlite_std_file::OpenError;
-use std::{fs, io};
+use std::fs::{self, OpenOptions};
+use std::io;
+use std::os::unix::fs::OpenOptionsExt;
 
 /// What stands for a file, which no code can read: its path, and what it and its log hold before they
 /// are opened. An opening uses its value up, so whoever is given one opens one file.
@@ -30,6 +32,22 @@ fn open_fault(error: &OpenError) -> KeepFault {
     }
 }
 
+// Makes a file that nobody but its user may read, where there is none. The opening would make one that
+// everybody may, and gives the log its mode.
+fn make_private(rt: &HostRuntime, path: &str) {
+    // Where it can't be made the opening says why.
+    let _ = OpenOptions::new()
+        .write(true)
+        .create_new(true)
+        .mode(0o600)
+        .open(rt, path);
+}
+
+// A name that SQLite takes for no file.
+fn names_no_file(path: &str) -> bool {
+    path == ":memory:" || path.starts_with("file:")
+}
+
 // A file and its log, which are made where they are missing. Every other process is refused them as
 // long as they are held. A name that SQLite takes for no file is refused.
 fn make_files<T: Place>(
@@ -42,7 +60,7 @@ fn make_files<T: Place>(
     ensures fresh { path.now ≡ T.name
         → IfOk result (λ files. IsFresh true files.log × IsFresh false files.db) }
 {
-    if path == ":memory:" || path.starts_with("file:") {
+    if names_no_file(path) {
         return Err(KeepFault::Store);
     }
     match sqlite_std_file::open(rt, path, first) {
@@ -78,7 +96,7 @@ pub trait DiskInFile: Sized + Disk + Drop {
     /// What is so of the two as they were opened, before anything was done to them.
     ghost are_fresh: { Files Self → Type 0 };
 
-    /// A file and its log, which are made where they are missing.
+    /// A file and its log, which are made where they are missing, so that their user alone may read them.
     fn make_files(
         rt: &HostRuntime,
         path: &str,
@@ -105,6 +123,9 @@ impl<T: Place> DiskInFile for FileFrom<T> {
     ghost are_fresh = { λ files. IsFresh true files.log × IsFresh false files.db };
 
     fn make_files(rt: &HostRuntime, path: &str, first: T) -> Result<Files<FileFrom<T>>, KeepFault> {
+        if !names_no_file(path) {
+            make_private(rt, path);
+        }
         make_files(rt, path, first)
     }
 

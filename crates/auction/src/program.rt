@@ -1,17 +1,17 @@
 //! The program's run: words in, an exit status out.
 ghost use Rattle.std.specs.Prelude.{◌≡◌, ◌≤◌, ◌⊎◌, IfErr, IfOk, OnOk};
 ghost use Rattle.auction.specs.Remains.{IsEndedAs, IsLeftAs};
-ghost use Rattle.auction.specs.Runs.{HasAnswered, HasAsked, HasDone, HasServed, HasTabled, IsAsked, IsLeftBy, IsMadeBy, IsServedOver, IsUpgradedAs, MayHaveAnswered, MayHaveTabled};
 ghost use Rattle.auction.specs.Tasks.{IsDone, IsLeftOf};
 ghost use Rattle.auction_runs.specs.Faults.{IsOfKeep, IsOfSettings};
 ghost use Rattle.auction_runs.specs.Listed.{HasTaken, IsOrderedOver};
 ghost use Rattle.auction_runs.specs.Stated.{HasRead};
 ghost use Rattle.auction_runs.specs.Over.{IsOver, IsReadOver};
+ghost use Rattle.auction_runs.specs.Runs.{HasAnswered, HasAsked, HasDone, HasServed, HasSetTable, IsLeftBy, IsMadeBy, IsServedOver, IsServingFault, IsUpgradedAs, MayHaveAnswered, MayHaveSetTable};
 ghost use Rattle.auction_words.specs.Houses.{IsNew, IsSetBy};
 ghost use Rattle.settle.specs.Statement.{Account as TheAccount};
 ghost use Rattle.settle.specs.Zoned.{IsZoneOf};
 ghost use Rattle.site.specs.Answers.{zone_of};
-ghost use Rattle.site_connections.specs.Turns.{ServesOne, TakesOne};
+ghost use Rattle.site_connections.specs.Turns.{Takes};
 ghost use Rattle.site_serve.specs.Serving.{keep_of};
 
 use crate::copies::{CopiedKeep, Copies, StoreInMemory};
@@ -77,7 +77,7 @@ fn words(rt: &HostRuntime, alloc: Global) -> io::Result<Vec<String>> {
 fn no_memory(rt: &HostRuntime) -> u8
     ensures { result ≡ 1 }
 {
-    finish_run(&mut rt.stderr(), Err(Fault::Memory))
+    finish_run(&mut Writing::new(rt.stderr()), Err(Fault::Memory))
 }
 
 // The same, with houses in files that hold whatever `first` stands for.
@@ -141,16 +141,11 @@ fn do_task<F: KeepInFile, M: KeepInMemory, C: Listen>(
     task: &Task<'_>,
     first: F::First,
 ) -> (u8, Remains<F::Rest, F::Left>)
-    ensures done { result.0 ≡ 0 → IsDone F.content F.is_failed F.is_honest F.may_leave F.is_ended
-        F.is_opened F.is_new F.is_upgraded
-        (λ zone. TakesOne (ServesOne F.content F.is_failed F.is_honest F.may_leave zone
-        C.Input.left C.Input.has_failed C.Output.taken C.Output.handed_on C.Output.has_failed
-        MOST) C.accepts C.ends) task.now result.1 }
-    ensures left { IsLeftOf F.content F.is_failed F.is_honest F.may_leave F.is_ended F.is_left
-        F.is_opened F.is_new F.is_upgraded F.is_held F.is_made F.is_grown
-        (λ zone. TakesOne (ServesOne F.content F.is_failed F.is_honest F.may_leave zone
-        C.Input.left C.Input.has_failed C.Output.taken C.Output.handed_on C.Output.has_failed
-        MOST) C.accepts C.ends) task.now result.1 }
+    ensures done { result.0 ≡ 0 → IsDone F.Keep F.is_ended F.is_opened F.is_new F.is_upgraded
+        (λ zone. Takes F.Keep C.Input.Source C.Output.Sink C.accepts C.ends zone MOST) task.now result.1 }
+    ensures left { IsLeftOf F.Keep F.is_ended F.is_left F.is_opened F.is_new
+        F.is_upgraded F.is_held F.is_made F.is_grown
+        (λ zone. Takes F.Keep C.Input.Source C.Output.Sink C.accepts C.ends zone MOST) task.now result.1 }
     ensures within { result.0 ≤ 1 }
 {
     match task {
@@ -213,7 +208,8 @@ fn init_file<K: KeepInFile>(
     };
     match K::create(rt, alloc, path, settings, first) {
         Ok(keep) => {
-            let (status, left) = init_run(&mut rt.stdout(), &mut rt.stderr(), keep);
+            let mut errors = Writing::new(rt.stderr());
+            let (status, left) = init_run(&mut rt.stdout(), &mut errors, keep);
             (status, Remains::Ended(left))
         }
         Err((fault, rest)) => refuse_house(rt, Fault::from(fault), rest),
@@ -229,16 +225,12 @@ fn answer_site<K: KeepInFile, C: Listen>(
 ) -> (Result<(), Fault>, K)
     requires zone { K.is_honest (keep_of site)
         → IsZoneOf (K.content (keep_of site)).settings.zone (zone_of site) }
-    ensures all { OnOk result.0 (HasAnswered K.content K.is_honest
-        (λ zone. TakesOne (ServesOne K.content K.is_failed K.is_honest K.may_leave zone
-        C.Input.left C.Input.has_failed C.Output.taken C.Output.handed_on C.Output.has_failed
-        MOST) C.accepts C.ends)
+    ensures all { OnOk result.0 (HasAnswered K.Keep
+        (λ zone. Takes K.Keep C.Input.Source C.Output.Sink C.accepts C.ends zone MOST)
         asked.count (keep_of site) result.1) }
-    ensures fault { IfErr result.0 (λ fault. (fault ≡ Fault.Write) ⊎ (fault ≡ Fault.Socket)) }
-    ensures some { MayHaveAnswered K.content K.is_honest
-        (λ zone. TakesOne (ServesOne K.content K.is_failed K.is_honest K.may_leave zone
-        C.Input.left C.Input.has_failed C.Output.taken C.Output.handed_on C.Output.has_failed
-        MOST) C.accepts C.ends)
+    ensures fault { IfErr result.0 (IsServingFault K.Keep result.1) }
+    ensures some { MayHaveAnswered K.Keep
+        (λ zone. Takes K.Keep C.Input.Source C.Output.Sink C.accepts C.ends zone MOST)
         asked.count (keep_of site) result.1 }
 {
     match C::listen(rt, asked.port, asked.count) {
@@ -257,17 +249,13 @@ fn answer_keep<K: KeepInFile, C: Listen>(
     keep: K,
     asked: Serve,
 ) -> (Result<(), Fault>, K)
-    ensures all { OnOk result.0 (HasAnswered K.content K.is_honest
-        (λ zone. TakesOne (ServesOne K.content K.is_failed K.is_honest K.may_leave zone
-        C.Input.left C.Input.has_failed C.Output.taken C.Output.handed_on C.Output.has_failed
-        MOST) C.accepts C.ends)
+    ensures all { OnOk result.0 (HasAnswered K.Keep
+        (λ zone. Takes K.Keep C.Input.Source C.Output.Sink C.accepts C.ends zone MOST)
         asked.count keep result.1) }
-    ensures fault { IfErr result.0 (λ fault. ((fault ≡ Fault.Write) ⊎ (fault ≡ Fault.Socket))
-        ⊎ IsOfKeep fault) }
-    ensures some { MayHaveAnswered K.content K.is_honest
-        (λ zone. TakesOne (ServesOne K.content K.is_failed K.is_honest K.may_leave zone
-        C.Input.left C.Input.has_failed C.Output.taken C.Output.handed_on C.Output.has_failed
-        MOST) C.accepts C.ends)
+    ensures fault { IfErr result.0 (λ fault.
+        IsServingFault K.Keep result.1 fault ⊎ IsOfKeep fault) }
+    ensures some { MayHaveAnswered K.Keep
+        (λ zone. Takes K.Keep C.Input.Source C.Output.Sink C.accepts C.ends zone MOST)
         asked.count keep result.1 }
 {
     match begin_site(alloc, keep) {
@@ -283,22 +271,18 @@ fn serve_keep<K: KeepInFile, C: Listen>(
     keep: K,
     asked: Serve,
 ) -> (u8, K::Left)
-    ensures served { result.0 ≡ 0 → HasServed K.content K.is_honest K.is_ended
-        (λ zone. TakesOne (ServesOne K.content K.is_failed K.is_honest K.may_leave zone
-        C.Input.left C.Input.has_failed C.Output.taken C.Output.handed_on C.Output.has_failed
-        MOST) C.accepts C.ends)
+    ensures served { result.0 ≡ 0 → HasServed K.Keep K.is_ended
+        (λ zone. Takes K.Keep C.Input.Source C.Output.Sink C.accepts C.ends zone MOST)
         asked.count keep result.1 }
-    ensures left { IsServedOver K.content K.is_honest K.is_ended K.is_left
-        (λ zone. TakesOne (ServesOne K.content K.is_failed K.is_honest K.may_leave zone
-        C.Input.left C.Input.has_failed C.Output.taken C.Output.handed_on C.Output.has_failed
-        MOST) C.accepts C.ends)
+    ensures left { IsServedOver K.Keep K.is_ended K.is_left
+        (λ zone. Takes K.Keep C.Input.Source C.Output.Sink C.accepts C.ends zone MOST)
         asked.count keep result.1 }
     ensures within { result.0 ≤ 1 }
 {
     let (answered, keep) = answer_keep::<K, C>(rt, alloc, keep, asked);
     serve_run(
         &mut rt.stdout(),
-        &mut rt.stderr(),
+        &mut Writing::new(rt.stderr()),
         answered,
         keep,
         asked.count,
@@ -314,16 +298,12 @@ fn serve_file<K: KeepInFile, C: Listen>(
     first: K::First,
 ) -> (u8, Remains<K::Rest, K::Left>)
     ensures served { result.0 ≡ 0 → IsEndedAs (HasDone (K.is_opened path.now)
-        (HasServed K.content K.is_honest K.is_ended
-        (λ zone. TakesOne (ServesOne K.content K.is_failed K.is_honest K.may_leave zone
-        C.Input.left C.Input.has_failed C.Output.taken C.Output.handed_on C.Output.has_failed
-        MOST) C.accepts C.ends)
+        (HasServed K.Keep K.is_ended
+        (λ zone. Takes K.Keep C.Input.Source C.Output.Sink C.accepts C.ends zone MOST)
         asked.count)) result.1 }
     ensures left { IsLeftAs (K.is_held path.now) (HasDone (K.is_opened path.now)
-        (IsServedOver K.content K.is_honest K.is_ended K.is_left
-        (λ zone. TakesOne (ServesOne K.content K.is_failed K.is_honest K.may_leave zone
-        C.Input.left C.Input.has_failed C.Output.taken C.Output.handed_on C.Output.has_failed
-        MOST) C.accepts C.ends)
+        (IsServedOver K.Keep K.is_ended K.is_left
+        (λ zone. Takes K.Keep C.Input.Source C.Output.Sink C.accepts C.ends zone MOST)
         asked.count)) result.1 }
     ensures within { result.0 ≤ 1 }
 {
@@ -358,7 +338,7 @@ fn replay_input<K: KeepInMemory>(
 ) -> u8
     ensures { result ≤ 1 }
 {
-    let mut errors = rt.stderr();
+    let mut errors = Writing::new(rt.stderr());
     match new_house::<K>(rt, alloc, words) {
         Ok(keep) => {
             let mut source = Reading::new(rt.reader());
@@ -390,7 +370,14 @@ fn import_keep<K: KeepInFile, W: Write>(
         member: asked.member,
         moment: asked.moment,
     };
-    import_run(alloc, keep, lots, by, output, &mut rt.stderr())
+    import_run(
+        alloc,
+        keep,
+        lots,
+        by,
+        output,
+        &mut Writing::new(rt.stderr()),
+    )
 }
 
 // Lists the rows of a lot file in the house in a file, and prints what became of them. What is printed
@@ -437,7 +424,13 @@ fn state_keep<K: KeepInFile>(
     ensures within { result.0 ≤ 1 }
 {
     let mut sink = Writing::new(rt.stdout());
-    statement_run(alloc, keep, asked, &mut sink, &mut rt.stderr())
+    statement_run(
+        alloc,
+        keep,
+        asked,
+        &mut sink,
+        &mut Writing::new(rt.stderr()),
+    )
 }
 
 // Prints a statement from the house in a file. A fault of what is asked is reported before one of the
@@ -450,8 +443,7 @@ fn statement_file<K: KeepInFile>(
     first: K::First,
 ) -> (u8, Remains<K::Rest, K::Left>)
     ensures stated { result.0 ≡ 0 → IsEndedAs (HasDone (K.is_opened path.now)
-        (λ given left. HasAsked K.content K.is_failed K.is_honest K.may_leave
-        (λ last. K.is_ended last left) words.now given)) result.1 }
+        (λ given left. HasAsked K.Keep (λ last. K.is_ended last left) words.now given)) result.1 }
     ensures left { IsLeftAs (K.is_held path.now) (HasDone (K.is_opened path.now)
         (IsReadOver K.content K.is_failed K.is_honest K.may_leave K.is_ended K.is_left)) result.1 }
     ensures within { result.0 ≤ 1 }
@@ -490,11 +482,10 @@ fn bands_file<K: KeepInFile>(
     first: K::First,
 ) -> (u8, Remains<K::Rest, K::Left>)
     ensures set { result.0 ≡ 0 → IsEndedAs (HasDone (K.is_opened path.now)
-        (λ given left. HasTabled K.content K.is_honest K.may_leave (λ last. K.is_ended last left)
+        (λ given left. HasSetTable K.Keep (λ last. K.is_ended last left)
         asked.entry.moment given)) result.1 }
     ensures left { IsLeftAs (K.is_held path.now) (HasDone (K.is_opened path.now)
-        (MayHaveTabled K.content K.is_honest K.may_leave K.is_ended K.is_left
-        asked.entry.moment)) result.1 }
+        (MayHaveSetTable K.Keep K.is_ended K.is_left asked.entry.moment)) result.1 }
     ensures within { result.0 ≤ 1 }
 {
     let rows = match read_rows(rt, alloc, asked.csv) {
@@ -504,7 +495,8 @@ fn bands_file<K: KeepInFile>(
     match K::open(rt, alloc, path, first) {
         Ok(keep) => {
             let moment = asked.moment;
-            let (status, left) = bands_run(&mut rt.stdout(), &mut rt.stderr(), keep, rows, moment);
+            let mut errors = Writing::new(rt.stderr());
+            let (status, left) = bands_run(&mut rt.stdout(), &mut errors, keep, rows, moment);
             (status, Remains::Ended(left))
         }
         Err((fault, rest)) => refuse_house(rt, Fault::from(fault), rest),
@@ -526,7 +518,8 @@ fn upgrade_file<K: KeepInFile>(
 {
     match K::upgrade(rt, alloc, path, first) {
         Ok((keep, upgraded)) => {
-            let (status, left) = upgrade_run(&mut rt.stdout(), &mut rt.stderr(), keep, upgraded);
+            let mut errors = Writing::new(rt.stderr());
+            let (status, left) = upgrade_run(&mut rt.stdout(), &mut errors, keep, upgraded);
             (status, Remains::Ended(left))
         }
         Err((fault, rest)) => refuse_house(rt, Fault::from(fault), rest),
@@ -558,7 +551,7 @@ fn audit_files<K: KeepInMemory>(
 ) -> u8
     ensures { result ≤ 1 }
 {
-    let mut errors = rt.stderr();
+    let mut errors = Writing::new(rt.stderr());
     match new_houses::<K>(rt, alloc, words) {
         Ok((left_keep, right_keep)) => {
             let left = Run {
@@ -586,7 +579,7 @@ fn audit_copies<K: CopiedKeep, T: Place>(
 ) -> u8
     ensures { result ≤ 1 }
 {
-    let mut errors = rt.stderr();
+    let mut errors = Writing::new(rt.stderr());
     match K::open_twice(rt, alloc, path, first) {
         Ok(Copies { left, right, .. }) => {
             let left = Run {
@@ -653,7 +646,7 @@ fn surplus_file<K: KeepInMemory>(
 ) -> u8
     ensures { result ≤ 1 }
 {
-    let mut errors = rt.stderr();
+    let mut errors = Writing::new(rt.stderr());
     match new_houses::<K>(rt, alloc, words) {
         Ok((left, right)) => {
             let trial = Trial {
@@ -677,7 +670,7 @@ fn surplus_copies<K: CopiedKeep, T: Place>(
 ) -> u8
     ensures { result ≤ 1 }
 {
-    let mut errors = rt.stderr();
+    let mut errors = Writing::new(rt.stderr());
     match K::open_twice(rt, alloc, path, first) {
         Ok(Copies { left, right, .. }) => {
             let trial = Trial {

@@ -3,6 +3,7 @@ ghost use Rattle.std.specs.Prelude.{◌≡◌};
 ghost use Rattle.auction.specs.Remains.{remains_of};
 
 use auction_runs::{Fault, finish_run};
+use device::Writing;
 
 /// What a run leaves of the file of a house. Whoever drops it closes the file.
 #[derive(Drop)]
@@ -29,5 +30,5 @@ pub fn refuse_house<R: Drop, L: Drop>(
         Some(rest) => Remains::Refused(rest),
         None => Remains::Unopened,
     };
-    (finish_run(&mut rt.stderr(), Err(fault)), left)
+    (finish_run(&mut Writing::new(rt.stderr()), Err(fault)), left)
 }

@@ -1,5 +1,5 @@
 -- An account that was read from a keep.
-use Rattle.std.proofs.Common.{◌≡◌, ℕ, List, Bool, true, subst}
+use Rattle.std.proofs.Common.{◌≡◌, Bool, true, subst}
 use Rattle.std.specs.Prelude.{is_some}
 use Rattle.house_rows.specs.Found.{sales_to}
 use Rattle.house_rows.specs.Keeping.{IsRead}

@@ -1,14 +1,15 @@
 -- The rows of a lot file that was imported.
-use Rattle.std.proofs.Common.{◌≡◌, ◌≢◌, ◌∙◌, ◌++◌, ℕ, ◌≤◌, List, [], ◌∷◌, Bool, true, Option, Some, None, Result, Ok, Err, ap, arith, subst, sym}
-use Rattle.std.specs.Prelude.{IfOk, is_some}
+use Rattle.std.proofs.Common.{◌≡◌, ◌≢◌, ◌∙◌, ◌⊎◌, ◌++◌, ℕ, ◌≤◌, List, [], ◌∷◌, Bool, Option, Some, None, Result, Ok, Err, ap, arith, inl, inr, refl, subst, sym}
+use Rattle.std.specs.Prelude.{IfErr, IfOk}
 use Rattle.std.specs.Io.KnownBytes.{Appends, Keeps}
 use Rattle.std.specs.List.{FoldsTo}
-use Rattle.house_rows.specs.Keeping.{IsRead}
-use Rattle.house_rows.specs.Pages.{member_at}
 use Rattle.house_rows.specs.Tables.{Tables}
-use Rattle.office.specs.Imports.{HasListed, HasOrdered, IsCounted}
+use Rattle.office.specs.Imports.{HasEnded, HasListed, HasOrdered, IsCounted, UnlessWrite}
 use Rattle.office.specs.Lines.{totals_line}
 use Rattle.office.specs.Tallies.{counted, nothing}
+use Rattle.house_rows.specs.declared.keep.Keep as keep
+use Rattle.office.specs.declared.fault.ImportFault.{ImportFault}
+use Rattle.office.specs.declared.fault.ImportFault.TheVariants as importing
 use Rattle.office.specs.declared.order.Lister.{Lister}
 use Rattle.office.specs.declared.outcome.Outcome.{Outcome}
 use Rattle.office.specs.declared.outcome.Outcome.TheVariants as outcome
@@ -18,8 +19,10 @@ use Rattle.settle.specs.declared.zone.Zone.{Zone}
 use Rattle.site.specs.Answers.{IsStep}
 use Rattle.site_request.specs.declared.asked.Asked.{Asked}
 use Rattle.steps.specs.Reading.{records_of}
-use Rattle.auction_runs.specs.Listed.{HasAll, HasDealt, HasTaken, IsHad}
+use Rattle.auction_runs.specs.Faults.{fault_of_import}
+use Rattle.auction_runs.specs.Listed.{HasAll, HasDealt, HasDealtSome, HasPrinted, HasTaken, IsDealtPart, IsHad, IsKnown}
 use Rattle.auction_runs.specs.declared.fault.Fault.{Fault}
+use Rattle.auction_runs.specs.declared.fault.Fault.TheVariants.{Write}
 
 -- what follows of a result that is the same
 pub ok_of_same : {T E F : Type 0} (P Q : T → Type 0) (r : Result T E) (s : Result T F)
@@ -38,16 +41,15 @@ grown (Some a) (Some b) (Some c) x keeps p = keeps ∙ p
 abbrev pub taken : {K : Type 0} (content : K → Tables) (is_failed : K → Bool)
     (is_honest : K → Type 0) (may_leave : K → Tables → Type 0) (is_ended : K → Type 0)
     (by : Lister) (given asked begun left last : K) (zone : Zone)
-    → IsRead content is_failed is_honest may_leave given asked
-    → (is_honest asked → is_some (member_at (content given).members by.member) ≡ true)
+    → IsKnown content is_failed is_honest may_leave by.member given asked
     → begun ≡ asked → (is_honest asked → IsZoneOf (content asked).settings.zone zone)
     → HasOrdered (IsStep content is_failed is_honest may_leave zone) by begun left
     → last ≡ left → is_ended last
     → HasTaken content is_failed is_honest may_leave is_ended by given
 taken content is_failed is_honest may_leave is_ended by given asked begun left last zone
-    read known begun_is kept_zone ordered last_is ended = record {
+    known begun_is kept_zone ordered last_is ended = record {
       asked = asked;
-      member = record { read = read; known = known };
+      member = known;
       zone = zone;
       kept_zone = kept_zone;
       left = left;
@@ -166,3 +168,116 @@ has_all content is_failed is_honest may_leave is_ended by text before after give
           (run.house.asked, nothing, []) (run.house.left, report, run.listed.printed)
           run.listed.imported none;
     }
+
+-- ---- an import that ended before its end
+
+unless_then : {P Q : Type 0} (fault : ImportFault) → UnlessWrite fault P → (P → Q) → UnlessWrite fault Q
+unless_then importing.Write p f = tt
+unless_then importing.Memory p f = f p
+unless_then importing.Store p f = f p
+unless_then importing.Damaged p f = f p
+unless_then importing.Member p f = f p
+unless_then importing.Head p f = f p
+unless_then importing.Csv p f = f p
+unless_then importing.Read p f = f p
+
+-- what was printed was handed on
+ended_so : {K : Type 0} (Step : Asked → List ℕ → K → K → Type 0) (P Q : List ℕ → Type 0) (by : Lister)
+    (records : List (List (List ℕ))) (fault : ImportFault) (old new : K)
+    → ((x : List ℕ) → P x → Q x) → HasEnded Step P by records fault old new
+    → HasEnded Step Q by records fault old new
+ended_so Step P Q by records fault old new f (inl unopened) = inl (record {
+  why = unopened.why;
+  same = unopened.same;
+  shown = f [] unopened.shown;
+})
+ended_so Step P Q by records fault old new f (inr cut) = inr (record {
+  rows = cut.rows;
+  rest = cut.rest;
+  all = cut.all;
+  mid = cut.mid;
+  report = cut.report;
+  printed = cut.printed;
+  before = cut.before;
+  shown = unless_then fault cut.shown (f cut.printed);
+  why = cut.why;
+})
+
+module _ {K R : Type 0} (k : keep.Ghosts K) (remaining : R → Option (List ℕ)) (by : Lister)
+    (given asked begun left last : K) (zone : Zone)
+    (member : IsKnown k.content k.is_failed k.is_honest k.may_leave by.member given asked)
+    (begun_is : begun ≡ asked) (kept_zone : k.is_honest asked → IsZoneOf (k.content asked).settings.zone zone)
+    (ordered : HasOrdered (IsStep k.content k.is_failed k.is_honest k.may_leave zone) by begun left)
+    (last_is : last ≡ left) (lots : Result R Fault) (mine : R) (opened : lots ≡ Ok mine)
+    (before between after : Option (List ℕ)) (keeps : Keeps between after) where
+  some_dealt : (importing : ImportFault) (fault : Fault) → fault ≡ fault_of_import importing
+      → (text : List ℕ)
+      → HasEnded (IsStep k.content k.is_failed k.is_honest k.may_leave zone) (Appends before between)
+      by (records_of text) importing begun left
+      → HasDealtSome k by text before after given fault last
+  some_dealt importing fault is text ended = record {
+    asked = asked;
+    member = member;
+    zone = zone;
+    kept_zone = kept_zone;
+    importing = importing;
+    report = is;
+    ended = subst (λ q. HasEnded (IsStep k.content k.is_failed k.is_honest k.may_leave zone)
+        (Appends before after) by (records_of text) importing asked q) (sym last_is)
+        (subst (λ q. HasEnded (IsStep k.content k.is_failed k.is_honest k.may_leave zone)
+        (Appends before after) by (records_of text) importing q left) begun_is
+        (ended_so (IsStep k.content k.is_failed k.is_honest k.may_leave zone) (Appends before between)
+        (Appends before after) by (records_of text) importing begun left
+        (λ x p. grown before between after x keeps p) ended));
+  }
+
+  pub part_of_import : (r : Result Imported Fault) (s : Result Imported ImportFault)
+      → IfErr r (λ fault. ((importing : ImportFault) × (s ≡ Err importing)
+      × (fault ≡ fault_of_import importing))
+      ⊎ ((report : Imported) × (s ≡ Ok report) × (fault ≡ Write)))
+      → IfOk s (λ report. (text : List ℕ) → remaining mine ≡ Some text
+      → HasListed (IsStep k.content k.is_failed k.is_honest k.may_leave zone)
+      (λ printed. Appends before between (printed ++ totals_line report))
+      by (records_of text) report begun left)
+      → IfErr s (λ fault. (text : List ℕ) → remaining mine ≡ Some text
+      → HasEnded (IsStep k.content k.is_failed k.is_honest k.may_leave zone) (Appends before between)
+      by (records_of text) fault begun left)
+      → IfErr r (λ fault. (reader : R) → lots ≡ Ok reader → (text : List ℕ)
+      → remaining reader ≡ Some text → IsDealtPart k by text before after given fault last)
+  part_of_import (Ok x) s why listed ended = tt
+  part_of_import (Err fault) s (inl (importing, is, fault_is)) listed ended = λ reader at text gives.
+      let same : reader ≡ mine = cc (opened, at) in
+      inr (inl (some_dealt importing fault fault_is text (subst
+      (λ v. IfErr v (λ f. (t : List ℕ) → remaining mine ≡ Some t
+      → HasEnded (IsStep k.content k.is_failed k.is_honest k.may_leave zone) (Appends before between)
+      by (records_of t) f begun left)) is ended text (subst (λ q. remaining q ≡ Some text) same gives))))
+  part_of_import (Err fault) s (inr (report, is, fault_is)) listed ended = λ reader at text gives.
+      inr (inr (
+        fault_is,
+        (
+          report,
+          dealt k.content k.is_failed k.is_honest k.may_leave (λ q. q ≡ last)
+              remaining by given begun (taken k.content k.is_failed k.is_honest k.may_leave (λ q. q ≡ last) by
+              given asked begun left last zone member begun_is kept_zone ordered last_is refl) lots mine before
+              between after report opened begun_is keeps
+              (subst (λ v. IfOk v (λ x. (t : List ℕ) → remaining mine ≡ Some t
+              → HasListed (IsStep k.content k.is_failed k.is_honest k.may_leave zone)
+              (λ printed. Appends before between (printed ++ totals_line x))
+              by (records_of t) x begun left)) is listed) reader at text gives,
+        ),
+      ))
+
+-- what was printed, whichever way it ended
+pub printed_of : {K R : Type 0} (k : keep.Ghosts K) (remaining : R → Option (List ℕ)) (by : Lister)
+    (given last : K) (lots : Result R Fault) (before after : Option (List ℕ)) (r : Result Imported Fault)
+    → IfOk r (λ report. (reader : R) → lots ≡ Ok reader → (text : List ℕ) → remaining reader ≡ Some text
+    → HasDealt k.content k.is_failed k.is_honest k.may_leave (λ q. q ≡ last) by text before after given
+    report)
+    → IfErr r (λ fault. (reader : R) → lots ≡ Ok reader → (text : List ℕ)
+    → remaining reader ≡ Some text → IsDealtPart k by text before after given fault last)
+    → (reader : R) → lots ≡ Ok reader → (text : List ℕ) → remaining reader ≡ Some text
+    → HasPrinted k by text before after given
+printed_of k remaining by given last lots before after (Ok report) listed part reader at text gives =
+    (last, inl (report, listed reader at text gives))
+printed_of k remaining by given last lots before after (Err fault) listed part reader at text gives =
+    (last, inr (fault, part reader at text gives))

@@ -9,6 +9,7 @@ pub mod Printed
 pub mod Raised
 pub mod RaisedFrom
 pub mod Replayed
+pub mod Runs
 pub mod Served
 pub mod Setup
 pub mod Stated

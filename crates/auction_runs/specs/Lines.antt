@@ -1,5 +1,8 @@
 -- The lines on standard error.
-use Rattle.std.specs.Prelude.{ℕ, List, Option, Some, None, ◌++◌, codes, decimal}
+use Rattle.std.specs.Prelude.{◌≡◌, ℕ, List, [], ◌∷◌, false, Option, Some, None, ◌++◌, codes, decimal}
+use Rattle.std.specs.Io.KnownBytes.{Appends}
+use Rattle.device.specs.Given.{AppendsBeginning}
+use Rattle.device.specs.declared.sink.Sink as sink
 use Rattle.auction_runs.specs.declared.fault.Fault.{Fault}
 use Rattle.auction_runs.specs.declared.fault.Fault.TheVariants.{Memory, Store, Damaged, Bands, Zone, Read, Write, Socket, Date, Order, Member, Refused, Broken}
 use Rattle.auction_runs.specs.declared.fault.Fault.TheVariants as lots
@@ -50,3 +53,16 @@ line_of (Refused refusal) = codes "auction: refused " ++ refusal_name refusal
 line_of lots.Head = codes "auction: lots: Head"
 line_of lots.Csv = codes "auction: lots: Csv"
 line_of (Broken side) = codes "auction: " ++ side_name side ++ codes " is no list of messages"
+
+-- A sink took a beginning of the line of a fault. Where it has not failed it took all of it, and handed on
+-- all that it took.
+pub record IsTold {W : Type 0} (w : sink.Ghosts W) (old new : W) (fault : Fault) : Type 0 where
+  pub part : AppendsBeginning (w.taken old) (w.taken new) (line_of fault ++ 10 ∷ [])
+  pub whole : w.has_failed new ≡ false
+      → Appends (w.taken old) (w.taken new) (line_of fault ++ 10 ∷ [])
+  pub handed_on : w.has_failed new ≡ false → w.handed_on new ≡ w.taken new
+
+-- by the exit status of a run: nothing was written, or the line of a fault
+abbrev pub IsReported : {W : Type 0} → sink.Ghosts W → W → W → ℕ → Type 0
+IsReported w old new status = (status ≡ 0 → new ≡ old)
+    × (status ≡ 1 → (fault : Fault) × IsTold w old new fault)

@@ -1,13 +1,15 @@
 -- What an import does to a house, and what it prints.
-use Rattle.std.specs.Prelude.{◌≡◌, ◌≢◌, ◌⊎◌, ◌++◌, ℕ, List, [], Bool, true, Option, is_some}
-use Rattle.std.specs.Io.KnownBytes.{Appends}
+use Rattle.std.specs.Prelude.{◌≡◌, ◌≢◌, ◌⊎◌, ◌++◌, ℕ, List, [], Bool, true, false, Option, is_some}
+use Rattle.std.specs.Io.KnownBytes.{Appends, Keeps}
 use Rattle.std.specs.List.{FoldsTo}
 use Rattle.house_rows.specs.Keeping.{IsRead}
 use Rattle.house_rows.specs.Pages.{member_at}
 use Rattle.house_rows.specs.Tables.{Tables}
-use Rattle.office.specs.Imports.{HasListed, HasOrdered, IsCounted}
+use Rattle.house_rows.specs.declared.keep.Keep as keep
+use Rattle.office.specs.Imports.{HasEnded, HasListed, HasOrdered, IsCounted}
 use Rattle.office.specs.Lines.{totals_line}
 use Rattle.office.specs.Tallies.{nothing}
+use Rattle.office.specs.declared.fault.ImportFault.{ImportFault}
 use Rattle.office.specs.declared.order.Lister.{Lister}
 use Rattle.office.specs.declared.outcome.Outcome.TheVariants.{Refused}
 use Rattle.office.specs.declared.tally.Imported.{Imported}
@@ -16,13 +18,17 @@ use Rattle.settle.specs.declared.zone.Zone.{Zone}
 use Rattle.site.specs.Answers.{IsStep}
 use Rattle.site_request.specs.declared.asked.Asked.{Asked}
 use Rattle.steps.specs.Reading.{records_of}
+use Rattle.auction_runs.specs.Faults.{fault_of_import}
 use Rattle.auction_runs.specs.Over.{IsOver}
+use Rattle.auction_runs.specs.declared.fault.Fault.{Fault}
+use Rattle.auction_runs.specs.declared.fault.Fault.TheVariants.{Write}
 
 -- the keep was asked whether the member is registered, who is
 pub record IsKnown {K : Type 0} (content : K → Tables) (is_failed : K → Bool)
     (is_honest : K → Type 0) (may_leave : K → Tables → Type 0) (member : ℕ) (old new : K) :
     Type 0 where
   pub read : IsRead content is_failed is_honest may_leave old new
+  pub works : is_failed new ≡ false
   pub known : is_honest new → is_some (member_at (content old).members member) ≡ true
 
 -- the keep that was given took orders of some lots, of the member at the moment and nothing else, and
@@ -44,6 +50,7 @@ pub record HasOrderedIn {K : Type 0} (content : K → Tables) (is_failed : K →
     Type 0 where
   pub asked : K
   pub read : IsRead content is_failed is_honest may_leave given asked
+  pub works : is_failed asked ≡ false
   pub zone : Zone
   pub kept_zone : is_honest asked → IsZoneOf (content asked).settings.zone zone
   pub ordered : HasOrdered (IsStep content is_failed is_honest may_leave zone) by asked last
@@ -89,3 +96,38 @@ pub record HasAll {K : Type 0} (content : K → Tables) (is_failed : K → Bool)
   pub run : HasDealt content is_failed is_honest may_leave is_ended by text before after given report
   pub had : FoldsTo (IsHad (IsStep content is_failed is_honest may_leave run.house.zone) by)
       (run.house.asked, nothing, []) run.listed.rows (run.house.left, report, run.listed.printed)
+
+-- ---- an import that ended before its end
+
+-- some rows of a lot file were dealt with in turn and their lines printed, and then it ended with a fault
+pub record HasDealtSome {K : Type 0} (k : keep.Ghosts K) (by : Lister) (text : List ℕ)
+    (before after : Option (List ℕ)) (given : K) (fault : Fault) (last : K) : Type 0 where
+  pub asked : K
+  pub member : IsKnown k.content k.is_failed k.is_honest k.may_leave by.member given asked
+  pub zone : Zone
+  pub kept_zone : k.is_honest asked → IsZoneOf (k.content asked).settings.zone zone
+  pub importing : ImportFault
+  pub report : fault ≡ fault_of_import importing
+  pub ended : HasEnded (IsStep k.content k.is_failed k.is_honest k.may_leave zone)
+      (Appends before after) by (records_of text) importing asked last
+
+-- all rows were, and their lines and the totals printed, over this keep
+abbrev pub HasDealtAll : {K : Type 0} → keep.Ghosts K → Lister → List ℕ → Option (List ℕ)
+    → Option (List ℕ) → K → K → Type 0
+HasDealtAll k by text before after given last = (report : Imported)
+    × HasDealt k.content k.is_failed k.is_honest k.may_leave (λ left. left ≡ last) by text before after
+    given report
+
+-- Of an import that ended with a fault nothing was printed, or that; or all was, and could not be handed on.
+abbrev pub IsDealtPart : {K : Type 0} → keep.Ghosts K → Lister → List ℕ → Option (List ℕ)
+    → Option (List ℕ) → K → Fault → K → Type 0
+IsDealtPart k by text before after given fault last = Keeps before after
+    ⊎ HasDealtSome k by text before after given fault last
+    ⊎ ((fault ≡ Write) × HasDealtAll k by text before after given last)
+
+-- what was printed of a lot file, however its import ended
+abbrev pub HasPrinted : {K : Type 0} → keep.Ghosts K → Lister → List ℕ → Option (List ℕ)
+    → Option (List ℕ) → K → Type 0
+HasPrinted {K} k by text before after given = (last : K)
+    × (HasDealtAll k by text before after given last
+    ⊎ ((fault : Fault) × IsDealtPart k by text before after given fault last))

@@ -1,6 +1,8 @@
 -- What a replay writes. Start here.
-use Rattle.std.specs.Prelude.{◌≡◌, ℕ, List, [], ◌∷◌, ◌++◌, Bool, true, false, Option}
+use Rattle.std.specs.Prelude.{◌≡◌, ◌⊎◌, ℕ, List, [], ◌∷◌, ◌++◌, Bool, true, false, Option, IfSome}
 use Rattle.std.specs.Io.KnownBytes.{Appends, Keeps}
+use Rattle.device.specs.Given.{AppendsBeginning}
+use Rattle.house_rows.specs.declared.keep.Keep as keep
 use Rattle.house_rows.specs.declared.settings.Settings.{Settings}
 use Rattle.house_rows.specs.History.{History}
 use Rattle.house_rows.specs.Keeping.{IsRead}
@@ -9,7 +11,7 @@ use Rattle.pages_record.specs.Record.{record_text}
 use Rattle.settle.specs.Zoned.{IsZoneOf}
 use Rattle.settle.specs.declared.zone.Zone.{Zone}
 use Rattle.site.specs.Answers.{IsStep}
-use Rattle.site_serve.specs.Serving.{HasServed}
+use Rattle.site_serve.specs.Serving.{HasRead, HasServed, HasWritten}
 use Rattle.site_serve.specs.declared.server.Served.{Served}
 use Rattle.auction_runs.specs.Setup.{IsSetUp}
 use Rattle.auction_words.specs.declared.command_line.Replay.{Replay}
@@ -54,3 +56,56 @@ pub record HasReplayed {K : Type 0} (content : K → Tables) (is_failed : K → 
   pub left : K
   pub recorded : IsRecorded content is_failed is_honest may_leave asked.record
       between after ended left
+
+-- ---- a replay that ended before its end
+
+-- a beginning of a public record and its newline was written
+pub record HasRecordedPart {K : Type 0} (k : keep.Ghosts K) (before after : Option (List ℕ)) (old : K) :
+    Type 0 where
+  pub text : List ℕ
+  pub last : K
+  pub shown : k.is_honest last → (settings : Settings) (h : History)
+      → k.content old ≡ tables_of settings h → text ≡ record_text settings h
+  pub part : AppendsBeginning before after (text ++ 10 ∷ [])
+
+-- nothing was written of it, or that
+abbrev pub IsRecordedPart : {K : Type 0} → keep.Ghosts K → Option (List ℕ) → Option (List ℕ) → K
+    → Type 0
+IsRecordedPart k before after old = Keeps before after ⊎ HasRecordedPart k before after old
+
+-- the whole stream was served, and the record wasn't written whole
+pub record IsUnrecorded {K : Type 0} (k : keep.Ghosts K) (zone : Zone) (stream : List ℕ)
+    (before after : Option (List ℕ)) (begun : K) : Type 0 where
+  pub ended : K
+  pub between : Option (List ℕ)
+  pub served : Served
+  pub answered : HasServed (IsStep k.content k.is_failed k.is_honest k.may_leave zone)
+      stream all_messages before between begun ended served
+  pub recorded : IsRecordedPart k between after ended
+
+-- what was written where the source failed, the sink did in an answer, or the record wasn't written whole
+abbrev pub IsServedPart : {K : Type 0} → keep.Ghosts K → Zone → Option (List ℕ) → Option (List ℕ)
+    → Option (List ℕ) → Option (List ℕ) → K → K → Type 0
+IsServedPart k zone left now before after begun ended =
+    HasRead (IsStep k.content k.is_failed k.is_honest k.may_leave zone) left now all_messages before
+    after begun ended
+    ⊎ IfSome left (λ stream. HasWritten (IsStep k.content k.is_failed k.is_honest k.may_leave zone)
+    stream all_messages before after begun ended)
+    ⊎ IfSome left (λ stream. IsUnrecorded k zone stream before after begun)
+
+-- the keep that was given was set up, and some of it was written
+pub record HasReplayedPart {K : Type 0} (k : keep.Ghosts K) (asked : Replay)
+    (left now before after : Option (List ℕ)) (given : K) : Type 0 where
+  pub zone : Zone
+  pub kept_zone : k.is_honest given → IsZoneOf (k.content given).settings.zone zone
+  pub begun : K
+  pub set_up : IsSetUp (IsStep k.content k.is_failed k.is_honest k.may_leave zone) asked.preset given
+      begun
+  pub ended : K
+  pub part : IsServedPart k zone left now before after begun ended
+
+-- what is written of a replay that ended with a fault: nothing, or a part
+abbrev pub IsReplayedPart : {K : Type 0} → keep.Ghosts K → Replay → Option (List ℕ) → Option (List ℕ)
+    → Option (List ℕ) → Option (List ℕ) → K → Type 0
+IsReplayedPart k asked left now before after given =
+    Keeps before after ⊎ HasReplayedPart k asked left now before after given

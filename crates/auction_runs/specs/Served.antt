@@ -1,11 +1,13 @@
--- What was served of connections, however it ended.
-use Rattle.std.specs.Prelude.{ℕ, ◌≤◌}
-use Rattle.site_connections.specs.Turns.{TakesEach}
+-- What ends the answering of connections.
+use Rattle.std.specs.Prelude.{◌≡◌, ◌⊎◌, ℕ, Bool}
+use Rattle.site_connections.specs.Turns.{HasFailed, HasTaken}
+use Rattle.auction_runs.specs.declared.fault.Fault.{Fault}
+use Rattle.auction_runs.specs.declared.fault.Fault.TheVariants.{Socket, Store, Write}
 
--- some connections were taken in turn, at most so many, and nothing else was done to the keep
-pub record HasTakenSome {C K : Type 0} (Takes : C × K → C × K → Type 0) (count : ℕ) (old : C × K)
-    (keep : K) : Type 0 where
-  pub taken : ℕ
-  pub within : taken ≤ count
-  pub last : C
-  pub each : TakesEach Takes taken old (last, keep)
+-- The output failed and no connection was taken; accepting failed, while the keep had not; or the keep
+-- failed in the last connection that was taken.
+abbrev pub StopsServing : {C K : Type 0} → (K → Bool) → (C × K → C × K → Type 0) → ℕ → C × K → K
+    → Fault → Type 0
+StopsServing {C} is_failed Takes count old keep fault = ((fault ≡ Write) × (keep ≡ old.1))
+    ⊎ ((fault ≡ Socket) × ((last : C) × HasTaken is_failed Takes count old (last, keep)))
+    ⊎ ((fault ≡ Store) × ((last : C) × HasFailed is_failed Takes count old (last, keep)))

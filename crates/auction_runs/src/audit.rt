@@ -10,7 +10,7 @@ ghost use Rattle.site_serve.specs.Serving.{keep_of};
 
 use crate::fault::{Fault, Side, finish_run};
 use crate::serve::site_over;
-use device::Source;
+use device::{Sink, Source};
 use house_rows::Keep;
 use site::Site;
 use site_audit::{MessagesFault, Verdict, audit, read_messages};
@@ -178,7 +178,7 @@ pub fn tell_compared<L: Source + Drop, R: Source + Drop, W: Write, K: Keep + Dro
 
 /// The exit status for what was found: 0 where the runs are equal, and else 1. A fault is written
 /// in its line.
-pub fn status<E: Write>(errors: &mut E, equal: Result<bool, Fault>) -> u8
+pub fn status<E: Sink>(errors: &mut E, equal: Result<bool, Fault>) -> u8
     ensures equal { (result ≡ 0) ↔ (equal ≡ Ok true) }
     ensures within { result ≤ 1 }
 {
@@ -192,7 +192,7 @@ pub fn status<E: Write>(errors: &mut E, equal: Result<bool, Fault>) -> u8
 /// Compares two runs of messages over new houses as a member sees them, reports what was found, and
 /// gives the exit status: 0 where they are equal, and else 1. What is wrong on the left is reported
 /// before what is wrong on the right. A fault is written in its line on `errors`.
-pub fn audit_run<L: Source + Drop, R: Source + Drop, W: Write, E: Write, K: Keep + Drop>(
+pub fn audit_run<L: Source + Drop, R: Source + Drop, W: Write, E: Sink, K: Keep + Drop>(
     alloc: Global,
     left: Run<K, L>,
     right: Run<K, R>,

@@ -9,7 +9,7 @@ ghost use Rattle.site_serve.specs.Serving.{keep_of};
 
 use crate::audit::{Run, both_begun, messages, status, tell};
 use crate::fault::{Fault, Side};
-use device::Source;
+use device::{Sink, Source};
 use house_rows::Keep;
 use site::Site;
 use site_audit::{Verdict, audit_from};
@@ -81,7 +81,7 @@ fn tell_compared_from<L: Source + Drop, R: Source + Drop, W: Write, K: Keep + Dr
 /// as this member sees them. Reports what was found, and gives the exit status: 0 where they are
 /// equal, and else 1. What is wrong on the left is reported before what is wrong on the right. A
 /// fault is written in its line on `errors`.
-pub fn audit_from_run<L: Source + Drop, R: Source + Drop, W: Write, E: Write, K: Keep + Drop>(
+pub fn audit_from_run<L: Source + Drop, R: Source + Drop, W: Write, E: Sink, K: Keep + Drop>(
     alloc: Global,
     left: Run<K, L>,
     right: Run<K, R>,

@@ -1,4 +1,5 @@
 //! `bands`: a band table that is set in the house in a file.
+ghost use Rattle.auction_runs.specs.Lines.{IsReported};
 ghost use Rattle.std.specs.Prelude.{◌≡◌, ◌≤◌, IfErr, IfOk, IsOk, OnOk};
 ghost use Rattle.std.specs.Io.KnownBytes.{Appends};
 ghost use Rattle.house_rows.specs.declared.command.Command.TheVariants as command;
@@ -7,6 +8,7 @@ ghost use Rattle.auction_runs.specs.Tabled.{HasSet, HasTabled, IsTabled, IsTable
 
 use crate::ended::outcome_after_end;
 use crate::fault::{Fault, finish_run};
+use device::Sink;
 use house::decide;
 use house_rows::{Command, Ends, Keep, Rows};
 use std::io::Write;
@@ -71,7 +73,7 @@ fn tell_set<W: Write>(output: &mut W, set: Result<u32, Fault>) -> Result<(), Fau
 /// Sets a band table in a house, ends its keep, reports the edition, and gives the exit status and
 /// what is left of the keep. A fault is written in its line on `errors`, and so is the refusal of the
 /// house.
-pub fn bands_run<W: Write, E: Write, K: Keep + Ends>(
+pub fn bands_run<W: Write, E: Sink, K: Keep + Ends>(
     output: &mut W,
     errors: &mut E,
     keep: K,
@@ -83,6 +85,7 @@ pub fn bands_run<W: Write, E: Write, K: Keep + Ends>(
         (W.contents output.old) (W.contents output.new) keep }
     ensures over { IsTabledOver K.content K.is_honest K.may_leave K.is_ended K.is_left moment
         (command.SetBands bands) keep result.1 }
+    ensures reported { IsReported E.Sink errors.old errors.new result.0 }
     ensures within { result.0 ≤ 1 }
 {
     let command = Command::SetBands { bands };

@@ -1,16 +1,16 @@
 //! Why the program ends at a fault: the lines on standard error and the exit statuses.
-ghost use Rattle.std.specs.Prelude.{◌≡◌, ◌≤◌, ◌↔◌, Some, IsErr, IsOk};
+ghost use Rattle.std.specs.Prelude.{◌≡◌, ◌≤◌, ◌↔◌, IfErr, IsErr, IsOk};
 ghost use Rattle.auction_runs.specs.Faults.{fault_of_audit, fault_of_import, fault_of_keep, fault_of_serving, fault_of_settings, fault_of_settling, fault_of_statement};
-ghost use Rattle.auction_runs.specs.Lines.{line_of, side_name};
+ghost use Rattle.auction_runs.specs.Lines.{IsTold, side_name};
 
+use crate::line::give_line;
 use auction_words::SettingsFault;
+use device::{Failure, Sink};
 use house_rows::{KeepFault, Refusal};
 use office::{ImportFault, StatementFault};
 use settle::SettleFault;
 use site_audit::AuditFault;
 use site_serve::ServeFault;
-use std::fmt;
-use std::io::Write;
 use steps::BandsFault;
 
 /// Why the program ends at a fault.
@@ -68,33 +68,6 @@ impl Side {
             Side::Left => "LEFT",
             Side::Right => "RIGHT",
             Side::Only => "LIST",
-        }
-    }
-}
-
-impl fmt::Display for Fault {
-    ghost output = { λ fault. Some (line_of fault) };
-
-    fn fmt<W: fmt::Write>(&self, f: &mut fmt::Formatter<W>) -> fmt::Result {
-        match self {
-            Fault::Memory | Fault::Bands(BandsFault::Memory) => write!(f, "auction: memory"),
-            Fault::Store => write!(f, "auction: file: Store"),
-            Fault::Damaged => write!(f, "auction: file: Damaged"),
-            Fault::Bands(fault) => match fault.row() {
-                Some(row) => write!(f, "auction: bands: {} {row}", fault.name()),
-                None => write!(f, "auction: bands: {}", fault.name()),
-            },
-            Fault::Zone => write!(f, "auction: zone"),
-            Fault::Read => write!(f, "auction: input: Read"),
-            Fault::Write => write!(f, "auction: output: Write"),
-            Fault::Socket => write!(f, "auction: socket"),
-            Fault::Date => write!(f, "auction: date"),
-            Fault::Order => write!(f, "auction: order"),
-            Fault::Member => write!(f, "auction: no member"),
-            Fault::Refused(refusal) => write!(f, "auction: refused {}", refusal.name()),
-            Fault::Head => write!(f, "auction: lots: Head"),
-            Fault::Csv => write!(f, "auction: lots: Csv"),
-            Fault::Broken(side) => write!(f, "auction: {} is no list of messages", side.name()),
         }
     }
 }
@@ -193,17 +166,27 @@ impl From<AuditFault> for Fault {
     }
 }
 
-/// Ends a run, and gives its exit status: 0, or 1 for a fault, which is written in its line.
-pub fn finish_run<E: Write>(errors: &mut E, outcome: Result<(), Fault>) -> u8
+// Hands on the line of a fault.
+fn tell_fault<E: Sink>(errors: &mut E, fault: Fault) -> Result<(), Failure>
+    ensures told { IsTold E.Sink errors.old errors.new fault }
+{
+    give_line(errors, fault)?;
+    errors.flush()
+}
+
+/// Ends a run, and gives its exit status: 0, or 1 for a fault, whose line is handed on.
+pub fn finish_run<E: Sink>(errors: &mut E, outcome: Result<(), Fault>) -> u8
     ensures done { (result ≡ 0) ↔ IsOk outcome }
     ensures fault { (result ≡ 1) ↔ IsErr outcome }
+    ensures quiet { IsOk outcome → errors.new ≡ errors.old }
+    ensures told { IfErr outcome (IsTold E.Sink errors.old errors.new) }
     ensures within { result ≤ 1 }
 {
     match outcome {
         Ok(()) => 0,
         Err(fault) => {
             // Where standard error fails too there is nobody left to report to.
-            let _ = writeln!(errors, "{fault}");
+            let _ = tell_fault(errors, fault);
             1
         }
     }

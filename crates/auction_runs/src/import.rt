@@ -1,13 +1,19 @@
 //! `import`: the rows of a lot file, listed in a house.
-ghost use Rattle.std.specs.Prelude.{◌≡◌, ◌≤◌, ◌↔◌, ℕ, List, Ok, Some, IfOk, IsOk, OnOk};
+ghost use Rattle.std.specs.Prelude.{◌≡◌, ◌≤◌, ◌⊎◌, ◌↔◌, ℕ, List, Err, Ok, Some, IfErr, IfOk, IsOk, OnOk};
 ghost use Rattle.std.specs.Io.KnownBytes.{Keeps};
-ghost use Rattle.auction_runs.specs.Listed.{HasAll, HasDealt, HasOrderedOnly, HasTaken, IsKnown, IsOrderedOver};
+ghost use Rattle.auction_runs.specs.Faults.{fault_of_import};
+ghost use Rattle.auction_runs.specs.Lines.{IsTold};
+ghost use Rattle.auction_runs.specs.Listed.{HasAll, HasDealt, HasOrderedOnly, HasPrinted, HasTaken, IsDealtPart, IsKnown, IsOrderedOver};
+ghost use Rattle.auction_runs.specs.declared.fault.Fault.{Fault as ReportedFault};
 ghost use Rattle.house_rows.specs.Keeping.{IsRead};
+ghost use Rattle.office.specs.declared.fault.ImportFault.{ImportFault as TheFault};
+ghost use Rattle.office.specs.declared.tally.Imported.{Imported as TheReport};
 ghost use Rattle.site.specs.Answers.{IsReadable};
 
 use crate::ended::outcome_after_end;
 use crate::fault::{Fault, finish_run};
 use crate::serve::begin_site;
+use device::Sink;
 use house_rows::{Ends, Keep, KeepFault};
 use office::{ImportFault, Imported, Lister, check_member, check_zone, import};
 use std::alloc::Global;
@@ -19,6 +25,9 @@ fn hand_on<W: Write>(
     imported: Result<Imported, ImportFault>,
 ) -> Result<Imported, Fault>
     ensures same { IfOk result (λ report. imported ≡ Ok report) }
+    ensures fault { IfErr result (λ fault. ((importing : TheFault) × (imported ≡ Err importing)
+        × (fault ≡ fault_of_import importing))
+        ⊎ ((report : TheReport) × (imported ≡ Ok report) × (fault ≡ Fault.Write))) }
     ensures kept { Keeps (W.contents output.old) (W.contents output.new) }
 {
     let flushed = output.flush();
@@ -60,6 +69,9 @@ fn list_all<R: Read + Drop, W: Write, K: Keep + Drop>(
         → R.remaining reader ≡ Some text
         → HasDealt K.content K.is_failed K.is_honest K.may_leave (λ last. last ≡ result.1) by text
         (W.contents output.old) (W.contents output.new) keep report) }
+    ensures part { IfErr result.0 (λ fault. (reader : R) → lots ≡ Ok reader → (text : List ℕ)
+        → R.remaining reader ≡ Some text → IsDealtPart K.Keep by text
+        (W.contents output.old) (W.contents output.new) keep fault result.1) }
     ensures open { OnOk result.0 (IsOk lots) }
     ensures taken { OnOk result.0
         (HasTaken K.content K.is_failed K.is_honest K.may_leave (λ last. last ≡ result.1) by keep) }
@@ -88,7 +100,7 @@ fn status(report: Imported) -> u8
 }
 
 // The exit status for what became of a file, where the keep was ended.
-fn finish<E: Write>(
+fn finish<E: Sink>(
     errors: &mut E,
     listed: Result<Imported, Fault>,
     ended: Result<(), KeepFault>,
@@ -96,6 +108,9 @@ fn finish<E: Write>(
     ensures had { result ≡ 0 → IfOk listed (λ report. report.refused ≡ 0) }
     ensures listed { result ≡ 0 → IsOk listed }
     ensures ended { result ≡ 0 → IsOk ended }
+    ensures quiet { result ≡ 0 → errors.new ≡ errors.old }
+    ensures told { result ≡ 1 → (errors.new ≡ errors.old)
+        ⊎ ((fault : ReportedFault) × IsTold E.Sink errors.old errors.new fault) }
     ensures within { result ≤ 1 }
 {
     match outcome_after_end(listed, ended) {
@@ -106,8 +121,8 @@ fn finish<E: Write>(
 
 /// Lists each row of a lot file for a member at a moment, ends the keep, and gives the exit status
 /// and what is left of the keep: 0 where each row was listed or there already, and else 1. A fault is
-/// written in its line on `errors`; what was printed before it stays.
-pub fn import_run<R: Read + Drop, W: Write, E: Write, K: Keep + Drop + Ends>(
+/// written in its line on `errors`; what was printed before it are the lines of the rows up to it.
+pub fn import_run<R: Read + Drop, W: Write, E: Sink, K: Keep + Drop + Ends>(
     alloc: Global,
     keep: K,
     lots: Result<R, Fault>,
@@ -119,10 +134,17 @@ pub fn import_run<R: Read + Drop, W: Write, E: Write, K: Keep + Drop + Ends>(
         → R.remaining reader ≡ Some text
         → HasAll K.content K.is_failed K.is_honest K.may_leave (λ last. K.is_ended last result.1)
         by text (W.contents output.old) (W.contents output.new) keep }
+    ensures printed { (reader : R) → lots ≡ Ok reader → (text : List ℕ)
+        → R.remaining reader ≡ Some text
+        → HasPrinted K.Keep by text (W.contents output.old) (W.contents output.new) keep }
     ensures open { result.0 ≡ 0 → IsOk lots }
     // Also where the reader doesn't say what its bytes are.
     ensures ended { result.0 ≡ 0 → HasTaken K.content K.is_failed K.is_honest K.may_leave
         (λ last. K.is_ended last result.1) by keep }
+    ensures quiet { result.0 ≡ 0 → errors.new ≡ errors.old }
+    // Refused rows are told by their lines alone.
+    ensures told { result.0 ≡ 1 → (errors.new ≡ errors.old)
+        ⊎ ((fault : ReportedFault) × IsTold E.Sink errors.old errors.new fault) }
     ensures over { IsOrderedOver K.content K.is_failed K.is_honest K.may_leave K.is_ended K.is_left
         by keep result.1 }
     ensures within { result.0 ≤ 1 }

@@ -1,10 +1,12 @@
 //! `init`: a new house in a file.
+ghost use Rattle.auction_runs.specs.Lines.{IsReported};
 ghost use Rattle.std.specs.Prelude.{◌≡◌, ◌≤◌, IsOk, OnOk};
 ghost use Rattle.std.specs.Io.KnownBytes.{Appends};
 ghost use Rattle.auction_runs.specs.Over.{IsOver};
 ghost use Rattle.auction_runs.specs.Printed.{created};
 
 use crate::fault::{Fault, finish_run};
+use device::Sink;
 use house_rows::{Ends, KeepFault};
 use std::io::Write;
 
@@ -29,7 +31,7 @@ fn finish<W: Write>(output: &mut W, ended: Result<(), KeepFault>) -> Result<(), 
 
 /// Ends the keep of a new house, reports that it is made, and gives the exit status and what is left
 /// of the keep. A fault is written in its line on `errors`.
-pub fn init_run<W: Write, E: Write, K: Ends>(
+pub fn init_run<W: Write, E: Sink, K: Ends>(
     output: &mut W,
     errors: &mut E,
     keep: K,
@@ -37,6 +39,7 @@ pub fn init_run<W: Write, E: Write, K: Ends>(
     ensures done { result.0 ≡ 0 → Appends (W.contents output.old) (W.contents output.new) created }
     ensures ended { result.0 ≡ 0 → K.is_ended keep result.1 }
     ensures over { IsOver K.is_ended K.is_left keep result.1 }
+    ensures reported { IsReported E.Sink errors.old errors.new result.0 }
     ensures within { result.0 ≤ 1 }
 {
     let (ended, left) = keep.end();

@@ -15,6 +15,7 @@ mod ended;
 mod fault;
 mod import;
 mod init;
+mod line;
 mod replay;
 mod serve;
 mod setup;

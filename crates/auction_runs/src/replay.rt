@@ -1,6 +1,9 @@
 //! `replay`: the answers to the messages of an input, over a new house.
-ghost use Rattle.std.specs.Prelude.{◌≡◌, ◌≤◌, IfSome, OnOk};
-ghost use Rattle.auction_runs.specs.Replayed.{HasRecorded, HasReplayed, IsRecorded};
+ghost use Rattle.auction_runs.specs.Lines.{IsReported};
+ghost use Rattle.std.specs.Prelude.{◌≡◌, ◌≤◌, ◌++◌, ◌∷◌, [], IfSome, OnErr, OnOk};
+ghost use Rattle.std.specs.Io.KnownBytes.{Appends};
+ghost use Rattle.device.specs.Given.{AppendsBeginning};
+ghost use Rattle.auction_runs.specs.Replayed.{HasRecorded, HasReplayed, IsRecorded, IsRecordedPart, IsReplayedPart};
 ghost use Rattle.auction_runs.specs.Setup.{IsSetUp};
 ghost use Rattle.settle.specs.Zoned.{IsZoneOf};
 ghost use Rattle.site.specs.Answers.{IsStep, zone_of};
@@ -10,12 +13,11 @@ use crate::fault::{Fault, finish_run};
 use crate::serve::site_over;
 use crate::setup::set_up;
 use auction_words::Replay;
-use device::{Sink, Source, give_all};
+use device::{Failure, Sink, Source, give_all};
 use house_rows::Keep;
 use site::Site;
 use site_serve::serve;
 use std::alloc::Global;
-use std::io::Write;
 
 // Sets the house up, where that is asked for.
 fn prepare<K: Keep + Drop>(site: &mut Site<K>, asked: Replay) -> Result<(), Fault>
@@ -27,17 +29,32 @@ fn prepare<K: Keep + Drop>(site: &mut Site<K>, asked: Replay) -> Result<(), Faul
     if asked.preset { set_up(site) } else { Ok(()) }
 }
 
+// Gives the sink a record and a newline.
+fn give_record<W: Sink>(sink: &mut W, text: &[u8]) -> Result<(), Failure>
+    ensures whole { OnOk result
+        (Appends (W.taken sink.old) (W.taken sink.new) (text.now ++ 10 ∷ [])) }
+    ensures part { AppendsBeginning (W.taken sink.old) (W.taken sink.new) (text.now ++ 10 ∷ []) }
+    ensures handed_on { OnOk result (W.handed_on sink.new ≡ W.taken sink.new) }
+{
+    give_all(sink, text)?;
+    give_all(sink, b"\n")?;
+    sink.flush()
+}
+
 // Appends the public record and a newline.
 fn append_record<W: Sink, K: Keep + Drop>(sink: &mut W, site: &mut Site<K>) -> Result<(), Fault>
     ensures recorded { OnOk result
         (HasRecorded K.content K.is_failed K.is_honest K.may_leave
         (W.taken sink.old) (W.taken sink.new) (keep_of site.old) (keep_of site.new)) }
+    ensures part { OnErr result (IsRecordedPart K.Keep
+        (W.taken sink.old) (W.taken sink.new) (keep_of site.old)) }
     ensures handed_on { OnOk result (W.handed_on sink.new ≡ W.taken sink.new) }
 {
     let record = site.record()?;
-    give_all(sink, record.as_slice()).map_err(|_| Fault::Write)?;
-    give_all(sink, b"\n").map_err(|_| Fault::Write)?;
-    sink.flush().map_err(|_| Fault::Write)
+    match give_record(sink, record.as_slice()) {
+        Ok(()) => Ok(()),
+        Err(_) => Err(Fault::Write),
+    }
 }
 
 // Appends the record, where that is asked for.
@@ -49,6 +66,8 @@ fn finish<W: Sink, K: Keep + Drop>(
     ensures recorded { OnOk result
         (IsRecorded K.content K.is_failed K.is_honest K.may_leave asked.record
         (W.taken sink.old) (W.taken sink.new) (keep_of site.old) (keep_of site.new)) }
+    ensures part { OnErr result (IsRecordedPart K.Keep
+        (W.taken sink.old) (W.taken sink.new) (keep_of site.old)) }
     ensures handed_on { OnOk result (IsFlushed W.handed_on W.taken sink.old sink.new) }
 {
     if asked.record {
@@ -71,6 +90,10 @@ fn answer_over<R: Source, W: Sink, K: Keep + Drop>(
         → OnOk result (IfSome (R.left source.old) (λ stream.
         HasReplayed K.content K.is_failed K.is_honest K.may_leave asked stream
         (W.taken sink.old) (W.taken sink.new) (keep_of site.old))) }
+    ensures part { (K.is_honest (keep_of site.old)
+        → IsZoneOf (K.content (keep_of site.old)).settings.zone (zone_of site.old))
+        → OnErr result (IsReplayedPart K.Keep asked (R.left source.old) (R.left source.new)
+        (W.taken sink.old) (W.taken sink.new) (keep_of site.old)) }
     ensures handed_on { OnOk result (IsFlushed W.handed_on W.taken sink.old sink.new) }
 {
     prepare(site, asked)?;
@@ -89,6 +112,8 @@ fn answer_all<R: Source, W: Sink, K: Keep + Drop>(
     ensures replayed { OnOk result (IfSome (R.left source.old) (λ stream.
         HasReplayed K.content K.is_failed K.is_honest K.may_leave asked stream
         (W.taken sink.old) (W.taken sink.new) keep)) }
+    ensures part { OnErr result (IsReplayedPart K.Keep asked (R.left source.old)
+        (R.left source.new) (W.taken sink.old) (W.taken sink.new) keep) }
     ensures handed_on { OnOk result (IsFlushed W.handed_on W.taken sink.old sink.new) }
 {
     let mut site = site_over(alloc, keep)?;
@@ -97,8 +122,8 @@ fn answer_all<R: Source, W: Sink, K: Keep + Drop>(
 
 /// Answers all messages of a source over a new house, and gives the exit status. A fault is written
 /// in its line on `errors`. However the stream ends, the record that was asked for follows the last
-/// answer; where a device fails there is none.
-pub fn replay_run<R: Source, W: Sink, K: Keep + Drop, E: Write>(
+/// answer; where a device fails there is none. What was written before a fault is a beginning of it.
+pub fn replay_run<R: Source, W: Sink, K: Keep + Drop, E: Sink>(
     alloc: Global,
     source: &mut R,
     sink: &mut W,
@@ -109,7 +134,10 @@ pub fn replay_run<R: Source, W: Sink, K: Keep + Drop, E: Write>(
     ensures replayed { result ≡ 0 → IfSome (R.left source.old) (λ stream.
         HasReplayed K.content K.is_failed K.is_honest K.may_leave asked stream
         (W.taken sink.old) (W.taken sink.new) keep) }
+    ensures part { result ≡ 1 → IsReplayedPart K.Keep asked (R.left source.old)
+        (R.left source.new) (W.taken sink.old) (W.taken sink.new) keep }
     ensures handed_on { result ≡ 0 → IsFlushed W.handed_on W.taken sink.old sink.new }
+    ensures reported { IsReported E.Sink errors.old errors.new result }
     ensures within { result ≤ 1 }
 {
     finish_run(errors, answer_all(alloc, source, sink, keep, asked))

@@ -1,20 +1,22 @@
 //! `serve`: the answers to the messages of connections, one connection after the other.
-ghost use Rattle.std.specs.Prelude.{◌≡◌, ◌≤◌, ◌⊎◌, IfErr, IfOk, IsOk, OnOk};
+ghost use Rattle.auction_runs.specs.Lines.{IsReported};
+ghost use Rattle.std.specs.Prelude.{◌≡◌, ◌≤◌, IfErr, IfOk, IsOk, OnOk};
 ghost use Rattle.std.specs.Io.KnownBytes.{Appends};
 ghost use Rattle.auction_runs.specs.Faults.{IsOfKeep};
 ghost use Rattle.auction_runs.specs.Over.{IsOver};
 ghost use Rattle.auction_runs.specs.Printed.{listening, served};
-ghost use Rattle.auction_runs.specs.Served.{HasTakenSome};
+ghost use Rattle.auction_runs.specs.Served.{StopsServing};
 ghost use Rattle.settle.specs.Zoned.{IsZoneOf};
 ghost use Rattle.site.specs.Answers.{zone_of};
-ghost use Rattle.site_connections.specs.Turns.{ServesOne, TakesEach, TakesOne};
+ghost use Rattle.site_connections.specs.Turns.{Takes, TakesEach, TakesWell};
 ghost use Rattle.site_serve.specs.Serving.{keep_of};
 
 use crate::ended::outcome_after_end;
 use crate::fault::{Fault, finish_run};
+use device::Sink;
 use house_rows::{Ends, Keep, KeepFault};
 use site::Site;
-use site_connections::{Connections, serve_each};
+use site_connections::{Connections, TurnFault, serve_each};
 use std::alloc::Global;
 use std::io::Write;
 
@@ -77,20 +79,17 @@ fn serve_all<C: Connections, K: Keep + Drop>(
     count: u64,
     site: &mut Site<K>,
 ) -> Result<(), Fault>
-    ensures each { OnOk result (TakesEach (TakesOne
-        (ServesOne K.content K.is_failed K.is_honest K.may_leave (zone_of site.old)
-        C.Input.left C.Input.has_failed C.Output.taken C.Output.handed_on C.Output.has_failed MOST)
-        C.accepts C.ends) count
+    ensures each { OnOk result (TakesEach (TakesWell K.is_failed (Takes K.Keep C.Input.Source
+        C.Output.Sink C.accepts C.ends (zone_of site.old) MOST)) count
         (connections.old, keep_of site.old) (connections.new, keep_of site.new)) }
-    ensures some { HasTakenSome (TakesOne
-        (ServesOne K.content K.is_failed K.is_honest K.may_leave (zone_of site.old)
-        C.Input.left C.Input.has_failed C.Output.taken C.Output.handed_on C.Output.has_failed MOST)
-        C.accepts C.ends) count (connections.old, keep_of site.old) (keep_of site.new) }
-    ensures fault { IfErr result (λ fault. fault ≡ Fault.Socket) }
+    ensures stops { IfErr result (StopsServing K.is_failed (Takes K.Keep C.Input.Source
+        C.Output.Sink C.accepts C.ends (zone_of site.old) MOST) count
+        (connections.old, keep_of site.old) (keep_of site.new)) }
 {
     match serve_each(alloc, connections, count, site, MOST) {
         Ok(()) => Ok(()),
-        Err(_) => Err(Fault::Socket),
+        Err(TurnFault::Accept) => Err(Fault::Socket),
+        Err(TurnFault::Store) => Err(Fault::Store),
     }
 }
 
@@ -104,16 +103,12 @@ fn listen<W: Write, C: Connections, K: Keep + Drop>(
 ) -> Result<(), Fault>
     ensures report { OnOk result
         (Appends (W.contents output.old) (W.contents output.new) listening) }
-    ensures each { OnOk result (TakesEach (TakesOne
-        (ServesOne K.content K.is_failed K.is_honest K.may_leave (zone_of site.old)
-        C.Input.left C.Input.has_failed C.Output.taken C.Output.handed_on C.Output.has_failed MOST)
-        C.accepts C.ends) count
+    ensures each { OnOk result (TakesEach (TakesWell K.is_failed (Takes K.Keep C.Input.Source
+        C.Output.Sink C.accepts C.ends (zone_of site.old) MOST)) count
         (connections.old, keep_of site.old) (connections.new, keep_of site.new)) }
-    ensures some { HasTakenSome (TakesOne
-        (ServesOne K.content K.is_failed K.is_honest K.may_leave (zone_of site.old)
-        C.Input.left C.Input.has_failed C.Output.taken C.Output.handed_on C.Output.has_failed MOST)
-        C.accepts C.ends) count (connections.old, keep_of site.old) (keep_of site.new) }
-    ensures fault { IfErr result (λ fault. (fault ≡ Fault.Write) ⊎ (fault ≡ Fault.Socket)) }
+    ensures stops { IfErr result (StopsServing K.is_failed (Takes K.Keep C.Input.Source
+        C.Output.Sink C.accepts C.ends (zone_of site.old) MOST) count
+        (connections.old, keep_of site.old) (keep_of site.new)) }
 {
     tell_listening(output)?;
     serve_all(alloc, connections, count, site)
@@ -121,6 +116,9 @@ fn listen<W: Write, C: Connections, K: Keep + Drop>(
 
 /// Reports that connections are waited for, serves so many of them, one after the other, each by at
 /// most 10000 messages, and gives the keep back, which nothing else has changed.
+///
+/// None is taken after one in which the keep failed: that is the fault `Store`. `Socket` is that
+/// accepting failed, and `Write` that the report could not be written, before any was taken.
 pub fn answer_each<W: Write, C: Connections, K: Keep + Drop>(
     alloc: Global,
     connections: &mut C,
@@ -130,15 +128,12 @@ pub fn answer_each<W: Write, C: Connections, K: Keep + Drop>(
 ) -> (Result<(), Fault>, K)
     ensures report { OnOk result.0
         (Appends (W.contents output.old) (W.contents output.new) listening) }
-    ensures each { OnOk result.0 (TakesEach (TakesOne
-        (ServesOne K.content K.is_failed K.is_honest K.may_leave (zone_of site)
-        C.Input.left C.Input.has_failed C.Output.taken C.Output.handed_on C.Output.has_failed MOST)
-        C.accepts C.ends) count (connections.old, keep_of site) (connections.new, result.1)) }
-    ensures some { HasTakenSome (TakesOne
-        (ServesOne K.content K.is_failed K.is_honest K.may_leave (zone_of site)
-        C.Input.left C.Input.has_failed C.Output.taken C.Output.handed_on C.Output.has_failed MOST)
-        C.accepts C.ends) count (connections.old, keep_of site) result.1 }
-    ensures fault { IfErr result.0 (λ fault. (fault ≡ Fault.Write) ⊎ (fault ≡ Fault.Socket)) }
+    ensures each { OnOk result.0 (TakesEach (TakesWell K.is_failed (Takes K.Keep C.Input.Source
+        C.Output.Sink C.accepts C.ends (zone_of site) MOST)) count
+        (connections.old, keep_of site) (connections.new, result.1)) }
+    ensures stops { IfErr result.0 (StopsServing K.is_failed (Takes K.Keep C.Input.Source
+        C.Output.Sink C.accepts C.ends (zone_of site) MOST) count
+        (connections.old, keep_of site) result.1) }
 {
     let mut site = site;
     let answered = listen(alloc, connections, count, output, &mut site);
@@ -164,7 +159,7 @@ fn finish<W: Write>(
 /// Ends the keep over which connections were answered, reports how many were asked for where all
 /// were answered, and gives the exit status and what is left of the keep. A fault, one of answering
 /// them too, is written in its line on `errors`.
-pub fn serve_run<W: Write, E: Write, K: Ends>(
+pub fn serve_run<W: Write, E: Sink, K: Ends>(
     output: &mut W,
     errors: &mut E,
     answered: Result<(), Fault>,
@@ -176,6 +171,7 @@ pub fn serve_run<W: Write, E: Write, K: Ends>(
     ensures ok { result.0 ≡ 0 → IsOk answered }
     ensures ended { result.0 ≡ 0 → K.is_ended keep result.1 }
     ensures over { IsOver K.is_ended K.is_left keep result.1 }
+    ensures reported { IsReported E.Sink errors.old errors.new result.0 }
     ensures within { result.0 ≤ 1 }
 {
     let (ended, left) = keep.end();

@@ -1,4 +1,5 @@
 //! `statement`: what a member sold and bought in a period.
+ghost use Rattle.auction_runs.specs.Lines.{IsReported};
 ghost use Rattle.std.specs.Prelude.{◌≡◌, ◌≤◌, IfErr, IfOk, IsOk, OnOk};
 ghost use Rattle.std.specs.Io.KnownBytes.{Appends};
 ghost use Rattle.settle.specs.Calendar.{day_text};
@@ -15,7 +16,6 @@ use house_rows::{Ends, Keep};
 use office::statement;
 use settle::{Day, Statement};
 use std::alloc::Global;
-use std::io::Write;
 
 /// Whose statement is asked for, of which days, and in which form.
 #[derive(Clone, Copy)]
@@ -130,7 +130,7 @@ fn write_made<W: Sink>(
 
 /// Writes the statement of a member from a keep, which is ended before, and gives the exit status and
 /// what is left of the keep, which was only read. A fault is written in its line on `errors`.
-pub fn statement_run<W: Sink, E: Write, K: Keep + Drop + Ends>(
+pub fn statement_run<W: Sink, E: Sink, K: Keep + Drop + Ends>(
     alloc: Global,
     keep: K,
     asked: Inquiry,
@@ -142,6 +142,7 @@ pub fn statement_run<W: Sink, E: Write, K: Keep + Drop + Ends>(
     ensures handed_on { result.0 ≡ 0 → W.handed_on sink.new ≡ W.taken sink.new }
     ensures over { IsReadOver K.content K.is_failed K.is_honest K.may_leave K.is_ended K.is_left
         keep result.1 }
+    ensures reported { IsReported E.Sink errors.old errors.new result.0 }
     ensures within { result.0 ≤ 1 }
 {
     let csv = asked.csv;

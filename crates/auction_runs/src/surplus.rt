@@ -10,7 +10,7 @@ ghost use Rattle.site_serve.specs.Serving.{keep_of};
 
 use crate::audit::{both_begun, messages, status};
 use crate::fault::{Fault, Side};
-use device::Source;
+use device::{Sink, Source};
 use house_rows::Keep;
 use site::Site;
 use site_audit::{Surplus, surplus};
@@ -135,7 +135,7 @@ pub fn tell_surplus<S: Source + Drop, W: Write, K: Keep + Drop>(
 /// Answers messages over a new house, and over another with one bid raised, reports whether the bid
 /// is covered, so that it shows to nobody else, and gives the exit status: 0 where it is, and else
 /// 1. A fault is written in its line on `errors`.
-pub fn surplus_run<S: Source + Drop, W: Write, E: Write, K: Keep + Drop>(
+pub fn surplus_run<S: Source + Drop, W: Write, E: Sink, K: Keep + Drop>(
     alloc: Global,
     trial: Trial<K, S>,
     raise: Raise,

@@ -11,7 +11,7 @@ ghost use Rattle.site_serve.specs.Serving.{keep_of};
 use crate::audit::{both_begun, messages, status};
 use crate::fault::{Fault, Side};
 use crate::surplus::{Raise, Trial, tell};
-use device::Source;
+use device::{Sink, Source};
 use house_rows::Keep;
 use site::Site;
 use site_audit::{Surplus, surplus_from};
@@ -73,7 +73,7 @@ fn tell_surplus_from<S: Source + Drop, W: Write, K: Keep + Drop>(
 /// Answers messages over a house that lives on, and over another of equal tables with one bid
 /// raised. Reports whether the bid is covered, so that it shows to nobody else, and gives the exit
 /// status: 0 where it is, and else 1. A fault is written in its line on `errors`.
-pub fn surplus_from_run<S: Source + Drop, W: Write, E: Write, K: Keep + Drop>(
+pub fn surplus_from_run<S: Source + Drop, W: Write, E: Sink, K: Keep + Drop>(
     alloc: Global,
     trial: Trial<K, S>,
     raise: Raise,

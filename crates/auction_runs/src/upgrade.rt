@@ -1,10 +1,12 @@
 //! `upgrade`: a house of version 1 in a file is made one of version 2.
+ghost use Rattle.auction_runs.specs.Lines.{IsReported};
 ghost use Rattle.std.specs.Prelude.{◌≡◌, ◌≤◌, IsOk, OnOk};
 ghost use Rattle.std.specs.Io.KnownBytes.{Appends};
 ghost use Rattle.auction_runs.specs.Over.{IsOver};
 ghost use Rattle.auction_runs.specs.Printed.{upgraded_line, upgraded_word};
 
 use crate::fault::{Fault, finish_run};
+use device::Sink;
 use house_rows::{Ends, KeepFault};
 use std::io::Write;
 
@@ -42,7 +44,7 @@ fn finish<W: Write>(
 
 /// Ends the keep of a house that is upgraded, or was of version 2 before, reports which it is, and
 /// gives the exit status and what is left of the keep. A fault is written in its line on `errors`.
-pub fn upgrade_run<W: Write, E: Write, K: Ends>(
+pub fn upgrade_run<W: Write, E: Sink, K: Ends>(
     output: &mut W,
     errors: &mut E,
     keep: K,
@@ -52,6 +54,7 @@ pub fn upgrade_run<W: Write, E: Write, K: Ends>(
         → Appends (W.contents output.old) (W.contents output.new) (upgraded_line upgraded) }
     ensures ended { result.0 ≡ 0 → K.is_ended keep result.1 }
     ensures over { IsOver K.is_ended K.is_left keep result.1 }
+    ensures reported { IsReported E.Sink errors.old errors.new result.0 }
     ensures within { result.0 ≤ 1 }
 {
     let (ended, left) = keep.end();

@@ -1,3 +1,4 @@
 pub mod Lives
+pub mod Runs
 pub mod Told
 pub mod Turns

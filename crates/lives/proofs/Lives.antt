@@ -1,30 +1,35 @@
 -- What a life leaves of the files.
-use Rattle.std.proofs.Common.{◌≡◌, ◌∙◌, ℕ, Bool, List, [], ◌∷◌, refl, ap, sym, subst}
+use Rattle.std.proofs.Common.{◌≡◌, ◌∙◌, ℕ, Bool, List, [], ◌∷◌, None, refl, ap, inl, inr, sym, subst, arith}
 use Rattle.std.proofs.Math.Logic.{∥∥₁_elim, ∥∥₁_map}
+use Rattle.auction_runs.specs.Tabled.{MayTable}
 use Rattle.house_laws.proofs.Lives.{lives_are_histories}
-use Rattle.house_laws.specs.Lives.{Life, life_history}
+use Rattle.house_laws.specs.Lives.{life_history}
+use Rattle.house_rows.specs.declared.command.Command.TheVariants.{SetBands}
 use Rattle.house_rows.specs.declared.settings.Settings.{Settings}
 use Rattle.house_rows.specs.History.{History}
+use Rattle.house_rows.specs.Runs.{entered, entry, next}
 use Rattle.house_rows.specs.Tables.{Tables, tables_of}
-use Rattle.house_rows.specs.Verdict.{IsHistory}
-use Rattle.lives.specs.Lives.{AreRuns, HoldHistory, IsRun, LeaveHistories, LeavesHistory}
+use Rattle.house_rows.specs.Verdict.{IsHistory, verdict}
+use Rattle.lives.specs.Lives.{Answers, AreRuns, Does, FindsHistory, HasAnswered, HoldHistory, IsBegun, IsRun, IsUnended, LeaveHistories, LeavesHistory, MayFind, Run, Sets, life_of, over_disk, setting}
 use Rattle.settle.specs.declared.zone.Zone.{Zone}
 use Rattle.site.proofs.Left.{leaves_a_life}
 use Rattle.site.specs.Answers.{IsStep}
 use Rattle.site.specs.Lives.{LeavesALife}
 use Rattle.site.specs.Runs.{InTurn, meant}
 use Rattle.site_request.specs.declared.asked.Asked.{Asked}
-use Rattle.sqlite.specs.Files.{over_files}
+use Rattle.sqlite.specs.Files.{HoldsDatabase, file_state, over_files}
 use Rattle.sqlite_disk.specs.declared.Disk.{Ghosts}
+use Rattle.sqlite_disk.specs.declared.Files.{Files}
 use Rattle.sqlite_store.specs.declared.store.FileStore.{FileStore}
+use Rattle.sqlite_trees.specs.Tree.{Trees}
 use Rattle.sqlite_wal.specs.Recovery.{Image}
 use Rattle.store.specs.Kept.{House, IsHonest, MayLeave, content, is_failed}
-use Rattle.store.specs.Opened.{IsMade}
+use Rattle.store.specs.Opened.{IsMade, IsOpened}
 use Rattle.store.specs.Opening.{MayHold}
 use Rattle.store_rows.specs.Tables.{tables_in}
 
 -- a keep that is honest after messages was so before them
-was_honest : {K : Type 0} (content : K → Tables) (is_failed : K → Bool) (is_honest : K → Type 0)
+pub was_honest : {K : Type 0} (content : K → Tables) (is_failed : K → Bool) (is_honest : K → Type 0)
     (may_leave : K → Tables → Type 0) (zone : Zone) (asked : List Asked) (replies : List (List ℕ))
     (old new : K) → InTurn (IsStep content is_failed is_honest may_leave zone) asked replies old new
     → is_honest new → is_honest old
@@ -35,34 +40,112 @@ was_honest content is_failed is_honest may_leave zone (m ∷ ms) (r ∷ rs) old 
 was_honest content is_failed is_honest may_leave zone [] (r ∷ rs) old new differ honest = absurd differ
 was_honest content is_failed is_honest may_leave zone (m ∷ ms) [] old new differ honest = absurd differ
 
+-- a house that accepts the table enters it
+set_next : (settings : Settings) (h : History) (moment : ℕ) (bands : List (ℕ × ℕ))
+    → verdict settings h moment 0 (SetBands bands) ≡ None
+    → life_history meant settings h (life_of (setting moment bands ∷ []))
+    ≡ entry moment 0 (SetBands bands) ∷ h
+unfolding next
+set_next settings h moment bands none =
+    ap (λ v. entered v (entry moment 0 (SetBands bands)) h) none
+
+-- one keep, from an opening on
 module _ {D : Type 0} {g : Ghosts D} (settings : Settings) (zone : Zone) (h : History)
-    (image left : Image) (asked : List Asked) (replies : List (List ℕ))
+    (image : Image) (name : List ℕ) (opened last : House (FileStore D g))
     (is : IsHistory settings h) (held : HoldHistory settings h image)
-    (run : IsRun g zone image asked replies left) where
-  opened_honest : IsHonest over_files run.opened
-  opened_honest = was_honest (content over_files) is_failed (IsHonest over_files)
-      (MayLeave over_files) zone asked replies run.opened run.last run.answered run.honest
+    (is_opened : IsOpened (content over_files) is_failed (IsHonest over_files)
+    (MayLeave over_files) name image name opened) (honest : IsHonest over_files last)
+    (db : Trees) (may : (file_state last.conn).may_leave db) where
+  opened_has : IsHonest over_files opened → content over_files opened ≡ tables_of settings h
+  opened_has fine = is_opened.found refl fine (tables_of settings h) held
 
-  began : content over_files run.opened ≡ tables_of settings h
-  began = run.is_opened.found refl opened_honest (tables_of settings h) held
+  begun_has : (begun : House (FileStore D g)) → IsBegun (over_disk g) opened begun
+      → IsHonest over_files begun → content over_files begun ≡ tables_of settings h
+  begun_has begun (inl same) fine =
+      ap (content over_files) same ∙ opened_has (subst (IsHonest over_files) same fine)
+  begun_has begun (inr (read, works)) fine = read.same fine works ∙ opened_has (read.honest fine)
 
-  left_life : LeavesALife (content over_files) (MayLeave over_files) settings zone h asked replies
-      run.opened run.last
-  left_life = leaves_a_life (content over_files) is_failed (IsHonest over_files)
-      (MayLeave over_files) settings zone h asked replies run.opened run.last run.answered
-      run.honest is began
+  begun_only : (begun : House (FileStore D g)) → IsBegun (over_disk g) opened begun
+      → IsHonest over_files begun → (t : Tables) → MayLeave over_files begun t
+      → t ≡ content over_files begun
+  begun_only begun (inl same) fine = subst
+      (λ k. IsHonest over_files k → (t : Tables) → MayLeave over_files k t → t ≡ content over_files k)
+      (sym same) is_opened.begun.only fine
+  begun_only begun (inr (read, works)) fine = λ t left_so.
+      is_opened.begun.only (read.honest fine) t (read.crash fine t left_so) ∙ sym (read.same fine works)
 
-  pub leaves : ∥ LeavesHistory settings zone h asked replies left ∥₁
-  leaves = ∥∥₁_map run.left_so (λ found.
-      let lived = left_life (run.is_opened.begun.only opened_honest) (tables_in found.0)
-      (found.0, found.1, refl) in
-      let r : LeavesHistory settings zone h asked replies left = record {
-        life = lived.0;
-        is_life = lived.1;
-        history = lives_are_histories meant settings h (lived.0 ∷ []) is;
-        holds = record { db = found.0; holds = found.2; tables = sym lived.2 };
-      } in
-      r)
+  -- messages were answered
+  of_answers : (asked : List Asked) (replies : List (List ℕ))
+      → HasAnswered (over_disk g) zone asked replies opened last
+      → FindsHistory settings zone h (Answers asked replies) db
+  of_answers asked replies run =
+      let after = run.read.honest honest in
+      let fine = was_honest (content over_files) is_failed (IsHonest over_files)
+      (MayLeave over_files) zone asked replies run.begun run.after run.turn after in
+      let lived : LeavesALife (content over_files) (MayLeave over_files) settings zone h asked replies
+      run.begun run.after = leaves_a_life (content over_files) is_failed (IsHonest over_files)
+      (MayLeave over_files) settings zone h asked replies run.begun run.after run.turn after is
+      (begun_has run.begun run.so fine) in
+      let life = lived (begun_only run.begun run.so fine) (tables_in db)
+      (run.read.crash honest (tables_in db) (db, may, refl)) in
+      record {
+        life = life.0;
+        is_life = life.1;
+        history = lives_are_histories meant settings h (life.0 ∷ []) is;
+        tables = sym life.2;
+      }
+
+  -- a band table was set, or not
+  of_setting : (moment : ℕ) (bands : List (ℕ × ℕ))
+      → MayTable (content over_files) (IsHonest over_files) (MayLeave over_files) moment
+      (SetBands bands) opened last
+      → FindsHistory settings zone h (Sets moment bands) db
+  of_setting moment bands table =
+      let fine = table.honest honest in
+      elim (table.left honest settings h is (opened_has fine) (tables_in db) (db, may, refl)) [
+        | inl before ↦ record {
+          life = life_of [];
+          is_life = inl refl;
+          history = is;
+          tables = sym (is_opened.begun.only fine (tables_in db) before ∙ opened_has fine);
+        }
+        | inr (none, after) ↦ record {
+          life = life_of (setting moment bands ∷ []);
+          is_life = inr (none, refl);
+          history = lives_are_histories meant settings h (life_of (setting moment bands ∷ []) ∷ []) is;
+          tables = ap (tables_of settings) (set_next settings h moment bands none) ∙ sym after;
+        }
+      ]
+
+  of_run : (run : Run) → Does (over_disk g) zone run opened last
+      → FindsHistory settings zone h run db
+  of_run (Answers asked replies) run = of_answers asked replies run
+  of_run (Sets moment bands) table = of_setting moment bands table
+
+-- a run leaves a life
+pub leaves : {D : Type 0} {g : Ghosts D} (settings : Settings) (zone : Zone) (h : History)
+    (image left : Image) (run : Run) → IsHistory settings h → HoldHistory settings h image
+    → IsRun g zone image run left → ∥ LeavesHistory settings zone h run left ∥₁
+leaves settings zone h image left run is held was = ∥∥₁_map was.ended.left_so (λ found.
+    let finds = of_run settings zone h image was.name was.opened was.last is held was.is_opened
+    was.ended.honest found.0 found.1 run was.done in
+    let r : LeavesHistory settings zone h run left = record {
+      life = finds.life;
+      is_life = finds.is_life;
+      history = finds.history;
+      holds = record { db = found.0; holds = found.2; tables = finds.tables };
+    } in
+    r)
+
+-- and so does one whose keep could not be ended
+pub unended_leaves : {D : Type 0} {g : Ghosts D} (settings : Settings) (zone : Zone) (h : History)
+    (image : Image) (run : Run) (files : Files D) → IsHistory settings h → HoldHistory settings h image
+    → (was : IsUnended g zone image run files) → (db : Trees) → MayFind was.last files was.ended db
+    → FindsHistory settings zone h run db
+unended_leaves settings zone h image run files is held was db may =
+    let quiet = was.ended.closed.quiet in
+    of_run settings zone h image was.name was.opened was.last is held was.is_opened
+    (omega (arith, quiet.clean, may.honest)) db (quiet.outcomes db may.recovers) run was.done
 
 pub made_holds : {D : Type 0} {g : Ghosts D} (settings : Settings) (name : List ℕ) (before left : Image)
     (made : House (FileStore D g))
@@ -80,7 +163,7 @@ made_holds settings name before left made is honest may = ∥∥₁_map may (λ 
 
 -- over any number of runs
 pub runs_leave : (settings : Settings) (zone : Zone) (h : History) (image left : Image)
-    (runs : List (List Asked × List (List ℕ))) → IsHistory settings h → HoldHistory settings h image
+    (runs : List Run) → IsHistory settings h → HoldHistory settings h image
     → AreRuns settings zone image runs left → ∥ LeaveHistories settings zone h runs left ∥₁
 runs_leave settings zone h image left [] is held same = ∣ (
     let r : LeaveHistories settings zone h [] left = record {

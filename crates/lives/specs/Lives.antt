@@ -1,26 +1,49 @@
 -- The lives of a house's files. Start here.
-use Rattle.std.specs.Prelude.{◌≡◌, ℕ, List, [], ◌∷◌, ◌++◌}
+use Rattle.std.specs.Prelude.{◌≡◌, ◌⊎◌, ℕ, List, [], ◌∷◌, ◌++◌, false, None}
+use Rattle.auction_runs.specs.Tabled.{MayTable}
 use Rattle.house_laws.specs.Lives.{Life, life_history, lives_history}
+use Rattle.house_rows.specs.Keeping.{IsRead}
+use Rattle.house_rows.specs.declared.command.Command.TheVariants.{SetBands}
+use Rattle.house_rows.specs.declared.keep.Keep as keep
+use Rattle.house_rows.specs.declared.message.Message.TheVariants.{Order}
 use Rattle.house_rows.specs.declared.settings.Settings.{Settings}
 use Rattle.house_rows.specs.History.{History}
 use Rattle.house_rows.specs.Tables.{Tables, tables_of}
-use Rattle.house_rows.specs.Verdict.{IsHistory}
+use Rattle.house_rows.specs.Verdict.{IsHistory, verdict}
+use Rattle.settle.specs.Zoned.{IsZoneOf}
 use Rattle.settle.specs.declared.zone.Zone.{Zone}
 use Rattle.site.specs.Answers.{IsStep}
 use Rattle.site.specs.Lives.{IsLifeOf, served_replies}
 use Rattle.site.specs.Runs.{InTurn, at_places, meant}
 use Rattle.site_request.specs.declared.asked.Asked.{Asked}
 use Rattle.sqlite_disk.specs.declared.Disk as disk
+use Rattle.sqlite_disk.specs.declared.Files.{Files}
+use Rattle.sqlite_store.specs.FileStore.{recovers, view}
 use Rattle.sqlite_store.specs.declared.store.FileStore.{FileStore}
+use Rattle.sqlite_trees.specs.Tree.{Trees}
+use Rattle.sqlite_trees.specs.View.{IsClean}
 use Rattle.sqlite.specs.Files.{over_files}
 use Rattle.sqlite_wal.specs.Recovery.{Image}
+use Rattle.store.specs.Closing.{IsLeft}
 use Rattle.store.specs.Kept.{House, IsHonest, MayLeave, content, is_failed}
 use Rattle.store.specs.Opened.{IsOpened}
 use Rattle.store.specs.Opening.{HoldsTables, MayHold}
+use Rattle.store_rows.specs.Tables.{tables_in}
 
 -- files hold the tables of a history
 abbrev pub HoldHistory : Settings → History → Image → Type 0
 HoldHistory settings h image = HoldsTables image (tables_of settings h)
+
+-- a keep of a house in files
+abbrev pub over_disk : {D : Type 0} → (g : disk.Ghosts D) → keep.Ghosts (House (FileStore D g))
+over_disk g = record {
+  content = content over_files;
+  is_failed = is_failed;
+  is_honest = IsHonest over_files;
+  may_leave = MayLeave over_files;
+}
+
+-- ---- runs
 
 -- some messages were answered in turn
 pub record AreInTurn {K : Type 0} (Step : Asked → List ℕ → K → K → Type 0) (old new : K) : Type 0 where
@@ -28,67 +51,173 @@ pub record AreInTurn {K : Type 0} (Step : Asked → List ℕ → K → K → Typ
   pub replies : List (List ℕ)
   pub turn : InTurn Step asked replies old new
 
--- A keep was opened over files that held this, and messages were answered in turn over it. Its disk was
--- honest, and this was left of the files: by a crash at that moment, or of a keep that was ended.
-pub record IsRun {D : Type 0} (g : disk.Ghosts D) (zone : Zone) (image : Image) (asked : List Asked)
-    (replies : List (List ℕ)) (left : Image) : Type 0 where
+-- What a run does over the keep that it opens: it answers messages in turn with these replies, or has the
+-- house set a band table at a moment.
+pub data Run : Type 0 where
+  Answers : List Asked → List (List ℕ) → Run
+  Sets : ℕ → List (ℕ × ℕ) → Run
+
+-- messages are answered over a keep as it was opened, or after it was read, in which it didn't fail
+abbrev pub IsBegun : {K : Type 0} → keep.Ghosts K → K → K → Type 0
+IsBegun k opened begun = (begun ≡ opened)
+    ⊎ (IsRead k.content k.is_failed k.is_honest k.may_leave opened begun × (k.is_failed begun ≡ false))
+
+-- messages were answered in turn, and the keep may have been read before them and after them
+pub record HasAnswered {K : Type 0} (k : keep.Ghosts K) (zone : Zone) (asked : List Asked)
+    (replies : List (List ℕ)) (opened last : K) : Type 0 where
+  pub begun : K
+  pub so : IsBegun k opened begun
+  pub after : K
+  pub turn : InTurn (IsStep k.content k.is_failed k.is_honest k.may_leave zone) asked replies begun after
+  pub read : IsRead k.content k.is_failed k.is_honest k.may_leave after last
+
+-- a run was done, over one keep and to another
+abbrev pub Does : {K : Type 0} → keep.Ghosts K → Zone → Run → K → K → Type 0
+Does k zone (Answers asked replies) opened last = HasAnswered k zone asked replies opened last
+Does k zone (Sets moment bands) opened last =
+    MayTable k.content k.is_honest k.may_leave moment (SetBands bands) opened last
+
+-- A keep was opened over files that held this, this was done over it, and then it ended so.
+pub record IsRunTo {D : Type 0} (g : disk.Ghosts D) (zone : Zone) (image : Image) (run : Run)
+    (Ends : House (FileStore D g) → Type 0) : Type 0 where
   pub opened : House (FileStore D g)
   pub name : List ℕ
   pub is_opened : IsOpened (content over_files) is_failed (IsHonest over_files)
       (MayLeave over_files) name image name opened
   pub last : House (FileStore D g)
-  pub answered : InTurn (IsStep (content over_files) is_failed (IsHonest over_files)
-      (MayLeave over_files) zone) asked replies opened last
-  pub honest : IsHonest over_files last
-  pub left_so : MayHold last left
+  pub done : Does (over_disk g) zone run opened last
+  pub ended : Ends last
 
--- a life in which these messages got these replies, after which the files hold the history after it
-pub record LeavesHistory (settings : Settings) (zone : Zone) (h : History) (asked : List Asked)
-    (replies : List (List ℕ)) (left : Image) : Type 0 where
+-- this was left of its files, by a crash at that moment or since it was ended; its disk was honest
+pub record Leaves {D : Type 0} (g : disk.Ghosts D) (left : Image) (keep : House (FileStore D g)) :
+    Type 0 where
+  pub honest : IsHonest over_files keep
+  pub left_so : MayHold keep left
+
+-- a run that left this of the files
+abbrev pub IsRun : {D : Type 0} → disk.Ghosts D → Zone → Image → Run → Image → Type 0
+IsRun g zone image run left = IsRunTo g zone image run (Leaves g left)
+
+-- a run whose keep could not be ended, so that these files were left of its store
+abbrev pub IsUnended : {D : Type 0} → (g : disk.Ghosts D) → Zone → Image → Run → Files D → Type 0
+IsUnended g zone image run files = IsRunTo g zone image run (λ keep. IsLeft g keep files)
+
+-- what an opening after a crash may find in that store, whose disk was honest
+pub record MayFind {D : Type 0} {g : disk.Ghosts D} (keep : House (FileStore D g)) (files : Files D)
+    (left : IsLeft g keep files) (db : Trees) : Type 0 where
+  pub honest : IsClean (view left.store)
+  pub recovers : recovers left.store db
+
+-- so it is of the tables of whatever is found, of some keep that could not be ended
+pub record FindsTables {D : Type 0} (g : disk.Ghosts D) (files : Files D) (Are : Tables → Type 0) :
+    Type 0 where
+  pub keep : House (FileStore D g)
+  pub left : IsLeft g keep files
+  pub tables : (db : Trees) → MayFind keep files left db → Are (tables_in db)
+
+-- messages were answered, by the zone that was kept
+pub record IsAnswering {D : Type 0} (g : disk.Ghosts D) (image : Image)
+    (Ends : House (FileStore D g) → Type 0) : Type 0 where
+  pub zone : Zone
+  pub asked : List Asked
+  pub replies : List (List ℕ)
+  pub run : IsRunTo g zone image (Answers asked replies) Ends
+  pub kept_zone : IsHonest over_files run.last
+      → IsZoneOf (content over_files run.opened).settings.zone zone
+
+-- some were, or none, which is so by whatever zone
+abbrev pub MayAnswer : {D : Type 0} → (g : disk.Ghosts D) → Image → (House (FileStore D g) → Type 0)
+    → Type 0
+MayAnswer g image Ends = ((zone : Zone) → IsRunTo g zone image (Answers [] []) Ends)
+    ⊎ IsAnswering g image Ends
+
+-- a band table was set, or was not, which is so by whatever zone
+abbrev pub MaySet : {D : Type 0} → (g : disk.Ghosts D) → Image → ℕ → (House (FileStore D g) → Type 0)
+    → Type 0
+MaySet g image moment Ends = (bands : List (ℕ × ℕ))
+    × ((zone : Zone) → IsRunTo g zone image (Sets moment bands) Ends)
+
+-- So it is of a keep that was ended, of whose files this was left, or of one that could not be.
+abbrev pub EndsAs : {D : Type 0} → (g : disk.Ghosts D) → Image → Files D
+    → ((House (FileStore D g) → Type 0) → Type 0) → Type 0
+EndsAs g left files Is = Is (Leaves g left) ⊎ Is (λ keep. IsLeft g keep files)
+
+-- ---- their lives
+
+-- the house's command to set a band table, as a message
+abbrev pub setting : ℕ → List (ℕ × ℕ) → Asked
+setting moment bands = record { closes = false; message = Order moment 0 (SetBands bands) }
+
+-- the life of a house to which this happened and nothing was in flight
+abbrev pub life_of : List Asked → Life Asked
+life_of asked = record { answered = asked; in_flight = None }
+
+-- A life of a run from a history on. A band table was set by a message that the history accepts, or it
+-- wasn't set.
+abbrev pub IsLifeIn : Settings → Zone → History → Run → Life Asked → Type 0
+IsLifeIn settings zone h (Answers asked replies) life =
+    IsLifeOf settings zone h asked replies life.answered life.in_flight
+IsLifeIn settings zone h (Sets moment bands) life = (life ≡ life_of [])
+    ⊎ ((verdict settings h moment 0 (SetBands bands) ≡ None)
+    × (life ≡ life_of (setting moment bands ∷ [])))
+
+-- a life of a run, and the tables of the history after it are those of a database
+pub record FindsHistory (settings : Settings) (zone : Zone) (h : History) (run : Run) (db : Trees) :
+    Type 0 where
   pub life : Life Asked
-  pub is_life : IsLifeOf settings zone h asked replies life.answered life.in_flight
+  pub is_life : IsLifeIn settings zone h run life
+  pub history : IsHistory settings (life_history meant settings h life)
+  pub tables : tables_of settings (life_history meant settings h life) ≡ tables_in db
+
+-- a life of a run, after which the files hold the history after it
+pub record LeavesHistory (settings : Settings) (zone : Zone) (h : History) (run : Run)
+    (left : Image) : Type 0 where
+  pub life : Life Asked
+  pub is_life : IsLifeIn settings zone h run life
   pub history : IsHistory settings (life_history meant settings h life)
   pub holds : HoldHistory settings (life_history meant settings h life) left
 
--- whatever history files held, they hold one after a life of these messages with these replies
-abbrev pub LeavesLife : Settings → Zone → Image → List Asked → List (List ℕ) → Image → Type 0
-LeavesLife settings zone image asked replies left = (h : History) → IsHistory settings h
-    → HoldHistory settings h image → ∥ LeavesHistory settings zone h asked replies left ∥₁
+-- whatever history files held, they hold one after a life of the run
+abbrev pub LeavesLife : Settings → Zone → Image → Run → Image → Type 0
+LeavesLife settings zone image run left = (h : History) → IsHistory settings h
+    → HoldHistory settings h image → ∥ LeavesHistory settings zone h run left ∥₁
 
 -- runs over the same files, each of which leaves a life of what the one before left of them. Each may
 -- be over a disk of its own
-abbrev pub AreRuns : Settings → Zone → Image → List (List Asked × List (List ℕ)) → Image → Type 0
+abbrev pub AreRuns : Settings → Zone → Image → List Run → Image → Type 0
 AreRuns settings zone image [] left = left ≡ image
 AreRuns settings zone image (r ∷ rs) left = (mid : Image)
-    × LeavesLife settings zone image r.0 r.1 mid × AreRuns settings zone mid rs left
+    × LeavesLife settings zone image r mid × AreRuns settings zone mid rs left
 
 -- the lives of runs, from a history on
-abbrev pub AreLivesOf : Settings → Zone → History → List (List Asked × List (List ℕ))
-    → List (Life Asked) → Type 0
+abbrev pub AreLivesOf : Settings → Zone → History → List Run → List (Life Asked) → Type 0
 AreLivesOf settings zone h [] [] = Unit {0}
-AreLivesOf settings zone h (r ∷ rs) (life ∷ lives) =
-    IsLifeOf settings zone h r.0 r.1 life.answered life.in_flight
+AreLivesOf settings zone h (r ∷ rs) (life ∷ lives) = IsLifeIn settings zone h r life
     × AreLivesOf settings zone (life_history meant settings h life) rs lives
 AreLivesOf settings zone h [] (life ∷ lives) = ⊥
 AreLivesOf settings zone h (r ∷ rs) [] = ⊥
 
 -- there are lives of the runs, and the files hold the history after them
-pub record LeaveHistories (settings : Settings) (zone : Zone) (h : History)
-    (runs : List (List Asked × List (List ℕ))) (left : Image) : Type 0 where
+pub record LeaveHistories (settings : Settings) (zone : Zone) (h : History) (runs : List Run)
+    (left : Image) : Type 0 where
   pub lives : List (Life Asked)
   pub are : AreLivesOf settings zone h runs lives
   pub history : IsHistory settings (lives_history meant settings h lives)
   pub holds : HoldHistory settings (lives_history meant settings h lives) left
 
+-- ---- what members are told
+
 -- Of a run and its life, the replies to a member's messages that were served: of all replies, or of
--- those before the message in which the store failed.
-abbrev pub IsTold : ℕ → List Asked × List (List ℕ) → Life Asked → List (List ℕ) → Type 0
-IsTold c run life told = (first : List (List ℕ)) × (rest : List (List ℕ)) × (run.1 ≡ first ++ rest)
-    × (told ≡ at_places c life.answered (served_replies first))
+-- those before the message in which the store failed. Of a band table that the run set nobody was told; a
+-- reply to it would be the house's.
+abbrev pub IsTold : ℕ → Run → Life Asked → List (List ℕ) → Type 0
+IsTold c (Answers asked replies) life told = (first : List (List ℕ)) × (rest : List (List ℕ))
+    × (replies ≡ first ++ rest) × (told ≡ at_places c life.answered (served_replies first))
+IsTold c (Sets moment bands) life told =
+    (unsent : List (List ℕ)) × (told ≡ at_places c life.answered unsent)
 
 -- in each of two lists of runs, life by life, a member is told the same
-abbrev pub AreToldAlike : ℕ → List (List Asked × List (List ℕ)) → List (Life Asked)
-    → List (List Asked × List (List ℕ)) → List (Life Asked) → Type 0
+abbrev pub AreToldAlike : ℕ → List Run → List (Life Asked) → List Run → List (Life Asked) → Type 0
 AreToldAlike c (r ∷ rs) (l ∷ ls) (s ∷ ss) (m ∷ ms) =
     ((told : List (List ℕ)) × IsTold c r l told × IsTold c s m told) × AreToldAlike c rs ls ss ms
 AreToldAlike c [] [] [] [] = Unit {0}

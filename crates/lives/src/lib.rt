@@ -1,48 +1,65 @@
-//! The lives of a house's files: from one opening to the next crash, and on.
+//! The lives of a house's files: from one run of the program to the next, and on.
 //!
-//! Read `specs/Lives.antt`.
+//! Read `specs/Lives.antt`. A run leaves a life (`runs_leave_lives`), runs leave the lives of a history
+//! (`runs_leave_histories`), and twin lives are told alike (`twin_lives_are_told_alike`). The laws after
+//! these say that what the program does over a house in a file is such a run.
 #![tactic(auto)]
 
-ghost use Rattle.std.specs.Prelude.{◌≡◌, ℕ, List, []};
+ghost use Rattle.std.specs.Prelude.{◌≡◌, ◌⊎◌, ℕ, List, [], Bool};
+ghost use Rattle.auction_runs.specs.Listed.{IsOrderedOver};
+ghost use Rattle.auction_runs.specs.Over.{IsOver, IsReadOver};
+ghost use Rattle.auction_runs.specs.Runs.{HasDone, IsMadeBy, IsServedOver, IsUpgradedAs, MayHaveSetTable};
+ghost use Rattle.auction_words.specs.Houses.{IsSetBy};
+ghost use Rattle.auction_words.specs.declared.command_line.HouseWords.{HouseWords};
 ghost use Rattle.house_laws.specs.Alike.{AreAlike};
 ghost use Rattle.house_laws.specs.Lives.{AreTwinLives, Life};
 ghost use Rattle.house_rows.specs.declared.settings.Settings.{Settings};
 ghost use Rattle.house_rows.specs.History.{History};
+ghost use Rattle.house_rows.specs.Tables.{tables_of};
 ghost use Rattle.house_rows.specs.Verdict.{IsHistory};
-ghost use Rattle.lives.specs.Lives.{AreInTurn, AreLivesOf, AreRuns, AreToldAlike, HoldHistory, IsRun, LeaveHistories, LeavesLife};
+ghost use Rattle.lives.specs.Lives.{Answers, AreInTurn, AreLivesOf, AreRuns, AreToldAlike, EndsAs, FindsHistory, FindsTables, HoldHistory, IsRun, IsRunTo, IsUnended, LeaveHistories, LeavesLife, MayAnswer, MayFind, MaySet, Run, over_disk};
+ghost use Rattle.office.specs.declared.order.Lister.{Lister};
 ghost use Rattle.settle.specs.declared.zone.Zone.{Zone};
 ghost use Rattle.site.specs.Answers.{IsStep};
 ghost use Rattle.site.specs.Runs.{meant};
-ghost use Rattle.site_connections.specs.Turns.{ServesOne, TakesEach, TakesOne};
+ghost use Rattle.site_connections.specs.Turns.{HasTakenSome, Takes};
 ghost use Rattle.site_request.specs.declared.asked.Asked.{Asked};
-ghost use Rattle.sqlite.specs.Files.{over_files};
+ghost use Rattle.sqlite.specs.Files.{HoldsDatabase, over_files};
 ghost use Rattle.sqlite_disk.specs.declared.Files.{Files};
 ghost use Rattle.sqlite_store.specs.declared.store.FileStore.{FileStore};
+ghost use Rattle.sqlite_trees.specs.Tree.{Trees};
 ghost use Rattle.sqlite_wal.specs.Files.{outcomes};
 ghost use Rattle.sqlite_wal.specs.Reads.{AreClean};
 ghost use Rattle.sqlite_wal.specs.Recovery.{Image};
-ghost use Rattle.store.specs.Closing.{IsEnded};
+ghost use Rattle.store.specs.Closing.{IsEnded, IsLeft};
 ghost use Rattle.store.specs.Kept.{House, IsHonest, MayLeave, content, is_failed};
-ghost use Rattle.store.specs.Opened.{IsMade};
-ghost use Rattle.store.specs.Opening.{MayHold};
+ghost use Rattle.store.specs.Opened.{IsMade, IsOpened, IsUpgraded};
+ghost use Rattle.store.specs.Opening.{HoldsTables, MayHold, tables_after};
 
 use house_rows::Keep;
 use site_connections::Connections;
 use sqlite_disk::Disk;
 
-/// Files that held a history hold one after a life: of whatever an opening, messages in turn, and then a
-/// crash or an end made of them, there is a life of the messages, and they hold the history after it.
-pub fn lives_leave_histories<D: Disk>()
-    ensures { (settings : Settings) (zone : Zone) (image left : Image) (asked : List Asked)
-        (replies : List (List ℕ)) → IsRun D.Disk zone image asked replies left
-        → LeavesLife settings zone image asked replies left }
+/// Files that held a history hold one after a life: of whatever an opening, a run over the keep, and then
+/// a crash or an end made of them, there is a life of the run, and they hold the history after it.
+pub fn runs_leave_lives<D: Disk>()
+    ensures { (settings : Settings) (zone : Zone) (image left : Image) (run : Run)
+        → IsRun D.Disk zone image run left → LeavesLife settings zone image run left }
 {}
 
-/// The same over any number of runs, each over what the one before left of the files.
+/// Where a keep could not be ended, what an opening after a crash may find in the store that is left has
+/// the tables of the history after a life of its run.
+pub fn unended_runs_leave_lives<D: Disk>()
+    ensures { (settings : Settings) (zone : Zone) (h : History) (image : Image) (run : Run)
+        (files : Files D) → IsHistory settings h → HoldHistory settings h image
+        → (was : IsUnended D.Disk zone image run files) → (db : Trees)
+        → MayFind was.last files was.ended db → FindsHistory settings zone h run db }
+{}
+
+/// Files that held a history hold one after any number of runs, each over what the one before left of the files.
 pub fn runs_leave_histories()
     ensures { (settings : Settings) (zone : Zone) (h : History) (image left : Image)
-        (runs : List (List Asked × List (List ℕ)))
-        → IsHistory settings h → HoldHistory settings h image
+        (runs : List Run) → IsHistory settings h → HoldHistory settings h image
         → AreRuns settings zone image runs left
         → ∥ LeaveHistories settings zone h runs left ∥₁ }
 {}
@@ -51,13 +68,14 @@ pub fn runs_leave_histories()
 /// tells the member the same, life by life, whatever others sealed and whichever crashes there were.
 pub fn twin_lives_are_told_alike()
     ensures { (settings : Settings) (zone : Zone) (c : ℕ) (h k : History)
-        (runs others : List (List Asked × List (List ℕ))) (lives more : List (Life Asked))
+        (runs others : List Run) (lives more : List (Life Asked))
         → AreAlike settings c h k → AreTwinLives meant settings c h k lives more
         → AreLivesOf settings zone h runs lives → AreLivesOf settings zone k others more
         → AreToldAlike c runs lives others more }
 {}
 
-/// What is left of files in which a house was made holds the history to which nothing has happened yet.
+/// What a crash leaves of files in which a house was made holds the history to which nothing has
+/// happened yet.
 pub fn making_leaves_no_history<D: Disk>()
     ensures { (settings : Settings) (name : List ℕ) (before left : Image)
         (made : House (FileStore D D.Disk))
@@ -75,12 +93,83 @@ pub fn ends_leave_databases<D: Disk>()
         → IsHonest over_files keep × MayHold keep left }
 {}
 
-/// Connections that were taken in turn are messages in turn: so `lives_leave_histories` speaks of a
-/// server's run.
+/// Connections that were taken in turn are messages in turn, however taking them ended.
 pub fn connections_are_messages_in_turn<C: Connections, K: Keep>()
-    ensures { (zone : Zone) (most count : ℕ) (old new : C × K)
-        → TakesEach (TakesOne (ServesOne K.content K.is_failed K.is_honest K.may_leave zone
-        C.Input.left C.Input.has_failed C.Output.taken C.Output.handed_on C.Output.has_failed most)
-        C.accepts C.ends) count old new
-        → AreInTurn (IsStep K.content K.is_failed K.is_honest K.may_leave zone) old.1 new.1 }
+    ensures { (zone : Zone) (most count : ℕ) (old : C × K) (last : K)
+        → HasTakenSome K.is_failed (Takes K.Keep C.Input.Source C.Output.Sink C.accepts C.ends zone
+        most) count old last
+        → AreInTurn (IsStep K.content K.is_failed K.is_honest K.may_leave zone) old.1 last }
+{}
+
+/// What serving leaves of the files, or of the store where its keep could not be ended, is left by a run of
+/// messages, by the kept zone.
+pub fn servings_are_runs<D: Disk, C: Connections>()
+    ensures { (image left : Image) (name : List ℕ) (files : Files D)
+        → AreClean D.Disk files.log files.db → outcomes D.Disk files.log files.db left
+        → (most count : ℕ)
+        → HasDone (IsOpened (content over_files) is_failed (IsHonest over_files)
+        (MayLeave over_files) name image name)
+        (IsServedOver (over_disk D.Disk) (IsEnded D.Disk) (IsLeft D.Disk)
+        (λ zone. Takes (over_disk D.Disk) C.Input.Source C.Output.Sink C.accepts C.ends zone most)
+        count) files
+        → EndsAs D.Disk left files (MayAnswer D.Disk image) }
+{}
+
+/// What an import leaves is left by a run of the orders of its lots.
+pub fn imports_are_runs<D: Disk>()
+    ensures { (image left : Image) (name : List ℕ) (files : Files D)
+        → AreClean D.Disk files.log files.db → outcomes D.Disk files.log files.db left
+        → (by : Lister)
+        → HasDone (IsOpened (content over_files) is_failed (IsHonest over_files)
+        (MayLeave over_files) name image name)
+        (IsOrderedOver (content over_files) is_failed (IsHonest over_files)
+        (MayLeave over_files) (IsEnded D.Disk) (IsLeft D.Disk) by) files
+        → EndsAs D.Disk left files (MayAnswer D.Disk image) }
+{}
+
+/// What a statement leaves is left by a run of no message.
+pub fn readings_are_runs<D: Disk>()
+    ensures { (image left : Image) (name : List ℕ) (files : Files D)
+        → AreClean D.Disk files.log files.db → outcomes D.Disk files.log files.db left
+        → HasDone (IsOpened (content over_files) is_failed (IsHonest over_files)
+        (MayLeave over_files) name image name)
+        (IsReadOver (content over_files) is_failed (IsHonest over_files)
+        (MayLeave over_files) (IsEnded D.Disk) (IsLeft D.Disk)) files
+        → EndsAs D.Disk left files (λ Ends.
+        (zone : Zone) → IsRunTo D.Disk zone image (Answers [] []) Ends) }
+{}
+
+/// What the setting of a band table leaves is left by a run of it.
+pub fn settings_are_runs<D: Disk>()
+    ensures { (image left : Image) (name : List ℕ) (files : Files D)
+        → AreClean D.Disk files.log files.db → outcomes D.Disk files.log files.db left
+        → (moment : ℕ)
+        → HasDone (IsOpened (content over_files) is_failed (IsHonest over_files)
+        (MayLeave over_files) name image name)
+        (MayHaveSetTable (over_disk D.Disk) (IsEnded D.Disk) (IsLeft D.Disk) moment) files
+        → EndsAs D.Disk left files (MaySet D.Disk image moment) }
+{}
+
+/// What is left of files in which a house was made holds the history to which nothing has happened yet.
+pub fn makings_leave_no_history<D: Disk>()
+    ensures { (image left : Image) (name : List ℕ) (files : Files D)
+        → AreClean D.Disk files.log files.db → outcomes D.Disk files.log files.db left
+        → (words : HouseWords)
+        → HasDone (IsMadeBy (IsMade (content over_files) is_failed (IsHonest over_files)
+        (MayLeave over_files) name image name) words)
+        (IsOver (IsEnded D.Disk) (IsLeft D.Disk)) files
+        → (settings : Settings) × IsSetBy words settings
+        × (∥ HoldHistory settings [] left ∥₁
+        ⊎ FindsTables D.Disk files (λ t. t ≡ tables_of settings [])) }
+{}
+
+/// What an upgrade leaves of files has the tables that they held, of version 1 or 2.
+pub fn upgrades_leave_the_tables<D: Disk>()
+    ensures { (image left : Image) (name : List ℕ) (files : Files D)
+        → AreClean D.Disk files.log files.db → outcomes D.Disk files.log files.db left
+        → HasDone (IsUpgradedAs (IsUpgraded (content over_files) is_failed (IsHonest over_files)
+        (MayLeave over_files) name image name)) (IsOver (IsEnded D.Disk) (IsLeft D.Disk)) files
+        → (was_first : Bool) × ((db : Trees) → HoldsDatabase image db
+        → ∥ HoldsTables left (tables_after was_first db) ∥₁
+        ⊎ FindsTables D.Disk files (λ t. t ≡ tables_after was_first db)) }
 {}

@@ -1,13 +1,16 @@
 -- Connections that are taken in turn.
-use Rattle.std.proofs.Common.{◌≡◌, ℕ, ◌+◌, ◌<◌, zero, suc, List, Bool, Option, Result, Ok, Err, add-one, refl, subst, sym}
-use Rattle.std.specs.Prelude.{IfErr}
+use Rattle.std.proofs.Common.{◌≡◌, ℕ, ◌+◌, ◌<◌, zero, suc, Bool, Option, Result, Err, add-one, refl, subst, sym, true, false, inl}
 use Rattle.device.specs.declared.failure.Failure.{Failure}
-use Rattle.house_rows.specs.Tables.{Tables}
+use Rattle.device.specs.declared.sink.Sink as sink
+use Rattle.device.specs.declared.source.Source as source
+use Rattle.house_rows.specs.declared.keep.Keep as keep
 use Rattle.settle.specs.declared.zone.Zone.{Zone}
 use Rattle.site_serve.specs.declared.server.ServeFault.{ServeFault}
 use Rattle.site_serve.specs.declared.server.Served.{Served}
-use Rattle.site_connections.specs.Turns.{HasStopped, ServesOne, TakesEach, TakesOne}
+use Rattle.site_connections.specs.Turns.{HasFailed, HasStopped, Takes, TakesEach, TakesWell}
 use Rattle.site_connections.specs.declared.connection.Connection.{Connection}
+use Rattle.site_connections.specs.declared.turns.TurnFault.{TurnFault}
+use Rattle.site_connections.specs.declared.turns.TurnFault.TheVariants as fault
 
 rest_after : {S : Type 0} (Takes : S → S → Type 0) (n : ℕ) (old mid new : S)
     → TakesEach Takes n old mid → Takes mid new → TakesEach Takes (suc n) old new
@@ -21,41 +24,49 @@ pub one_more : {S : Type 0} (Takes : S → S → Type 0) (n : ℕ) (old mid new 
 one_more Takes n old mid new each one =
     subst (λ m. TakesEach Takes m old new) (sym (add-one n)) (rest_after Takes n old mid new each one)
 
--- a connection is taken by the zone that a site began with
-pub taken_in_zone : {C K R W : Type 0} (content : K → Tables) (is_failed : K → Bool)
-    (is_honest : K → Type 0) (may_leave : K → Tables → Type 0) (now first : Zone)
-    (left : R → Option (List ℕ)) (source_has_failed : R → Bool)
-    (taken handed_on : W → Option (List ℕ)) (sink_has_failed : W → Bool) (most : ℕ)
-    (accepts : C → Result (Option (Connection R W)) Failure → C → Type 0)
-    (ends : C → Connection R W → Result Served ServeFault → C → Type 0)
-    (old new : C × K) → now ≡ first
-    → TakesOne (ServesOne content is_failed is_honest may_leave now
-    left source_has_failed taken handed_on sink_has_failed most) accepts ends old new
-    → TakesOne (ServesOne content is_failed is_honest may_leave first
-    left source_has_failed taken handed_on sink_has_failed most) accepts ends old new
-taken_in_zone content is_failed is_honest may_leave now first left source_has_failed taken handed_on
-    sink_has_failed most accepts ends old new same one =
-    subst (λ z. TakesOne (ServesOne content is_failed is_honest may_leave z
-    left source_has_failed taken handed_on sink_has_failed most) accepts ends old new) same one
-
 -- as many as were asked for were taken
 pub as_many : {S : Type 0} (Takes : S → S → Type 0) (n count : ℕ) (old new : S)
     → n ≡ count → TakesEach Takes n old new → TakesEach Takes count old new
 as_many Takes n count old new all each = subst (λ m. TakesEach Takes m old new) all each
 
+-- a connection is taken by the zone that a site began with
+module _ {C K R W : Type 0} (k : keep.Ghosts K) (input : source.Ghosts R) (output : sink.Ghosts W)
+    (accepts : C → Result (Option (Connection R W)) Failure → C → Type 0)
+    (ends : C → Connection R W → Result Served ServeFault → C → Type 0)
+    (most : ℕ) (now first : Zone) (same : now ≡ first) (old new : C × K) where
+  pub taken_by_zone : Takes k input output accepts ends now most old new
+      → Takes k input output accepts ends first most old new
+  taken_by_zone one = subst (λ z. Takes k input output accepts ends z most old new) same one
+
+  pub well_by_zone : TakesWell k.is_failed (Takes k input output accepts ends now most) old new
+      → TakesWell k.is_failed (Takes k input output accepts ends first most) old new
+  well_by_zone one = (taken_by_zone one.0, one.1)
+
 -- accepting failed after fewer
-pub has_stopped : {C K R W T : Type 0} (Takes : C × K → C × K → Type 0)
+pub has_stopped : {C K R W : Type 0} (Takes : C × K → C × K → Type 0)
     (accepts : C → Result (Option (Connection R W)) Failure → C → Type 0) (n count : ℕ)
-    (old last new : C × K) (result : Result T Failure) → n < count
-    → TakesEach Takes n old last
-    → ((failure : Failure) → accepts last.0 (Err failure) new.0) → new.1 ≡ last.1
-    → IfErr result (HasStopped Takes accepts count old new)
-has_stopped Takes accepts n count old last new (Ok x) fewer each failed same = tt
-has_stopped Takes accepts n count old last new (Err failure) fewer each failed same = record {
+    (old last new : C × K) → n < count → TakesEach Takes n old last
+    → ((failure : Failure) × accepts last.0 (Err failure) new.0 × (new.1 ≡ last.1))
+    → HasStopped Takes accepts count old new
+has_stopped Takes accepts n count old last new fewer each failed = record {
   taken = n;
   fewer = fewer;
   last = last;
   each = each;
-  failed = failed failure;
-  same = same;
+  failure = failed.0;
+  failed = failed.1;
+  same = failed.2;
+}
+
+-- the keep failed in the last
+pub has_failed : {C K : Type 0} (is_failed : K → Bool) (Takes : C × K → C × K → Type 0)
+    (n count : ℕ) (old mid new : C × K) → n < count → TakesEach (TakesWell is_failed Takes) n old mid
+    → (Takes mid new × (is_failed new.1 ≡ true)) → HasFailed is_failed Takes count old new
+has_failed is_failed Takes n count old mid new fewer each last = record {
+  before = n;
+  fewer = fewer;
+  mid = mid;
+  each = each;
+  last = last.0;
+  failed = last.1;
 }

@@ -1,7 +1,10 @@
 -- What serving connections in turn does. Start here.
-use Rattle.std.specs.Prelude.{◌≡◌, ◌⊎◌, ℕ, ◌<◌, zero, suc, List, Bool, true, Option, Some, None, Result, Ok, Err, IfOk, IfSome, OnOk}
+use Rattle.std.specs.Prelude.{◌≡◌, ◌⊎◌, ℕ, ◌<◌, ◌≤◌, zero, suc, List, Bool, true, false, Option, Some, None, Result, Ok, Err, IfOk, IfSome, OnOk}
 use Rattle.device.specs.declared.failure.Failure.{Failure}
+use Rattle.device.specs.declared.sink.Sink as sink
+use Rattle.device.specs.declared.source.Source as source
 use Rattle.house_rows.specs.Tables.{Tables}
+use Rattle.house_rows.specs.declared.keep.Keep as keep
 use Rattle.settle.specs.declared.zone.Zone.{Zone}
 use Rattle.site.specs.Answers.{IsStep}
 use Rattle.site_serve.specs.Ends.{HasEnded}
@@ -77,13 +80,53 @@ abbrev pub TakesEach : {S : Type 0} → (S → S → Type 0) → ℕ → S → S
 TakesEach Takes zero old new = new ≡ old
 TakesEach {S} Takes (suc n) old new = (mid : S) × Takes old mid × TakesEach Takes n mid new
 
+-- one connection is taken over a keep by its zone, of which at most so many messages are answered
+abbrev pub Takes : {C K R W : Type 0} → keep.Ghosts K → source.Ghosts R → sink.Ghosts W
+    → (C → Result (Option (Connection R W)) Failure → C → Type 0)
+    → (C → Connection R W → Result Served ServeFault → C → Type 0)
+    → Zone → ℕ → C × K → C × K → Type 0
+Takes k input output accepts ends zone most = TakesOne
+    (ServesOne k.content k.is_failed k.is_honest k.may_leave zone input.left input.has_failed
+    output.taken output.handed_on output.has_failed most) accepts ends
+
+-- and the keep has not failed after it
+abbrev pub TakesWell : {C K : Type 0} → (K → Bool) → (C × K → C × K → Type 0) → C × K → C × K
+    → Type 0
+TakesWell is_failed Takes old new = Takes old new × (is_failed new.1 ≡ false)
+
 -- fewer were taken, and then accepting failed
 pub record HasStopped {C K R W : Type 0} (Takes : C × K → C × K → Type 0)
     (accepts : C → Result (Option (Connection R W)) Failure → C → Type 0) (count : ℕ)
-    (old new : C × K) (failure : Failure) : Type 0 where
+    (old new : C × K) : Type 0 where
   pub taken : ℕ
   pub fewer : taken < count
   pub last : C × K
   pub each : TakesEach Takes taken old last
+  pub failure : Failure
   pub failed : accepts last.0 (Err failure) new.0
   pub same : new.1 ≡ last.1
+
+-- some were taken, and the keep failed in the last of them
+pub record HasFailed {C K : Type 0} (is_failed : K → Bool) (Takes : C × K → C × K → Type 0)
+    (count : ℕ) (old new : C × K) : Type 0 where
+  pub before : ℕ
+  pub fewer : before < count
+  pub mid : C × K
+  pub each : TakesEach (TakesWell is_failed Takes) before old mid
+  pub last : Takes mid new
+  pub failed : is_failed new.1 ≡ true
+
+-- some were taken, at most so many, and the keep has not failed
+pub record HasTaken {C K : Type 0} (is_failed : K → Bool) (Takes : C × K → C × K → Type 0)
+    (count : ℕ) (old new : C × K) : Type 0 where
+  pub taken : ℕ
+  pub within : taken ≤ count
+  pub each : TakesEach (TakesWell is_failed Takes) taken old new
+
+-- However it ended: some were taken, none after one in which the keep failed, and nothing else was
+-- done to the keep.
+pub record HasTakenSome {C K : Type 0} (is_failed : K → Bool) (Takes : C × K → C × K → Type 0)
+    (count : ℕ) (old : C × K) (keep : K) : Type 0 where
+  pub last : C
+  pub taken : HasTaken is_failed Takes count old (last, keep)
+      ⊎ HasFailed is_failed Takes count old (last, keep)

@@ -33,9 +33,9 @@ fn replay<K: Keep + Drop>(
 ) -> Result<(), AllocError> {
     let mut source = MemorySource::new(stream);
     let mut sink = MemorySink::new(alloc);
-    let mut errors = Vec::new(alloc);
+    let mut errors = MemorySink::new(alloc);
     let status = replay_run(alloc, &mut source, &mut sink, &mut errors, house, asked);
-    tell_ended(report, status, sink.bytes(), &errors)
+    tell_ended(report, status, sink.bytes(), errors.bytes())
 }
 
 // Replays a stream over a new house.

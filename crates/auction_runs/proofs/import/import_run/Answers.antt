@@ -1,5 +1,5 @@
 use Rattle.auction_runs.proofs.Outcomes.{both, where_done}
-use Rattle.auction_runs.proofs.Rows.{dealt_so, has_all, taken_so}
+use Rattle.auction_runs.proofs.Rows.{dealt_so, has_all, printed_of, taken_so}
 use Rattle.auction_runs.proofs.import.import_run.Goals as goal
 
 pub returns-clause-ended : goal.returns-clause-ended
@@ -25,3 +25,9 @@ returns-clause-listed g c =
     (λ last. g.K.Ends.is_ended last c.end-ended.result.1) c.args.by text
     (g.W.Write.contents c.args.output.now) (g.W.Write.contents listed.new.output) c.args.keep
     listed.result.1 found.0 so (found.2 reader is text gives))
+
+pub returns-clause-printed : goal.returns-clause-printed
+returns-clause-printed g c = printed_of g.K.Keep g.R.Read.remaining c.args.by c.args.keep
+    c.list_all-listed.result.1 c.args.lots (g.W.Write.contents c.args.output.now)
+    (g.W.Write.contents c.list_all-listed.new.output) c.list_all-listed.result.0
+    c.list_all-listed.ensures.listed c.list_all-listed.ensures.part

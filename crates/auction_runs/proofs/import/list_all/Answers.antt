@@ -1,6 +1,6 @@
 use Rattle.std.proofs.Common.{refl, ◌≡◌}
 use Rattle.auction_runs.proofs.Outcomes.{always}
-use Rattle.auction_runs.proofs.Rows.{dealt, ok_of_same, taken}
+use Rattle.auction_runs.proofs.Rows.{dealt, ok_of_same, part_of_import, taken}
 use Rattle.office.specs.Imports.{keep_of}
 use Rattle.site.specs.Answers.{zone_of}
 use Rattle.auction_runs.proofs.import.list_all.Goals as goal
@@ -13,7 +13,7 @@ returns-clause-taken g c =
     always c.hand_on.result (
     taken k.content k.is_failed k.is_honest k.may_leave (λ last. last ≡ c.end.result) c.args.by
     c.args.keep c.check_import.new.keep (keep_of site) (keep_of c.import-imported.new.site)
-    c.end.result (zone_of site) known.read known.known c.in-Ok-begin_site.ensures.keep
+    c.end.result (zone_of site) known c.in-Ok-begin_site.ensures.keep
     c.in-Ok-begin_site.ensures.zone c.import-imported.ensures.ordered c.end.ensures refl)
 
 pub returns-clause-listed : goal.returns-clause-listed
@@ -28,8 +28,20 @@ returns-clause-listed g c =
     g.R.Read.remaining c.args.by c.args.keep (keep_of site)
     (taken k.content k.is_failed k.is_honest k.may_leave (λ last. last ≡ c.end.result) c.args.by
     c.args.keep c.check_import.new.keep (keep_of site) (keep_of after)
-    c.end.result (zone_of site) known.read known.known c.in-Ok-begin_site.ensures.keep
+    c.end.result (zone_of site) known c.in-Ok-begin_site.ensures.keep
     c.in-Ok-begin_site.ensures.zone c.import-imported.ensures.ordered c.end.ensures refl)
     c.args.lots c.in-Ok.lots (g.W.Write.contents c.args.output.now)
     (g.W.Write.contents c.import-imported.new.output) (g.W.Write.contents c.hand_on.new.output) report
     c.in-Ok.ensures.same c.in-Ok-begin_site.ensures.keep c.hand_on.ensures.kept)
+
+pub returns-clause-part : goal.returns-clause-part
+returns-clause-part g c =
+    let k = g.K.Keep in
+    part_of_import k g.R.Read.remaining c.args.by c.args.keep c.check_import.new.keep
+    (keep_of c.in-Ok-begin_site.site) (keep_of c.import-imported.new.site) c.end.result
+    (zone_of c.in-Ok-begin_site.site) c.in-Ok.ensures.known c.in-Ok-begin_site.ensures.keep
+    c.in-Ok-begin_site.ensures.zone c.import-imported.ensures.ordered c.end.ensures c.args.lots
+    c.in-Ok.lots c.in-Ok.ensures.same (g.W.Write.contents c.args.output.now)
+    (g.W.Write.contents c.import-imported.new.output) (g.W.Write.contents c.hand_on.new.output)
+    c.hand_on.ensures.kept c.hand_on.result c.import-imported.result c.hand_on.ensures.fault
+    c.import-imported.ensures.imported c.import-imported.ensures.ended

@@ -1,62 +1,65 @@
 -- What a run of the program did to the house in its file. Start here.
-use Rattle.std.specs.Prelude.{◌≡◌, ◌⊎◌, ◌≤◌, ℕ, Bool, List, IfSome, ⊤}
-use Rattle.auction_runs.specs.Listed.{HasTaken, IsOrderedOver}
-use Rattle.auction_runs.specs.Over.{IsOver, IsReadOver}
-use Rattle.auction_runs.specs.Served.{HasTakenSome}
+use Rattle.std.specs.Prelude.{◌≡◌, ◌⊎◌, ◌≤◌, ℕ, Bool, true, List}
+use Rattle.auction_runs.specs.Over.{IsOver}
 use Rattle.auction_runs.specs.Stated.{HasRead}
 use Rattle.auction_runs.specs.Tabled.{HasSet, IsTabledOver}
+use Rattle.auction_runs.specs.declared.fault.Fault.{Fault}
+use Rattle.auction_runs.specs.declared.fault.Fault.TheVariants.{Socket, Store, Write}
 use Rattle.auction_runs.specs.declared.statement.Inquiry.{Inquiry}
 use Rattle.auction_words.specs.Houses.{IsSetBy}
 use Rattle.auction_words.specs.declared.command_line.HouseWords.{HouseWords}
 use Rattle.auction_words.specs.declared.command_line.StatementWords.{StatementWords}
-use Rattle.house_rows.specs.Tables.{Tables}
 use Rattle.house_rows.specs.declared.command.Command.TheVariants as command
+use Rattle.house_rows.specs.declared.keep.Keep as keep
 use Rattle.house_rows.specs.declared.settings.Settings.{Settings}
 use Rattle.settle.specs.Calendar.{day_text}
 use Rattle.settle.specs.Statement.{Account}
 use Rattle.settle.specs.Zoned.{IsZoneOf}
 use Rattle.settle.specs.declared.zone.Zone.{Zone}
-use Rattle.site_connections.specs.Turns.{TakesEach}
+use Rattle.site_connections.specs.Turns.{HasTakenSome, TakesEach, TakesWell}
 
 -- ---- serving
 
--- so many connections were taken in turn over a keep, by its zone, and nothing else was done to it
-pub record HasAnswered {C K : Type 0} (content : K → Tables) (is_honest : K → Type 0)
-    (Takes : Zone → C × K → C × K → Type 0) (count : ℕ) (given last : K) : Type 0 where
+-- so many connections were taken in turn over a keep, by its zone; it failed in none of them, and nothing
+-- else was done to it
+pub record HasAnswered {C K : Type 0} (k : keep.Ghosts K) (Takes : Zone → C × K → C × K → Type 0)
+    (count : ℕ) (given last : K) : Type 0 where
   pub zone : Zone
-  pub kept_zone : is_honest given → IsZoneOf (content given).settings.zone zone
+  pub kept_zone : k.is_honest given → IsZoneOf (k.content given).settings.zone zone
   pub came : C
   pub gone : C
-  pub each : TakesEach (Takes zone) count (came, given) (gone, last)
+  pub each : TakesEach (TakesWell k.is_failed (Takes zone)) count (came, given) (gone, last)
 
--- at most so many were, and then accepting failed, or a word of the run couldn't be written
-pub record HasAnsweredSome {C K : Type 0} (content : K → Tables) (is_honest : K → Type 0)
+-- some were, and then accepting failed, the keep did, or a word of the run couldn't be written
+pub record HasAnsweredSome {C K : Type 0} (k : keep.Ghosts K)
     (Takes : Zone → C × K → C × K → Type 0) (count : ℕ) (given last : K) : Type 0 where
   pub zone : Zone
-  pub kept_zone : is_honest given → IsZoneOf (content given).settings.zone zone
+  pub kept_zone : k.is_honest given → IsZoneOf (k.content given).settings.zone zone
   pub came : C
-  pub some : HasTakenSome (Takes zone) count (came, given) last
+  pub some : HasTakenSome k.is_failed (Takes zone) count (came, given) last
 
 -- however it ended: or none was, since the zone can't be read or nobody listens
-abbrev pub MayHaveAnswered : {C K : Type 0} → (K → Tables) → (K → Type 0)
-    → (Zone → C × K → C × K → Type 0) → ℕ → K → K → Type 0
-MayHaveAnswered content is_honest Takes count given last =
-    (last ≡ given) ⊎ HasAnsweredSome content is_honest Takes count given last
+abbrev pub MayHaveAnswered : {C K : Type 0} → keep.Ghosts K → (Zone → C × K → C × K → Type 0) → ℕ
+    → K → K → Type 0
+MayHaveAnswered k Takes count given last = (last ≡ given) ⊎ HasAnsweredSome k Takes count given last
+
+-- why answering ended: the output failed, accepting did, or the keep has
+abbrev pub IsServingFault : {K : Type 0} → keep.Ghosts K → K → Fault → Type 0
+IsServingFault k last fault = (fault ≡ Write) ⊎ (fault ≡ Socket)
+    ⊎ ((fault ≡ Store) × (k.is_failed last ≡ true))
 
 -- a keep was begun in the way that is named, connections were answered, and it was ended
-pub record HasServed {C K L : Type 0} (content : K → Tables) (is_honest : K → Type 0)
-    (is_ended : K → L → Type 0) (Takes : Zone → C × K → C × K → Type 0) (count : ℕ) (given : K)
-    (left : L) : Type 0 where
+pub record HasServed {C K L : Type 0} (k : keep.Ghosts K) (is_ended : K → L → Type 0)
+    (Takes : Zone → C × K → C × K → Type 0) (count : ℕ) (given : K) (left : L) : Type 0 where
   pub last : K
-  pub answered : HasAnswered content is_honest Takes count given last
+  pub answered : HasAnswered k Takes count given last
   pub ended : is_ended last left
 
 -- this is left of it, however it was served
-pub record IsServedOver {C K L : Type 0} (content : K → Tables) (is_honest : K → Type 0)
-    (is_ended is_left : K → L → Type 0) (Takes : Zone → C × K → C × K → Type 0) (count : ℕ)
-    (given : K) (left : L) : Type 0 where
+pub record IsServedOver {C K L : Type 0} (k : keep.Ghosts K) (is_ended is_left : K → L → Type 0)
+    (Takes : Zone → C × K → C × K → Type 0) (count : ℕ) (given : K) (left : L) : Type 0 where
   pub last : K
-  pub answered : MayHaveAnswered content is_honest Takes count given last
+  pub answered : MayHaveAnswered k Takes count given last
   pub over : IsOver is_ended is_left last left
 
 -- ---- the words of the others
@@ -70,27 +73,26 @@ pub record IsAsked (words : StatementWords) (asked : Inquiry) : Type 0 where
   pub csv : asked.csv ≡ words.csv
 
 -- the account that words ask for was read from a keep, which was left as it was, and was ended
-pub record HasAsked {K : Type 0} (content : K → Tables) (is_failed : K → Bool)
-    (is_honest : K → Type 0) (may_leave : K → Tables → Type 0) (is_ended : K → Type 0)
+pub record HasAsked {K : Type 0} (k : keep.Ghosts K) (is_ended : K → Type 0)
     (words : StatementWords) (given : K) : Type 0 where
   pub asked : Inquiry
   pub by_words : IsAsked words asked
   pub account : Account
-  pub read : HasRead content is_failed is_honest may_leave is_ended asked given account
+  pub read : HasRead k.content k.is_failed k.is_honest k.may_leave is_ended asked given account
 
 -- a keep took a band table at the moment, and was ended
-pub record HasTabled {K : Type 0} (content : K → Tables) (is_honest : K → Type 0)
-    (may_leave : K → Tables → Type 0) (is_ended : K → Type 0) (moment : ℕ) (given : K) : Type 0 where
+pub record HasSetTable {K : Type 0} (k : keep.Ghosts K) (is_ended : K → Type 0) (moment : ℕ)
+    (given : K) : Type 0 where
   pub bands : List (ℕ × ℕ)
   pub edition : ℕ
-  pub set : HasSet content is_honest may_leave is_ended moment (command.SetBands bands) given edition
+  pub set : HasSet k.content k.is_honest k.may_leave is_ended moment (command.SetBands bands) given
+      edition
 
 -- this is left of it, whatever table it was given
-pub record MayHaveTabled {K L : Type 0} (content : K → Tables) (is_honest : K → Type 0)
-    (may_leave : K → Tables → Type 0) (is_ended is_left : K → L → Type 0) (moment : ℕ)
-    (given : K) (left : L) : Type 0 where
+pub record MayHaveSetTable {K L : Type 0} (k : keep.Ghosts K) (is_ended is_left : K → L → Type 0)
+    (moment : ℕ) (given : K) (left : L) : Type 0 where
   pub bands : List (ℕ × ℕ)
-  pub over : IsTabledOver content is_honest may_leave is_ended is_left moment
+  pub over : IsTabledOver k.content k.is_honest k.may_leave is_ended is_left moment
       (command.SetBands bands) given left
 
 -- ---- a run over a file: a keep was begun in this way, and this was done over it
