@@ -13,12 +13,13 @@ a house with some history behind nginx and haproxy. They find all by roles and n
 - the catalogue has all items, is written whole or not at all, and the page does without it (page_catalogue.py)
 - the countdown goes by the gateway's clock, also where the browser's is an hour wrong
 - names and texts that would do harm as HTML stay text, and turn nothing around them
-- all parts, light and dark, 360 and 1280 wide: names, roles, contrast, sizes, nothing wider than the window
+- all parts, light and dark, 360, 390 and 1280 wide: names, roles, contrast, sizes, nothing wider than the window
   (page_looks.js)
 - the console has nothing of the page's own making
 - the file of a statement is the program's own, and the public record is what all reads tell
 - of many items and bids the youngest are shown, and the others when they are asked for
 - amounts, zones (beside the C library) and refusals (page_words.py)
+- all of it in German, its mails too, by one word of the city's (page_german.py)
 - what the page says is true at once: after an outbid, an end, a failed read, a lost answer, a sleep, a way back
   (page_truth.py)
 
@@ -33,6 +34,7 @@ import tempfile
 
 import browser
 import page_catalogue as catalogue
+import page_german as german
 import page_notices as notices
 import page_pages as pages
 import page_play as play
@@ -43,10 +45,10 @@ from bad_files import NOBODY
 from gateway_run import folder_of_nobody, missing_packages
 from page_house import (BEN, EVIL, EVIL_CATEGORY, EVIL_NAME, EVIL_TEXTS, EVIL_TITLES, MANY, MANY_BIDS, OPEN, PAST, furnished,
                         with_many)
-from screen_reader import Reader
+from screen_reader import ENGLISH, Reader
 from served import CHECKS, check
 
-WIDTHS, SCHEMES = (360, 1280), ("light", "dark")
+WIDTHS = (360, 390, 1280)
 POLICY = ("default-src 'none'; script-src 'self'; style-src 'self'; connect-src 'self'; img-src 'self'; form-action 'self'; "
           "base-uri 'none'; frame-ancestors 'none'")
 TYPES = {"/": "text/html", "/main.js": "application/javascript", "/style.css": "text/css", "/icon.svg": "image/svg+xml",
@@ -69,11 +71,6 @@ PARTS = {
 }
 
 
-def size(reader, width, height=900, scheme="light"):
-    reader.page.tool("Emulation.setDeviceMetricsOverride", width=width, height=height, deviceScaleFactor=1, mobile=width < 500)
-    reader.page.tool("Emulation.setEmulatedMedia", features=[{"name": "prefers-color-scheme", "value": scheme}])
-
-
 def show(reader, part):
     """Shows a part by its address, and waits until it is there."""
     reader.page.run(SHOW, f"#/{part}")
@@ -84,11 +81,10 @@ def looks(reader):
     """What is wrong with each part that a member sees, in each width and scheme."""
     for part in PARTS[reader.name]:
         for width in WIDTHS:
-            for scheme in SCHEMES:
-                size(reader, width, scheme=scheme)
-                show(reader, part)
-                check(f"{reader.name}, {part or 'front'}, {width}, {scheme}", reader.looks(), [])
-    size(reader, 1280)
+            reader.resize(width)
+            show(reader, part)
+            check(f"{reader.name}, {part or 'front'}, {width}", reader.looks_of(width), [])
+    reader.resize(1280)
     show(reader, "")
 
 
@@ -139,6 +135,7 @@ def long_lists(program, folder):
         show(ben, "")
         ben.wait_for_text("These are those that were listed last.")
         catalogue.written(gateway)
+        ben.page.run(truth.ASKED)
         show(ben, "")
         catalogue.shown(ben)
         catalogue.searched(ben)
@@ -162,6 +159,18 @@ def true_at_once(program, folder):
             play.no_faults(all_of_them)
 
 
+def in_german(program, folder, pictures):
+    """The whole page speaks the language that the city chose."""
+    program_of_mail, mails = notices.mailbox(folder, NOBODY)
+    os.environ["SENDMAIL"] = str(program_of_mail)
+    with furnished(program, folder) as gateway:
+        german.speaks_german(gateway)
+        with readers(gateway, "house", "ana", "ben", form=german.FORM) as all_of_them:
+            number = german.all_of_it(gateway, mails, *all_of_them)
+            picture(all_of_them[-1], pictures, "german", f"item/{number}", 760)
+            play.no_faults(all_of_them)
+
+
 def policy(gateway):
     """Each file has its type, and lets no script but the page's own run."""
     for path, kind in TYPES.items():
@@ -172,23 +181,23 @@ def policy(gateway):
 
 def picture(reader, folder, name, part=None, height=900):
     if folder is not None:
-        size(reader, 1080, height)
+        reader.resize(1080, height)
         reader.page.tool("Emulation.setScrollbarsHidden", hidden=True)
         if part is not None:
             show(reader, part)
         (folder / f"{name}.png").write_bytes(reader.page.picture())
-        size(reader, 1280)
+        reader.resize(1280)
 
 
 @contextlib.contextmanager
-def readers(gateway, *names, wrong, before=""):
+def readers(gateway, *names, wrong=None, before="", form=ENGLISH):
     """A browser for each, all of which end after this. The clock of one is wrong. A script may run before the page's own."""
     with browser.driver() as address, contextlib.ExitStack() as ending:
         found = []
         for name in names:
-            found.append(Reader(address, gateway, name, play.WRONG_CLOCK if name == wrong else before))
+            found.append(Reader(address, gateway, name, play.WRONG_CLOCK if name == wrong else before, form))
             ending.callback(found[-1].end)
-            size(found[-1], 1280)
+            found[-1].resize(1280)
         yield found
 
 
@@ -231,9 +240,10 @@ def after_the_end(gateway, house, ana, ben, cid, pictures, folder):
     play.statements(gateway, ana, ben, cid)
     picture(ana, pictures, "statement", "statement", 1000)
     picture(ben, pictures, "bids", "bids", 820)
-    picture(cid, pictures, "won", "won", 800)
+    picture(ben, pictures, "won", "won", 640)
     picture(ana, pictures, "listings", "listings", 900)
     picture(house, pictures, "accounts", "accounts", 760)
+    picture(house, pictures, "settling", "settling", 620)
     play.registers(house)
     play.allow_saving(house, folder)
     play.record(gateway, house, folder)
@@ -270,6 +280,8 @@ def main():
         long_lists(program, folder)
     with folder_of_nobody() as folder:
         true_at_once(program, folder)
+    with folder_of_nobody() as folder:
+        in_german(program, folder, pictures)
     print(f"{len(CHECKS)} checks, {CHECKS.count(False)} wrong")
     return 1 if not all(CHECKS) else 0
 

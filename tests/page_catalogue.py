@@ -12,6 +12,7 @@ import threading
 
 from bad_files import as_nobody
 from page_house import MANY
+from page_truth import ASKED
 from served import check
 
 JOB = pathlib.Path(__file__).resolve().parent.parent / "examples" / "gateway" / "catalogue"
@@ -58,8 +59,9 @@ def written(gateway):
 
 
 def shown(ben):
-    """What ends soonest is first, though 259 items are younger, and the age of the list is told."""
+    """What ends soonest is first, though 259 items are younger, and the age of the list is told. No list of the house is read."""
     ben.wait_for_text("This list is")
+    check("lists of the house", [path for path in ben.page.run(ASKED) if "/items/" in path], [])
     check("what ends soonest", ben.all("heading")[2].name, "Print 1")
     ben.press("button", "Show more items")
     ben.wait_for("link", f"Print {MANY}")

@@ -141,6 +141,16 @@ def run(house, program):
     return result.stdout
 
 
+def unsold_after_an_outbid(house, program, mails):
+    """Who led at the last round is told of the outbid also where the item has ended since, and is not sold."""
+    led = {**ITEM, "item": 2, "title": "Globe"}
+    write_items(house, [led])
+    run(house, program)
+    write_items(house, [{**led, "leader": 3, "count": 2, "state": "unsold"}])
+    check("an outbid before the end", run(house, program), "1 sent, 0 wait\n")
+    check("its mail", told(mails)["ben@city.example", "You were outbid: Globe"], 1)
+
+
 def told_once():
     """What can't be sent waits, and is sent once. Nothing is told of what was there before, nor to whom gave no address."""
     with tempfile.TemporaryDirectory() as name:
@@ -157,6 +167,7 @@ def told_once():
         check("the next round", run(house, program), "1 sent, 0 wait\n")
         check("another one", run(house, program), "0 sent, 0 wait\n")
         check("one mail", told(mails), {("ben@city.example", "You were outbid: Atlas"): 1})
+        unsold_after_an_outbid(house, program, mails)
         for wrong in WRONG:
             (house / "addresses" / "3").write_text(wrong)
             (house / "notices.json").unlink()

@@ -77,15 +77,28 @@ def lists_again(ana, gateway, listings):
     ana.wait_for_text("Your reserve is 80.00")
 
 
+def nobody_got_it(ben, gateway, listings):
+    """Whoever led an item that was not sold has not lost it to anybody."""
+    number = listings.list("A map below its reserve", seconds=8, reserve=9_000)
+    listings.bid("ben", number, 1_200)
+    time.sleep(max(0, listings.item(number)["end"] + 0.5 - time.time()))
+    gateway.ask("house", "POST", "/api/close", {})
+    go(ben, "bids", "My bids")
+    ben.wait_for("table", "Over")
+    row = next(row for row in rows_of(ben, "Over", 5) if row[0] == "A map below its reserve")
+    check("how it stands", row[3], "Not sold")
+
+
 def accounts(house, gateway, folder):
-    """The accounts are the sums of what each member's own statement says, and the file has each sale."""
+    """The accounts are the sums of what each member's own statement says, with what is not settled of it, and the file has
+    each sale."""
     go(house, "accounts", "Accounts")
     house.wait_for("table", "By member")
-    rows = {row[0]: row[1:] for row in rows_of(house, "By member", 5)}
-    totals = [0, 0, 0, 0]
+    rows = {row[0]: row[1:] for row in rows_of(house, "By member", 6)}
+    totals = [0, 0, 0, 0, 0]
     for name in ("ana", "ben", "cid"):
         value = gateway.ask(name, "GET", f"/api/me/statement/{YEAR}-01-01/{YEAR}-12-31").value
-        sums = [value[key] for key in ("sold", "fees", "net", "bought")]
+        sums = [value[key] for key in ("sold", "fees", "net", "bought")] + [owed(gateway, value["lines"])]
         check(f"{name}'s account", rows[name.capitalize()], [money(cents) for cents in sums])
         totals = [one + two for one, two in zip(totals, sums)]
     check("all accounts", rows["All members"], [money(cents) for cents in totals])
@@ -96,6 +109,12 @@ def accounts(house, gateway, folder):
         item = gateway.ask("ana", "GET", f"/api/items/{row[1]}").value
         check(f"item {row[1]} in the file", row[2].lstrip("'") == item["title"] and row[10] == item["state"]
               and [row[3], row[5]] == [str(item["seller"]), str(item["leader"])], True)
+
+
+def owed(gateway, lines):
+    """What of the purchases of a statement is not settled yet."""
+    state = lambda line: gateway.ask("house", "GET", f"/api/items/{line['item']}").value["state"]
+    return sum(line["price"] for line in lines if line["role"] == "buy" and state(line) == "sold")
 
 
 def sets_bands(house, gateway):
@@ -135,14 +154,46 @@ def city_words(reader, gateway, listings):
         check("words of the city", ben.looks(), [])
         go(ben, f"item/{number}", "A map of the city")
         ben.wait_for_text(CITY["fetch"])
+        check("where to pay", CITY["pay"] in ben.text(), True)
+        gateway.ask("house", "POST", f"/api/items/{number}/settle", {})
+        go(ben, "won", "Won and bought")
+        go(ben, f"item/{number}", "A map of the city")
+        ben.wait_for_text(CITY["fetch"])
+        check("where to pay what is paid", CITY["pay"] in ben.text(), False)
     finally:
         ben.end()
+
+
+SLIP = '{ "language": "de", }'
+
+
+def slips_of_the_city(reader, gateway):
+    """A file of the city that is none leaves the page in English, and one of words that is none a sentence in both languages.
+    The console has why."""
+    page = gateway.house() / "page"
+    before = {page / name: (page / name).read_text() for name in ("city.json", "words/en.json")}
+    (page / "city.json").write_text(SLIP)
+    ben = Reader(reader.page.url.rpartition("/session/")[0], gateway, "ben")
+    try:
+        ben.wait_for("heading", "Items")
+        ben.listen()
+        check("what the console has of the form and the page", ["SyntaxError" in fault for fault in ben.faults], [True, True])
+        (page / "words" / "en.json").write_text(SLIP)
+        ben.page.go(ben.root)
+        ben.wait_for_text("The page can't be read just now. Load it again.")
+        ben.wait_for_text("Die Seite ist gerade nicht zu lesen. Laden Sie sie neu.")
+    finally:
+        ben.end()
+        for file, text in before.items():
+            file.write_text(text)
 
 
 def all_of_it(gateway, listings, house, ana, ben, cid):
     settles(house, ben, gateway, listings)
     lists_again(ana, gateway, listings)
+    nobody_got_it(ben, gateway, listings)
     with tempfile.TemporaryDirectory() as folder:
         accounts(house, gateway, pathlib.Path(folder))
     sets_bands(house, gateway)
     city_words(ben, gateway, listings)
+    slips_of_the_city(ben, gateway)

@@ -8,8 +8,8 @@ import io
 import json
 import time
 
-from page_house import HOUR, MAPS
-from screen_reader import USABLE
+from page_house import HOUR, MAPS, PAST
+from screen_reader import USABLE, Reader
 from served import check
 
 # Before the page's own scripts: reads that fail, one that isn't answered, a command whose answer is lost, and long pauses that
@@ -152,6 +152,18 @@ def ends_by_the_clock(ben, listings):
     ben.wait_for_text("The end came")
 
 
+def ends_of_others(ben, listings):
+    """The end of another item of the seller is not told as that of this one, and takes that item's card away."""
+    ending, staying = listings.list("A map that ends beside", seconds=15), listings.list("A map that stays open")
+    end = listings.item(ending)["end"]
+    go(ben, f"item/{staying}", "A map that stays open")
+    ben.wait_for("link", "A map that ends beside")
+    time.sleep(max(0, end + TURN - time.time()))
+    check("a card of what has ended", ben.find("link", "A map that ends beside"), None)
+    check("the end of another", "The end of this auction has come." in ben.announced(), False)
+    check("the item goes on", ben.find("button", "Bid") is not None, True)
+
+
 def failed_read(ben, listings):
     """One read that fails leaves nothing half new: the name of who leads comes later."""
     number = listings.list("A map of one failure")
@@ -252,6 +264,75 @@ def reads_end_with_the_page(ben):
     check("reads that ended", ben.page.run("window.held = ''; return window.ended"), ["/api/categories"])
 
 
+# What was asked of the house since the last time.
+ASKED = """const found = performance.getEntriesByType("resource").map(one => new URL(one.name).pathname);
+performance.clearResourceTimings();
+return found.filter(path => path.startsWith("/api/")).map(path => path.slice(4));"""
+
+
+def reads_what_changed(ben, listings):
+    """An open page reads its item again and again, and own bids once somebody has bid."""
+    number = listings.list("A map that is looked at")
+    listings.bid("ben", number, 1_500)
+    go(ben, f"item/{number}", "A map that is looked at")
+    ben.wait_for("button", "Watch")
+    ben.wait_for_text("No question was answered yet.")
+    time.sleep(4)
+    ben.page.run(ASKED)
+    time.sleep(10)
+    found = ben.page.run(ASKED)
+    check(f"reads of ten seconds in which nobody bids: {found}", [1 <= found.count(f"/items/{number}") <= 4,
+                                                                  found.count(f"/me/bids/{number}")], [True, 0])
+    listings.bid("cid", number, 3_000)
+    ben.wait_for_text("You were outbid.")
+    check("reads of own bids after a bid", ben.page.run(ASKED).count(f"/me/bids/{number}"), 1)
+
+
+# Four hundred reads at once, of a member that may ask 200 times in a second.
+MANY_READS = """const done = arguments[0];
+import("/exchange/api.js").then(({ each, read }) => each(Array.from({ length: 400 }), () => read("/house"), 100))
+  .then(answers => done(answers.length), fault => done(String(fault.answer?.why ?? fault)))"""
+
+
+def reads_as_often_as_it_may(ben):
+    """A long list is read though the gateway takes no more of a member in a second: the rest is asked again."""
+    check("four hundred reads", ben.page.run_until_done(MANY_READS), 400)
+
+
+# A line of 150 ms, of 200 KB a second; and none.
+LINE = {"offline": False, "latency": 150, "downloadThroughput": 200_000, "uploadThroughput": -1}
+NO_LINE = {"offline": False, "latency": 0, "downloadThroughput": -1, "uploadThroughput": -1}
+# How many milliseconds after the page was asked for it has the price.
+PRICED = """const done = arguments[0];
+const look = () => document.querySelector(".amount-now")?.textContent ? done(performance.now()) : setTimeout(look, 5);
+look();"""
+
+
+def price_after(reader, line, times=3):
+    """The shortest of some times in which a browser that keeps nothing has the price of an item."""
+    found = []
+    for _ in range(times):
+        reader.page.tool("Network.emulateNetworkConditions", **NO_LINE)
+        reader.page.go("about:blank")
+        reader.page.tool("Network.emulateNetworkConditions", **line)
+        reader.page.tool("Page.navigate", url=f"{reader.root}#/item/{len(PAST) + 1}")
+        found.append(reader.page.run_until_done(PRICED))
+    return min(found)
+
+
+def price_comes_soon(address, gateway):
+    """The price is there within two seconds on such a line, beside what this machine takes without one."""
+    reader = Reader(address, gateway, "ben")
+    try:
+        reader.page.tool("Network.enable")
+        reader.page.tool("Network.setCacheDisabled", cacheDisabled=True)
+        without, on_line = price_after(reader, NO_LINE), price_after(reader, LINE)
+        print(f"the price of an item is there after {on_line:.0f} ms on a line of 150 ms, and {without:.0f} ms without one")
+        check(f"the line takes two seconds at most: {without}, {on_line}", on_line - without < 2_000, True)
+    finally:
+        reader.end()
+
+
 def lost_listings(ana, gateway):
     """A listing whose answer was lost is found by its code, at once or when it is sent again, and is there once."""
     for title, blocked in (("A lost map", []), ("A map that is lost twice", ["house"])):
@@ -309,10 +390,14 @@ def all_of_it(gateway, ana, ben, cid):
     short_of_the_reserve(ben, listings)
     purchase_has_no_bids(ben, gateway, listings)
     ends_by_the_clock(ben, listings)
+    ends_of_others(ben, listings)
     taken_and_unread(ben, listings)
     lists_come_anew(cid, ana, gateway, listings)
     comes_back(ben, ana, gateway, listings)
     reads_end_with_the_page(ben)
+    reads_what_changed(ben, listings)
+    price_comes_soon(ben.page.url.rpartition("/session/")[0], gateway)
+    reads_as_often_as_it_may(ben)
     lost_listings(ana, gateway)
     room_in_titles(ana)
     blank_titles(ben, listings)

@@ -20,7 +20,7 @@ NO_AMOUNTS = ["", "12 50", "five", "-5", "+5", "5.555", "1,234", "1.234", "1,23.
 SHOWN = {0: "0.00", 5: "0.05", 99999: "999.99", 100000: "1,000.00", 1_000_000_000: "10,000,000.00"}
 # Every word that an answer may have for why, beside those of the house's rules.
 FAULTS = ["memory", "store", "damaged", "member", "path", "date", "order", "silence", "head", "json", "field"]
-GATEWAY = ["head", "sign-in", "foreign", "path", "method", "slow", "size", "host", "often", "house", "words"]
+GATEWAY = ["head", "sign-in", "foreign", "path", "method", "slow", "size", "host", "often", "clock", "house", "words"]
 TRIED = [None, "bid", "buy", "watch", "ask", "answer", "rate", "list", "settle", "register", "category"]
 # What a page must not do, in files that are its own.
 NEVER = ["innerHTML", "outerHTML", "insertAdjacentHTML", "document.write", "eval(", "Function(", "srcdoc", "window.confirm",

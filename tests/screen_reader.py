@@ -16,6 +16,10 @@ TAB, ENTER, ESCAPE = "\ue004", "\ue007", "\ue00c"
 USABLE = {"button", "link", "textbox", "searchbox", "combobox", "Date", "InputTime", "checkbox", "radio", "spinbutton"}
 
 
+# What the form for signing in and the page after it are called.
+ENGLISH = {"login": "Name for signing in", "password": "Password", "button": "Sign in", "pages": "Pages"}
+
+SCHEMES = ("light", "dark")
 LOOKS = (pathlib.Path(__file__).resolve().parent / "page_looks.js").read_text()
 
 
@@ -36,8 +40,8 @@ class Node:
 class Reader:
     """A member's browser, in which a script may run before the page's own, and all that it was answered."""
 
-    def __init__(self, driver, gateway, name, script=""):
-        self.page, self.name = Browser(driver, logs=("performance", "browser")), name
+    def __init__(self, driver, gateway, name, script="", form=ENGLISH):
+        self.page, self.name, self.form = Browser(driver, logs=("performance", "browser")), name, form
         self.answers, self.asked, self.faults = [], {}, []
         self.root = f"https://{gateway.host}:{gateway.port}/"
         self.page.tool("Page.addScriptToEvaluateOnNewDocument", source=script)
@@ -45,12 +49,17 @@ class Reader:
         self.sign_in(name, gateway.passwords[name])
 
     def sign_in(self, login, password):
-        self.write("textbox", "Name for signing in", login)
-        self.write("textbox", "Password", password)
+        self.write("textbox", self.form["login"], login)
+        self.write("textbox", self.form["password"], password)
         # Bodies of what was answered before are gone on the next page, so they are noted first.
         self.listen()
-        self.press("button", "Sign in")
-        self.wait_for("navigation", "Pages")
+        self.press("button", self.form["button"])
+        self.wait_for("navigation", self.form["pages"])
+
+    def resize(self, width, height=900, scheme="light"):
+        """Draws the page in a window of this size, light or dark; a narrow one is a phone's."""
+        self.page.tool("Emulation.setDeviceMetricsOverride", width=width, height=height, deviceScaleFactor=1, mobile=width < 500)
+        self.page.tool("Emulation.setEmulatedMedia", features=[{"name": "prefers-color-scheme", "value": scheme}])
 
     # What is there.
 
@@ -119,6 +128,14 @@ class Reader:
     def looks(self):
         """What is wrong with the page as it is drawn, and which parts have no name."""
         return self.page.run(LOOKS) + [str(node) for node in self.tree() if node.role in USABLE and not node.name.strip()]
+
+    def looks_of(self, width):
+        """What is wrong with the page, light and dark."""
+        found = []
+        for scheme in SCHEMES:
+            self.resize(width, scheme=scheme)
+            found += [f"{scheme}: {one}" for one in self.looks()]
+        return found
 
     def box(self, node):
         """Where a part is drawn in the window: left, top, right and bottom; or None where it isn't."""

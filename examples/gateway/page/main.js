@@ -1,12 +1,13 @@
 // @ts-check
 // The page: who is signed in, which part of it is shown, and the clock that goes on.
-import { Refusal, read, readAhead, readUntil } from "./exchange/api.js";
-import { atTheFoot, readCity } from "./exchange/city.js";
+import { city } from "./ahead.js";
+import { Refusal, read, readUntil } from "./exchange/api.js";
+import { atTheFoot, putWords } from "./exchange/city.js";
 import { category, front, search } from "./items/browse.js";
 import { caller, findOut } from "./exchange/caller.js";
 import { ahead, isKnown } from "./time/clock.js";
 import { entry, keepDrafts, noteFields, putDrafts } from "./exchange/history.js";
-import { nameOf } from "./exchange/known.js";
+import { nameByNumber, nameOf } from "./exchange/known.js";
 import { isolate, link, make, part, put, replace, quote } from "./elements/dom.js";
 import { item } from "./items/item.js";
 import { duration, setZone, tick, zoneInWords } from "./time/moments.js";
@@ -15,10 +16,19 @@ import { markTitle, setTitle } from "./elements/title.js";
 import { Visit } from "./exchange/visit.js";
 import { watchWhileHidden } from "./member/outbid.js";
 import { countWaiting } from "./member/waiting.js";
+import { language, say } from "./words/language.js";
 import { sentence } from "./words/refusals.js";
 
-// Each part of the page by the first word after #/. It makes a heading and what is below it. Most come for items, so the
-// modules of the other parts are read after those.
+/**
+ * Makes a part of the page, by the further words of its address.
+ * @typedef {(visit: Visit, ...words: string[]) => Promise<Shown>} Part
+ */
+
+/**
+ * Each part of the page by the first word after #/. Most come for items, so the modules of the other parts are read after
+ * those.
+ * @type {Record<string, () => Promise<any>>}
+ */
 const PARTS = {
   "": async () => front,
   category: async () => category,
@@ -39,7 +49,10 @@ const PARTS = {
   accounts: async () => (await import("./office/accounts.js")).accounts,
 };
 
-// What makes a part. A name that is none of ours leads to the items, also one that every object has.
+/**
+ * What makes a part. A name that is none of ours leads to the items, also one that every object has.
+ * @param {string} name @returns {Promise<Part>}
+ */
 async function partOf(name) {
   try {
     return await (Object.hasOwn(PARTS, name) ? PARTS[name] : PARTS[""])();
@@ -51,61 +64,79 @@ async function partOf(name) {
 // Reads all parts, once the first one is there. Where that fails each is read when one goes there.
 const readParts = () => Object.keys(PARTS).forEach(name => partOf(name).catch(() => {}));
 
-const OF_ALL = [["", "Items"]];
-const OF_MEMBERS = [["bids", "My bids"], ["won", "Won"], ["watches", "Watching"], ["listings", "My listings"],
-  ["questions", "Questions"], ["sell", "Sell"], ["statement", "Statement"], ["notices", "Notices"]];
-const OF_HOUSE = [["members", "Members"], ["settling", "Close and settle"], ["accounts", "Accounts"]];
-const LAST = [["house", "The house"]];
-// The entry below which a part lies that has none.
-const ABOVE = { category: "", item: "", search: "" };
+const OF_MEMBERS = ["bids", "won", "watches", "listings", "questions", "sell", "statement", "notices"];
+const OF_HOUSE = ["members", "settling", "accounts"];
+// The parts that lie below the items, and have no entry.
+const BELOW_ITEMS = ["category", "item", "search"];
 
 // How often countdowns are put anew, in milliseconds, and after how many seconds questions that wait are counted again.
 const TICK = 500;
 const WAITING = 60;
+// How often the foot is put anew, and how often it is looked whether the clock is to be heard of again.
+const FOOT = 10_000;
+const HEAR = 2_000;
 // After so many milliseconds the other parts of the page are read.
 const AHEAD = 2000;
 
 const content = part("content");
 let visit = new Visit();
 
-function navigation(current) {
-  const own = caller.isHouse ? OF_HOUSE : OF_MEMBERS;
-  const entries = [...OF_ALL, ...own, ...LAST].map(([path, text]) => {
-    const entry = link(path, text);
-    if (path === current) {
-      entry.setAttribute("aria-current", "page");
-    } else if (path === ABOVE[current]) {
-      entry.setAttribute("aria-current", "true");
+/**
+ * Whether an entry of the navigation leads to the part that is shown, or to one above it.
+ * @param {string} path @param {string} current
+ */
+function currentOf(path, current) {
+  if (path === current) {
+    return "page";
+  }
+  return path === "" && BELOW_ITEMS.includes(current) ? "true" : null;
+}
+
+/** @param {string} current */
+function putNavigation(current) {
+  const paths = ["", ...(caller.isHouse ? OF_HOUSE : OF_MEMBERS), "house"];
+  const entries = paths.map(path => {
+    const entry = link(path, say(path === "" ? "nav.items" : `nav.${path}`));
+    const mark = currentOf(path, current);
+    if (mark !== null) {
+      entry.setAttribute("aria-current", mark);
     }
     return make("li", {}, entry);
   });
   replace(part("pages"), make("ul", {}, ...entries));
 }
 
-function foot() {
+function putFoot() {
   const seconds = ahead();
-  const apart = seconds === 0 ? "" : ` Your clock is ${duration(Math.abs(seconds))} ${seconds > 0 ? "ahead of" : "behind"}`
-    + " the house's. What is left goes by the house's.";
-  put(part("clock"), isKnown() ? zoneInWords() + apart : "The house's clock is not known yet.");
+  const words = { time: duration(Math.abs(seconds)) };
+  const apart = say(seconds > 0 ? "time.ahead" : "time.behind", words);
+  const known = seconds === 0 ? zoneInWords() : `${zoneInWords()} ${apart}`;
+  put(part("clock"), isKnown() ? known : say("time.clock_unknown"));
 }
 
-// Why nothing is shown: a refusal has its sentence, and what is a fault of the page goes to the console too.
+/**
+ * Why nothing is shown: a refusal has its sentence, and what is a fault of the page goes to the console too.
+ * @param {unknown} error @returns {Shown}
+ */
 function failure(error) {
   if (!(error instanceof Refusal)) {
     console.error(error);
   }
-  const why = error instanceof Refusal ? sentence(error.answer, { isRead: true }) : "This page has a fault.";
-  return { title: "This can't be shown", nodes: [make("p", {}, why), make("button", { type: "button", click: again }, "Try again")] };
+  const why = error instanceof Refusal ? sentence(error.answer, { isRead: true }) : say("page.fault");
+  const button = make("button", { type: "button", click: again }, say("page.try_again"));
+  return { title: say("page.failed"), nodes: [make("p", {}, why), button] };
 }
 
-// The house has no bids and no statement: the interface would refuse it as nobody.
-const isAnothers = name => !caller.isMember && OF_MEMBERS.some(([path]) => path === name);
+/**
+ * The house has no bids and no statement: the interface would refuse it as nobody.
+ * @param {string} name
+ */
+const isAnothers = name => !caller.isMember && OF_MEMBERS.includes(name);
 
-const membersOnly = () => ({ title: "For members", nodes: [make("p", {}, "Only members have this. Sign in as a member.")] });
-
+/** @param {Visit} own @param {string} name @param {string[]} words @returns {Promise<Shown>} */
 async function makePart(own, name, words) {
   if (isAnothers(name)) {
-    return membersOnly();
+    return { title: say("page.members_only"), nodes: [make("p", {}, say("page.sign_in_as_member"))] };
   }
   try {
     return await (await partOf(name))(own, ...words);
@@ -114,6 +145,10 @@ async function makePart(own, name, words) {
   }
 }
 
+/**
+ * The entry of the browser's history that is shown.
+ * @type {ReturnType<typeof entry>}
+ */
 let entryNow = { scroll: 0, noted: {} };
 let addressNow = "";
 
@@ -124,21 +159,13 @@ function leave() {
   keepDrafts(addressNow, content);
 }
 
-// Shows the part that the address names, unless another was asked for meanwhile.
-async function show() {
-  const [name = "", ...words] = location.hash.replace(/^#\/?/, "").split("/");
-  entryNow = entry();
-  addressNow = location.hash;
-  const { scroll, noted } = entryNow;
-  const own = visit = new Visit(noted);
-  readUntil(own.signal);
-  content.setAttribute("aria-busy", "true");
-  const { title, mark = "", of = null, nodes } = await makePart(own, name, words);
-  if (own.isOver) {
-    return;
-  }
+/**
+ * Puts a part in the place of the one before.
+ * @param {string} name @param {Shown} shown
+ */
+function putPart(name, { title, mark = "", of = null, nodes }) {
   content.removeAttribute("aria-busy");
-  navigation(name);
+  putNavigation(name);
   const heading = make("h1", { tabindex: "-1" }, quote(title));
   replace(content, of, heading, ...nodes);
   noteFields(content);
@@ -146,9 +173,24 @@ async function show() {
   setTitle(title);
   markTitle(mark);
   tick();
-  foot();
-  scrollTo(0, scroll);
+  putFoot();
+  scrollTo(0, entryNow.scroll);
   heading.focus({ preventScroll: true });
+}
+
+// Shows the part that the address names, unless another was asked for meanwhile.
+async function show() {
+  const [name = "", ...words] = location.hash.replace(/^#\/?/, "").split("/");
+  entryNow = entry();
+  addressNow = location.hash;
+  const own = visit = new Visit(entryNow.noted);
+  readUntil(own.signal);
+  content.setAttribute("aria-busy", "true");
+  const shown = await makePart(own, name, words);
+  if (own.isOver) {
+    return;
+  }
+  putPart(name, shown);
   countWaiting();
   own.repeat(() => WAITING, countWaiting);
 }
@@ -163,28 +205,41 @@ async function hearClock() {
   if (!isKnown() && !document.hidden) {
     await read("/house").catch(() => {});
     tick();
-    foot();
+    putFoot();
   }
 }
 
-// An item that the address names is read before it is known who asks: so its price is there a turn of the line sooner.
-function lookAhead() {
-  const number = /^#\/item\/(\d+)$/.exec(location.hash)?.[1];
-  if (number) {
-    readAhead(`/items/${number}`);
-    readAhead(`/me/bids/${number}`);
+// Reads what all parts need, and first the words, since nothing can be said without them.
+async function readAll() {
+  const house = read("/house");
+  const rest = Promise.all([findOut(house), house.then(({ zone }) => setZone(zone))]);
+  rest.catch(() => {});
+  await city;
+  putWords();
+  part("pages").setAttribute("aria-label", say("page.pages"));
+  await rest;
+}
+
+/**
+ * Says why the page can't begin. Where there are no words, index.html has a sentence.
+ * @param {unknown} error
+ */
+function putFailure(error) {
+  if (Object.keys(language.words).length === 0) {
+    console.error(error);
+    part("wordless").hidden = false;
+    return;
   }
+  const { title, nodes: [why] } = failure(error);
+  const button = make("button", { type: "button", click: () => location.reload() }, say("page.load_again"));
+  replace(content, make("h1", {}, title), why, button);
 }
 
 async function begin() {
   try {
-    lookAhead();
-    const house = read("/house");
-    await Promise.all([findOut(house), house.then(({ zone }) => setZone(zone)), readCity()]);
+    await readAll();
   } catch (error) {
-    const { title, nodes: [why] } = failure(error);
-    const button = make("button", { type: "button", click: () => location.reload() }, "Load it again");
-    replace(content, make("h1", {}, title), why, button);
+    putFailure(error);
     return;
   }
   sayWho();
@@ -196,8 +251,8 @@ async function begin() {
     show();
   });
   setInterval(tick, TICK);
-  setInterval(foot, 10_000);
-  setInterval(hearClock, 2_000);
+  setInterval(putFoot, FOOT);
+  setInterval(hearClock, HEAR);
   watchWhileHidden();
   await show();
   setTimeout(readParts, AHEAD);
@@ -205,8 +260,8 @@ async function begin() {
 
 // Who is signed in. The name of a member takes a read, for which nothing waits.
 async function sayWho() {
-  const name = caller.isMember ? await nameOf(caller.number).catch(() => `member ${caller.number}`) : "the house";
-  put(part("who"), `Signed in as ${isolate(name)}`);
+  const name = caller.isMember ? await nameOf(caller.number).catch(() => nameByNumber(caller.number)) : say("page.the_house");
+  put(part("who"), say("page.signed_in", { name: isolate(name) }));
 }
 
 // The address after # is that of a part, so the link to the content moves the keyboard alone.

@@ -8,7 +8,10 @@ const place = part("news");
 /** @type {ReturnType<typeof setTimeout> | undefined} */
 let timer;
 
-// Tells a sentence. An empty one takes away what was told, since it is true no more.
+/**
+ * Tells a sentence. An empty one takes away what was told, since it is true no more.
+ * @param {string} text
+ */
 export function tell(text) {
   clearTimeout(timer);
   put(place, text);

@@ -2,9 +2,13 @@
 // A place on a page whose content comes anew.
 import { replace } from "./dom.js";
 
-// Puts nodes into an element, where the value that they show is another than the last time. The keyboard stays at the
-// link that has it.
+/**
+ * Puts nodes into an element, where the value that they show is another than the last time. The keyboard stays at the
+ * link that has it.
+ * @param {Element} element @returns {(value: unknown, nodes: () => Content[]) => void}
+ */
 export function makeRefill(element) {
+  /** @type {string | null} */
   let shown = null;
   return (value, nodes) => {
     const sign = JSON.stringify(value);
@@ -21,8 +25,12 @@ export function makeRefill(element) {
   };
 }
 
-// Entries of a list by key: one that is there stays as it is, with what is written in its form.
+/**
+ * Entries of a list by key: one that is there stays as it is, with what is written in its form.
+ * @param {Element} list @returns {(entries: [key: string, make: () => Element][]) => void}
+ */
 export function makeKeeper(list) {
+  /** @type {Map<string, Element>} */
   let known = new Map();
   return entries => {
     const next = new Map(entries.map(([key, make]) => [key, known.get(key) ?? make()]));

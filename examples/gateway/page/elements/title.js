@@ -1,12 +1,13 @@
 // @ts-check
 // The title of the window, with a word before it that is seen among other windows.
 import { isolate } from "./dom.js";
+import { say } from "../words/language.js";
 
 let title = "";
 let mark = "";
 
 function show() {
-  document.title = `${mark}${isolate(title)} | The auction house`;
+  document.title = say("page.window", { mark: mark === "" ? "" : `(${mark}) `, title: isolate(title) });
 }
 
 /** @param {string} text */
@@ -16,8 +17,11 @@ export function setTitle(text) {
   show();
 }
 
-/** Puts a word before the title, or none. @param {string} word */
+/**
+ * Puts a word before the title, or none.
+ * @param {string} word
+ */
 export function markTitle(word) {
-  mark = word === "" ? "" : `(${word}) `;
+  mark = word;
   show();
 }

@@ -1,6 +1,6 @@
 // @ts-check
 // Reads and commands of the interface that docs/HTTP.md describes.
-import { heard } from "../time/clock.js";
+import { hear } from "../time/clock.js";
 
 // The address of the page may have a name and a password in it, and fetch takes no such address.
 const BASE = `${location.origin}/api`;
@@ -10,14 +10,24 @@ const FULL = 50;
 
 // Why something was not done: the body of the answer, or a word of ours where none came.
 export class Refusal extends Error {
+  /** @param {Fault} answer */
   constructor(answer) {
     super(answer.error);
     this.answer = answer;
   }
 }
 
-// Whether the house answered that what was asked for is not there.
+/**
+ * Whether the house answered that what was asked for is not there.
+ * @param {unknown} refusal
+ */
 export const isUnknown = refusal => refusal instanceof Refusal && refusal.answer.error === "Unknown";
+
+/**
+ * Whether nobody knows what came of a command.
+ * @param {unknown} refusal
+ */
+export const isLost = refusal => refusal instanceof Refusal && ["silence", "gateway"].includes(refusal.answer.error);
 
 // Reads end with the visit that asked: what nobody waits for any more costs the house nothing.
 /** @type {AbortSignal | null} */
@@ -28,13 +38,14 @@ export function readUntil(signal) {
   leaving = signal;
 }
 
+/** @param {string} path @param {RequestInit} options */
 async function exchange(path, options) {
   const sent = performance.now();
   let answer;
   let text;
   try {
     answer = await fetch(BASE + path, options);
-    heard(answer.headers.get("date"), sent, performance.now());
+    hear(answer.headers.get("date"), sent, performance.now());
     text = await answer.text();
   } catch {
     throw new Refusal({ error: "silence" });
@@ -46,7 +57,10 @@ async function exchange(path, options) {
   return value;
 }
 
-// The value of a body, or null where it is no JSON: then something else than the house or the gateway has answered.
+/**
+ * The value of a body, or null where it is no JSON: then something else than the house or the gateway has answered.
+ * @param {string} text
+ */
 function parse(text) {
   try {
     return JSON.parse(text);
@@ -55,7 +69,10 @@ function parse(text) {
   }
 }
 
-/** Reads that were begun before anybody needed them. Each is taken once. @type {Map<string, Promise<any>>} */
+/**
+ * Reads that were begun before anybody needed them. Each is taken once.
+ * @type {Map<string, Promise<any>>}
+ */
 const begun = new Map();
 
 /** @param {string} path */
@@ -65,9 +82,31 @@ export function readAhead(path) {
   begun.set(path, answer);
 }
 
+// The gateway takes so many requests of a member in a second. What was too often is asked again after one, so many times at
+// most: a long list of names is read so, if slowly.
+const PAUSE = 1000;
+const TRIES = 20;
+
+/** @param {unknown} refusal */
+const isTooOften = refusal => refusal instanceof Refusal && refusal.answer.why === "often";
+
+/** @param {string} path @param {AbortSignal | null} signal */
+async function readPatiently(path, signal) {
+  for (let tries = 1; ; tries += 1) {
+    try {
+      return await exchange(path, { signal });
+    } catch (refusal) {
+      if (!isTooOften(refusal) || signal?.aborted || tries === TRIES) {
+        throw refusal;
+      }
+      await new Promise(done => setTimeout(done, PAUSE));
+    }
+  }
+}
+
 /** @param {string} path @returns {Promise<any>} */
 export function read(path) {
-  const answer = begun.get(path) ?? exchange(path, { signal: leaving });
+  const answer = begun.get(path) ?? readPatiently(path, leaving);
   begun.delete(path);
   return answer;
 }
@@ -75,31 +114,35 @@ export function read(path) {
 /** @param {string} path @param {object} [body] @returns {Promise<any>} */
 export const send = (path, body = {}) => exchange(path, { method: "POST", body: JSON.stringify(body) });
 
-// The lists that begin at a number: their key, and where the next one begins. One of questions begins at the last
-// number again, since further questions may have it.
+// The lists that begin at a number: where the next one begins, by the last entry. One of questions begins at the last number
+// again, since further questions may have it.
 const NEXT = {
-  bids: bid => bid.item + 1,
-  items: item => item.item + 1,
-  feedback: given => given.item + 1,
-  asked: question => question.item,
-  published: question => question.asker,
+  bids: (/** @type {Bid} */ bid) => bid.item + 1,
+  items: (/** @type {Item} */ item) => item.item + 1,
+  feedback: (/** @type {Feedback} */ given) => given.item + 1,
+  asked: (/** @type {Question} */ question) => question.item,
+  published: (/** @type {Question} */ question) => question.asker,
 };
 
-// One list after the other, from a number on.
+/**
+ * One list after the other, from a number on.
+ * @param {string} path @param {keyof typeof NEXT} kind @param {number} [from] @returns {AsyncGenerator<any[]>}
+ */
 export async function* lists(path, kind, from = 1) {
   for (;;) {
+    /** @type {any[]} */
     const list = Object.values(await read(`${path}/${from}`))[0];
     yield list;
     if (list.length < FULL) {
       return;
     }
-    from = NEXT[kind](list.at(-1));
+    from = NEXT[kind](list[list.length - 1]);
   }
 }
 
 /**
  * All entries of such lists, from a number on. What is in two of them is there once.
- * @param {string} path @param {string} kind @param {number} [from] @returns {Promise<any[]>}
+ * @param {string} path @param {keyof typeof NEXT} kind @param {number} [from] @returns {Promise<any[]>}
  */
 export async function whole(path, kind, from = 1) {
   const found = new Map();

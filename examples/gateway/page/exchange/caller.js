@@ -1,8 +1,8 @@
 // @ts-check
 // Who is signed in. The interface has no read for that alone: an own page tells a member's number, and refuses the house.
-import { read } from "./api.js";
+import { Refusal, read } from "./api.js";
 
-const OWN = "/me/statement/1970-01-01/1970-01-01";
+export const OWN = "/me/statement/1970-01-01/1970-01-01";
 
 /**
  * The number is 0 for the house, and -1 until it is known.
@@ -10,18 +10,22 @@ const OWN = "/me/statement/1970-01-01/1970-01-01";
  */
 export const caller = { number: -1, isMember: false, isHouse: false };
 
-// Finds it out, beside a read of the house that was begun.
+/**
+ * Finds it out, beside a read of the house that was begun.
+ * @param {Promise<unknown>} house
+ */
 export async function findOut(house) {
-  caller.number = await number(house);
+  caller.number = await readNumber(house);
   caller.isMember = caller.number > 0;
   caller.isHouse = caller.number === 0;
 }
 
-async function number(house) {
+/** @param {Promise<unknown>} house */
+async function readNumber(house) {
   try {
     return (await read(OWN)).member;
   } catch (refusal) {
-    if (refusal.answer?.error !== "NoCaller") {
+    if (!(refusal instanceof Refusal) || refusal.answer.error !== "NoCaller") {
       throw refusal;
     }
   }

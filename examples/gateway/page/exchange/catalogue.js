@@ -4,22 +4,6 @@
 import { each } from "./api.js";
 import { now, isKnown } from "../time/clock.js";
 
-/**
- * @typedef {object} Item an item as lists show it, without its text
- * @property {number} item
- * @property {number} category
- * @property {number} seller
- * @property {string} title
- * @property {string} state
- * @property {number} price
- * @property {number} count
- * @property {number} end
- * @property {number | null} closed
- * @property {number | null} leader
- * @property {number | null} buy_now
- * @property {boolean | null} met
- */
-
 // A file of a list has so many items, or it is the last; one of all items is for so many numbers.
 const PART = 200;
 const CHUNK = 1000;
@@ -52,8 +36,10 @@ export class Catalogue {
    * @param {string} name @param {number} parts @returns {Promise<{ items: Item[], isWhole: boolean }>}
    */
   async list(name, parts) {
+    /** @type {Map<number, Item>} */
     const found = new Map();
     for (let part = 1; part <= parts; part += 1) {
+      /** @type {Item[]} */
       const items = await file(`${name}/${part}.json`, this.signal) ?? [];
       items.forEach(item => found.set(item.item, item));
       if (items.length < PART) {
@@ -63,7 +49,10 @@ export class Catalogue {
     return { items: [...found.values()], isWhole: false };
   }
 
-  /** All items, the oldest first. @returns {Promise<{ items: Item[], isWhole: boolean }>} */
+  /**
+   * All items, the oldest first.
+   * @returns {Promise<{ items: Item[], isWhole: boolean }>}
+   */
   async all() {
     const chunks = Array.from({ length: Math.ceil(this.count / CHUNK) }, (_, place) => place);
     const found = await each(chunks, chunk => file(`items/${chunk}.json`, this.signal));
@@ -71,17 +60,27 @@ export class Catalogue {
   }
 }
 
-/** The catalogue of now, or null. @param {AbortSignal} signal @returns {Promise<Catalogue | null>} */
+/**
+ * The catalogue of now, or null.
+ * @param {AbortSignal} signal @returns {Promise<Catalogue | null>}
+ */
 export async function catalogueOf(signal) {
   const about = await file("about.json", signal);
   const isFresh = about !== null && (!isKnown() || now() - about.moment < OLD);
   return isFresh ? new Catalogue(about, signal) : null;
 }
 
-// Letters without accents, in small ones: who looks for cafe finds Café.
+/**
+ * Letters without accents, in small ones: who looks for cafe finds Café.
+ * @param {string} text
+ */
 const fold = text => text.normalize("NFD").replace(/\p{M}/gu, "").toLowerCase();
 
-/** Those items whose titles have all of some words. @param {Item[]} items @param {string} words @returns {Item[]} */
+/**
+ * Those items whose titles have all of some words.
+ * @template {Item} Kind
+ * @param {Kind[]} items @param {string} words @returns {Kind[]}
+ */
 export function findTitles(items, words) {
   const parts = fold(words).split(/\s+/).filter(part => part !== "");
   return items.filter(item => parts.every(part => fold(item.title).includes(part)));

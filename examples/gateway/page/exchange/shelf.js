@@ -8,14 +8,19 @@ import { hasEnded } from "../time/moments.js";
 const FIRST = 200;
 
 export class Shelf {
+  /** @param {number} category */
   constructor(category) {
     this.category = category;
     this.before = 1;
     this.width = FIRST;
+    /** @type {WholeItem[]} */
     this.items = [];
   }
 
-  // Reads so many of the youngest items, or all, in a house that has so many. What was read before stays until then.
+  /**
+   * Reads so many of the youngest items, or all, in a house that has so many. What was read before stays until then.
+   * @param {number} count @param {number} enough
+   */
   async readAnew(count, enough) {
     const fresh = new Shelf(this.category);
     fresh.before = count + 1;
@@ -27,19 +32,24 @@ export class Shelf {
     return this.before <= 1;
   }
 
-  // Reads older items, until there are so many more or no others.
+  /**
+   * Reads older items, until there are so many more or no others.
+   * @param {number} enough
+   */
   async readOlder(enough) {
     const wanted = this.items.length + enough;
     while (!this.isWhole && this.items.length < wanted) {
       const from = Math.max(1, this.before - this.width);
-      this.items.push(...await between(this.category, from, this.before));
+      this.items.push(...await readBetween(this.category, from, this.before));
       this.before = from;
       this.width *= 2;
     }
   }
 }
 
-async function between(category, from, before) {
+/** @param {number} category @param {number} from @param {number} before */
+async function readBetween(category, from, before) {
+  /** @type {WholeItem[]} */
   const found = [];
   for await (const list of lists(`/categories/${category}/items`, "items", from)) {
     found.push(...list.filter(item => item.item < before));
@@ -50,12 +60,19 @@ async function between(category, from, before) {
   return found;
 }
 
+/** @param {Item} item */
 const isOpen = item => item.state === "open" && !hasEnded(item);
 
-// Open ones first, and of them what ends first. Then the others, and of them what ended last.
+/** @param {Item} item */
+const endOf = item => item.closed ?? item.end;
+
+/**
+ * Open ones first, and of them what ends first. Then the others, and of them what ended last.
+ * @template {Item} Kind
+ * @param {Kind[]} items
+ */
 export function inOrder(items) {
-  const end = item => item.closed ?? item.end;
   const open = items.filter(isOpen).sort((one, two) => one.end - two.end || one.item - two.item);
-  const over = items.filter(item => !isOpen(item)).sort((one, two) => end(two) - end(one) || two.item - one.item);
+  const over = items.filter(item => !isOpen(item)).sort((one, two) => endOf(two) - endOf(one) || two.item - one.item);
   return { open, over };
 }

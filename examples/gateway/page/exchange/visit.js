@@ -2,13 +2,16 @@
 // One visit to a page: what it repeats and what it asks for ends with it.
 import { tell } from "../elements/news.js";
 import { ENDED } from "../time/moments.js";
+import { say } from "../words/language.js";
 
-// After so many reads that failed, what is shown may be old.
+// After so many reads that failed, who looks on is told that what is shown may be old.
 const FAILED = 3;
-const OLD = "The house does not answer just now. What you see may be old.";
 
 export class Visit {
-  // `kept` is what the page noted when its entry of the browser's history was left: whoever comes back finds it so.
+  /**
+   * `kept` is what the page noted when its entry of the browser's history was left: whoever comes back finds it so.
+   * @param {import("./history.js").Noted} [kept]
+   */
   constructor(kept = {}) {
     this.kept = kept;
     this.ending = new AbortController();
@@ -26,7 +29,10 @@ export class Visit {
     this.ending.abort();
   }
 
-  /** Does some work each time that a countdown of the page has run out. @param {() => void} work */
+  /**
+   * Does some work each time that a countdown of the page has run out.
+   * @param {() => void} work
+   */
   onEnd(work) {
     document.addEventListener(ENDED, work, { signal: this.signal });
   }
@@ -60,7 +66,7 @@ export class Visit {
     const fails = () => {
       failed += 1;
       if (failed === FAILED && !this.isOver) {
-        tell(OLD);
+        tell(say("page.old"));
       }
     };
     const go = async () => {

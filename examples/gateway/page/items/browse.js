@@ -7,8 +7,11 @@ import { inOrder } from "../exchange/shelf.js";
 import { link, make, nameOrNone, put, titleOrNone, quote } from "../elements/dom.js";
 import { action } from "../elements/form.js";
 import { makeRefill } from "../elements/place.js";
+import { say } from "../words/language.js";
 import { cards, signOf } from "./cards.js";
 import { allItems, itemsOfCategory, openItems, provenance } from "./lists.js";
+
+/** @typedef {import("./lists.js").List} List */
 
 // With more categories than this, and without a catalogue, the first page names them alone: each would be read for it.
 const MOST_CATEGORIES = 20;
@@ -17,67 +20,99 @@ const FRESH = 60;
 // A search shows so many at most.
 const MOST_FOUND = 200;
 
+/** @param {string} title @param {Content[]} nodes */
 const section = (title, ...nodes) => make("section", {}, make("h2", {}, title), ...nodes);
 
-const choices = list => make("ul", { class: "choices", "aria-label": "Categories" },
-  ...list.map(one => make("li", {}, link(`category/${one.category}`, quote(nameOrNone(one.name))))));
+/**
+ * Some items under a heading, or nothing where there are none.
+ * @param {string} title @param {Item[]} items @param {BidsByItem} bids
+ */
+export const itemsUnder = (title, items, bids) => items.length ? section(title, cards(items, bids)) : null;
+
+/** @param {Category} one */
+export const categoryLink = one => link(`category/${one.category}`, quote(nameOrNone(one.name)));
+
+/** @param {Category[]} list */
+const choices = list => make("ul", { class: "choices", "aria-label": say("items.categories") },
+  ...list.map(one => make("li", {}, categoryLink(one))));
 
 function nothingYet() {
-  const next = caller.isHouse ? link("house", "Add a category") : link("sell", "List the first one");
-  return make("p", { class: "empty" }, "Nothing is open for bids. ", next);
+  const next = caller.isHouse ? link("house", say("items.add_category")) : link("sell", say("items.list_first"));
+  return make("p", { class: "empty" }, say("items.nothing_open"), " ", next);
 }
 
-// The field that leads to what a search finds.
+/**
+ * The field that leads to what a search finds.
+ * @param {string} [words]
+ */
 function searchForm(words = "") {
   const input = make("input", { type: "search", id: "search", autocomplete: "off", value: words });
-  const submit = event => {
+  const submit = (/** @type {Event} */ event) => {
     event.preventDefault();
     const wanted = input.value.trim();
     if (wanted) {
-      event.target.dataset.isSent = "true";
+      node.dataset.isSent = "true";
       location.hash = `#/search/${encodeURIComponent(wanted)}`;
     }
   };
-  return make("form", { class: "row search", role: "search", submit },
-    make("div", { class: "field find" }, make("label", { for: "search" }, "Find in all titles"), input),
-    make("button", { type: "submit", class: "plain" }, "Find"));
+  const node = make("form", { class: "row search", role: "search", submit },
+    make("div", { class: "field find" }, make("label", { for: "search" }, say("items.find_in_all")), input),
+    make("button", { type: "submit", class: "plain" }, say("items.find")));
+  return node;
 }
 
-// The button that shows one part more of a list. Who comes back finds as many as there were.
-function moreOf(visit, button, show) {
+/**
+ * The button that shows one part more of a list. Who comes back finds as many as there were.
+ * @param {Visit} visit @param {() => Promise<List>} show
+ */
+function moreButton(visit, show) {
   const parts = action({
-    button, waits: "Reading..", kind: "plain",
+    button: say("items.more"), waits: say("form.reads"), kind: "plain",
     act: async () => {
       visit.kept.parts = (visit.kept.parts ?? 1) + 1;
       const { isWhole } = await show();
       parts.button.hidden = isWhole;
-      return isWhole ? "All items are here." : "";
+      return isWhole ? say("items.all_here") : "";
     },
   });
   return parts;
 }
 
+/** @param {Category[]} list @param {number | null} moment */
 const isReadable = (list, moment) => moment !== null || list.length <= MOST_CATEGORIES;
 
+/** @param {Visit} visit @returns {Promise<Shown>} */
 export async function front(visit) {
   const place = make("div");
   const refill = makeRefill(place);
-  const more = moreOf(visit, "Show more items", async () => show(await look()));
+  const more = moreButton(visit, async () => show(await look()));
   const look = async () => {
     const list = await categories();
     const open = await openItems(visit, list.slice(0, MOST_CATEGORIES), visit.kept.parts ?? 1);
     return { list, open, bids: await bidsFor(open.items) };
   };
-  function show({ list, open, bids }) {
+  function show(/** @type {{ list: Category[], open: List, bids: BidsByItem }} */ { list, open, bids }) {
     const items = inOrder(open.items).open;
     more.button.hidden = open.isWhole || open.moment === null;
     refill([list, open.moment, signOf(items, bids)], () => [choices(list),
-      isReadable(list, open.moment) ? section("Open, ending soonest", provenance(open),
+      isReadable(list, open.moment) ? section(say("items.ending_soonest"), provenance(open),
         items.length ? cards(items, bids) : nothingYet()) : null]);
     return open;
   }
   await visit.follow(FRESH, look, show);
-  return { title: "Items", nodes: [searchForm(), place, more.node] };
+  return { title: say("nav.items"), nodes: [searchForm(), place, more.node] };
+}
+
+/**
+ * How many of a list are shown, and which ones it has.
+ * @param {List} list @param {number} shown
+ */
+function countOf({ items, isWhole, moment }, shown) {
+  const counts = { shown, count: items.length };
+  if (isWhole) {
+    return say("items.of_all", counts);
+  }
+  return say(moment === null ? "items.of_youngest" : "items.of_first", counts);
 }
 
 // Of the items that are at hand those with some words in their titles.
@@ -86,30 +121,26 @@ function filterPart() {
   const count = make("p", { class: "soft", role: "status" });
   const place = make("div");
   const refill = makeRefill(place);
-  /** @type {{ list: import("./lists.js").List, bids: Map<number, any> }} */
+  /** @type {{ list: List, bids: BidsByItem }} */
   let now = { list: { items: [], isWhole: true, moment: null }, bids: new Map() };
   function show(next = now) {
     now = next;
     const { list, bids } = now;
     const { open, over } = inOrder(findTitles(list.items, input.value));
     const shown = open.length + over.length;
-    put(count, `${shown} of ${list.items.length} items${whichOf(list)}`);
+    put(count, countOf(list, shown));
     refill([list.moment, signOf([...open, ...over], bids)], () => [list.moment === null ? null : provenance(list),
-      open.length ? section("Open", cards(open, bids)) : null, over.length ? section("Over", cards(over, bids)) : null,
-      shown ? null : make("p", { class: "empty" }, "No item is here. Try other words, or another category.")]);
+      itemsUnder(say("items.open"), open, bids), itemsUnder(say("items.over"), over, bids),
+      shown ? null : make("p", { class: "empty" }, say("items.none_here"))]);
     return list;
   }
-  const find = make("div", { class: "field find" }, make("label", { for: "find" }, "Find in titles"), input);
+  const find = make("div", { class: "field find" }, make("label", { for: "find" }, say("items.find_in_titles")), input);
   return { show, nodes: [find, count, place] };
 }
 
-function whichOf({ isWhole, moment }) {
-  if (isWhole) {
-    return "";
-  }
-  return moment === null ? " that were listed last" : " that end first";
-}
+const backToAll = () => make("p", { class: "of" }, link("", say("items.all_categories")));
 
+/** @param {Visit} visit @param {string} number @returns {Promise<Shown>} */
 export async function category(visit, number) {
   const list = await categories();
   const { show, nodes } = filterPart();
@@ -117,15 +148,23 @@ export async function category(visit, number) {
     const items = await itemsOfCategory(visit, Number(number), visit.kept.parts ?? 1);
     return { list: items, bids: await bidsFor(items.items) };
   };
-  const more = moreOf(visit, "Show more items", async () => show(await look()));
+  const more = moreButton(visit, async () => show(await look()));
   await visit.follow(FRESH, look, now => {
     show(now);
     more.button.hidden = now.list.isWhole;
   });
-  const name = nameOrNone(list.find(one => one.category === Number(number))?.name ?? "Items");
-  return { title: name, of: make("p", { class: "of" }, link("", "All categories")), nodes: [...nodes, more.node] };
+  const found = list.find(one => one.category === Number(number));
+  return { title: found ? nameOrNone(found.name) : say("nav.items"), of: backToAll(), nodes: [...nodes, more.node] };
 }
 
+/**
+ * How many were found, and that only the first are shown where they are too many.
+ * @param {number} found @param {number} all
+ */
+const foundInWords = (found, all) => say("items.found", { count: found, all })
+  + (found > MOST_FOUND ? ` ${say("items.first_found", { count: MOST_FOUND })}` : "");
+
+/** @param {Visit} visit @param {string} encoded @returns {Promise<Shown>} */
 export async function search(visit, encoded = "") {
   const words = decode(encoded);
   const place = make("div");
@@ -139,19 +178,18 @@ export async function search(visit, encoded = "") {
     const { open, over } = inOrder(matches);
     const both = [...open, ...over].slice(0, MOST_FOUND);
     refill([all.moment, signOf(both, bids)], () => [
-      make("p", { class: "soft", role: "status" }, `${countInWords(open.length + over.length)} of ${all.items.length}`,
-        both.length < open.length + over.length ? `. The first ${MOST_FOUND} are shown: more words find fewer.` : null),
-      provenance(all), results("Open", both.slice(0, open.length), bids), results("Over", both.slice(open.length), bids)]);
+      make("p", { class: "soft", role: "status" }, foundInWords(matches.length, all.items.length)), provenance(all),
+      itemsUnder(say("items.open"), both.slice(0, open.length), bids),
+      itemsUnder(say("items.over"), both.slice(open.length), bids)]);
   });
-  return { title: words ? `Found: ${titleOrNone(words)}` : "Find", of: make("p", { class: "of" }, link("", "All categories")),
+  return { title: words ? say("items.found_title", { words: titleOrNone(words) }) : say("items.find"), of: backToAll(),
     nodes: [searchForm(words), place] };
 }
 
-const countInWords = count => count === 1 ? "1 item" : `${count} items`;
-
-const results = (title, items, bids) => items.length ? section(title, cards(items, bids)) : null;
-
-// The words of an address, as far as they are ones.
+/**
+ * The words of an address, as far as they are ones.
+ * @param {string} text
+ */
 function decode(text) {
   try {
     return decodeURIComponent(text);

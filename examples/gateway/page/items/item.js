@@ -3,27 +3,36 @@
 import { read } from "../exchange/api.js";
 import { caller } from "../exchange/caller.js";
 import { categories, nameOf, ownBid, reserveOf } from "../exchange/known.js";
-import { inOrder } from "../exchange/shelf.js";
-import { link, make, nameOrNone, paragraphs, quote, replace, titleOrNone } from "../elements/dom.js";
+import { link, make, memberLink, nameOrNone, paragraphs, quote, replace, titleOrNone } from "../elements/dom.js";
 import { tell } from "../elements/news.js";
 import { notify } from "../elements/notify.js";
 import { markTitle } from "../elements/title.js";
 import { hasEnded, secondsLeft, tick } from "../time/moments.js";
+import { phrase, say } from "../words/language.js";
 import { money } from "../words/money.js";
-import { cards } from "./cards.js";
 import { facts } from "./facts.js";
-import { itemsOfSeller } from "./lists.js";
 import { offers } from "./offer.js";
 import { salePart } from "./sale.js";
+import { showOpenItems } from "./seller.js";
 import { standing, stateInWords, stateOf } from "./standing.js";
 import { talk } from "./talk.js";
+
+/**
+ * @typedef {ReturnType<typeof facts>} Facts
+ * @typedef {ReturnType<typeof offers>} Offers
+ * @typedef {ReturnType<typeof talk>} Talk
+ */
 
 // Every so many seconds the item is read again: oftener near its end, and seldom once it is over.
 const OFTEN = 1;
 const OPEN = 4;
 const OVER = 30;
 const NEAR = 60;
+// Its questions are read again after so many seconds, and what could not be read at first after so many.
+const TALK = 60;
+const RETRY = 4;
 
+/** @param {Item} item */
 function pace(item) {
   if (item.state !== "open") {
     return OVER;
@@ -31,11 +40,16 @@ function pace(item) {
   return !hasEnded(item) && secondsLeft(item.end) < NEAR ? OFTEN : OPEN;
 }
 
+/** @param {Item} item */
 const hasOwnBid = item => caller.isMember && item.seller !== caller.number && item.count > 0;
 
-// An item as it is, with the caller's own bid for it. Whoever bids raises the count, so the own bid is read where that
-// has changed.
-async function look(number, before) {
+/**
+ * An item as it is, with the caller's own bid for it. Whoever bids raises the count, so the own bid is read where that
+ * has changed.
+ * @param {Stand} before @returns {Promise<Stand>}
+ */
+async function look(before) {
+  const number = before.item.item;
   const item = await read(`/items/${number}`);
   if (before.item.count === item.count) {
     return { item, bid: before.bid };
@@ -43,36 +57,53 @@ async function look(number, before) {
   return { item, bid: hasOwnBid(item) ? await ownBid(number) : undefined };
 }
 
+/** @param {number} number @returns {Promise<Stand>} */
 async function firstLook(number) {
   const [item, bid] = await Promise.all([read(`/items/${number}`), caller.isMember ? ownBid(number) : undefined]);
   return { item, bid };
 }
 
+/** @param {Stand} one @param {Stand} two */
 const isSame = (one, two) => JSON.stringify(one) === JSON.stringify(two);
 
+/** @param {Stand} stand */
 const isOutbid = ({ item, bid }) => stateOf(item) === "open" && standing(item, bid)?.[0] === "out";
 
-// The word before the window's title, which is seen among other windows.
-const markOf = shownNow => isOutbid(shownNow) ? "outbid" : "";
+/**
+ * The word before the window's title, which is seen among other windows.
+ * @param {Stand} stand
+ */
+const markOf = stand => isOutbid(stand) ? say("page.outbid") : "";
 
-// What changed for who looks on, in a sentence.
-function change(before, after) {
-  const price = after.item.price === before.item.price ? "" : `The price is now ${money(after.item.price)}. `;
-  const state = after.item.state === before.item.state ? "" : `This auction is over: ${stateInWords(after.item)}. `;
+/**
+ * What changed for who looks on, in sentences.
+ * @param {Stand} before @param {Stand} after
+ */
+function changeInWords(before, after) {
   const words = standing(after.item, after.bid)?.[1] ?? "";
-  return price + state + (words === standing(before.item, before.bid)?.[1] ? "" : words);
+  return [
+    after.item.price === before.item.price ? "" : say("item.news_price", { price: money(after.item.price) }),
+    after.item.state === before.item.state ? "" : say("item.news_over", { state: stateInWords(after.item) }),
+    words === standing(before.item, before.bid)?.[1] ? "" : words,
+  ].filter(sentence => sentence !== "").join(" ");
 }
 
-// Tells a change: in the title, in the news, and where the caller was outbid by the browser.
+/**
+ * Tells a change: in the title, in the news, and where the caller was outbid by the browser.
+ * @param {Stand} before @param {Stand} after @param {boolean} isAnnounced
+ */
 function announce(before, after, isAnnounced) {
   markTitle(markOf(after));
-  tell(isAnnounced ? change(before, after) : "");
+  tell(isAnnounced ? changeInWords(before, after) : "");
   if (isOutbid(after) && !isOutbid(before)) {
-    notify(`You were outbid: ${titleOrNone(after.item.title)}`, `item ${after.item.item}`);
+    notify(say("notices.you_were_outbid", { title: titleOrNone(after.item.title) }), `item ${after.item.item}`);
   }
 }
 
-// Shows the forms that are of use. The keyboard goes to the price, where it was in one that is gone.
+/**
+ * Shows the forms that are of use. The keyboard goes to the price, where it was in one that is gone.
+ * @param {Offers} offer @param {Facts} about
+ */
 function keepKeyboard(offer, about) {
   const active = document.activeElement;
   const hadKeyboard = offer.node.contains(active);
@@ -82,29 +113,32 @@ function keepKeyboard(offer, about) {
   }
 }
 
-// The parts of the page that follow the item, and the call that reads it anew.
+/**
+ * The parts of the page that follow the item, and the call that reads it anew.
+ * @param {Stand} first @param {Talk} conversation
+ */
 function itemParts(first, conversation) {
-  const shownNow = { ...first };
+  const now = { ...first };
   const about = facts();
   const sale = salePart(() => refresh());
-  const offer = offers(shownNow, isAnnounced => refresh(isAnnounced));
+  const offer = offers(now, isAnnounced => refresh(isAnnounced));
   // Nothing in here waits, so the parts never show two states.
   function update() {
-    about.update(shownNow.item, shownNow.bid);
+    about.update(now);
     keepKeyboard(offer, about);
-    conversation.update(shownNow.item);
+    conversation.update(now.item);
     tick();
   }
   // What takes further reads, for which nothing waits.
   function touchUp() {
-    about.askLeader(shownNow.item);
-    sale.update(shownNow.item);
+    about.askLeader(now.item);
+    sale.update(now.item);
   }
-  async function lookAgain(isAnnounced) {
-    const after = await look(shownNow.item.item, shownNow);
-    const before = { ...shownNow };
+  async function lookAgain(/** @type {boolean} */ isAnnounced) {
+    const after = await look(now);
+    const before = { ...now };
     if (!isSame(before, after)) {
-      Object.assign(shownNow, after);
+      Object.assign(now, after);
       update();
       announce(before, after, isAnnounced);
     }
@@ -116,45 +150,72 @@ function itemParts(first, conversation) {
     last = last.catch(() => {}).then(() => lookAgain(isAnnounced));
     return last;
   };
-  const node = make("section", { class: "box offer", "aria-label": "Price and bids" }, about.node, offer.node, sale.node);
+  const node = make("section", { class: "box offer", "aria-label": say("item.price_and_bids") }, about.node, offer.node, sale.node);
   update();
   touchUp();
-  return { node, update, refresh, shownNow, about, offer };
+  return { node, update, refresh, now, about, offer };
 }
 
+/** @param {WholeItem} item */
 async function byline(item) {
   const [list, seller] = await Promise.all([categories(), nameOf(item.seller)]);
   const category = list.find(one => one.category === item.category);
-  return [link(`category/${item.category}`, quote(nameOrNone(category?.name ?? "Its category"))),
-    ` · Lot ${item.lot} · from `, link(`member/${item.seller}`, quote(seller))];
+  const name = category ? nameOrNone(category.name) : say("item.its_category");
+  return phrase("item.byline", { category: link(`category/${item.category}`, quote(name)), lot: item.lot,
+    seller: memberLink(item.seller, seller) });
 }
 
-const story = item => make("section", { class: "box story" }, make("h2", {}, "About it"),
-  item.text ? paragraphs(item.text) : make("p", { class: "soft" }, "The seller wrote nothing about it."));
+/** @param {WholeItem} item */
+const story = item => make("section", { class: "box story" }, make("h2", {}, say("item.about")),
+  item.text ? paragraphs(item.text) : make("p", { class: "soft" }, say("item.no_text")));
 
-// What the caller has sealed as the seller.
+/**
+ * What the caller has sealed as the seller.
+ * @param {Item} item
+ */
 async function ownReserve(item) {
   return item.seller === caller.number && typeof item.met === "boolean" ? reserveOf(item.item) : null;
 }
 
+/**
+ * Does some work once, when the end of this item comes: other items on the page have countdowns of their own.
+ * @param {Visit} visit @param {Stand} now @param {() => void} work
+ */
+function onOwnEnd(visit, now, work) {
+  let wasOpen = stateOf(now.item) === "open";
+  visit.onEnd(() => {
+    if (wasOpen && stateOf(now.item) === "ended") {
+      wasOpen = false;
+      work();
+    }
+  });
+}
+
+/** @param {number} number @returns {Promise<boolean>} */
 async function isWatched(number) {
-  return caller.isMember && (await read("/me/watches")).items.some(item => item.item === number);
+  return caller.isMember && (await read("/me/watches")).items.some((/** @type {Item} */ item) => item.item === number);
 }
 
 // What else the seller has open, of what ends first.
 const MORE = 6;
 
-async function moreOfSeller(visit, item) {
-  const [{ items }, name] = await Promise.all([itemsOfSeller(visit, item.seller, 1), nameOf(item.seller)]);
-  const others = inOrder(items).open.filter(one => one.item !== item.item).slice(0, MORE);
-  if (!others.length || item.seller === caller.number) {
-    return null;
+/** @param {Visit} visit @param {Item} item @param {Element} place */
+async function showMore(visit, item, place) {
+  if (item.seller === caller.number) {
+    return;
   }
-  const heading = make("h2", {}, "More from ", link(`member/${item.seller}`, quote(name)));
-  return make("section", {}, heading, cards(others, new Map()));
+  const seller = memberLink(item.seller, await nameOf(item.seller));
+  const heading = make("h2", {}, phrase("item.more_from", { seller }));
+  await showOpenItems(visit, item.seller, place, {
+    choose: open => open.filter(one => one.item !== item.item).slice(0, MORE),
+    frame: parts => parts.length ? [make("section", {}, heading, ...parts)] : [],
+  });
 }
 
-// What is of use beside the price, and comes after it.
+/**
+ * What is of use beside the price, and comes after it.
+ * @param {WholeItem} item @param {Element} of @param {ReturnType<typeof itemParts>} parts @param {Talk} conversation
+ */
 async function complete(item, of, { about, offer }, conversation) {
   const [line, reserve, watched] = await Promise.all([byline(item), ownReserve(item), isWatched(item.item),
     conversation.fill()]);
@@ -165,26 +226,27 @@ async function complete(item, of, { about, offer }, conversation) {
   offer.watch(watched);
 }
 
+/** @param {Visit} visit @param {string} number @returns {Promise<Shown>} */
 export async function item(visit, number) {
   const first = await firstLook(Number(number));
   const conversation = talk(first.item);
   const parts = itemParts(first, conversation);
-  const { node, update, refresh, shownNow } = parts;
+  const { node, update, refresh, now } = parts;
   visit.onEnd(() => {
     update();
-    markTitle(markOf(shownNow));
-    tell("The end of this auction has come.");
+    markTitle(markOf(now));
   });
-  visit.repeat(() => pace(shownNow.item), refresh);
-  const of = make("p", { class: "of" }, `Lot ${first.item.lot}`);
+  onOwnEnd(visit, now, () => tell(say("item.end_has_come")));
+  visit.repeat(() => pace(now.item), refresh);
+  const of = make("p", { class: "of" }, say("item.lot", { lot: first.item.lot }));
   let isComplete = false;
   const fill = async () => {
     await (isComplete ? conversation.fill() : complete(first.item, of, parts, conversation));
     isComplete = true;
   };
-  visit.repeat(() => isComplete ? 60 : 4, fill);
+  visit.repeat(() => isComplete ? TALK : RETRY, fill);
   const more = make("div");
-  fill().then(() => moreOfSeller(visit, first.item)).then(section => replace(more, section)).catch(() => {});
-  return { title: titleOrNone(first.item.title), mark: markOf(shownNow), of, nodes: [make("div", { class: "two" }, node, story(first.item),
-    conversation.node), more] };
+  fill().then(() => showMore(visit, first.item, more)).catch(() => {});
+  return { title: titleOrNone(first.item.title), mark: markOf(now), of,
+    nodes: [make("div", { class: "two" }, node, story(first.item), conversation.node), more] };
 }

@@ -6,44 +6,52 @@ import { make, replace, quote } from "../elements/dom.js";
 import { choiceField, textField } from "../elements/fields.js";
 import { form } from "../elements/form.js";
 import { nameOf } from "../exchange/known.js";
+import { phrase, say } from "../words/language.js";
+import { isSold } from "./standing.js";
 
-const RATINGS = [[1, "Good"], [0, "Neither good nor bad"], [-1, "Bad"]];
+/** @type {[number, string][]} */
+const RATINGS = [[1, "rating.good"], [0, "rating.neither"], [-1, "rating.bad"]];
 
-export const ratingInWords = rating => String(RATINGS.find(([value]) => value === rating)?.[1]);
+/** @param {number} rating */
+export const ratingInWords = rating => say(RATINGS.find(([value]) => value === rating)?.[1] ?? "rating.neither");
 
-// What the caller gave to the other party for this item: the list begins at the item.
+/**
+ * What the caller gave to the other party for this item: the list begins at the item.
+ * @param {number} item @param {number} other @returns {Promise<Feedback | undefined>}
+ */
 async function readGiven(item, other) {
-  const { feedback } = await read(`/members/${other}/feedback/${item.item}`);
-  return feedback.find(one => one.item === item.item && one.from === caller.number);
+  const { feedback } = await read(`/members/${other}/feedback/${item}`);
+  return feedback.find((/** @type {Feedback} */ one) => one.item === item && one.from === caller.number);
 }
 
-function thanks(feedback, name) {
-  return make("p", {}, "You rated ", quote(name), `: ${ratingInWords(feedback.rating)}. `, quote(feedback.text));
-}
+/** @param {{ rating: number, text: string }} feedback @param {string} name */
+const thanks = (feedback, name) => make("p", {}, phrase("rating.given",
+  { name: quote(name), rating: ratingInWords(feedback.rating), text: quote(feedback.text) }));
 
-function rate(item, name, after) {
-  const choice = choiceField("How was it?", { choices: RATINGS });
-  const hint = "Everybody can read it, and it stays. It may be empty.";
-  const text = textField("In a few words", { least: 0, most: 200, hint });
+/** @param {number} item @param {(feedback: { rating: number, text: string }) => void} after */
+function rateForm(item, after) {
+  const choice = choiceField(say("rating.choice"), { choices: RATINGS.map(([value, key]) => [value, say(key)]) });
+  const text = textField(say("rating.text"), { least: 0, most: 200, hint: say("rating.hint") });
   return form({
-    fields: [choice, text], button: "Rate this sale", waits: "Sending..", context: () => ({ tried: "rate" }),
-    act: async (rating, words) => {
-      await send(`/items/${item.item}/feedback`, { rating, text: words });
-      await after({ rating, text: words }, name);
+    fields: [choice, text], button: say("rating.button"), waits: say("form.sends"), context: () => ({ tried: "rate" }),
+    act: async (/** @type {number} */ rating, /** @type {string} */ words) => {
+      await send(`/items/${item}/feedback`, { rating, text: words });
+      after({ rating, text: words });
     },
   }).node;
 }
 
-// The part of an item's page in which a party rates the other, or nothing for anybody else.
-export async function rating(item) {
-  const isSold = ["sold", "settled"].includes(item.state);
-  if (!isSold || !caller.isMember || ![item.seller, item.leader].includes(caller.number)) {
+/**
+ * The part of an item's page in which a party rates the other, or nothing for anybody else.
+ * @param {Item} item
+ */
+export async function ratingPart(item) {
+  if (!isSold(item) || !caller.isMember || ![item.seller, item.leader].includes(caller.number)) {
     return null;
   }
-  const other = caller.number === item.seller ? item.leader : item.seller;
-  const [name, feedback] = await Promise.all([nameOf(other), readGiven(item, other)]);
+  const other = caller.number === item.seller ? Number(item.leader) : item.seller;
+  const [name, feedback] = await Promise.all([nameOf(other), readGiven(item.item, other)]);
   const place = make("div");
-  const after = (one, whom) => replace(place, thanks(one, whom));
-  replace(place, feedback ? thanks(feedback, name) : rate(item, name, after));
-  return make("section", {}, make("h2", {}, "Rate ", quote(name)), place);
+  replace(place, feedback ? thanks(feedback, name) : rateForm(item.item, one => replace(place, thanks(one, name))));
+  return make("section", {}, make("h2", {}, phrase("rating.title", { name: quote(name) })), place);
 }

@@ -3,30 +3,35 @@
 import { caller } from "../exchange/caller.js";
 import { whatNow } from "../exchange/city.js";
 import { make, replace } from "../elements/dom.js";
-import { settle } from "../office/settle.js";
-import { rating } from "./rating.js";
+import { settleButton } from "../office/settle.js";
+import { ratingPart } from "./rating.js";
 import { isSold } from "./standing.js";
 
-// What the two parties and the house have to do once an item is sold. Where a read fails it is made again.
+/**
+ * What the two parties and the house have to do once an item is sold. Where a read fails it is made again.
+ * @param {() => Promise<void>} refresh
+ */
 export function salePart(refresh) {
   const toSettle = make("div");
+  const toPay = make("div");
   const toRate = make("div");
   let state = "";
   let isAsked = false;
-  const rate = async item => {
+  const rate = async (/** @type {Item} */ item) => {
     isAsked = true;
-    await rating(item).then(node => replace(toRate, item.leader === caller.number ? whatNow() : null, node), () => {
+    await ratingPart(item).then(node => replace(toRate, node), () => {
       isAsked = false;
     });
   };
-  const update = item => {
+  const update = (/** @type {Item} */ item) => {
     if (isSold(item) && !isAsked) {
       rate(item);
     }
     if (state !== item.state) {
       state = item.state;
-      replace(toSettle, settle(item, refresh));
+      replace(toSettle, settleButton(item, refresh));
+      replace(toPay, isSold(item) && item.leader === caller.number ? whatNow(state === "settled") : null);
     }
   };
-  return { node: make("div", {}, toSettle, toRate), update };
+  return { node: make("div", {}, toSettle, toPay, toRate), update };
 }

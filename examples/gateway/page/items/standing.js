@@ -3,91 +3,117 @@
 import { caller } from "../exchange/caller.js";
 import { make } from "../elements/dom.js";
 import { hasEnded } from "../time/moments.js";
+import { say } from "../words/language.js";
 import { money } from "../words/money.js";
 
-const WORDS = { open: "Open", ended: "Ended", sold: "Sold", unsold: "Not sold", settled: "Settled" };
+/** @typedef {"lead" | "short" | "out" | "own"} Kind how the caller stands, which also gives a colour */
 
-// Until the house closes it an item whose end has come is still open, and takes nothing any more.
+/**
+ * Until the house closes it an item whose end has come is still open, and takes nothing any more.
+ * @param {Item} item
+ */
 export const stateOf = item => item.state === "open" && hasEnded(item) ? "ended" : item.state;
 
-export const badge = item => make("span", { class: `badge ${stateOf(item)}` }, WORDS[stateOf(item)]);
+/** @param {Item} item */
+export const stateInWords = item => say(`state.${stateOf(item)}`);
 
-export const stateInWords = item => WORDS[stateOf(item)];
+/** @param {Item} item */
+export const badge = item => make("span", { class: `badge ${stateOf(item)}` }, stateInWords(item));
 
+/** @param {Item} item */
 export const isSold = item => ["sold", "settled"].includes(item.state);
 
-// How many have bid. What was bought at once has no bids, and what is over gets none any more.
+/**
+ * How many have bid. What was bought at once has no bids, and what is over gets none any more.
+ * @param {Item} item
+ */
 export function bidsInWords(item) {
   if (item.count > 0) {
-    return item.count === 1 ? "1 bid" : `${item.count} bids`;
+    return say("item.bids", { count: item.count });
   }
   if (isSold(item)) {
-    return "Bought at once";
+    return say("item.bought_at_once");
   }
-  return stateOf(item) === "open" ? "No bids yet" : "No bids";
+  return say(stateOf(item) === "open" ? "item.no_bids_yet" : "item.no_bids");
 }
 
-// What the price is: of what nobody has bid for it is the start.
+/**
+ * What the price is: of what nobody has bid for it is the start.
+ * @param {Item} item
+ */
 export function priceInWords(item) {
   if (isSold(item)) {
-    return "Sold for";
+    return say("item.sold_for");
   }
   const isOpen = stateOf(item) === "open";
   if (item.count === 0) {
-    return isOpen ? "Starts at" : "Started at";
+    return say(isOpen ? "item.starts_at" : "item.started_at");
   }
-  return isOpen ? "Price now" : "Last price";
+  return say(isOpen ? "item.price_now" : "item.last_price");
 }
 
-// Whether the reserve is met, where the interface tells of one.
+/**
+ * Whether the reserve is met, where the interface tells of one.
+ * @param {{ met?: boolean | null }} item
+ */
 export function reserveInWords(item) {
   if (typeof item.met !== "boolean") {
     return "";
   }
-  return item.met ? "Reserve met" : "Reserve not met";
+  return say(item.met ? "item.met" : "item.not_met");
 }
 
-const SHORT = "the reserve is not met";
-
-// Of a member that leads: below the reserve nobody gets the item.
-function standingOfLeader(item, state, maximum) {
-  if (state === "ended") {
-    return item.met === false ? ["short", `You led at the end, but ${SHORT}, so it will not be sold.`]
-      : ["lead", "You led at the end. The house has yet to close this auction."];
+/**
+ * Of a member that leads: below the reserve nobody gets the item.
+ * @param {Item} item @param {string} maximum @returns {[Kind, string]}
+ */
+function standingOfLeader(item, maximum) {
+  const isOver = stateOf(item) === "ended";
+  if (item.met === false) {
+    return ["short", isOver ? say("standing.led_short") : say("standing.leads_short", { maximum })];
   }
-  return item.met === false ? ["short", `You lead, but ${SHORT}: at this price it is not sold. Your maximum is ${maximum}.`]
-    : ["lead", `You lead. Your maximum is ${maximum}, and nobody else sees it.`];
+  return ["lead", isOver ? say("standing.led") : say("standing.leads", { maximum })];
 }
 
-function standingOfOutbid(state, maximum) {
-  return ["out", state === "ended" ? `You were outbid at the end. Your maximum was ${maximum}.`
-    : `You were outbid. Your maximum is ${maximum}.`];
+/**
+ * Of a member that leads no more.
+ * @param {Item} item @param {string} maximum @returns {[Kind, string]}
+ */
+function standingOfOthers(item, maximum) {
+  const key = { open: "standing.outbid", ended: "standing.outbid_at_end", unsold: "standing.unsold", sold: "standing.lost",
+    settled: "standing.lost" }[stateOf(item)];
+  return ["out", say(key, { maximum })];
 }
 
-// How the caller stands by its own bid: a kind, and some words.
+/**
+ * How the caller stands by its own bid: a kind, and some words.
+ * @param {Item} item @param {Bid} [bid] @returns {[Kind, string] | null}
+ */
 export function standing(item, bid) {
-  const state = stateOf(item);
   if (item.seller === caller.number) {
-    return ["own", "This is your own item."];
+    return ["own", say("standing.own")];
   }
   if (isSold(item) && item.leader === caller.number) {
-    return ["lead", `You ${item.count ? "won" : "bought"} this for ${money(item.price)}.`];
+    return ["lead", say(item.count ? "standing.won" : "standing.bought", { price: money(item.price) })];
   }
   if (!bid) {
     return null;
   }
   const maximum = money(bid.maximum);
-  if (state === "open" || state === "ended") {
-    return bid.leading ? standingOfLeader(item, state, maximum) : standingOfOutbid(state, maximum);
-  }
-  return ["out", state === "unsold" ? "It ended without a sale." : `Somebody else got this. Your maximum was ${maximum}.`];
+  return bid.leading && item.state === "open" ? standingOfLeader(item, maximum) : standingOfOthers(item, maximum);
 }
 
-// The same in a word or two, for lists.
+/**
+ * The same in a word or two, for lists; nothing where the item's own state says it: what nobody got isn't lost.
+ * @param {Item} item @param {Bid} [bid]
+ */
 export function standingInShort(item, bid) {
   const [kind] = standing(item, bid) ?? [];
-  const isOver = !["open", "ended"].includes(stateOf(item));
-  const words = { own: "Yours", lead: isOver ? "You won" : "You lead", out: isOver ? "Lost" : "You were outbid",
-    short: "You lead, reserve not met" };
-  return kind ? make("span", { class: `badge ${kind}` }, words[kind]) : null;
+  if (!kind || kind === "out" && item.state === "unsold") {
+    return null;
+  }
+  const isOver = item.state !== "open";
+  const words = { own: say("standing.yours"), lead: say(isOver ? "standing.you_won" : "standing.you_lead"),
+    out: say(isOver ? "standing.you_lost" : "standing.you_were_outbid"), short: say("standing.you_lead_short") };
+  return make("span", { class: `badge ${kind}` }, words[kind]);
 }

@@ -1,75 +1,86 @@
 // @ts-check
 // What the caller has bid for, with titles and ends, which the list of bids lacks.
-import { link, make, titleOrNone, quote } from "../elements/dom.js";
+import { itemLink, link, make } from "../elements/dom.js";
 import { makeRefill } from "../elements/place.js";
 import { action } from "../elements/form.js";
 import { bidsByItem, itemsOf } from "../exchange/known.js";
-import { countdown, inWords } from "../time/moments.js";
+import { say } from "../words/language.js";
 import { money } from "../words/money.js";
 import { inOrder } from "../exchange/shelf.js";
-import { signOf } from "../items/cards.js";
-import { standingInShort, stateOf } from "../items/standing.js";
+import { endInShort, signOf } from "../items/cards.js";
+import { badge, standingInShort } from "../items/standing.js";
 import { AMOUNT, SUBJECT, TEXT, table } from "../elements/table.js";
-
-const COLUMNS = [["Item", SUBJECT], ["Price", AMOUNT], ["My maximum", AMOUNT], ["How it stands", TEXT], ["End", TEXT]];
 
 // So many are read at first.
 const MOST = 100;
 // After so many seconds what is shown is read again.
 const FRESH = 60;
 
-const nothing = () => make("p", { class: "empty" }, "You have bid for nothing yet. ", link("", "Look at the items"));
+/** @returns {import("../elements/table.js").Column[]} */
+const columns = () => [[say("column.item"), SUBJECT], [say("column.price"), AMOUNT], [say("column.my_maximum"), AMOUNT],
+  [say("column.standing"), TEXT], [say("column.end"), TEXT]];
 
-const row = (item, bid) => [link(`item/${item.item}`, quote(titleOrNone(item.title))), money(item.price), money(bid.maximum),
-  standingInShort(item, bid), make("span", {}, stateOf(item) === "open" ? ["in ", countdown(item.end)] : inWords(item.closed ?? item.end))];
+const nothing = () => make("p", { class: "empty" }, say("bids.none"), " ", link("", say("items.look")));
 
-function part(title, items, bids) {
-  return items.length ? table(title, COLUMNS, items.map(item => row(item, bids.get(item.item)))) : null;
-}
+/** @param {WholeItem} item @param {Bid | undefined} bid @returns {Content[]} */
+const row = (item, bid) => [itemLink(item), money(item.price), bid ? money(bid.maximum) : "",
+  standingInShort(item, bid) ?? badge(item), endInShort(item)];
 
-// Open ones first, and then those that were listed last.
+/** @param {string} title @param {WholeItem[]} items @param {BidsByItem} bids */
+const part = (title, items, bids) => items.length
+  ? table(title, columns(), items.map(item => row(item, bids.get(item.item)))) : null;
+
+/**
+ * Open ones first, and then those that were listed last.
+ * @param {Iterable<Bid>} bids
+ */
 function openFirst(bids) {
-  const isOpen = bid => Number(bid.state === "open");
+  const isOpen = (/** @type {Bid} */ bid) => Number(bid.state === "open");
   return [...bids].sort((one, two) => isOpen(two) - isOpen(one) || two.item - one.item).map(bid => bid.item);
 }
 
-// Each item is a read of its own, so older ones are read when they are asked for.
-function olderButton(visit, numbers, again) {
+/**
+ * Each item is a read of its own, so older ones are read when they are asked for.
+ * @param {Visit} visit @param {number} count @param {() => Promise<void>} again
+ */
+function olderButton(visit, count, again) {
   const parts = action({
-    button: `Read ${numbers.length} older ones`, waits: "Reading..", kind: "plain",
+    button: say("bids.older", { count }), waits: say("form.reads"), kind: "plain",
     act: async () => {
       visit.kept.isWhole = true;
       await again();
       parts.button.hidden = true;
-      return "All your bids are here.";
+      return say("bids.all_here");
     },
   });
   return parts.node;
 }
 
+/** @param {Visit} visit @returns {Promise<Shown>} */
 export async function bids(visit) {
   const place = make("div");
   const refill = makeRefill(place);
+  /** @type {Map<number, WholeItem>} */
   const known = new Map();
   const look = async () => {
     const own = await bidsByItem();
     const numbers = openFirst(own.values());
-    const [most, rest] = visit.kept.isWhole ? [numbers, []] : [numbers.slice(0, MOST), numbers.slice(MOST)];
+    const most = visit.kept.isWhole ? numbers : numbers.slice(0, MOST);
     // What is over stays as it is.
     const changing = most.filter(number => (known.get(number)?.state ?? "open") === "open");
     (await itemsOf(changing)).forEach(item => known.set(item.item, item));
-    return { own, items: most.map(number => known.get(number)), rest };
+    return { own, items: most.flatMap(number => known.get(number) ?? []), older: numbers.length - most.length };
   };
-  const show = ({ own, items }) => {
+  const show = (/** @type {{ own: BidsByItem, items: WholeItem[] }} */ { own, items }) => {
     const { open, over } = inOrder(items);
-    refill(signOf([...open, ...over], own), () => items.length ? [part("Open", open, own), part("Over", over, own)]
-      : [nothing()]);
+    refill(signOf([...open, ...over], own), () => items.length
+      ? [part(say("items.open"), open, own), part(say("items.over"), over, own)] : [nothing()]);
   };
-  let rest = [];
+  let older = 0;
   await visit.follow(FRESH, look, found => {
-    rest = found.rest;
+    older = found.older;
     show(found);
   });
-  const more = rest.length ? olderButton(visit, rest, async () => show(await look())) : null;
-  return { title: "My bids", nodes: [place, more] };
+  const more = older ? olderButton(visit, older, async () => show(await look())) : null;
+  return { title: say("nav.bids"), nodes: [place, more] };
 }

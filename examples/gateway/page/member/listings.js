@@ -2,55 +2,63 @@
 // What the caller has listed: what is open, what is sold, and what was not sold, which can be listed again.
 import { caller } from "../exchange/caller.js";
 import { inOrder } from "../exchange/shelf.js";
-import { link, make, titleOrNone, quote } from "../elements/dom.js";
+import { itemLink, link, make } from "../elements/dom.js";
 import { action } from "../elements/form.js";
 import { makeRefill } from "../elements/place.js";
 import { AMOUNT, SUBJECT, TEXT, table } from "../elements/table.js";
+import { endInShort } from "../items/cards.js";
 import { itemsOfSeller, provenance } from "../items/lists.js";
 import { bidsInWords, isSold, stateInWords, stateOf } from "../items/standing.js";
-import { countdown, inWords } from "../time/moments.js";
+import { say } from "../words/language.js";
 import { money } from "../words/money.js";
 
 // After so many seconds what is shown is read again.
 const FRESH = 60;
 
-const COLUMNS = [["Item", SUBJECT], ["How it stands", TEXT], ["Price", AMOUNT], ["Bids", TEXT], ["End", TEXT]];
+/** @returns {import("../elements/table.js").Column[]} */
+const columns = () => [[say("column.item"), SUBJECT], [say("column.standing"), TEXT], [say("column.price"), AMOUNT],
+  [say("column.bids"), TEXT], [say("column.end"), TEXT]];
 
-const end = item => make("span", {}, stateOf(item) === "open" ? ["in ", countdown(item.end)] : inWords(item.closed ?? item.end));
+/** @param {Item} item @returns {Content[]} */
+const row = item => [itemLink(item), stateInWords(item), money(item.price), bidsInWords(item), endInShort(item)];
 
-const row = item => [link(`item/${item.item}`, quote(titleOrNone(item.title))), stateInWords(item), money(item.price),
-  bidsInWords(item), end(item)];
+/** @param {string} title @param {Item[]} items */
+const part = (title, items) => items.length ? table(title, columns(), items.map(row)) : null;
 
-const part = (title, items) => items.length ? table(title, COLUMNS, items.map(row)) : null;
-
-const again = item => link(`sell/${item.item}`, "List again");
-
+/** @param {Item[]} items */
 function unsoldPart(items) {
-  const columns = [...COLUMNS, ["Again", TEXT]];
-  return items.length ? table("Not sold", columns, items.map(item => [...row(item), again(item)])) : null;
+  /** @type {import("../elements/table.js").Column[]} */
+  const withAgain = [...columns(), [say("column.again"), TEXT]];
+  const again = (/** @type {Item} */ item) => link(`sell/${item.item}`, say("listings.again"));
+  return items.length ? table(say("state.unsold"), withAgain, items.map(item => [...row(item), again(item)])) : null;
 }
 
-const nothing = () => make("p", { class: "empty" }, "You have listed nothing yet. ", link("sell", "List the first item"));
+const nothing = () => make("p", { class: "empty" }, say("listings.none"), " ", link("sell", say("listings.first")));
 
+/** @param {import("../items/lists.js").List} list */
+function partsOf(list) {
+  const { open, over } = inOrder(list.items);
+  const inState = (/** @type {State} */ state) => over.filter(item => item.state === state);
+  return [provenance(list), part(say("items.open"), open), part(say("listings.to_be_closed"), inState("open")),
+    part(say("state.sold"), over.filter(isSold)), unsoldPart(inState("unsold")), list.items.length ? null : nothing()];
+}
+
+/** @param {Visit} visit @returns {Promise<Shown>} */
 export async function listings(visit) {
   const place = make("div");
   const refill = makeRefill(place);
   const look = () => itemsOfSeller(visit, caller.number, visit.kept.parts ?? 1);
-  const show = list => {
-    const { open, over } = inOrder(list.items);
-    const toClose = over.filter(item => item.state === "open");
+  const show = (/** @type {import("../items/lists.js").List} */ list) => {
     more.button.hidden = list.isWhole;
-    refill([list.moment, list.items.map(item => [item, stateOf(item)])], () => [
-      provenance(list), part("Open", open), part("To be closed by the house", toClose), part("Sold", over.filter(isSold)),
-      unsoldPart(over.filter(item => item.state === "unsold")), list.items.length ? null : nothing()]);
+    refill([list.moment, list.items.map(item => [item, stateOf(item)])], () => partsOf(list));
   };
   const more = action({
-    button: "Show older ones", waits: "Reading..", kind: "plain",
+    button: say("listings.older"), waits: say("form.reads"), kind: "plain",
     act: async () => {
       visit.kept.parts = (visit.kept.parts ?? 1) + 1;
       show(await look());
     },
   });
   await visit.follow(FRESH, look, show);
-  return { title: "My listings", nodes: [make("p", {}, link("sell", "List an item")), place, more.node] };
+  return { title: say("nav.listings"), nodes: [make("p", {}, link("sell", say("listings.sell"))), place, more.node] };
 }

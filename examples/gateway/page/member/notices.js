@@ -5,12 +5,16 @@ import { Mistake, lineField } from "../elements/fields.js";
 import { action, form } from "../elements/form.js";
 import { allow, isAllowed } from "../elements/notify.js";
 import { Refusal } from "../exchange/api.js";
+import { say } from "../words/language.js";
 
 const ADDRESS = `${location.origin}/address`;
 const FORM = /^[A-Za-z0-9][A-Za-z0-9._%+-]*@[A-Za-z0-9-]+(\.[A-Za-z0-9-]+)+$/;
 const MOST = 200;
 
-// The address that the gateway has, or none. It is a file of the gateway, and no part of the house.
+/**
+ * The address that the gateway has, or none. It is a file of the gateway, and no part of the house.
+ * @param {RequestInit} [options]
+ */
 async function ask(options = {}) {
   const answer = await fetch(ADDRESS, options).catch(() => null);
   if (answer === null || ![200, 201, 204, 404].includes(answer.status)) {
@@ -19,46 +23,45 @@ async function ask(options = {}) {
   return answer.status === 200 ? answer.text() : "";
 }
 
+/** @param {string} text */
 function judgeAddress(text) {
   const address = text.trim();
   if (address !== "" && (!FORM.test(address) || address.length > MOST)) {
-    throw new Mistake("Write a mail address, such as ana@city.example, or nothing.");
+    throw new Mistake(say("notices.no_address"));
   }
   return address;
 }
 
+/** @param {string} address */
 const save = address => ask(address === "" ? { method: "DELETE" } : { method: "PUT", body: address });
 
+/** @param {string} address */
 function mailForm(address) {
-  const field = lineField("Your mail address", {
-    value: address, judge: judgeAddress, hint: "Only the gateway's own job reads it. Leave it empty to get no mail.",
-  });
+  const field = lineField(say("notices.address"), { value: address, judge: judgeAddress, hint: say("notices.address_hint") });
   return form({
-    fields: [field], button: "Keep it", waits: "Keeping it..", context: () => ({ isRead: true }),
-    act: async value => {
+    fields: [field], button: say("notices.keep"), waits: say("notices.keeps"), context: () => ({ isRead: true }),
+    act: async (/** @type {string} */ value) => {
       await save(value);
-      return value === "" ? "No mail is sent to you any more." : `Mail goes to ${value}.`;
+      return value === "" ? say("notices.no_mail") : say("notices.mail_goes", { address: value });
     },
   }).node;
 }
 
-const ALLOWED = "The browser tells you when you are outbid, as long as a page of the house is open in it.";
-
 function browserPart() {
   if (isAllowed()) {
-    return make("p", {}, ALLOWED);
+    return make("p", {}, say("notices.allowed"));
   }
   return action({
-    button: "Let the browser tell me", waits: "Asking you..", kind: "plain",
-    act: async () => await allow() ? ALLOWED : { isBad: true, sentence: "The browser does not allow it. Its settings can." },
+    button: say("notices.allow"), waits: say("notices.asks"), kind: "plain",
+    act: async () => await allow() ? say("notices.allowed") : { colour: "refused", sentence: say("notices.not_allowed") },
   }).node;
 }
 
+/** @returns {Promise<Shown>} */
 export async function notices() {
   const address = await ask();
-  const about = make("p", { class: "soft" }, "You are told once, within a minute or two: when you are outbid, have won or lost, "
-    + "when your item is sold, not sold or settled, and an hour before the end of what you lead.");
-  return { title: "Notices", nodes: [
-    make("section", { class: "box narrow" }, make("h2", {}, "By mail"), about, mailForm(address)),
-    make("section", { class: "box narrow" }, make("h2", {}, "In the browser"), browserPart())] };
+  const about = make("p", { class: "soft" }, say("notices.about"));
+  return { title: say("nav.notices"), nodes: [
+    make("section", { class: "box narrow" }, make("h2", {}, say("notices.by_mail")), about, mailForm(address)),
+    make("section", { class: "box narrow" }, make("h2", {}, say("notices.in_browser")), browserPart())] };
 }

@@ -5,12 +5,16 @@ import { caller } from "../exchange/caller.js";
 import { bidsByItem, titlesOf } from "../exchange/known.js";
 import { notify } from "../elements/notify.js";
 import { markTitle } from "../elements/title.js";
+import { say } from "../words/language.js";
 
 const PAUSE = 60_000;
 
 /** @type {ReturnType<typeof setTimeout> | undefined} */
 let timer;
-// The items that the caller led, and the first one that was open.
+/**
+ * The items that the caller led, and the first one that was open.
+ * @type {Set<number>}
+ */
 let led = new Set();
 let first = 1;
 
@@ -20,9 +24,9 @@ async function look() {
   led = new Set(open.filter(bid => bid.leading).map(bid => bid.item));
   first = open.reduce((least, bid) => Math.min(least, bid.item), Infinity);
   if (lost.length) {
-    markTitle("outbid");
+    markTitle(say("page.outbid"));
     const titles = await titlesOf(lost);
-    lost.forEach(item => notify(`You were outbid: ${titles.get(item)}`, `item ${item}`));
+    lost.forEach(item => notify(say("notices.you_were_outbid", { title: titles.get(item) }), `item ${item}`));
   }
 }
 

@@ -1,34 +1,33 @@
 // @ts-check
 // What waits for the caller's answer, and what the caller asked.
 import { read, whole } from "../exchange/api.js";
-import { link, make, paragraphs, put, quote } from "../elements/dom.js";
+import { link, make, put, quote } from "../elements/dom.js";
 import { makeKeeper, makeRefill } from "../elements/place.js";
 import { namesOf, titlesOf } from "../exchange/known.js";
-import { answerForm } from "../items/talk.js";
+import { exchangeEntry, waitingEntry } from "../items/talk.js";
+import { phrase, say } from "../words/language.js";
 
 // The house tells the first fifty that wait.
 const MOST = 50;
 // After so many seconds what is shown is read again.
 const FRESH = 60;
 
+/** @param {Question} question @param {TextsByNumber} titles */
 const on = (question, titles) => link(`item/${question.item}`, quote(titles.get(question.item)));
 
 async function readWaiting() {
+  /** @type {{ questions: Question[] }} */
   const { questions } = await read("/me/waiting");
   const [titles, names] = await Promise.all([titlesOf(questions.map(one => one.item)),
     namesOf(questions.map(one => one.asker))]);
   return { questions, titles, names };
 }
 
-const entry = (one, titles, names, after) => make("li", {},
-  make("p", { class: "soft" }, quote(names.get(one.asker)), " asks about ", on(one, titles)),
-  make("div", { class: "asked" }, paragraphs(one.text)), answerForm(one, names.get(one.asker), after));
-
 // The list of what waits, and the call that reads it anew. A form in which something is written stays.
 function waitingPart() {
   const list = make("ul", { class: "talk" });
   const note = make("p", { class: "soft" });
-  const heading = make("h2", { tabindex: "-1" }, "Waiting for your answer");
+  const heading = make("h2", { tabindex: "-1" }, say("questions.waiting"));
   const keep = makeKeeper(list);
   const after = async () => {
     await fill().catch(() => {});
@@ -36,32 +35,35 @@ function waitingPart() {
   };
   async function fill() {
     const { questions, titles, names } = await readWaiting();
-    keep(questions.map(one => [`${one.item}/${one.asker}/${one.number}`, () => entry(one, titles, names, after)]));
+    keep(questions.map(one => [`${one.item}/${one.asker}/${one.number}`, () => {
+      const name = names.get(one.asker);
+      return waitingEntry(phrase("questions.asks_about", { name: quote(name), item: on(one, titles) }), one, name, after);
+    }]));
     put(note, noteOf(questions.length));
   }
   return { fill, node: make("section", { class: "box" }, heading, list, note) };
 }
 
+/** @param {number} count */
 function noteOf(count) {
   if (count === 0) {
-    return "Nobody waits for an answer of yours.";
+    return say("questions.nobody_waits");
   }
-  return count === MOST ? "There may be more: these are the first fifty." : "";
+  return count === MOST ? say("questions.more_may_wait") : "";
 }
 
 async function readAsked() {
+  /** @type {Question[]} */
   const own = await whole("/me/questions", "asked");
   return { own, titles: await titlesOf(own.map(one => one.item)) };
 }
 
-const askedEntry = (one, titles) => make("li", {},
-  make("p", { class: "soft" }, "You asked about ", on(one, titles)),
-  make("div", { class: "asked" }, paragraphs(one.text)),
-  one.answer === null ? make("p", { class: "soft" }, "The seller has yet to answer.")
-    : make("div", { class: "answer" }, paragraphs(one.answer)));
+/** @param {Question} one @param {TextsByNumber} titles */
+const askedEntry = (one, titles) => exchangeEntry(phrase("questions.you_asked_about", { item: on(one, titles) }), one);
 
-const nothing = () => make("p", { class: "soft" }, "You have asked nothing yet. An item's page has a place for it.");
+const nothing = () => make("p", { class: "soft" }, say("questions.none"));
 
+/** @param {Visit} visit @returns {Promise<Shown>} */
 export async function questions(visit) {
   const waits = waitingPart();
   const place = make("div");
@@ -71,6 +73,6 @@ export async function questions(visit) {
     return found;
   }, ({ own, titles }) => refill(own, () => [own.length
     ? make("ul", { class: "talk" }, ...own.map(one => askedEntry(one, titles))) : nothing()]));
-  return { title: "Questions", nodes: [waits.node,
-    make("section", { class: "box" }, make("h2", {}, "What you asked"), place)] };
+  return { title: say("nav.questions"), nodes: [waits.node,
+    make("section", { class: "box" }, make("h2", {}, say("questions.asked")), place)] };
 }

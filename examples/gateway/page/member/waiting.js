@@ -3,6 +3,7 @@
 import { read } from "../exchange/api.js";
 import { caller } from "../exchange/caller.js";
 import { put } from "../elements/dom.js";
+import { say } from "../words/language.js";
 
 // Nothing waits for this read, and where it fails the entry stays as it is.
 export async function countWaiting() {
@@ -12,6 +13,7 @@ export async function countWaiting() {
   const found = await read("/me/waiting").catch(() => null);
   const entry = document.querySelector('#pages a[href="#/questions"]');
   if (found && entry) {
-    put(entry, found.questions.length ? `Questions (${found.questions.length})` : "Questions");
+    const count = found.questions.length;
+    put(entry, count ? say("nav.questions_waiting", { count }) : say("nav.questions"));
   }
 }

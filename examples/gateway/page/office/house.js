@@ -2,14 +2,15 @@
 // The house itself: its counts and rules for everybody, and for who runs it categories and the public record.
 import { read, send } from "../exchange/api.js";
 import { caller } from "../exchange/caller.js";
-import { link, make, nameOrNone, quote } from "../elements/dom.js";
+import { make } from "../elements/dom.js";
 import { makeRefill } from "../elements/place.js";
 import { textField } from "../elements/fields.js";
 import { save } from "../elements/files.js";
 import { action, form } from "../elements/form.js";
 import { categories } from "../exchange/known.js";
+import { categoryLink } from "../items/browse.js";
 import { dayAt, time, zoneName } from "../time/moments.js";
-import { grouped } from "../words/money.js";
+import { language, say } from "../words/language.js";
 import { publicRecord } from "./record.js";
 import { sums } from "../elements/table.js";
 import { bandsPart } from "./bands.js";
@@ -17,46 +18,51 @@ import { bandsPart } from "./bands.js";
 // After so many seconds what is shown is read again.
 const FRESH = 60;
 
-// The rate is in ten-thousandths: 1000 is 10 %.
-const facts = page => [
-  ["Members", grouped(page.members)], ["Items", grouped(page.items)], ["Categories", grouped(page.categories)],
-  ["Fee of a sale", `${page.rate / 100} %`], ["Times", zoneName()],
-  ["Last command", page.clock ? time(page.clock) : "none yet"],
-];
+/**
+ * The rate is in ten-thousandths: 1000 is 10 %.
+ * @param {House} page @returns {[string, Content][]}
+ */
+function factsOf({ members, items, categories: count, rate, clock }) {
+  const { whole, percent } = language;
+  return [
+    [say("house.members"), whole.format(members)], [say("house.items"), whole.format(items)],
+    [say("house.categories"), whole.format(count)], [say("house.fee"), percent.format(rate / 10_000)],
+    [say("house.times"), zoneName()], [say("house.last_command"), clock ? time(clock) : say("house.none_yet")],
+  ];
+}
 
+/** @param {() => Promise<void>} refill */
 function categoryForm(refill) {
-  const field = textField("Name of the category", { most: 40 });
+  const field = textField(say("house.category_name"), { most: 40 });
   return form({
-    fields: [field], button: "Add", waits: "Adding..", context: () => ({ tried: "category" }),
-    act: async name => {
+    fields: [field], button: say("house.add"), waits: say("house.adds"), context: () => ({ tried: "category" }),
+    act: async (/** @type {string} */ name) => {
       await send("/categories", { name });
       field.clear();
       await refill();
-      return "The category is there.";
+      return say("house.category_added");
     },
   }).node;
 }
-
-const MEANWHILE = " The house took commands meanwhile, so its parts may be of two moments.";
 
 function recordButton() {
   return action({
-    button: "Save the public record", waits: "Reading the house..", kind: "plain", context: () => ({ isRead: true }),
+    button: say("house.save_record"), waits: say("house.reads_all"), kind: "plain", context: () => ({ isRead: true }),
     act: async () => {
       const { text, clock, isOfOneMoment } = await publicRecord();
       save(`record-${dayAt(clock)}.json`, "application/json", text);
-      return `The record is saved.${isOfOneMoment ? "" : MEANWHILE}`;
+      return say(isOfOneMoment ? "house.record_saved" : "house.record_of_two_moments");
     },
   }).node;
 }
 
-function ofHouse(place, refill) {
-  const about = make("p", { class: "soft" }, "All that everybody may see, as one file. In a great house it takes a while.");
-  return [
-    make("section", { class: "box" }, make("h2", {}, "Categories"), place, categoryForm(refill)),
-    make("section", { class: "box" }, make("h2", {}, "Public record"), about, recordButton())];
-}
+/** @param {Element} place @param {() => Promise<void>} refill */
+const ofHouse = (place, refill) => [
+  make("section", { class: "box" }, make("h2", {}, say("items.categories")), place, categoryForm(refill)),
+  make("section", { class: "box" }, make("h2", {}, say("house.record")), make("p", { class: "soft" }, say("house.about_record")),
+    recordButton())];
 
+/** @param {Visit} visit @returns {Promise<Shown>} */
 export async function house(visit) {
   const place = make("div");
   const categoriesPlace = make("div");
@@ -67,12 +73,11 @@ export async function house(visit) {
     const [page, list] = await Promise.all([read("/house"), caller.isHouse ? categories() : []]);
     return { page, list };
   };
-  const show = ({ page, list }) => {
-    refill(page, () => [sums(facts(page))]);
-    refillCategories(list, () => [make("ul", { class: "people" },
-      ...list.map(one => make("li", {}, link(`category/${one.category}`, quote(nameOrNone(one.name))))))]);
+  const show = (/** @type {{ page: House, list: Category[] }} */ { page, list }) => {
+    refill(page, () => [sums(factsOf(page))]);
+    refillCategories(list, () => [make("ul", { class: "people" }, ...list.map(one => make("li", {}, categoryLink(one))))]);
   };
   await visit.follow(FRESH, look, show);
   const again = async () => show(await look());
-  return { title: "The house", nodes: [place, ...(caller.isHouse ? ofHouse(categoriesPlace, again) : []), bands] };
+  return { title: say("nav.house"), nodes: [place, ...(caller.isHouse ? ofHouse(categoriesPlace, again) : []), bands] };
 }

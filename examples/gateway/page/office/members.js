@@ -1,45 +1,55 @@
 // @ts-check
 // Members: what each was rated, and for the house the list of all.
 import { each, read, send, whole } from "../exchange/api.js";
-import { link, make, nameOrNone, quote } from "../elements/dom.js";
+import { link, make, memberLink, nameOrNone, quote } from "../elements/dom.js";
 import { textField } from "../elements/fields.js";
 import { action, form } from "../elements/form.js";
 import { titlesOf } from "../exchange/known.js";
-import { inOrder } from "../exchange/shelf.js";
-import { cards } from "../items/cards.js";
-import { itemsOfSeller, provenance } from "../items/lists.js";
 import { ratingInWords } from "../items/rating.js";
+import { showOpenItems } from "../items/seller.js";
+import { phrase, say } from "../words/language.js";
 
 const AT_ONCE = 50;
 
-const counts = one => `${one.plus} good, ${one.zero} neither, ${one.minus} bad`;
+/** @param {Member} one */
+const countsOf = ({ plus, zero, minus }) => say("member.counts", { plus, zero, minus });
 
+/** @param {Feedback[]} list @param {TextsByNumber} titles */
 function feedbackList(list, titles) {
   const entries = list.map(one => make("li", {},
     make("p", {}, make("strong", {}, ratingInWords(one.rating)), one.text ? ": " : "", quote(one.text)),
-    make("p", { class: "soft" }, "for ", link(`item/${one.item}`, quote(titles.get(one.item))))));
-  return entries.length ? make("ul", { class: "talk" }, ...entries)
-    : make("p", { class: "soft" }, "Nobody has rated this member yet.");
+    make("p", { class: "soft" }, phrase("member.for_item", { item: link(`item/${one.item}`, quote(titles.get(one.item))) }))));
+  return entries.length ? make("ul", { class: "talk" }, ...entries) : make("p", { class: "soft" }, say("member.unrated"));
 }
 
+/** @param {Visit} visit @param {number} number */
 async function onOffer(visit, number) {
-  const list = await itemsOfSeller(visit, number, 1);
-  const { open } = inOrder(list.items);
-  return make("section", {}, make("h2", {}, "Open items"), open.length ? [provenance(list), cards(open, new Map())]
-    : make("p", { class: "soft" }, "This member offers nothing just now."));
+  const place = make("div");
+  const heading = make("h2", {}, say("member.open_items"));
+  const nothing = make("p", { class: "soft" }, say("member.offers_nothing"));
+  await showOpenItems(visit, number, place, {
+    frame: parts => [make("section", {}, heading, ...parts.length ? parts : [nothing])],
+  });
+  return place;
 }
 
+/** @param {Visit} visit @param {string} number @returns {Promise<Shown>} */
 export async function member(visit, number) {
+  /** @type {[Member, Feedback[], Element]} */
   const [one, list, offer] = await Promise.all([read(`/members/${number}`),
     whole(`/members/${number}/feedback`, "feedback"), onOffer(visit, Number(number))]);
   const titles = await titlesOf(list.map(feedback => feedback.item));
   return { title: nameOrNone(one.name), nodes: [
-    make("p", {}, `Member ${one.member}. Rated: ${counts(one)}.`),
-    make("section", { class: "box" }, make("h2", {}, "Ratings"), feedbackList(list, titles)), offer] };
+    make("p", {}, say("member.rated", { member: String(one.member), counts: countsOf(one) })),
+    make("section", { class: "box" }, make("h2", {}, say("member.ratings")), feedbackList(list, titles)), offer] };
 }
 
+/** @param {Member} one */
+const entryOf = one => make("li", {}, memberLink(one.member, nameOrNone(one.name)),
+  make("span", { class: "soft" }, ` ${say("member.in_list", { member: String(one.member), counts: countsOf(one) })}`));
+
 // The list of all members, fifty more at each call. The house tells none, so each is read by its number.
-function listing() {
+function memberList() {
   const place = make("ul", { class: "people" });
   let known = 0;
   const more = async () => {
@@ -47,41 +57,39 @@ function listing() {
     const numbers = Array.from({ length: Math.min(AT_ONCE, count - known) }, (_, place) => known + 1 + place);
     const found = await each(numbers, number => read(`/members/${number}`));
     known += found.length;
-    place.append(...found.map(one => make("li", {}, link(`member/${one.member}`, quote(nameOrNone(one.name))),
-      make("span", { class: "soft" }, ` member ${one.member}; ${counts(one)}`))));
+    place.append(...found.map(entryOf));
     return known < count;
   };
   return { place, more };
 }
 
+/** @param {() => Promise<boolean>} more */
 function registerForm(more) {
-  const field = textField("Name", { most: 40, hint: "As everybody will see it." });
+  const field = textField(say("members.name"), { most: 40, hint: say("members.name_hint") });
   return form({
-    fields: [field], button: "Register", waits: "Registering..", context: () => ({ tried: "register" }),
-    act: async name => {
+    fields: [field], button: say("members.register"), waits: say("members.registers"), context: () => ({ tried: "register" }),
+    act: async (/** @type {string} */ name) => {
       const { member: number } = await send("/members", { name });
       field.clear();
       await more();
-      return `Registered as member ${number}.`;
+      return say("members.registered", { member: String(number) });
     },
   }).node;
 }
 
-const SIGN_IN = "A member that is registered here can't sign in yet. On the server, account.sh adopt lets it in by its "
-  + "number, and account.sh add registers a member and lets it in at once.";
-
+/** @returns {Promise<Shown>} */
 export async function members() {
-  const { place, more } = listing();
+  const { place, more } = memberList();
   const isMore = await more();
   const parts = action({
-    button: "Read more members", waits: "Reading..", kind: "plain",
+    button: say("members.more"), waits: say("form.reads"), kind: "plain",
     act: async () => {
       parts.button.hidden = !await more();
     },
   });
   parts.button.hidden = !isMore;
-  const about = make("p", { class: "soft" }, SIGN_IN);
-  return { title: "Members", nodes: [
-    make("section", { class: "box" }, make("h2", {}, "All members"), place, parts.node),
-    make("section", { class: "box narrow" }, make("h2", {}, "Register a member"), about, registerForm(more))] };
+  const about = make("p", { class: "soft" }, say("members.sign_in"));
+  return { title: say("nav.members"), nodes: [
+    make("section", { class: "box" }, make("h2", {}, say("members.all")), place, parts.node),
+    make("section", { class: "box narrow" }, make("h2", {}, say("members.register_title")), about, registerForm(more))] };
 }

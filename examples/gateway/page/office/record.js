@@ -3,20 +3,28 @@
 import { each, isUnknown, read, whole } from "../exchange/api.js";
 import { categories } from "../exchange/known.js";
 
+/** @param {number} count */
 const numbers = count => Array.from({ length: count }, (_, place) => place + 1);
 
+/**
+ * An order by some numbers.
+ * @param {string[]} keys @returns {(one: any, two: any) => number}
+ */
 const by = (...keys) => (one, two) => keys.map(key => one[key] - two[key]).find(difference => difference !== 0) ?? 0;
 
+/** @param {Category[]} list @returns {Promise<WholeItem[]>} */
 async function itemsOf(list) {
   const found = await each(list, one => whole(`/categories/${one.category}/items`, "items"));
   return found.flat().sort(by("item"));
 }
 
+/** @param {Member[]} members */
 async function feedbackTo(members) {
   const found = await each(members, one => whole(`/members/${one.member}/feedback`, "feedback"));
   return found.flat().sort(by("item", "from"));
 }
 
+/** @param {WholeItem[]} items */
 async function questionsOn(items) {
   const found = await each(items, one => whole(`/items/${one.item}/questions`, "published"));
   return found.flat().sort(by("item", "asker", "number"));
@@ -42,6 +50,7 @@ export async function publicRecord() {
   const before = await read("/house");
   const { bands } = await read("/bands");
   const list = await categories();
+  /** @type {Member[]} */
   const people = await each(numbers(before.members), number => read(`/members/${number}`));
   const items = await itemsOf(list);
   const record = {

@@ -7,39 +7,50 @@ import { quote, titleOrNone } from "../elements/dom.js";
 import { action } from "../elements/form.js";
 import { tell } from "../elements/news.js";
 import { isSure } from "../elements/question.js";
+import { phrase, say } from "../words/language.js";
 import { money } from "../words/money.js";
 import { feeOf } from "./fee.js";
 
-// A sale, with the names of its parties and what each gets.
+/**
+ * A sale, with the names of its parties and what each gets.
+ * @typedef {Item & { buyer: string, from: string, fee: number, net: number }} Sale
+ */
+
+/** @param {Item} item @returns {Promise<Sale>} */
 async function saleOf(item) {
-  const [names, { rate }] = await Promise.all([namesOf([item.seller, item.leader]), read("/house")]);
+  const [names, { rate }] = await Promise.all([namesOf([item.seller, Number(item.leader)]), read("/house")]);
   return withParties(item, names, rate);
 }
 
+/** @template {Item} Kind @param {Kind} item @param {TextsByNumber} names @param {number} rate */
 export function withParties(item, names, rate) {
   const fee = feeOf(item.price, rate);
-  return { ...item, buyer: names.get(item.leader), from: names.get(item.seller), fee, net: item.price - fee };
+  return { ...item, buyer: names.get(Number(item.leader)), from: names.get(item.seller), fee, net: item.price - fee };
 }
 
-const isMeant = sale => isSure({
-  title: "Settle this sale?",
-  text: [quote(titleOrNone(sale.title)), `: ${money(sale.price)} from `, quote(sale.buyer), `, ${money(sale.net)} for `,
-    quote(sale.from), `, and ${money(sale.fee)} for the house. It can't be taken back.`],
-  yes: "It is paid, settle it", no: "Not yet",
+/** @param {Sale} sale */
+const isMeant = ({ title, price, buyer, net, from, fee }) => isSure({
+  title: say("settle.sure"),
+  text: phrase("settle.sure_text", { title: quote(titleOrNone(title)), price: money(price), buyer: quote(buyer), net: money(net),
+    seller: quote(from), fee: money(fee) }),
+  yes: say("settle.sure_yes"), no: say("settle.sure_no"),
 });
 
-// A button that settles the sale of an item, for the house; else nothing.
-export function settle(item, after) {
+/**
+ * A button that settles the sale of an item, for the house; else nothing.
+ * @param {Item} item @param {() => Promise<void>} after
+ */
+export function settleButton(item, after) {
   if (!caller.isHouse || item.state !== "sold") {
     return null;
   }
   return action({
-    button: "Settle this sale", waits: "Settling..", context: () => ({ tried: "settle" }),
-    isMeant: async () => isMeant(await saleOf(item)), unless: "Nothing was settled.",
+    button: say("settle.button"), waits: say("settle.waits"), context: () => ({ tried: "settle" }),
+    isMeant: async () => isMeant(await saleOf(item)), unless: say("settle.nothing"),
     act: async () => {
-      const answer = await send(`/items/${item.item}/settle`);
-      const sentence = `Settled: ${money(answer.price)} paid, ${money(answer.fee)} fee, ${money(answer.net)} for the seller.`;
-      await after?.().catch(() => {});
+      const { price, fee, net } = await send(`/items/${item.item}/settle`);
+      const sentence = say("settle.done", { price: money(price), fee: money(fee), net: money(net) });
+      await after().catch(() => {});
       tell(sentence);
       return sentence;
     },

@@ -11,12 +11,16 @@ let least = -Infinity;
 let most = Infinity;
 let drift = 0;
 
+/** @param {number} milliseconds */
 const seconds = milliseconds => milliseconds / 1000;
 const apart = () => Date.now() - performance.now();
 
-// Notes the date of an answer, and between which moments it came.
-export function heard(date, sent, came) {
-  const second = seconds(Date.parse(date));
+/**
+ * Notes the date of an answer, and between which moments it came.
+ * @param {string | null} date @param {number} sent @param {number} came
+ */
+export function hear(date, sent, came) {
+  const second = seconds(Date.parse(date ?? ""));
   if (Number.isNaN(second)) {
     return;
   }

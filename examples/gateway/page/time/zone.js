@@ -13,15 +13,22 @@ const TWO = 2 * HOUR;
 
 const UTC = { standard: { name: "UTC", offset: 0 }, summer: null, begins: null, ends: null };
 
+/** @param {string} name */
 const bare = name => name.replace(/[<>]/g, "");
 
-// Hours, minutes and seconds as seconds, with the sign that is before them.
+/**
+ * Hours, minutes and seconds as seconds, with the sign that is before them.
+ * @param {string} text
+ */
 function length(text) {
   const [hours, minutes = 0, rest = 0] = text.replace(/[+-]/, "").split(":").map(Number);
   return (text.startsWith("-") ? -1 : 1) * (hours * HOUR + minutes * 60 + rest);
 }
 
-// A rule counts what is to be added to get UTC: an offset is the other way round.
+/**
+ * A rule counts what is to be added to get UTC: an offset is the other way round.
+ * @param {string} text
+ */
 const offset = text => 0 - length(text);
 
 /**
@@ -30,7 +37,10 @@ const offset = text => 0 - length(text);
  * @typedef {{ standard: Clock, summer: Clock | null, begins: Turn | null, ends: Turn | null }} Zone
  */
 
-/** The parts of a rule, or null where it is none that is known here. @param {string} rule @returns {Zone | null} */
+/**
+ * The parts of a rule, or null where it is none that is known here.
+ * @param {string} rule @returns {Zone | null}
+ */
 export function parse(rule) {
   const found = RULE.exec(rule);
   if (!found) {
@@ -49,10 +59,16 @@ export function parse(rule) {
   };
 }
 
+/** @param {number} year @param {number} month @param {number} day */
 const dayNumber = (year, month, day) => Date.UTC(year, month, day) / (DAY * 1000);
+
+/** @param {number} year */
 const isLeap = year => new Date(Date.UTC(year, 1, 29)).getUTCMonth() === 1;
 
-// The day of the month of a rule such as M10.5.0: its fifth week is the last that there is.
+/**
+ * The day of the month of a rule such as M10.5.0: its fifth week is the last that there is.
+ * @param {number} year @param {string} text
+ */
 function weekday(year, text) {
   const [month, week, day] = text.slice(1).split(".").map(Number);
   const first = dayNumber(year, month - 1, 1);
@@ -61,7 +77,10 @@ function weekday(year, text) {
   return found < dayNumber(year, month, 1) ? found : found - 7;
 }
 
-// The number of a rule's day in a year. J counts without the 29th of February.
+/**
+ * The number of a rule's day in a year. J counts without the 29th of February.
+ * @param {number} year @param {string} date
+ */
 function dayOf(year, date) {
   if (date.startsWith("M")) {
     return weekday(year, date);
@@ -73,9 +92,16 @@ function dayOf(year, date) {
   return dayNumber(year, 0, day) + (isLeap(year) && day > 59 ? 1 : 0);
 }
 
+/**
+ * When clocks are set in a year, from what a clock has gone by before.
+ * @param {number} year @param {Turn} rule @param {Clock} before
+ */
 const turn = (year, rule, before) => dayOf(year, rule.date) * DAY + rule.time - before.offset;
 
-/** What a clock in the zone goes by at a moment. @param {Zone} zone @param {number} moment @returns {Clock} */
+/**
+ * What a clock in the zone goes by at a moment.
+ * @param {Zone} zone @param {number} moment @returns {Clock}
+ */
 export function at(zone, moment) {
   if (!zone.summer || !zone.begins || !zone.ends) {
     return zone.standard;
@@ -83,7 +109,10 @@ export function at(zone, moment) {
   const year = new Date((moment + zone.standard.offset) * 1000).getUTCFullYear();
   const begin = turn(year, zone.begins, zone.standard);
   const end = turn(year, zone.ends, zone.summer);
-  const isSummer = begin < end ? begin <= moment && moment < end : moment < end || begin <= moment;
+  const isAfterBegin = begin <= moment;
+  const isBeforeEnd = moment < end;
+  // South of the equator summer goes over the turn of the year.
+  const isSummer = begin < end ? isAfterBegin && isBeforeEnd : isAfterBegin || isBeforeEnd;
   return isSummer ? zone.summer : zone.standard;
 }
 

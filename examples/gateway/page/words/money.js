@@ -1,28 +1,39 @@
 // @ts-check
 // Amounts: the interface has whole cents, people write and read them with two decimals.
+import { language } from "./language.js";
 
 export const MOST = 1_000_000_000;
 
-const GROUPS = /\B(?=(\d{3})+$)/g;
-
 // The name by which the city's money goes, after each amount; none, where the city gives none.
-let currency = "";
+export let currency = "";
 
 /** @param {string} name */
 export function setCurrency(name) {
   currency = name;
 }
 
-/** 1234567 is shown as 1,234,567. @param {number} whole */
-export const grouped = whole => String(whole).replace(GROUPS, ",");
+/**
+ * 123450 is shown as 1,234.50 in English.
+ * @param {number} cents
+ */
+export const amount = cents => language.amount.format(cents / 100);
 
-/** 123450 is shown as 1,234.50, and with the name of the money. @param {number} cents */
-export function money(cents) {
-  const amount = `${grouped(Math.floor(cents / 100))}.${String(cents % 100).padStart(2, "0")}`;
-  return currency === "" ? amount : `${amount}\u00a0${currency}`;
-}
+/**
+ * The same with the name of the money.
+ * @param {number} cents
+ */
+export const money = cents => currency === "" ? amount(cents) : `${amount(cents)}\u00a0${currency}`;
 
-/** As a program reads it: 1234.50. @param {number} cents */
+/**
+ * As a field has it: 1234.50 in English.
+ * @param {number} cents
+ */
+export const writtenMoney = cents => language.writtenAmount.format(cents / 100);
+
+/**
+ * As a program reads it, in any language: 1234.50.
+ * @param {number} cents
+ */
 export const plain = cents => `${Math.floor(cents / 100)}.${String(cents % 100).padStart(2, "0")}`;
 
 const PLAIN = /^(\d{1,8})(?:[.,](\d{1,2}))?$/;
