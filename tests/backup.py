@@ -6,13 +6,15 @@ are given) with a pause between file and log, so that the log is written into th
 be one file, sound for SQLite, with the rows of all that was answered before it was begun, and of no more than what was sent
 before it was done. What SQLite itself says of a served house is that it is locked, and that disturbs nobody. A copy is not
 restored over a house that is served; over one that isn't, or that is damaged, it is, and the program serves it. What is no house
-of this version is neither copied nor restored, and a copy that finds no room leaves nothing behind. A city's copy has its house
-and its settings, of which old ones are dropped. Where a superuser runs this, a restored house is its folder's owner's; and where
+of this version is neither copied nor restored, and a copy that finds no room leaves nothing behind. A city's copy has its house,
+its accounts and its settings, and old ones are dropped. A house that was compacted by VACUUM, or has lost a page, is none, and the
+rows that SQLite reads are made one again. Where a superuser runs this, a restored house is its folder's owner's; and where
 btrfs-progs is there, snapshots of a file system of its own are copied too, also beside what a killed one has left. The last line
 is 'N checks, M wrong'.
 """
 import contextlib
 import datetime
+import json
 import os
 import pathlib
 import shutil
@@ -38,9 +40,9 @@ LOCKED = "database is locked"
 HOUSE = message("GET", "/house", 0)
 
 
-def script(name, *words, before=None):
+def script(name, *words, before=None, **environment):
     result = subprocess.run([sys.executable if name.endswith(".py") else "sh", SCRIPTS / name, *words], capture_output=True,
-                          text=True, timeout=PATIENCE, preexec_fn=before)
+                          text=True, timeout=PATIENCE, preexec_fn=before, env={**os.environ, **environment})
     return result.returncode, result.stdout.strip(), result.stderr.strip()
 
 
@@ -188,33 +190,115 @@ def replaced(program, folder):
         check("its owner and rights", (status.st_uid, status.st_gid, status.st_mode & 0o777), (1234, 5678, 0o600))
 
 
-def cities(program, folder):
-    """Copies of a city, with its settings."""
-    root = folder / "root"
-    settings, live = root / "etc" / "auction" / "lindow", root / "var" / "lib" / "auction" / "lindow"
-    copies = root / "var" / "backups" / "auction" / "lindow"
-    for place in (settings, live):
+def make_city(root, house):
+    """The files of a city, and its accounts, which are open."""
+    settings, sign_in, page, live = (root / place / "lindow" for place in (
+        "etc/auction", "var/lib/auction-sign-in", "var/lib/auction-page", "var/lib/auction"))
+    for place in (settings, sign_in, page / "addresses", live):
         place.mkdir(parents=True)
-    shutil.copyfile(folder / "kept", live / "house")
-    (settings / "users").write_text("ana:hash\n")
-    (settings / "users").chmod(0o640)
+    shutil.copyfile(house, live / "house")
+    (settings / "key.pem").write_text("key")
+    (settings / "key.pem").chmod(0o640)
     (settings / "run").symlink_to("/run/auction/lindow")
-    with contextlib.closing(sqlite3.connect(settings / "accounts")) as database:
-        database.execute("CREATE TABLE account (login)")
-        database.commit()
-    status, said, _ = script("copy_city.py", "lindow", root)
+    (settings / "accounts").symlink_to(sign_in / "accounts")
+    (page / "notices.json").write_text("{}")
+    (page / "addresses" / "2").write_text("ben@lindow.example")
+    (page / "origin").write_text("https://lindow.example")
+    accounts = sqlite3.connect(sign_in / "accounts", isolation_level=None)
+    accounts.execute("PRAGMA journal_mode = WAL")
+    accounts.execute("CREATE TABLE account (login)")
+    accounts.execute("INSERT INTO account VALUES ('ana')")
+    return accounts
+
+
+def logins(copy):
+    with contextlib.closing(sqlite3.connect(copy / "accounts")) as accounts:
+        return accounts.execute("SELECT login FROM account").fetchall()
+
+
+def cities(program, folder):
+    """Copies of a city, with its accounts and its settings."""
+    root = folder / "root"
+    live, copies = root / "var" / "lib" / "auction" / "lindow", root / "var" / "backups" / "auction" / "lindow"
+    with contextlib.closing(make_city(root, folder / "kept")):
+        status, said, _ = script("copy_city.py", "lindow", root)
     check("a city copied", (status, said.endswith("Z, 0 minutes old")), (0, True))
     copy = next(copies.iterdir())
     check("its files", sorted(str(file.relative_to(copy)) for file in copy.rglob("*") if file.is_file()),
-          ["house", "settings/accounts", "settings/users"])
-    check("its rights", ((copy / "settings" / "users").stat().st_mode & 0o777, copy.stat().st_mode & 0o777), (0o640, 0o700))
+          ["accounts", "house", "page/addresses/2", "page/notices.json", "settings/key.pem"])
+    check("its rights", ((copy / "settings" / "key.pem").stat().st_mode & 0o777, copy.stat().st_mode & 0o777), (0o640, 0o700))
     check("its house", (copy / "house").read_bytes() == (folder / "kept").read_bytes(), True)
+    check("its accounts", logins(copy), [("ana",)])
+    time.sleep(1)
+    check("copied while nobody can sign in", script("copy_city.py", "lindow", root)[0], 0)
+    check("its accounts then", logins(max(copies.iterdir())), [("ana",)])
+    shutil.rmtree(max(copies.iterdir()))
     (copies / "begun").mkdir()
     (live / "house").write_text("damaged")
     status, said, error = script("copy_city.py", "lindow", root)
     check("a copy that fails", (status, said.startswith(f"the newest copy is {copy.name}"), error),
           (1, True, "copy_city.py: file is not a database"))
     check("what is left of it", list(copies.iterdir()), [copy])
+
+
+ITEMS = 30
+
+
+def make_questions(program, house):
+    """A house in which a member has asked a question about each of some items."""
+    texts = [message("POST", "/members", 0, 1, json.dumps({"name": name})) for name in ("Ana", "Ben")]
+    texts.append(message("POST", "/categories", 0, 1, '{"name":"Books"}'))
+    for number in range(1, ITEMS + 1):
+        item = {"category": 1, "end": 5_000, "lot": f"A{number}", "start": 500, "text": "", "title": "Atlas"}
+        texts.append(message("POST", "/items", 1, 1, json.dumps(item)))
+        texts.append(message("POST", f"/items/{number}/questions", 2, 1, '{"text":"Who bound it?"}'))
+    check(f"{house} made", program.ended("init", house, "--bands", "bands.csv", *SETTINGS)[0], 0)
+    with program.serving(house, len(texts), PATIENCE) as server:
+        check(f"{house} filled", {exchange(server.port, text)[:12] for text in texts}, {b"HTTP/1.1 201"})
+
+
+def dumped(house):
+    with contextlib.closing(sqlite3.connect(house)) as database:
+        return sorted(database.iterdump())
+
+
+def is_house(program, name):
+    """Whether the program reads a house in a file."""
+    status, _, error = program.ended("statement", name, "--member", "1", "--from", "1970-01-01", "--to", "1970-01-01")
+    check(f"{name} is a house, or Damaged", (status, error) in [(0, b""), (1, b"auction: file: Damaged\n")], True)
+    return status == 0
+
+
+def overwrite(house, table):
+    """Has a page of a table lost."""
+    with contextlib.closing(sqlite3.connect(house)) as database:
+        page, = database.execute("SELECT rootpage FROM sqlite_schema WHERE name = ?", [table]).fetchone()
+        size, = database.execute("PRAGMA page_size").fetchone()
+    with house.open("r+b") as file:
+        file.seek((page - 1) * size)
+        file.write(b"\xff" * size)
+
+
+def rescued(program, folder):
+    """Rows of a house that VACUUM has compacted, and of one that lost a page, are made a house again."""
+    path = f"{pathlib.Path(program.path).parent}:{os.environ['PATH']}"
+    make_questions(program, "asked")
+    for name in ("compacted", "broken"):
+        shutil.copyfile(folder / "asked", folder / name)
+    with contextlib.closing(sqlite3.connect(folder / "compacted")) as database:
+        database.execute("VACUUM")
+    overwrite(folder / "broken", "question")
+    for name, lost in (("compacted", ""), ("broken", "some rows can't be read, and are lost\n")):
+        check(f"{name}: a house", is_house(program, name), False)
+        ending = script("rescue_house.sh", folder / name, folder / f"{name} rescued", PATH=path)
+        check(f"{name}: rescued", ending, (0, f"{lost}{ITEMS} items", ""))
+        check(f"{name}: a house again", is_house(program, f"{name} rescued"), True)
+    check("all rows", dumped(folder / "compacted rescued"), dumped(folder / "asked"))
+    questions = [line for line in dumped(folder / "asked") if line.startswith('INSERT INTO "question"')]
+    check("all but the questions", dumped(folder / "broken rescued"), [line for line in dumped(folder / "asked") if line not in questions])
+    (folder / "no house").write_text("This is no house." * 1000)
+    status, said, error = script("rescue_house.sh", folder / "no house", folder / "none", PATH=path)
+    check("no house", (status, said, "no settings of a house" in error, (folder / "none").exists()), (1, "", True, False))
 
 
 def turned_over():
@@ -269,6 +353,7 @@ def main():
         refused(folder)
         replaced(program, folder)
         cities(program, folder)
+        rescued(program, folder)
         turned_over()
         if os.geteuid() == 0 and shutil.which("mkfs.btrfs"):
             snapshots(path, folder, count)

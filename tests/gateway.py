@@ -19,6 +19,7 @@ signed-in clients show what the page of the gateway says:
 - houses behind one gateway are distinguished by host name, and each comes and goes alone: one whose file is damaged
   keeps none of the others down, and haproxy and Apache are begun again when they end
 - what is due is closed, and what was taken is there after stop.sh and start.sh
+- no command is let through while the house's clock and the machine's are more than a day apart
 
 It needs nginx, haproxy, apache2, htpasswd, sqlite3, openssl, curl, ip, setsid, flock and unshare. The last line is 'N checks, M wrong'.
 """
@@ -33,7 +34,7 @@ from gateway_cases import CASES, MINE, NAMES
 from gateway_cities import cities
 from gateway_connections import connections
 from gateway_crowds import crowds, dribblers, restarts
-from gateway_files import half_started, open_houses
+from gateway_files import away, half_started, open_houses
 from gateway_form import foreign_form
 from gateway_hostile import hostile
 from gateway_run import ROOT, folder_of_nobody, missing_packages, running
@@ -90,13 +91,13 @@ def main():
             visit(gateway)
         else:
             print("no chromedriver, so no browser signed in, and none sent the form of another site")
-    with folder_of_nobody() as folder, running(program, folder, count=500) as gateway:
+    with folder_of_nobody() as folder, running(program, folder, count=20, messages=25) as gateway:
         check("a category", gateway.ask("house", "POST", "/api/categories", {"name": "Books"}).status, 201)
         gateway.enrol(*NAMES)
         restarts(gateway, count)
     with folder_of_nobody() as folder:
         cities(program, folder)
-    for case in (open_houses, half_started):
+    for case in (open_houses, half_started, away):
         with folder_of_nobody() as folder:
             case(program, folder)
     with folder_of_nobody() as folder:

@@ -94,6 +94,8 @@ ODD = {
     "expects 100": (BID, ["Expect: 100-continue", "Content-Length: 13"], BODY, LOW),
     "a query": ("GET /api/items/1?a=b HTTP/1.1", [], "", (404, {"error": "path"})),
     "no path": ("GET /api/nothing HTTP/1.1", [], "", (404, {"error": "path"})),
+    "a folder of the catalogue": ("GET /catalogue/open HTTP/1.1", [], "", (404, fault("path"))),
+    "a folder of the page": ("GET /elements HTTP/1.1", [], "", (404, fault("path"))),
     "out of the interface": ("GET /api/../items/1 HTTP/1.1", [], "", (404, fault("path"))),
     "TRACE": ("TRACE /api/items/1 HTTP/1.1", [], "", (405, fault("method"))),
     "OPTIONS": ("OPTIONS /api/items/1 HTTP/1.1", [], "", (405, {"error": "method"})),

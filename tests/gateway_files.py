@@ -1,24 +1,29 @@
-"""What start.sh finds: houses that other users of the machine could read, and what a run of it left that was killed."""
+"""What start.sh finds: houses that other users of the machine could read, what a run of it left that was killed, and a house
+that was away for days."""
 import os
 import signal
 import stat
 import subprocess
+import time
 
 from bad_files import NOBODY, as_nobody
 from gateway_cases import as_another_user
 from gateway_run import PATH, Gateway
-from served import check, held_port
+from served import check, exchange, held_port, message
 
 OPENED = "start.sh: other users could read files in houses/localhost until now"
 REFUSED = "start.sh: others may read houses/localhost, and its owner alone can shut it: it isn't served"
 
 
 def make_open(gateway):
-    """A house that its user made without a umask, where start.sh looks for it."""
+    """A house that its user has opened to others, where start.sh looks for it."""
     house = gateway.house()
     words = ["--bands", gateway.examples / "bands.csv", "--rate", "1000", "--zone", "UTC0"]
     for command in (["mkdir", "-p", house], [gateway.program, "init", house / "house", *words]):
         subprocess.run(command, check=True, preexec_fn=as_nobody, umask=0o022, stdout=subprocess.DEVNULL)
+    check("as it is made", open_to_others(house), ["localhost"])
+    for file in house.iterdir():
+        file.chmod(0o644)
     return house
 
 
@@ -53,6 +58,35 @@ def of_another_owner(gateway, house):
     check("another's open house", (status, error.splitlines()[-1:]), (1, [REFUSED]))
     with as_another_user():
         check("another user", os.access(house / "house", os.R_OK, effective_ids=True), False)
+
+
+def command(gateway):
+    """What the queue answers to a command of whoever runs the house."""
+    words = ["curl", "-s", "--unix-socket", gateway.house() / "run" / "queue.sock", "-X", "POST", "-H", "x-member: 0", "http://house/close"]
+    return subprocess.run(words, preexec_fn=as_nobody, capture_output=True, text=True).stdout
+
+
+def away(program, folder):
+    """A house that was away for three days takes no command until somebody says that the clock is right."""
+    with held_port() as port, held_port() as house_port:
+        gateway = Gateway(program, folder, port, house_port)
+        house = make_open(gateway)
+        words = [gateway.program, "serve", house / "house", "--port", str(house_port), "--count", "1"]
+        server = subprocess.Popen(words, preexec_fn=as_nobody, stdout=subprocess.PIPE, text=True)
+        server.stdout.readline()
+        exchange(house_port, message("POST", "/close", 0, int(time.time()) - 3 * 86_400))
+        server.communicate()
+        try:
+            status, _, error = gateway.start()
+            check("away for three days", (status, "localhost takes no command: the clock of the house is" in error), (1, True))
+            check("a command", command(gateway), '{"error":"gateway","why":"clock"}')
+            for day, wanted in ("2020-01-01", 1), (time.strftime("%Y-%m-%d"), 0):
+                check(f"it is {day}", gateway.script("clock_is_right.sh", house, day)[0], wanted)
+            check("a command then", command(gateway), '{"sold":0,"unsold":0}')
+            gateway.stop()
+            check("started again", gateway.start()[::2], (0, ""))
+        finally:
+            gateway.stop()
 
 
 def half_started(program, folder):

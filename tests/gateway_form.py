@@ -63,7 +63,7 @@ def greatest(gateway):
 
 def without_rule(gateway):
     """Takes the rule on origins out of the gateway that runs."""
-    file = gateway.house() / "site.conf"
+    file = gateway.folder / "auction" / "api.conf"
     file.write_text(file.read_text().replace("if ($foreign)", 'if ($foreign = "never")'))
     gateway.reload()
 

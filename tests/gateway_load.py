@@ -1,9 +1,10 @@
 #!/usr/bin/env python3
 """Has pages of one item open in its last minute, while a member bids: `gateway_load.py PROGRAM [PAGES] [SECONDS]`.
 
-A page takes two reads a second, the item and the member's own bids, over two connections. Sixty members have 1,000 pages
-open where no number is given, for 30 seconds. It prints how soon reads were answered, as wrk counts them, and how soon
-the bids of another member were. It needs wrk, and what gateway.py needs. The last line is 'N checks, M wrong'.
+A page takes two reads a second, the item and the member's own bids, over two connections: the second one because
+somebody bids. Sixty members have 1,000 pages open where no number is given, for 30 seconds. It prints how soon reads
+were answered, as wrk counts them, and how soon the bids of another member were, each of which has to be taken within a
+second. It needs wrk, and what gateway.py needs. The last line is 'N checks, M wrong'.
 """
 import collections
 import itertools
@@ -22,6 +23,8 @@ from served import CHECKS, check
 MEMBERS = 60
 # So many seconds the pages take to open.
 OPENING = 5
+# Within so many seconds each bid has to be taken.
+SOON = 1
 # What wrk is told: every connection asks once a second, by the token of some member.
 SCRIPT = """
 local tokens = {%s}
@@ -66,6 +69,7 @@ def load(gateway, pages, seconds):
     print(f"{pages} pages: {rate} of {2 * pages} reads a second, {lines[-1]}")
     print(f"{sum(statuses.values())} bids, each within {longest:.2f} s")
     check("all bids are taken", list(statuses), [201])
+    check(f"each within {SOON} s", longest < SOON, True)
     check("all reads are answered", lines[-1].endswith("0 refused, 0 without an answer"), True)
 
 

@@ -61,9 +61,10 @@ def script(name, *words, **environment):
 class Gateway:
     """The gateway of some hosts: the scripts, its port, its folder, and the passwords of each host."""
 
-    def __init__(self, program, folder, port, house_port, hosts=("localhost",), count=1_000_000, closes=60):
+    def __init__(self, program, folder, port, house_port, hosts=("localhost",), count=1_000_000, closes=60, messages=5000):
         self.folder, self.port, self.house_port = folder / "city", port, house_port
-        self.count, self.closes = str(count), str(closes)
+        # After how many connections the house ends, and how many messages each takes.
+        self.count, self.messages, self.closes = str(count), str(messages), str(closes)
         self.hosts, self.host = hosts, hosts[0]
         self.examples, self.program = folder / "examples", folder / "auction"
         if not self.program.exists():
@@ -76,7 +77,7 @@ class Gateway:
 
     def script(self, name, *words):
         return script(self.examples / "gateway" / name, *words, PORT=str(self.port), HOUSE_PORT=str(self.house_port),
-                      COUNT=self.count, CLOSE=self.closes)
+                      COUNT=self.count, MESSAGES=self.messages, CLOSE=self.closes)
 
     def start(self, *hosts):
         ending = self.script("start.sh", self.program, self.folder, *(hosts or self.hosts))

@@ -75,7 +75,8 @@ def elsewhere(gateway):
     for field in FOREIGN:
         for path in ("/sign-in", "/sign-out", "/password"):
             check(f"{path}, {field}", gateway.send_form(path, "a=b", [field])[::2], (403, fault("foreign")))
-        check(f"a read, {field}", gateway.ask("ben", "GET", MINE, fields=[field])[::2], (403, fault("foreign")))
+        for page in (MINE, "/catalogue/about.json", "/address"):
+            check(f"{page}, {field}", gateway.ask("ben", "GET", page, fields=[field])[::2], (403, fault("foreign")))
     for field in ("Sec-Fetch-Site: same-origin", "Sec-Fetch-Site: none"):
         check(f"a read, {field}", gateway.ask("ben", "GET", MINE, fields=[field]).status, 200)
 

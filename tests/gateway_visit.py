@@ -57,6 +57,7 @@ def chooses(gateway, reader):
     sign_in(reader, "ana", CHOSEN)
     reader.wait_for("navigation", "Pages")
     reader.wait_for_text("Signed in as Ana")
+    reader.wait(lambda: reader.page.run("return document.querySelector('h1') !== null"), "a heading")
     looks(reader, "the page")
     reader.go_to("Change password", "Change your password")
     looks(reader, "the form of a new password")

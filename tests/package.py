@@ -2,16 +2,19 @@
 """Makes the Debian package and tries it: `package.py PROGRAM FOLDER [DEBIAN]`.
 
 build.sh of examples/package makes it in FOLDER, twice the same bytes. lintian has to say nothing of it, where lintian is there.
-What the gateway's queue does, that of the service does too, but for the lines of DIFFERENT. Each link of the documents in the
-package leads to a file of it, and bash completes what the program's help has. Where a superuser runs this, and
-debootstrap and systemd-nspawn are there, a plain Debian boots that has no more than what the package names, and plain_debian.sh
-tries the package there: an older one is installed, which lacks a line of nginx's files; two cities are set up, members bid
-through nginx, the house ends in three ways, and the timer closes an item. One house has a full disk for a moment and is then
+Each file that nginx's files include is in it. Each link of the documents in the package leads to a file of it, and bash
+completes what the program's help has. Where a superuser runs this, and debootstrap and systemd-nspawn are there, a plain Debian
+boots that has no more than what the package names, and plain_debian.sh tries the package there: an older one is installed,
+which lacks a line of nginx's files; two cities are set up, members sign in by the form and bid through nginx, the house ends in
+three ways, and timers close an item, list all items and have a member mailed. One house has a full disk for a moment and is then
 damaged, beside the other, and its watch, its alarm and Debian's Prometheus tell. The newer package is installed over the older
-one, and has to run at once; a clock that was far ahead, and one that is days behind, let no command through, until a copy is
-restored, or somebody says that the clock is right; a city is taken over from a server that ends; a copy is taken; and the package is removed, installed again and purged. Then such a Debian that
-never had a house boots, and fresh_debian.sh restores the city from the copy, whose members sign in as before. DEBIAN is the folder of that Debian; one that isn't
-there is made from Debian's archive, in some minutes, and kept. The last line is 'N checks, M wrong'.
+one, has to run at once, and lets those in who signed in by the browser's own window; a clock that was far ahead, and one that is
+days behind, let no command through, until a copy is restored, or somebody says that the clock is right; a city is taken over
+from a server that ends; a copy is taken; and the package is removed, installed again and purged. Then such a Debian that never
+had a house boots, and fresh_debian.sh restores the city from the copy, whose members sign in as before. In a third one a new
+user does what the page of the gateway says, without the package. DEBIAN is the folder of
+that Debian; one that isn't there is made from Debian's archive, in some minutes, and kept. The last line is
+'N checks, M wrong'.
 """
 import os
 import pathlib
@@ -25,7 +28,8 @@ from sent import PATIENCE
 from served import CHECKS, check
 
 ROOT = pathlib.Path(__file__).resolve().parent.parent
-PACKAGES = "systemd,systemd-sysv,dbus,adduser,nginx-light,haproxy,curl,openssl,python3,prometheus"
+PACKAGES = ("systemd,systemd-sysv,dbus,adduser,nginx-light,haproxy,apache2-bin,apache2-utils,sqlite3,curl,openssl,python3,iproute2,procps,"
+            "prometheus")
 UNIT = """[Unit]
 After=multi-user.target
 [Service]
@@ -33,45 +37,52 @@ Type=exec
 ExecStart=/bin/sh -c "sh /trial/SCRIPT >> /trial/printed 2>&1; systemctl poweroff"
 """
 PRICE = '"price":500'
-HOUSES = "/var/lib/auction/lindow/house /var/lib/auction/mere/house /var/lib/auction/tarn/house "
+HOME, FORM = "https://lindow.example/", "https://lindow.example/sign-in.html"
+HOUSES = "/var/lib/auction/fell/house /var/lib/auction/lindow/house /var/lib/auction/mere/house /var/lib/auction/tarn/house "
 WANTED = {
     "installed": "0", "set up lindow": "0", "set up tarn": "0", "members of lindow": "house 0 ana 1 ben 2 ",
     "members of tarn": "house 0 ana 1 ben 2 ", "category": '{"category":1}', "item": '{"item":1}', "due": '{"item":2}',
     "bid": '{"count":1,"floor":550,"leader":2,"price":500}', "another page": '{"error":"gateway","why":"foreign"}',
     "no sign-in": '{"error":"gateway","why":"sign-in"}', "another city": '{"error":"gateway","why":"sign-in"}',
-    "another user, the queue": "7", "another user, the house": "7", "another user, house": "1", "another user, users": "1",
-    "another user, members.map": "1", "another user, key.pem": "1", "the house sees": "lindow",
+    "the form": FORM, "a wrong password": f"{FORM}#wrong", "nobody": "", "signed in": HOME, "ben": '"member":2',
+    "a password of his own": f"{FORM}#changed", "out by it": "", "in by it": HOME, "signed out": FORM, "ben is out": "",
+    "the list, to nobody": '{"error":"gateway","why":"sign-in"}', "an address": "201", "a mail to": "ben@lindow.example",
+    "its link": "https://lindow.example/#/item/3", "beside silent connections": "0", "shut again": "700",
+    "another user, the queue": "7", "another user, the house": "7", "the sign-in answers the queue": "0",
+    "another user, the sign-in": "7", "another user, house": "1", "another user, accounts": "1", "another user, key.pem": "1",
+    "another user, addresses": "2", "the house sees": "lindow",
     "after SIGTERM": PRICE, "after SIGKILL": PRICE, "after its count": PRICE, "closed by the timer": '"state":"unsold"',
     "a full disk": '{"error":"store"}', "its line": "status 500 to POST /items after: store", "with room again": "0",
-    "a damaged house": "failed", "the other city": PRICE, "alerts": "1", "series": "6", "waited in vain": None,
+    "the house said": "auction: file: Store",
+    "a damaged house": "failed", "the other city": PRICE, "alerts": "1", "series": "11", "waited in vain": None,
     "the watch failed too": "0", "alarms": "1", "started with wrong words": "1",
     "header of the older package": "0", "upgraded": "0", "the same auction@lindow": "1", "the same auction-queue@lindow": "1",
     "the same auction@tarn": "1", "program that runs": "/usr/bin/auction", "header of the newer package": "1",
-    "after the upgrade": PRICE, "failed": "", "removed": "0", "nginx after it": "0", "active after it": "",
+    "after the upgrade": PRICE, "an old password": "https://fell.example/", "is the same member's": '"member":1', "failed": "",
+    "removed": "0", "nginx after it": "0", "active after it": "",
     "installed again": "0", "after it": PRICE, "purged": "0", "left": "/var/backups/auction /var/lib/auction ",
     "a clock ahead": '{"error":"gateway","why":"clock"}', "a read meanwhile": "200", "the watch says": "no command is let through",
     "restored after it": "0", "a command after it": "201", "days behind": '{"error":"gateway","why":"clock"}',
-    "another day": "1", "the right day": "0", "a command then": "201",
+    "both clocks": "1", "another day": "1", "the right day": "0", "a command then": "201",
     "taken over": "0", "not before the other one ended": "0", "a command after the take-over": "201",
     "copied": "success", "its age": "the newest copy is 0 minutes old",
-    "a copy has": "./house ./settings/cert.pem ./settings/host ./settings/key.pem ./settings/members.map ./settings/site.conf "
-                  "./settings/users ",
+    "a copy has": "./accounts ./house ./page/addresses/2 ./page/notices.json ./settings/cert.pem ./settings/city.json "
+                  "./settings/host ./settings/key.pem ./settings/site.conf ",
     "fresh, installed": "0", "fresh, restored": "0", "fresh, the price": PRICE,
     "fresh, a bid": '{"count":2,"floor":550,"leader":2,"price":500}', "fresh, no sign-in": '{"error":"gateway","why":"sign-in"}',
-    "fresh, owner": "auction 600", "fresh, rights": "root:www-data 640 root:root 600 ", "fresh, restored again": "0",
+    "fresh, owner": "auction 600", "fresh, rights": "auction-sign-in:auction-sign-in 600 root:root 600 ",
+    "fresh, signed in": HOME, "fresh, ben": '"member":2', "fresh, his address": "ben@lindow.example", "fresh, restored again": "0",
     "fresh, the price again": PRICE, "fresh, a third time": "is there already", "fresh, killed by its filter": "0", "fresh, failed": "",
     "the houses": HOUSES, "end": "",
+    "readme, two commands": "0", "readme, first bids": "True", "readme, an account": "0 True", "readme, a token": "0",
+    "readme, a program": "0 True", "readme, stopped": "0", "readme, made first": "0", "readme, served, and not open": "0 False",
+    "readme, stopped again": "0", "readme, several houses": "0 3", "readme, all stopped": "0",
 }
 LINK = re.compile(r"\]\((?!https?:)([^)#\s]+)(?:#[^)\s]*)?\)")
 FENCED = re.compile(r"^```.*?^```$", re.M | re.S)
 MOST_EXPOSED = 1.5
-SCRIPTS = ["plain_debian.sh", "fresh_debian.sh"]
-# What of the gateway's queue that of the service does in its own way: nginx counts what a name asks there.
-DIFFERENT = {"http-request track-sc0 req.hdr(x-member) table members unless { req.hdr(x-member) 0 }",
-             'http-request return status 429 content-type application/json string \'{"error":"gateway","why":"often"}\' '
-             "if { sc_http_req_rate(0) gt 200 }",
-             "bind unix@run/queue.sock mode 600", "timeout queue 55s", "retries 30", "option http-server-close",
-             'server house "127.0.0.1:${HOUSE_PORT}" maxconn 1'}
+SCRIPTS = ["plain_debian.sh", "fresh_debian.sh", "readme_debian.sh"]
+INCLUDED = re.compile(r"^ *include (auction/[^;]+);", re.M)
 
 
 def build(program, folder, examples=ROOT / "examples", **settings):
@@ -97,18 +108,18 @@ def build_older(program, folder):
             shutil.copytree(ROOT / part, tree / part, ignore=shutil.ignore_patterns("plain"))
         for file in ("README.md", "CHANGELOG.md", "crates.txt"):
             shutil.copy(ROOT / file, tree)
-        servers = tree / "examples" / "service" / "nginx" / "server.conf"
+        servers = tree / "examples" / "gateway" / "server.conf"
         servers.write_text("".join(line for line in servers.read_text().splitlines(True) if "Referrer-Policy" not in line))
         build(program, folder, tree / "examples", VERSION="0.9", SOURCE_DATE_EPOCH="0")
 
 
 def has_page(package):
-    """All files of the page are in the package, but for those of the form that signs in."""
+    """All files of the page are in the package."""
     listing = subprocess.run(["dpkg-deb", "--contents", package], capture_output=True, text=True, check=True).stdout
     packed = set(re.findall(r" \./usr/share/auction/page/(\S*[^/\s])$", listing, re.M))
     page = ROOT / "examples" / "gateway" / "page"
     files = {str(file.relative_to(page)) for file in page.rglob("*") if file.is_file()}
-    check("the page", packed, files - {"password.html", "session.js", "sign-in.css", "sign-in.html"})
+    check("the page", packed, files)
 
 
 def has_documents(package):
@@ -140,16 +151,15 @@ def helped(program, *words):
     return subprocess.run([program, *words, "--help"], capture_output=True, text=True, check=True).stdout
 
 
-def lines_of(text):
-    """The lines of a configuration of haproxy that are no comments, without their places."""
-    return {line.strip() for line in text.splitlines() if line.strip() and not line.strip().startswith("#")}
-
-
-def has_queue():
-    """The queue of the service does what that of the gateway does, on which the premise of the proofs rests. The gateway's
-    other sections are of its sign-in."""
-    gateway, service = ((ROOT / "examples" / name / "queue.cfg").read_text() for name in ("gateway", "service"))
-    check("the queue", lines_of(gateway.partition("# How often a member asks")[0]) - lines_of(service), DIFFERENT)
+def has_servers(package):
+    """Whatever nginx's files include is in the package, and the folder that they name leads to it."""
+    with tempfile.TemporaryDirectory() as name:
+        subprocess.run(["dpkg-deb", "--extract", package, name], check=True)
+        share, link = pathlib.Path(name) / "usr" / "share" / "auction", pathlib.Path(name) / "etc" / "nginx" / "auction"
+        check("the folder that nginx includes from", os.readlink(link), "/usr/share/auction/nginx")
+        texts = [file.read_text() for file in (share / "site.conf", *(share / "nginx").iterdir())]
+        included = {file for text in texts for file in INCLUDED.findall(text)}
+        check("what nginx includes", included - {f"auction/{file.name}" for file in (share / "nginx").iterdir()}, set())
 
 
 def lint(package):
@@ -188,13 +198,16 @@ def boot(debian, trial, script):
 
 
 def tried(debian, program, package):
-    """What the scripts tell: one tries the package, one restores its copy where no house was."""
+    """What the scripts tell: one tries the package, one restores its copy where no house was, and one tries the gateway."""
     with tempfile.TemporaryDirectory() as name:
         trial = pathlib.Path(name)
         build_older(program, trial / "older")
         (trial / "newer").mkdir()
         shutil.copy(package, trial / "newer")
-        for script in ("asking.sh", *SCRIPTS):
+        shutil.copytree(ROOT / "examples", trial / "repository" / "examples")
+        (trial / "repository" / "bin").mkdir()
+        shutil.copy(program, trial / "repository" / "bin")
+        for script in ("asking.sh", "hold.py", "gateway_readme.py", *SCRIPTS):
             shutil.copy(ROOT / "tests" / script, trial)
         for script in SCRIPTS:
             boot(debian, trial, script)
@@ -207,7 +220,7 @@ def judge(text):
     printed = dict(re.findall(r"^([^:\n]+): ?(.*)$", text, re.M))
     for name, wanted in WANTED.items():
         check(name, printed.get(name), wanted)
-    for unit in ("auction", "auction-queue", "auction-close"):
+    for unit in ("auction", "auction-queue", "auction-sign-in", "auction-close", "auction-catalogue"):
         exposure = printed.get(f"exposure of {unit}")
         print(f"{unit}: exposure {exposure}")
         check(f"exposure of {unit}", exposure is not None and float(exposure) < MOST_EXPOSED, True)
@@ -220,7 +233,7 @@ def main():
     package = built(*sys.argv[1:3])
     print(f"{package}: {package.stat().st_size} bytes")
     has_page(package)
-    has_queue()
+    has_servers(package)
     has_documents(package)
     has_completion(sys.argv[1])
     if shutil.which("lintian"):

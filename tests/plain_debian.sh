@@ -8,11 +8,47 @@ export DEBIAN_FRONTEND=noninteractive
 
 . ./asking.sh
 
+account() {
+    command=$1 city=$2
+    shift 2
+    sh /usr/share/auction/account.sh "$command" "/etc/auction/$city" "$@"
+}
+
+password_of() {
+    sed -n "s/^$2 [0-9]* //p" "$1.passwords"
+}
+
 set_up() {
     say "set up $1" "$(sh /usr/share/auction/setup.sh "$1" "$1.example" 2>&1 > /dev/null; echo $?)"
-    sh /usr/share/auction/add_member.sh "/etc/auction/$1" house ana ben > "$1.passwords"
+    {
+        account adopt "$1" house 0
+        account add "$1" ana Ana
+        account add "$1" ben Ben
+    } > "$1.passwords"
+    for login in house ana ben; do
+        account token "$1" "$login"
+    done > "$1.tokens"
     say "members of $1" "$(cut -d ' ' -f 1,2 "$1.passwords" | tr '\n' ' ')"
     wait_until "ask $1 ben /me/bids/1 | grep -q bids"
+}
+
+# Ben signs in by the form, chooses a password, and gets out. A wrong password opens nothing.
+sign_in_and_out() {
+    say "the form" "$(browse lindow / -o /dev/null -w '%{redirect_url}')"
+    say "a wrong password" "$(sign_in lindow ben wrong)"
+    say "nobody" "$(signed_in lindow)"
+    say "signed in" "$(sign_in lindow ben "$(password_of lindow ben)")"
+    say "ben" "$(signed_in lindow)"
+    say "a password of his own" "$(browse lindow /password -o /dev/null -w '%{redirect_url}' -d httpd_username=ben -d httpd_method=POST \
+        -d httpd_mimetype=text/plain --data-urlencode "httpd_password=$(password_of lindow ben)" --data-urlencode 'new=grünes Haus & 12+')"
+    say "out by it" "$(signed_in lindow)"
+    say "in by it" "$(sign_in lindow ben 'grünes Haus & 12+')"
+    say "signed out" "$(browse lindow /sign-out -X POST -b lindow.cookies -o /dev/null -w '%{redirect_url}')"
+    say "ben is out" "$(signed_in lindow)"
+    # A new password ends a token.
+    account token lindow ben > ben.token
+    sed -i '/^ben/d' lindow.tokens
+    cat ben.token >> lindow.tokens
 }
 
 trade() {
@@ -24,7 +60,7 @@ trade() {
     say "another page" "$(ask lindow ben /items/1/bids -d '{"maximum":900}' -H 'Origin: https://evil.example')"
     say "no sign-in" "$(curl -s -k --resolve lindow.example:443:127.0.0.1 https://lindow.example/api/house)"
     say "another city" "$(curl -s --cacert /etc/auction/tarn/cert.pem \
-        --resolve tarn.example:443:127.0.0.1 -u "ben:$(sed -n 's/^ben [0-9]* //p' lindow.passwords)" https://tarn.example/api/house)"
+        --resolve tarn.example:443:127.0.0.1 -H "$(bearer lindow ben)" https://tarn.example/api/house)"
 }
 
 # Prometheus reads what the queues and the watches tell, by the rules of the package.
@@ -42,7 +78,7 @@ alarms() {
     journalctl -t auction-alarm -o cat | grep -c "^$1 has failed"
 }
 
-# A disk that is full for a moment: the house is started anew, and goes on.
+# A disk that is full for a moment: the house ends, is started anew, and goes on.
 fill_disk() {
     systemctl stop auction@tarn
     cp -a /var/lib/auction/tarn /trial/tarn
@@ -60,6 +96,7 @@ fill_disk() {
     begun=$(date +%s)
     wait_until 'ask tarn ana /items/1 | grep -q Atlas'
     say "with room again" "$([ $(($(date +%s) - begun)) -lt 30 ]; echo $?)"
+    say "the house said" "$(journalctl -u auction@tarn -o cat | grep -m 1 -x 'auction: file: Store')"
 }
 
 # A house that is damaged fails its unit, somebody is told, and another city goes on.
@@ -104,10 +141,16 @@ others_reach_nothing() {
     say "another user, the queue" "$?"
     runuser -u nobody -- curl -s --max-time 5 http://127.0.0.1:8080/house > /dev/null 2>&1
     say "another user, the house" "$?"
-    for file in /var/lib/auction/lindow/house /etc/auction/lindow/users /etc/auction/lindow/members.map /etc/auction/lindow/key.pem; do
+    nsenter -t "$(systemctl show -P MainPID auction@lindow)" -n -- curl -s -o /dev/null http://127.0.0.1:8081/session
+    say "the sign-in answers the queue" "$?"
+    runuser -u nobody -- curl -s --max-time 5 http://127.0.0.1:8081/session > /dev/null 2>&1
+    say "another user, the sign-in" "$?"
+    for file in /var/lib/auction/lindow/house /var/lib/auction-sign-in/lindow/accounts /etc/auction/lindow/key.pem; do
         runuser -u nobody -- cat "$file" > /dev/null 2>&1
         say "another user, $(basename "$file")" "$?"
     done
+    runuser -u nobody -- ls /var/lib/auction-page/lindow/addresses > /dev/null 2>&1
+    say "another user, addresses" "$?"
     nsenter -t "$(systemctl show -P MainPID auction@lindow)" -m -- ls /var/lib/auction > seen
     say "the house sees" "$(cat seen)"
 }
@@ -132,7 +175,7 @@ starts_again() {
 }
 
 expose() {
-    for unit in auction auction-queue auction-close; do
+    for unit in auction auction-queue auction-sign-in auction-close auction-catalogue; do
         say "exposure of $unit" \
             "$(systemd-analyze security "$unit@lindow.service" --no-pager | tail -1 | grep -o '[0-9]*\.[0-9]')"
     done
@@ -146,7 +189,62 @@ header() {
     ask lindow ben /house -D - -o /dev/null | grep -ci "^$1:"
 }
 
+# A city's folder is shut again where its house starts.
+shut_again() {
+    chmod 755 /var/lib/auction/lindow
+    chmod 644 /var/lib/auction/lindow/house
+    systemctl restart auction@lindow
+    say "shut again" "$(stat -c %a /var/lib/auction/lindow)"
+    chmod 600 /var/lib/auction/lindow/house
+}
+
+# The timer has written the list of all items. A member that is outbid is mailed, where it has given its address.
+tell_members() {
+    printf '#!/bin/sh\ncat > /var/tmp/mail\n' > /usr/local/bin/keep-mail
+    chmod 755 /usr/local/bin/keep-mail
+    echo SENDMAIL=/usr/local/bin/keep-mail >> /etc/default/auction
+    wait_until 'browse lindow /catalogue/about.json -H "$(bearer lindow ben)" | grep -q items'
+    say "the list, to nobody" "$(browse lindow /catalogue/about.json)"
+    account add lindow cid Cid > /dev/null
+    account token lindow cid >> lindow.tokens
+    ask lindow ana /items -d '{"category":1,"end":4102444800,"lot":"A3","start":500,"text":"","title":"Map"}' > /dev/null
+    ask lindow ben /items/3/bids -d '{"maximum":500}' > /dev/null
+    say "an address" "$(browse lindow /address -X PUT -d ben@lindow.example -H "$(bearer lindow ben)" -o /dev/null -w '%{http_code}')"
+    systemctl start auction-catalogue@lindow
+    ask lindow cid /items/3/bids -d '{"maximum":900}' > /dev/null
+    systemctl start auction-catalogue@lindow
+    wait_until '[ -s /var/tmp/mail ]'
+    say "a mail to" "$(sed -n 's/^To: //p' /var/tmp/mail)"
+    say "its link" "$(grep -o 'https://lindow.example/[^ ]*' /var/tmp/mail | head -1)"
+}
+
+# Thousands of connections that say nothing, and a member's read beside them.
+hold_connections() {
+    python3 hold.py 3000 20 > held &
+    sleep 5
+    begun=$(date +%s%N)
+    ask lindow ben /items/1 > /dev/null
+    spent=$((($(date +%s%N) - begun) / 1000000))
+    wait
+    say "beside silent connections" "$([ "$(cat held)" -ge 3000 ] && [ "$spent" -lt 1000 ]; echo $?)"
+    echo "a read beside $(cat held) silent connections took $spent ms" >&2
+}
+
+# A city as an older package had it, whose members signed in by the browser's own window.
+make_older_city() {
+    install -d -m 755 /etc/auction/fell
+    install -d -o auction -g auction -m 700 /var/lib/auction/fell
+    runuser -u auction -- auction init /var/lib/auction/fell/house --bands /usr/share/auction/bands.csv --rate 1000 --zone UTC0 > /dev/null
+    systemctl enable --quiet --now auction@fell auction-queue@fell
+    wait_until 'curl -s --unix-socket /run/auction/fell/queue.sock -H "x-member: 0" -d "{\"name\":\"dora\"}" http://house/members | grep -q member'
+    echo fell.example > /etc/auction/fell/host
+    echo "dora:$(echo an-old-password | openssl passwd -6 -stdin)" > /etc/auction/fell/users
+    echo '"fell.example dora" 1;' > /etc/auction/fell/members.map
+    printf 'server {\n    auth_basic_user_file /etc/auction/fell/users;\n}\n' > /etc/auction/fell/site.conf
+}
+
 upgrade() {
+    make_older_city
     for unit in auction@lindow auction-queue@lindow auction@tarn; do
         systemctl show -P MainPID "$unit" > "$unit.before"
     done
@@ -159,6 +257,9 @@ upgrade() {
     say "program that runs" "$(readlink "/proc/$(systemctl show -P MainPID auction@lindow)/exe")"
     say "header of the newer package" "$(header referrer-policy)"
     say "after the upgrade" "$(price)"
+    wait_until 'browse fell /sign-in.html | grep -q Password'
+    say "an old password" "$(sign_in fell dora an-old-password)"
+    say "is the same member's" "$(signed_in fell)"
 }
 
 # What the house of a city answers to a command, as a status.
@@ -200,11 +301,13 @@ days_behind() {
     curl -s http://127.0.0.1:8090/house > /dev/null
     wait
     sh /usr/share/auction/setup.sh mere mere.example > /dev/null 2>&1
-    sh /usr/share/auction/add_member.sh /etc/auction/mere house > mere.passwords
+    account adopt mere house 0 > mere.passwords
+    account token mere house > mere.tokens
     wait_until 'ask mere house /house | grep -q clock'
     say "days behind" "$(ask mere house /categories -d '{"name":"Maps"}')"
-    say "another day" "$(sh /usr/share/auction/clock_is_right.sh mere 2020-01-01 > /dev/null 2>&1; echo $?)"
-    say "the right day" "$(sh /usr/share/auction/clock_is_right.sh mere "$(date +%F)" > /dev/null 2>&1; echo $?)"
+    say "both clocks" "$(sh /usr/share/auction/clock_is_right.sh /etc/auction/mere | grep -c 'the clock of the house')"
+    say "another day" "$(sh /usr/share/auction/clock_is_right.sh /etc/auction/mere 2020-01-01 > /dev/null 2>&1; echo $?)"
+    say "the right day" "$(sh /usr/share/auction/clock_is_right.sh /etc/auction/mere "$(date +%F)" > /dev/null 2>&1; echo $?)"
     say "a command then" "$(command_status mere Maps)"
     systemctl reset-failed
 }
@@ -250,6 +353,7 @@ systemctl is-system-running --wait > /dev/null
 say installed "$(apt-get install -y --no-install-recommends ./older/auction_*.deb > install.log 2>&1; echo $?)"
 set_up lindow
 set_up tarn
+sign_in_and_out
 begin_to_watch
 trade
 fill_disk
@@ -259,6 +363,9 @@ starts_again
 wait_until 'ask lindow ben /items/2 | grep -q "\"state\":\"unsold\""'
 say "closed by the timer" "$(ask lindow ben /items/2 | tr ',' '\n' | grep state)"
 expose
+tell_members
+hold_connections
+shut_again
 mend
 say failed "$(systemctl list-units --failed --plain --no-legend)"
 upgrade

@@ -5,8 +5,9 @@ The machines are namespaces of this one, with a network, mounts and processes of
 disk. The scripts of examples/replica make and mount the volume. Bids go to the house that one machine serves, and each answered
 one is noted. A second server at another machine is refused. A machine that only keeps is killed under bids, which go on, and the
 volume heals. The machine that serves is killed, or cut off, under bids, and the house is opened on another one. Each bid that was
-answered has to be in the house then. One that is cut off takes no bid after another machine has opened it. The same, killed, is
-done with an arbiter for the third machine. The Debian package is glusterfs-server. The last line is 'N checks, M wrong'.
+answered has to be in the house then. One that is cut off takes no bid after another machine has opened it, and its server ends
+with `auction: file: Store`. The same, killed, is done with an arbiter for the third machine. The Debian package is
+glusterfs-server. The last line is 'N checks, M wrong'.
 """
 import contextlib
 import json
@@ -39,16 +40,11 @@ class Machine:
         self.address, self.disk = f"198.51.100.{number}", disk / str(number)
         self.outer = subprocess.Popen(["unshare", "--mount", "--net", "--uts", "--pid", "--fork", "--mount-proc", "--kill-child",
                                        sys.executable, "-c", HOLD], stderr=subprocess.DEVNULL)
-        self.process = self.first_process()
+        self.process = first_of(self.outer)
         link = f"machine{number}"
         run("ip", "link", "add", link, "netns", switch, "type", "veth", "peer", "name", "eth0", "netns", self.process)
         run("nsenter", "-t", switch, "-n", "ip", "link", "set", link, "master", "switch", "up")
         self.runs("sh", "-ec", f"ip addr add {self.address}/24 dev eth0; ip link set eth0 up; ip link set lo up; hostname {link}")
-
-    def first_process(self):
-        """The number of the machine's first process, which holds the others."""
-        children = pathlib.Path(f"/proc/{self.outer.pid}/task/{self.outer.pid}/children")
-        return waited_for(lambda: children.read_text().split()[:1])[0]
 
     def words(self, *words):
         return ["nsenter", "-t", self.process, "-m", "-n", "-u", "-p", "--", *map(str, words)]
@@ -110,6 +106,12 @@ def run(*words):
     subprocess.run(words, check=True, capture_output=True)
 
 
+def first_of(outer):
+    """The number of the first process of a space, which `unshare` has made: with it the others end."""
+    children = pathlib.Path(f"/proc/{outer.pid}/task/{outer.pid}/children")
+    return waited_for(lambda: children.read_text().split()[:1])[0]
+
+
 def waited_for(found, seconds=PATIENCE):
     """What is found, once it is."""
     deadline = time.monotonic() + seconds
@@ -161,17 +163,27 @@ def init(machine, program):
     check("made", result.returncode, 0)
 
 
-def all_are_there(machine, acked, folder):
-    """Each answered bid is in the house, and SQLite finds no fault in it. The house is one that nobody serves."""
-    for name in ("house", "house-wal"):
-        with (folder / name).open("wb") as file:
-            subprocess.run(machine.words("cat", PLACE / name), stdout=file, stderr=subprocess.DEVNULL)
-    with contextlib.closing(sqlite3.connect(folder / "house")) as database:
+def await_bid(acked):
+    """Waits until a bid was answered."""
+    waited_for(lambda: acked.exists() and acked.stat().st_size)
+
+
+def bids_in(house, acked):
+    """How many bids were answered, and how many are in a copy of the house: each answered one is, and SQLite finds no fault."""
+    with contextlib.closing(sqlite3.connect(house)) as database:
         check("sound", database.execute("PRAGMA integrity_check").fetchone(), ("ok",))
         rows = set(database.execute("SELECT item, no, member, maximum FROM bid"))
     answered = [tuple(map(int, line.split())) for line in acked.read_text().splitlines()]
     check("answered bids that are lost", [row for row in answered if row not in rows], [])
-    return len(answered)
+    return len(answered), len(rows)
+
+
+def all_are_there(machine, acked, folder):
+    """Each answered bid is in the house, which nobody serves."""
+    for name in ("house", "house-wal"):
+        with (folder / name).open("wb") as file:
+            subprocess.run(machine.words("cat", PLACE / name), stdout=file, stderr=subprocess.DEVNULL)
+    return bids_in(folder / "house", acked)[0]
 
 
 def told(what, client):
@@ -232,6 +244,7 @@ def cut_off(program, folder):
         server = kept[0].serve(program)
         check("listens", server.stdout.readline(), "listening\n")
         client = kept[0].bids(acked, 60)
+        await_bid(acked)
         time.sleep(PERIOD / 2)
         kept[0].cut_off()
         begun = time.monotonic()
@@ -244,7 +257,7 @@ def cut_off(program, folder):
         kept[1].runs("pkill", "-x", "auction")
         other.wait()
         print(f"cut off: {all_are_there(kept[1], acked, folder)} answered bids, each of them looked for")
-        server.kill()
+        check("the one that is cut off has ended", (server.wait(PATIENCE), server.stderr.read()), (1, "auction: file: Store\n"))
 
 
 def main():

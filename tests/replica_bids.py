@@ -18,13 +18,19 @@ MOST = 9_999
 
 
 class House:
-    """A client of a house on a port."""
+    """A client of a house on a port, which sends so many messages over each of its connections."""
 
-    def __init__(self, port):
-        self.port, self.connection, self.sent = port, None, MOST
+    def __init__(self, port, most=MOST):
+        self.port, self.most, self.connection, self.sent = port, most, None, most
+
+    def close(self):
+        if self.connection is not None:
+            self.answers.close()
+            self.connection.close()
 
     def ask(self, request):
-        if self.sent == MOST:
+        if self.sent == self.most:
+            self.close()
             self.connection = socket.create_connection(("127.0.0.1", self.port), timeout=PATIENCE)
             self.connection.setsockopt(socket.IPPROTO_TCP, socket.TCP_NODELAY, 1)
             self.answers, self.sent = self.connection.makefile("rb"), 0

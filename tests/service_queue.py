@@ -1,13 +1,17 @@
 #!/usr/bin/env python3
-"""Asks a house through the queue of examples/service: `service_queue.py PROGRAM`.
+"""Asks a house through the queue of examples/gateway, as the service runs it: `service_queue.py PROGRAM`.
 
-haproxy is started with the service's queue.cfg before a house in a file. 25,000 messages go through it, and the house has to end
-after three connections, since each takes 9,999. A command is taken after the kept connection was idle for longer than the house
+haproxy is started with queue.cfg before a house in a file. 12,000 commands of ten clients at once go through it, none of which is
+lost where the house ends a connection after 10,000 messages, since the queue has it end each after 5,000. A command is taken after the kept connection was idle for longer than the house
 waits, and after the house was killed and started again. Where the clock of the house and that of the machine are three days
-apart, either way, no command is let through, but for one that says that the clock is right, and reads are. A house whose file
-may not grow has a line for its 500. haproxy is of Debian's package. The last line is 'N checks, M wrong'.
+apart, either way, no command is let through, but for one that says that the clock is right, and reads are. A house whose
+file may not grow has a line for its 500, after which the queue leaves its connection, so that it ends. Once it is started again it
+takes a command. haproxy is of Debian's package. The last line is 'N checks, M wrong'.
 """
+import collections
+import concurrent.futures
 import contextlib
+import copy
 import os
 import pathlib
 import re
@@ -23,12 +27,14 @@ from house_file import limited
 from sent import PATIENCE, next_answer
 from served import CHECKS, SETTINGS, Program, check, exchange, held_port, message
 
-QUEUE = pathlib.Path(__file__).resolve().parent.parent / "examples" / "service" / "queue.cfg"
+QUEUE = pathlib.Path(__file__).resolve().parent.parent / "examples" / "gateway" / "queue.cfg"
 HAPROXY = shutil.which("haproxy", path=f"{os.environ['PATH']}:/usr/sbin")
+# What the unit of the queue sets. Nobody listens on the port of the sign-in.
+SETTING = {"SOCKETS": ".", "SOCKET_MODE": "600", "MESSAGES": "5000", "SIGN_IN_PORT": "9"}
 DAY = 86_400
 # A connection that was idle for so long is ended by the house.
 IDLE = 31
-MESSAGES, CONNECTIONS = 25_000, 3
+COMMANDS, CLIENTS, CONNECTIONS = 12_000, 10, 3
 APART = (503, b'{"error":"gateway","why":"clock"}')
 CLOSED = (200, b'{"sold":0,"unsold":0}')
 
@@ -40,8 +46,14 @@ class Queue:
         self.folder = pathlib.Path(folder)
         with (self.folder / "lines").open("ab") as lines:
             self.process = subprocess.Popen([HAPROXY, "-db", "-f", QUEUE], cwd=folder, stdout=lines, stderr=lines,
-                                            env={**os.environ, "HOUSE_PORT": str(port)})
+                                            env={**os.environ, **SETTING, "HOUSE_PORT": str(port)})
         self.connection = self.answers = None
+
+    def another(self):
+        """Another client of it."""
+        client = copy.copy(self)
+        client.connection = client.answers = None
+        return client
 
     def connect(self):
         deadline = time.monotonic() + PATIENCE
@@ -114,6 +126,14 @@ def queued(program, folder, port, name):
         queue.end()
 
 
+def crowded(queue):
+    """What commands are answered that some clients send at once, each its own one after the other."""
+    clients = [queue.another() for _ in range(CLIENTS)]
+    with concurrent.futures.ThreadPoolExecutor(CLIENTS) as pool:
+        parts = pool.map(lambda client: [client.ask("POST", "/close") for _ in range(COMMANDS // CLIENTS)], clients)
+        return [answer for part in parts for answer in part]
+
+
 def kept(program, folder, port):
     """Messages through few connections."""
     house = House(program, port)
@@ -122,8 +142,7 @@ def kept(program, folder, port):
         check("a command before the clock is known", queue.ask("POST", "/close"), APART)
         check("the first look", queue.ask("GET", "/house")[0], 200)
         check("a command of a new house", queue.ask("POST", "/close"), CLOSED)
-        statuses = [queue.ask(*words)[0] for words in [("GET", "/house"), ("POST", "/close")] * (MESSAGES // 2)]
-        check("all are answered", statuses.count(200), MESSAGES)
+        check("all are answered", collections.Counter(crowded(queue)), {CLOSED: COMMANDS})
         queue.end()
     check("in three connections", (house.process.communicate(timeout=PATIENCE)[0], house.process.returncode),
           (b"served %d\n" % CONNECTIONS, 0))
@@ -163,7 +182,7 @@ def apart(program, folder, port, days):
 
 
 def failing(program, folder, port):
-    """The line of an answer that says that the file failed."""
+    """A house whose file failed has a line of the queue, which then leaves its connection. So it ends, and is started again."""
     house = House(program, port, "full", limited(300_000))
     with queued(program, folder, port, "full") as queue:
         house.serve(1_000)
@@ -174,7 +193,14 @@ def failing(program, folder, port):
                 break
         check("the file is full", answer, (500, b'{"error":"store"}'))
         check("its line", queue.tells("status 500 to POST /members after [0-9]+ ms: store"), True)
-        house.kill()
+        check("the house ends", house.process.wait(PATIENCE), 1)
+        roomy = House(program, port, "full")
+        again = threading.Timer(1, roomy.serve, [1_000])
+        again.start()
+        queue.connect()
+        check("a command after it", queue.ask("POST", "/members", '{"name":"Zoe"}')[0], 201)
+        again.join()
+        roomy.kill()
 
 
 def main():

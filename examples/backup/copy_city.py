@@ -1,10 +1,11 @@
 #!/usr/bin/env python3
 """Copies all that a city's service needs: `copy_city.py CITY [ROOT]`.
 
-A copy is a folder /var/backups/auction/CITY/TIME with the file `house`, as copy_house.py makes it, and `settings`, what lies in
-/etc/auction/CITY: who may sign in, with which number, the names, the certificate and its key. Settings are copied first, so each
-number there is that of a member of the house. The folder gets its name once all of it is on the disk, and a copy that fails
-leaves nothing behind. Kept are the newest 24, and the newest of each of the last 14 days that have one.
+A copy is a folder /var/backups/auction/CITY/TIME with the file `house`, as copy_house.py makes it; `accounts`, who may sign in, by
+which password and with which number; `settings`, what lies in /etc/auction/CITY: the names, the certificate and its key; and
+`page`, the addresses of members, and what they have been told. Accounts are copied first, so each number there is that of a
+member of the house. The folder gets its name once all of it is on the disk, and a copy that fails leaves nothing behind. Kept
+are the newest 24, and the newest of each of the last 14 days that have one.
 
 The last line tells how old the newest copy is, also where this one failed. ROOT is another root than /, for a trial.
 """
@@ -18,43 +19,50 @@ import sqlite3
 import sys
 import time
 
-from copy_house import Unsound, copy_house, keep
+from copy_house import Unsound, copy_house, keep, log_of
 
 NEWEST, DAYS = 24, 14
 TIME = "%Y-%m-%dT%H:%M:%SZ"
 DAY = len("2026-01-01")
 BEGUN = "begun"
-SQLITE = b"SQLite format 3\0"
 
 
-def is_database(file):
-    with file.open("rb") as opened:
-        return opened.read(len(SQLITE)) == SQLITE
-
-
-def copy_database(source, target):
-    """Copies a file of SQLite, which others may write meanwhile."""
-    with contextlib.closing(sqlite3.connect(source)) as database, contextlib.closing(sqlite3.connect(target)) as copy:
+def copy_accounts(source, target):
+    """Copies a file of SQLite, which others may write meanwhile. Where nobody has it open, it has no log."""
+    mode = "mode=ro" if log_of(source).exists() else "mode=ro&immutable=1"
+    with contextlib.closing(sqlite3.connect(f"{source.absolute().as_uri()}?{mode}", uri=True)) as database, \
+            contextlib.closing(sqlite3.connect(target)) as copy:
         database.backup(copy)
-    shutil.copystat(source, target)
+    keep(target)
 
 
 def copy_file(source, target):
-    """Copies a file of the settings with its owner, who has to exist where it is restored."""
-    (copy_database if is_database(source) else shutil.copy2)(source, target)
+    """Copies a file with its rights and its owner, who has to exist where it is restored."""
+    shutil.copy2(source, target)
     if os.geteuid() == 0:
         status = source.stat()
         os.chown(target, status.st_uid, status.st_gid)
+    keep(target)
 
 
-def copy_settings(settings, copy):
-    """Copies the files of a folder. Links are made anew by setup.sh."""
-    copy.mkdir()
-    for file in sorted(settings.iterdir()):
-        if file.is_file() and not file.is_symlink():
-            copy_file(file, copy / file.name)
-            keep(copy / file.name)
-    keep(copy)
+def copy_files(source, target, names=None):
+    """Copies the files of a folder, all of them or those of these names. Links are made anew by setup.sh."""
+    target.mkdir()
+    for file in sorted(source.iterdir()):
+        if file.is_file() and not file.is_symlink() and (names is None or file.name in names):
+            copy_file(file, target / file.name)
+    keep(target)
+
+
+def copy_gateway(root, city, copy):
+    """Copies what the gateway has of a city. One that was set up by hand may lack accounts, or what the jobs write."""
+    accounts, page = (root / "var" / "lib" / folder / city for folder in ("auction-sign-in", "auction-page"))
+    if (accounts / "accounts").exists():
+        copy_accounts(accounts / "accounts", copy / "accounts")
+    copy_files(root / "etc" / "auction" / city, copy / "settings")
+    if page.exists():
+        copy_files(page, copy / "page", ("notices.json",))
+        copy_files(page / "addresses", copy / "page" / "addresses")
 
 
 def names(copies):
@@ -87,7 +95,7 @@ def make_copy(root, city, copies):
     shutil.rmtree(begun, ignore_errors=True)
     try:
         begun.mkdir()
-        copy_settings(root / "etc" / "auction" / city, begun / "settings")
+        copy_gateway(root, city, begun)
         copy_house(root / "var" / "lib" / "auction" / city / "house", begun / "house")
         begun.rename(copies / name)
     except BaseException:

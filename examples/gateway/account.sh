@@ -1,6 +1,6 @@
 #!/bin/sh
 # account.sh COMMAND HOUSE [LOGIN [WHO]]: who may sign in to a house. HOUSE is the folder with the file accounts:
-# FOLDER/houses/HOST of start.sh, or /etc/auction of setup.sh. Passwords and tokens are printed once, and nowhere kept.
+# FOLDER/houses/HOST of start.sh, or /etc/auction/CITY of setup.sh. Passwords and tokens are printed once, and nowhere kept.
 #
 #   add HOUSE LOGIN NAME       registers a member under its public name, and lets it sign in
 #   adopt HOUSE LOGIN NUMBER   lets a member sign in that the house knows already; the number 0 is who runs the house
@@ -59,7 +59,7 @@ check_login() {
 
 # Sixteen letters and digits that nobody confuses: 79 random bits.
 random_password() {
-    tr -dc 'a-hjkmnp-z2-9' < /dev/urandom | head -c 16 | sed 's/..../&-/g; s/-$//'
+    head -c 1000 /dev/urandom | tr -dc 'a-hjkmnp-z2-9' | head -c 16 | sed 's/..../&-/g; s/-$//'
 }
 
 # Lets a member of a number sign in, and prints the line for it.
@@ -173,7 +173,8 @@ case ${1-} in
 esac
 cd "$2" 2> /dev/null || fail "no folder $2"
 [ -e accounts ] || fail "no file accounts in $2: start.sh or setup.sh makes it"
-exec 9> accounts.lock
+# One run at a time. SQLite locks the file by other means.
+exec 9< accounts
 flock 9
 case $1 in
     add)

@@ -5,13 +5,26 @@ set -eu
 program=$1 count=$3
 PATH=$PATH:/usr/sbin:/sbin
 SCRIPTS=$(cd "$(dirname "$0")" && pwd)
-export HOUSE="$PWD" RUN="$PWD/run" LOG="$PWD/sign-in.log" HOUSE_PORT="$2" SIGN_IN_PORT=$(($2 + 1)) SCRIPTS
+export HOUSE="$PWD" RUN="$PWD/run" LOG="$PWD/sign-in.log" HOUSE_PORT="$2" SIGN_IN_PORT=$(($2 + 1)) SCRIPTS \
+    SOCKETS=run SOCKET_MODE=600 MESSAGES="${MESSAGES:-5000}"
 
 # Runs a command again whenever it ends, after a second where that was a fault. The house ends after its count.
 keep() {
     while :; do
         "$@" || sleep 1
     done
+}
+
+# The queue lets no command through before it knows the house's clock, which it learns by this answer.
+tell_clock() {
+    until curl -s -f -m 200 -o /dev/null --unix-socket run/queue.sock -H 'x-member: 0' http://house/house; do
+        sleep 0.2
+    done
+}
+
+serve_queue() {
+    tell_clock &
+    haproxy -db -q -f queue.cfg
 }
 
 # An item takes no bid after its end. Until it is closed it isn't sold.
@@ -27,7 +40,7 @@ if [ "$(id -u)" = 0 ]; then
     # Apache doesn't run as root, and not as the root of its own network either.
     apart="unshare --user --map-user=1"
 fi
-keep haproxy -db -q -f queue.cfg &
+keep serve_queue &
 keep $apart apache2 -D FOREGROUND -f "$PWD/sign_in.conf" &
 [ "${CLOSE:-60}" = 0 ] || close_due "${CLOSE:-60}" &
 [ "${CATALOGUE:-60}" = 0 ] || sh "$SCRIPTS/catalogue/each_minute.sh" "$PWD" "${CATALOGUE:-60}" &

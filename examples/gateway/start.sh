@@ -41,7 +41,7 @@ shut_house() {
 
 # No browser takes a certificate of its own that could make others.
 make_certificate() {
-    openssl req -x509 -newkey rsa:2048 -nodes -keyout "houses/$1/key.pem" -out "houses/$1/cert.pem" -days 365 \
+    openssl req -x509 -newkey ec -pkeyopt ec_paramgen_curve:prime256v1 -nodes -keyout "houses/$1/key.pem" -out "houses/$1/cert.pem" -days 365 \
         -subj "/CN=$1" -addext "subjectAltName=DNS:$1" -addext basicConstraints=critical,CA:FALSE 2> /dev/null
 }
 
@@ -117,11 +117,24 @@ add_first_members() {
     mv "$printed" "houses/$1/passwords"
 }
 
+# The server of a house for nginx.
+make_site() {
+    sh "$here/make_site.sh" NAME="$1" HOST="$1" LISTEN="127.0.0.1:$port" ORIGIN="https://$1:$port" RUN="houses/$1/run" \
+        KEYS="houses/$1" PAGE="houses/$1/page" FILES="houses/$1" > "houses/$1/site.conf"
+}
+
+# The queue lets no command through while the house's clock and the machine's are more than a day apart.
+look_at_clock() {
+    ! clocks=$(sh "$here/clock_is_right.sh" "houses/$1") || return 0
+    complain "$1 takes no command: $clocks. If the machine's is right: sh $here/clock_is_right.sh $PWD/houses/$1 $(date +%F)"
+    return 1
+}
+
 # Has nginx serve the house of a host, once it runs.
 open_house() {
     if is_served "$1"; then
-        add_first_members "$1"
-        sed -e "s/HOST/$1/g" -e "s/PORT/$port/g" "$here/site.conf" > "houses/$1/site.conf"
+        ! look_at_clock "$1" || add_first_members "$1"
+        make_site "$1"
         opened="$opened $1"
     else
         sh "$here/stop.sh" "$PWD" "$1"
@@ -159,7 +172,9 @@ nginx_runs() {
 # Starts nginx, or has it read its files again.
 start_nginx() {
     sed -e "s/PORT/$port/g" "$here/nginx.conf" > nginx.conf
-    cp "$here/maps.conf" "$here/server.conf" "$here/errors.conf" "$here/form.conf" .
+    for file in api errors form house maps server upstream; do
+        cp "$here/$file.conf" auction/
+    done
     if nginx_runs; then
         kill -s HUP "$(cat run/nginx.pid)"
     else
@@ -179,7 +194,7 @@ mkdir -p "$2"
 cd "$2"
 shift 2
 [ $# -gt 0 ] || set -- localhost
-mkdir -p run logs tmp
+mkdir -p auction run logs tmp
 check_needs
 own_network="unshare --user --map-root-user --net"
 $own_network true 2> /dev/null || {

@@ -21,21 +21,31 @@ put() {
     shift
     mkdir -p "$place"
     for file in "$@"; do
-        case $file in
-            *.sh | *.py | */alarm) mode=755 ;;
+        case $(head -c 2 "$here/../$file" | tr -d '\0') in
+            '#!') mode=755 ;;
             *) mode=644 ;;
         esac
         install -m "$mode" "$here/../$file" "$place/"
     done
 }
 
-# The page of the gateway. Here members sign in by the browser's own window, so what its form needs stays out.
-put_page() {
-    page=$root/usr/share/auction/page
-    cp -r "$here/../gateway/page" "$page"
-    (cd "$page" && rm password.html session.js sign-in.css sign-in.html)
-    sed -i '/class="own"/d; /"session.js"/d; /"sign-in.css"/d' "$page/index.html"
-    find "$page" -type d -exec chmod 755 {} + -o -exec chmod 644 {} +
+# The gateway: what start.sh uses, but for the scripts that are for trials alone. nginx includes its files as auction/NAME.conf.
+put_gateway() {
+    (cd "$here/.." && find gateway/page -type d) | while read -r folder; do
+        put "usr/share/auction/${folder#gateway/}" $(cd "$here/.." && find "$folder" -maxdepth 1 -type f)
+    done
+    for part in catalogue notices; do
+        put "usr/share/auction/$part" $(cd "$here/.." && echo gateway/$part/*.py)
+    done
+    for file in api errors form house maps server upstream; do
+        put usr/share/auction/nginx "gateway/$file.conf"
+    done
+    for file in account.sh accounts.sql change_password.sh clock_is_right.sh make_site.sh passwords.sh queue.cfg \
+        sign_in.conf site.conf; do
+        put usr/share/auction "gateway/$file"
+    done
+    mkdir -p "$root/etc/nginx"
+    ln -s /usr/share/auction/nginx "$root/etc/nginx/auction"
 }
 
 put_documents() {
@@ -49,7 +59,8 @@ put_documents() {
         put "usr/share/doc/auction/examples/$part" $(cd "$here/.." && echo "$part"/*.md)
     done
     put usr/share/doc/auction/examples/gateway/catalogue gateway/catalogue/README.md
-    put usr/share/doc/auction/examples service/prometheus.yml
+    put usr/share/doc/auction/examples service/prometheus.yml replica/keepalived.conf
+    install -m 644 "$here/../gateway/connections.nft" "$documents/examples/gateway/"
     put usr/share/auction bands.csv
     printf 'auction (%s) unstable; urgency=medium\n\n  * Packaged.\n\n -- %s  %s\n' "$version" \
         "$(sed -n 's/^Maintainer: //p' "$here/control")" "$(date -u -R -d "@$date")" |
@@ -80,11 +91,10 @@ put etc/default package/auction
 put etc/auction service/alarm
 put usr/share/auction/nginx $(cd "$here/.." && echo service/nginx/*)
 put usr/share/auction backup/copy_house.py backup/restore_house.py backup/copy_city.py backup/restore_city.sh \
-    backup/snapshot_house.sh
+    backup/rescue_house.sh backup/snapshot_house.sh
 put usr/share/auction $(cd "$here/.." && echo replica/*.sh)
-put usr/share/auction service/setup.sh service/watch.sh service/clock_is_right.sh \
-    service/queue.cfg service/alerts.yml service/add_member.sh
-put_page
+put usr/share/auction service/setup.sh service/make_city.sh service/units.sh service/watch.sh service/alerts.yml
+put_gateway
 put_documents
 put_completion
 put_control

@@ -1,7 +1,7 @@
 #!/bin/sh
 # watch.sh CITY: asks the house of a city what it is, by its queue, and writes what Prometheus reads of it to
-# /run/auction-watch/CITY.prom. Ends with 1 where no answer comes within a minute, or another one than a house's, and where
-# the queue lets no command through, since the two clocks are apart.
+# /run/auction-watch/CITY.prom. Ends with 1 where no answer comes within a minute, or another one than a house's; where
+# the queue lets no command through, since the two clocks are apart; and where nobody can sign in.
 set -u
 city=$1
 unit=auction@$city.service
@@ -49,6 +49,18 @@ fail_by_clock() {
     exit 1
 }
 
+# Whether Apache says of somebody who shows nothing that it is nobody.
+signs_in() {
+    status=$(curl --silent --max-time 30 --output /dev/null --write-out '%{http_code}' \
+        --unix-socket "/run/auction/$city/session.sock" http://house/session)
+    [ "$status" = 401 ]
+}
+
+fail_by_sign_in() {
+    echo "nobody can sign in: the sign-in of $city answers $status"
+    exit 1
+}
+
 # A queue that is started anew, as by an upgrade, breaks off what it has begun.
 answer=$(asked) || {
     sleep 2
@@ -58,12 +70,13 @@ clock=$(echo "$answer" | sed -n 's/.*"clock":\([0-9]*\),.*/\1/p')
 if [ -n "$clock" ]; then
     write_metrics 1
     is_near "$clock" || fail_by_clock
+    signs_in || fail_by_sign_in
     exit 0
 fi
 write_metrics 0
 echo "the house of $city answers: ${answer:-nothing}"
 if [ "$answer" = '{"error":"store"}' ]; then
-    # A house whose file failed answers nothing else until it is started anew.
+    # A house whose file failed ends with its connection. Until then it answers nothing else.
     echo "it is started anew"
     systemctl restart "$unit"
     exit 0

@@ -10,7 +10,7 @@ Event = collections.namedtuple("Event", "member kind item count")
 def changes(before, after):
     """What changed of an item that was known, in the order in which it is told."""
     was, now = before["state"], after["state"]
-    if now == "open" and before["leader"] not in (None, after["leader"]):
+    if now in ("open", "unsold") and before["leader"] not in (None, after["leader"]):
         yield Event(before["leader"], "outbid", after["item"], after["count"])
     if was == "open" and now in ("sold", "settled"):
         yield Event(after["leader"], "won", after["item"], 0)

@@ -16,7 +16,7 @@ import time
 import urllib.parse
 
 from events import Event, events_between
-from words import subject, text
+from words import Words
 
 # So long a notice is tried to be sent, in seconds.
 PATIENCE = 86_400
@@ -88,15 +88,15 @@ def origin_of(place):
     return file.read_text().strip() if file.exists() else f"https://{place.resolve().name}"
 
 
-def message(event, item, address, origin, currency):
+def message(event, item, address, origin, words):
     """The mail of an event. Its number is that of the event, so that a second one is known as the same."""
     host = urllib.parse.urlsplit(origin).hostname
     mail = email.message.EmailMessage()
     mail["To"] = address
-    mail["Subject"] = subject(event.kind, item)
+    mail["Subject"] = words.subject(event.kind, item)
     mail["Message-ID"] = f"<{event.kind}.{event.item}.{event.member}.{event.count}@{host}>"
     mail["Auto-Submitted"] = "auto-generated"
-    mail.set_content(text(event.kind, item, origin, currency))
+    mail.set_content(words.text(event.kind, item, origin))
     return mail
 
 
@@ -107,15 +107,14 @@ def send(mail, address):
 
 def send_waiting(state, items, place, moment):
     """Sends what waits, one after the other, and notes each. What fails waits for the next round, for a day."""
-    currency = read_json(place / "page" / "city.json", {}).get("currency", "")
-    origin = origin_of(place)
+    words, origin = Words(place / "page"), origin_of(place)
     sent = failed = 0
     for entry in list(state.waiting):
         since, event = entry[0], Event(*entry[1:])
         address = address_of(place, event.member)
         try:
             if address is not None and event.item in items and moment - since <= PATIENCE:
-                send(message(event, items[event.item], address, origin, currency), address)
+                send(message(event, items[event.item], address, origin, words), address)
                 sent += 1
         except (OSError, subprocess.CalledProcessError) as error:
             print(f"a notice waits: {error}", file=sys.stderr)

@@ -1,31 +1,14 @@
-"""What a notice says: its subject, and its text."""
+"""What a notice says: its subject, and its text, in the language of the city and by the words of its page."""
+import json
+import pathlib
 import unicodedata
 
-SUBJECTS = {
-    "outbid": "You were outbid: {title}",
-    "won": "You won: {title}",
-    "lost": "Somebody else got it: {title}",
-    "sold": "Sold: {title}",
-    "unsold": "Not sold: {title}",
-    "short": "Not sold, the reserve was not met: {title}",
-    "settled": "Settled: {title}",
-    "soon": "Ends within the hour: {title}",
-}
-TEXTS = {
-    "outbid": "Somebody bid more than you for this item. Its price is now {price}.",
-    "won": "You got this item for {price}.",
-    "lost": "This item went to somebody else, for {price}.",
-    "sold": "Your item is sold, for {price}.",
-    "unsold": "Your item ended without a sale. You can list it again.",
-    "short": "You led at the end, but the reserve was not met, so the item is not sold.",
-    "settled": "The house has settled the sale of your item, for {price}.",
-    "soon": "You lead. Its price is {price}, and it ends within the hour.",
-}
+PAGE = pathlib.Path(__file__).resolve().parent.parent / "page"
 
 
-def amount(cents, currency):
-    text = f"{cents // 100:,}.{cents % 100:02}"
-    return f"{text} {currency}" if currency else text
+def read_first(files):
+    """The value of the first file that is there."""
+    return next(json.loads(file.read_bytes()) for file in files if file.is_file())
 
 
 def tidy(text):
@@ -33,10 +16,23 @@ def tidy(text):
     return "".join(" " if unicodedata.category(letter)[0] == "C" or letter in "\u2028\u2029" else letter for letter in text)
 
 
-def subject(kind, item):
-    return SUBJECTS[kind].format(title=tidy(item["title"]))
+class Words:
+    """The words of a page, as its city.json chooses them. What that page lacks, the one beside this program has."""
 
+    def __init__(self, page):
+        city = read_first([page / "city.json", PAGE / "city.json"])
+        names = [f"words/{city.get('language', 'en')}.json", "words/en.json"]
+        self.mail = read_first([folder / name for name in names for folder in (page, PAGE)])["mail"]
+        self.currency = city.get("currency", "")
 
-def text(kind, item, address, currency):
-    line = TEXTS[kind].format(price=amount(item["price"], currency))
-    return f"{tidy(item['title'])}\n\n{line}\n\n{address}/#/item/{item['item']}\n"
+    def amount(self, cents):
+        whole = f"{cents // 100:,}".replace(",", self.mail["thousands"])
+        text = f"{whole}{self.mail['decimal']}{cents % 100:02}"
+        return f"{text} {self.currency}" if self.currency else text
+
+    def subject(self, kind, item):
+        return self.mail[f"{kind}_subject"].format(title=tidy(item["title"]))
+
+    def text(self, kind, item, origin):
+        line = self.mail[f"{kind}_text"].format(price=self.amount(item["price"]))
+        return f"{tidy(item['title'])}\n\n{line}\n\n{origin}/#/item/{item['item']}\n"
