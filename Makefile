@@ -36,12 +36,14 @@ GATEWAY_PACKAGES = nginx-light haproxy apache2-bin apache2-utils sqlite3 openssl
 PAGE_PACKAGES = $(GATEWAY_PACKAGES) nodejs node-typescript
 LOAD_PACKAGES = $(GATEWAY_PACKAGES) wrk
 BACKUP_PACKAGES = sqlite3 btrfs-progs
-REPLICA_PACKAGES = glusterfs-server iproute2 procps
+REPLICA_PACKAGES = glusterfs-server iproute2 procps keepalived haproxy
+DISK_PACKAGES = python3-fusepy nbdkit libnbd-bin fuse2fs e2fsprogs haproxy curl util-linux
 SERVICE_PACKAGES = prometheus haproxy
 DEB_PACKAGES = lintian debootstrap systemd-container
 
 .PHONY: help demo session test auction program cases rows fuzz mutated twins memory allocations statement random file \
-	office kills stops cuts stalls counts wrong giving documents openapi gateway load page backup service replica deb packages
+	office kills stops cuts stalls counts wrong giving axioms documents openapi gateway load page backup service replica disks deb \
+	packages
 
 help:
 	@echo "For a newcomer"
@@ -54,6 +56,8 @@ help:
 	@echo "                 it is and when it should end; out/ has all lines, and the minutes by crate and step"
 	@echo "  make wrong     tries the wrong bodies that make test leaves out, of the crates CRATES=\"a b\" or of all"
 	@echo "  make giving    puts in bodies that give up, those named in BODIES=\"a b\", and looks whether the tests find them"
+	@echo "  make axioms    lists what the proof of the program assumes, as the prover tells it: each function of C, and the libraries"
+	@echo "                 that it takes as the kit has them built; some minutes after make auction"
 	@echo "  make documents reads the documents, and plays what they show on the program"
 	@echo "  make openapi   holds the answers of the cases in CASES against docs/openapi.yaml (needs Python's jsonschema and"
 	@echo "                 openapi-spec-validator, and no kit)"
@@ -79,10 +83,12 @@ help:
 	@echo "  make packages  installs Debian's packages that these need, as root"
 	@echo "  make gateway   has clients ask and bid through nginx and haproxy for PERIOD, and the house start anew RESTARTS times"
 	@echo "  make load      has PAGES pages of an item open in its last minute, through the gateway, while a member bids (needs wrk)"
-	@echo "  make page      plays an auction on the page of the gateway in Chromium, by the house and three members, in seven minutes"
+	@echo "  make page      plays an auction on the page of the gateway in Chromium, by the house and three members, in eight minutes"
 	@echo "  make backup    makes COPIES copies of a house that is served, and restores one"
 	@echo "  make service   gives the alert rules of the service what they have to tell of, and asks a house through its queue"
-	@echo "  make replica   serves a house on a volume that three machines keep, kills them and cuts one off, as root, in two minutes"
+	@echo "  make replica   serves a house on a volume that three machines keep, kills them and cuts one off, as root, in two minutes;"
+	@echo "                 and has keepalived give the name of a city to another machine"
+	@echo "  make disks     has the disk of a house fail under bids, as root: one that is full, has I/O errors, or is cut off"
 	@echo "  make deb       makes the package in out/, and tries it in a plain Debian in the folder DEBIAN"
 	@echo
 	@echo "Tests of the crates that make test has left"
@@ -116,17 +122,17 @@ has-curl:
 has-tests:
 	@test -x crates/test_store/out/test_store || { echo "no crates/test_store/out: run make test first"; exit 1; }
 
-demo test auction wrong giving: has-kit
+demo test auction wrong giving axioms: has-kit
 session: has-bin has-curl
 program cases fuzz mutated twins memory allocations file office kills stops cuts stalls counts documents: has-program
-gateway load page backup service replica deb: has-program
+gateway load page backup service replica disks deb: has-program
 rows random file statement memory allocations: has-tests
 cases openapi: has-cases
 memory allocations stops cuts: has-cc
 documents: has-curl
 
 demo:
-	@echo "This builds the program without proofs, so its last line has proved=no. It takes three to four minutes."
+	@echo "This builds the program without proofs, so a line says proved=no. It takes three to four minutes."
 	@bash -o pipefail -c "cd crates/auction && rt try -- replay --preset < ../../examples/bids.http \
 		| sed 's/}HTTP/}\n\nHTTP/; \$$ s/\$$/\n/'"
 
@@ -232,6 +238,9 @@ counts:
 stalls:
 	python3 tests/stalls.py crates/auction/out/auction
 
+axioms:
+	python3 tests/axioms.py auction
+
 documents:
 	python3 tests/figures.py
 	python3 tests/documents.py crates/auction/out/auction
@@ -257,7 +266,7 @@ load:
 
 page:
 	@echo "Debian's packages: $(PAGE_PACKAGES)"
-	if command -v node > /dev/null; then node --test tests/page_modules.mjs; fi
+	if command -v node > /dev/null; then node --test tests/page_modules.mjs tests/page_language.mjs; fi
 	if command -v tsc > /dev/null; then tsc -p tests/page_types.json; fi
 	python3 tests/page.py crates/auction/out/auction $(PICTURES)
 
@@ -272,7 +281,12 @@ service:
 
 replica:
 	@echo "Debian's packages: $(REPLICA_PACKAGES)"
-	python3 tests/replica.py crates/auction/out/auction
+	if command -v glusterd > /dev/null; then python3 tests/replica.py crates/auction/out/auction; fi
+	if command -v keepalived > /dev/null; then python3 tests/take_over_name.py crates/auction/out/auction; fi
+
+disks:
+	@echo "Debian's packages: $(DISK_PACKAGES)"
+	python3 tests/failed_disk.py crates/auction/out/auction
 
 deb:
 	@echo "Debian's packages: $(DEB_PACKAGES)"
@@ -281,4 +295,4 @@ deb:
 
 packages:
 	apt-get install -y --no-install-recommends $(PAGE_PACKAGES) wrk $(BACKUP_PACKAGES) $(SERVICE_PACKAGES) \
-		$(REPLICA_PACKAGES) $(DEB_PACKAGES)
+		$(REPLICA_PACKAGES) $(DISK_PACKAGES) $(DEB_PACKAGES)

@@ -13,7 +13,7 @@ from measured import kept, shown
 from sent import command, compact
 from served import Program
 
-SIZES, WITH_BIDS, BIDS = [0, 1_000, 10_000, 100_000], [1_000, 10_000], 5
+SIZES, WITH_BIDS, BIDS = [0, 1_000, 10_000, 100_000], [1_000, 10_000, 100_000], 5
 # Sellers and bidders are the preset's.
 MEMBERS = 3
 

@@ -4,11 +4,11 @@
 Each link leads to a file and a heading that are there. Each file that is named between backticks is there, by its path
 or the end of it. Each name of code in the pages on promises, definitions, crates and changes and in GLOSSARY.md is a
 word of some source, and each wrong body there has its file. Each block of Rust is text of some source. CLAUSES.md is
-what clauses.py makes, and PROMISES.md lists the ported crates as ported.py does. README.md and the pages of docs/ and
-examples/ have no line over 100 columns outside tables and Rust. figures.py, where it is there, finds no wrong figure.
-The manual docs/auction.1 has no line over 80 columns, and no fault that mandoc finds, where mandoc is there. It has
-each command of PROGRAM with all its files, options and ranges, as the help tells them, and no other. The last line is
-'N checks, M wrong'.
+what clauses.py makes; PROMISES.md lists the ported crates as ported.py does, and counts definitions as definitions.py
+does. README.md and the pages of docs/ and examples/ have no line over 100 columns outside tables and Rust. Whatever shows
+how a house is made shows it under umask 077. figures.py, where it is there, finds no wrong figure. The manual
+docs/auction.1 has no line over 80 columns, and no fault that mandoc finds, where mandoc is there. It has each command of
+PROGRAM with all its files, options and ranges, as the help tells them, and no other. The last line is 'N checks, M wrong'.
 """
 import pathlib
 import re
@@ -17,12 +17,13 @@ import subprocess
 import sys
 
 import clauses
+import definitions
 import ported
 
 ROOT = pathlib.Path(__file__).resolve().parent.parent
-PAGES = [*(ROOT / name for name in ("README.md", "CHANGELOG.md", "bench/README.md")),
+PAGES = [*(ROOT / name for name in ("README.md", "CHANGELOG.md", "CONTRIBUTING.md", "bench/README.md")),
          *sorted((ROOT / "docs").glob("*.md")), *sorted((ROOT / "examples").glob("*/*.md"))]
-OF_CODE = [f"docs/{name}.md" for name in ("ARCHITECTURE", "CHANGING", "DEFINITIONS", "GLOSSARY", "LAYERS", "PROMISES")]
+OF_CODE = [f"docs/{name}.md" for name in ("ARCHITECTURE", "CHANGING", "DEFINITIONS", "GLOSSARY", "LAYERS", "PROMISES", "PROOFS")]
 MANUAL = ROOT / "docs" / "auction.1"
 FIGURES = ROOT / "tests" / "figures.py"
 MOST_COLUMNS, MOST_IN_MANUAL = 100, 80
@@ -38,6 +39,9 @@ HEX = re.compile(r"[0-9a-f]{16}")
 HELPED = re.compile(r"^ +(?:-\w, )?(?:--([a-z]+))? ?(?:<([A-Z]+)>)?  +(.*)$", re.M)
 GIVEN = re.compile(r"Fl -([a-z]+)(?: Ar ([A-Z]+))?|Ar ([A-Z]+)")
 RANGE = re.compile(r"[0-9]+ to [0-9]+(?![-0-9])")
+# What makes a house, in a block of a page or of the manual, and in a line of text.
+MAKES = re.compile(r"^(?:\$ )?(?:.*\W)?auction init \S", re.M)
+BLOCK = re.compile(r"^```\w*\n.*?^```$|^\.Bd .*?^\.Ed$", re.M | re.S)
 WRONG = re.compile(r"`([a-z0-9]+(?:-[a-z]+){2,})`")
 CHECKS = []
 
@@ -99,6 +103,15 @@ def columns(page, text):
     check("\n".join([f"{named(page)}: over {MOST_COLUMNS} columns:", *wide]), not wide)
 
 
+def made_shut(page, text):
+    """A house is made by who reads a page, so its user alone has to be let to read the file: each block that makes one says so."""
+    for block in BLOCK.findall(text):
+        for made in MAKES.finditer(block):
+            check(f"{named(page)}: no umask 077 before {made[0]}..", "umask 077" in block[:made.end()])
+    found = MAKES.search(BLOCK.sub("", re.sub(r"<!--.*?-->", "", text)))
+    check(f"{named(page)}: it makes a house outside a block: {found and found[0]}", not found)
+
+
 def figures():
     """Fails where figures.py does, with what it printed."""
     if FIGURES.exists():
@@ -140,6 +153,7 @@ def manual_items(part):
 
 def manual(program):
     text = MANUAL.read_text()
+    made_shut(MANUAL, text)
     for line in text.splitlines():
         check(f"auction.1: over {MOST_IN_MANUAL} columns: {line}", len(line) <= MOST_IN_MANUAL)
     if shutil.which("mandoc"):
@@ -183,6 +197,7 @@ def main():
         links(page, text)
         files(page, text, there)
         quotes(page, text, lines)
+        made_shut(page, text)
         if page.parent.name != "bench":
             columns(page, text)
         if named(page) in OF_CODE:
@@ -191,6 +206,7 @@ def main():
     check("docs/CLAUSES.md is older than the code: run tests/clauses.py", clauses.PAGE.read_text() == clauses.page())
     promises = " ".join((ROOT / "docs" / "PROMISES.md").read_text().split())
     check("docs/PROMISES.md: the ported crates are those that tests/ported.py prints", ported.listed() in promises)
+    check("docs/PROMISES.md: the definitions are as tests/definitions.py counts them", definitions.told() in promises)
     figures()
     manual(sys.argv[1] if len(sys.argv) > 1 else None)
     print(f"{len(CHECKS)} checks, {CHECKS.count(False)} wrong")

@@ -14,7 +14,7 @@ ROOT = pathlib.Path(__file__).resolve().parent.parent
 sys.path.insert(0, str(ROOT / "bench"))
 import published  # noqa: E402
 
-PAGES = [ROOT / "README.md", ROOT / "bench" / "README.md", *sorted((ROOT / "docs").glob("*.md")),
+PAGES = [ROOT / "README.md", ROOT / "CHANGELOG.md", ROOT / "bench" / "README.md", *sorted((ROOT / "docs").glob("*.md")),
          *sorted((ROOT / "examples").glob("*/*.md"))]
 SHOWING = ["README.md", "bench/README.md", "docs/RUNNING.md", "examples/gateway/GROWTH.md"]
 COMMENT = re.compile(r"<!--\s+figure:\s+(.*?)\s+-->", re.S)
