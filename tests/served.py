@@ -10,7 +10,7 @@ Twenty messages come in one, three and twenty connections, and then the house is
 a connection that is reset before it and one that goes on after what is no message. So are houses that have the worked
 rows of reserves, in tests/worked.py. Outputs of both are full, and
 one is closed after its first line. Of 10,001 messages of one connection 10,000 are answered. While the last connection is
-served, another is refused.
+served, another is refused. A server that is stopped while it waits for a message, or for room for its answers, goes on with them.
 
 Bodies that give up, put in by hand in a program that was built without proofs, were found by this script, program.py
 and house_file.py: the runs of `init`, `serve` and `replay` always each fault, at their end and at their beginning,
@@ -21,14 +21,16 @@ printed before the keep is ended is found by stopped_calls.py alone.
 import contextlib
 import os
 import pathlib
+import signal
 import socket
 import subprocess
 import sys
 import tempfile
 import threading
+import time
 
 import worked
-from sent import PATIENCE
+from sent import PATIENCE, answers_in
 
 SETTINGS = ["--rate", "2000", "--zone", "CET-1"]
 
@@ -293,6 +295,53 @@ def last(program):
     check("the last ended", server.ending, served(1))
 
 
+def in_state(process, state):
+    """Waits until a process is in a state for a while: S as it waits for its connection, and T once it is stopped."""
+    times = 0
+    while times < 5:
+        text = pathlib.Path(f"/proc/{process.pid}/stat").read_text()
+        times = times + 1 if text.rpartition(")")[2].split()[0] == state else 0
+        time.sleep(0.01)
+
+
+@contextlib.contextmanager
+def stopped(process):
+    """A process that waits, and is stopped meanwhile."""
+    in_state(process, "S")
+    process.send_signal(signal.SIGSTOP)
+    in_state(process, "T")
+    yield
+    process.send_signal(signal.SIGCONT)
+
+
+def stops(program, init):
+    """A server that is stopped as it waits, for each message and for room for its answers, loses none."""
+    check("stopped made", program.ended("init", "stopped", *init), (0, b"created\n", b""))
+    # Seven million bytes of answers are more than the system holds of a connection.
+    terms = '{"category":1,"end":9000,"lot":"C3","start":500,"text":"%s","title":"Map"}' % ("x" * 1000)
+    messages = [*MESSAGES, message("POST", "/items", 1, 5003, terms)]
+    reads = message("GET", "/items/3", 2) * 5000
+    wanted = program.ended("replay", *init, given=b"".join(messages) + reads)[1]
+    received = b""
+    with program.serving("stopped", 1) as server, socket.socket() as connection:
+        connection.setsockopt(socket.SOL_SOCKET, socket.SO_RCVBUF, 4096)
+        connection.settimeout(PATIENCE)
+        connection.connect(("127.0.0.1", server.port))
+        for number, text in enumerate(messages):
+            with stopped(server.process):
+                connection.sendall(text)
+            while len(answers_in(received)[0]) <= number:
+                received += connection.recv(65536)
+        sending = threading.Thread(target=send, args=(connection, reads))
+        sending.start()
+        with stopped(server.process):
+            pass
+        received += read_all(connection)
+        sending.join()
+    check("stopped answers", received, wanted)
+    check("stopped ended", server.ending, served(1))
+
+
 def setting(words, name, default):
     """What a word of a case is set to."""
     return words[words.index(name) + 1] if name in words else default
@@ -331,6 +380,7 @@ def main():
         lost_output(program, init)
         most(program)
         last(program)
+        stops(program, init)
         if len(sys.argv) > 2:
             for args in sorted(pathlib.Path(sys.argv[2]).resolve().glob("*.args")):
                 compare_case(program, args, "case")

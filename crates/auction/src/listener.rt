@@ -1,6 +1,7 @@
 //! The connections of a listener.
 ghost use Rattle.std.specs.Prelude.{⊤};
 
+use crate::stream::Steady;
 use device::{Failure, Reading, Writing};
 use site_connections::{Connection, Connections};
 use site_serve::{ServeFault, Served};
@@ -54,14 +55,14 @@ impl Listener {
 
 // A connection that is given up where it is still, for reading and for writing. The last piece of its
 // answers is sent at once, and not held back until the one before is acknowledged (RFC 896).
-fn set_up(stream: &TcpStream) -> io::Result<Connection<Reading<TcpStream>, Writing<TcpStream>>> {
+fn set_up(stream: &TcpStream) -> io::Result<Connection<Reading<Steady>, Writing<Steady>>> {
     let still = Some(Duration::from_secs(STILL));
     stream.set_read_timeout(still)?;
     stream.set_write_timeout(still)?;
     stream.set_nodelay(true)?;
     Ok(Connection {
-        source: Reading::new(stream.try_clone()?),
-        sink: Writing::new(stream.try_clone()?),
+        source: Reading::new(Steady::new(stream.try_clone()?)),
+        sink: Writing::new(Steady::new(stream.try_clone()?)),
     })
 }
 
@@ -98,17 +99,15 @@ impl Listen for Listener {
 }
 
 impl Connections for Listener {
-    type Input = Reading<TcpStream>;
+    type Input = Reading<Steady>;
 
-    type Output = Writing<TcpStream>;
+    type Output = Writing<Steady>;
 
     ghost accepts = { λ _ _ _. ⊤ };
 
     ghost ends = { λ _ _ _ _. ⊤ };
 
-    fn accept(
-        &mut self,
-    ) -> Result<Option<Connection<Reading<TcpStream>, Writing<TcpStream>>>, Failure> {
+    fn accept(&mut self) -> Result<Option<Connection<Reading<Steady>, Writing<Steady>>>, Failure> {
         let stream = self.next_stream()?;
         match set_up(&stream) {
             Ok(connection) => {
@@ -121,7 +120,7 @@ impl Connections for Listener {
 
     fn end(
         &mut self,
-        _connection: Connection<Reading<TcpStream>, Writing<TcpStream>>,
+        _connection: Connection<Reading<Steady>, Writing<Steady>>,
         report: Result<Served, ServeFault>,
     )
         ensures { ⊤ }

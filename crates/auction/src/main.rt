@@ -19,6 +19,7 @@ mod listener;
 mod program;
 mod remains;
 mod stores;
+mod stream;
 
 use std::process::ExitCode;
 
