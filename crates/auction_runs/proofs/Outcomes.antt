@@ -1,8 +1,10 @@
 -- What is known of a run by how it ended.
-use Rattle.std.proofs.Common.{◌≡◌, ◌⊎◌, ℕ, List, Option, Ok, Err, inl, inr, sym, subst}
-use Rattle.std.specs.Prelude.{IfErr, IfOk, IsOk, OnErr, OnOk, Result}
+use Rattle.std.proofs.Common.{◌≡◌, ◌⊎◌, ◌↔◌, ℕ, List, Option, Ok, Err, inl, inr, sym, subst}
+use Rattle.std.specs.Prelude.{IfErr, IfOk, IsErr, IsOk, OnErr, OnOk, Result}
+use Rattle.device.specs.declared.sink.Sink as sink
 use Rattle.site_serve.specs.Serving.{IsFlushed}
 use Rattle.auction_runs.specs.Faults.{IsOfKeep}
+use Rattle.auction_runs.specs.Lines.{IsReported, IsTold}
 use Rattle.auction_runs.specs.declared.fault.Fault.{Fault}
 
 -- what a run promises where it goes well, it has done where it went well
@@ -63,3 +65,14 @@ pub flushed_twice : {W : Type 0} (handed_on taken : W → Option (List ℕ)) (a 
 flushed_twice handed_on taken a b c first (inr all) = inr all
 flushed_twice handed_on taken a b c first (inl same) =
     subst (λ w. IsFlushed handed_on taken a w) (sym same) first
+
+-- what a run reports, whose fault is of a kind
+pub reported_by : {W : Type 0} (w : sink.Ghosts W) (MayHave : Fault → Type 0) (old new : W) (status : ℕ)
+    (outcome : Result (Unit {0}) Fault) → ((status ≡ 0) ↔ IsOk outcome)
+    → ((status ≡ 1) ↔ IsErr outcome) → (IsOk outcome → new ≡ old)
+    → IfErr outcome (IsTold w old new) → IfErr outcome MayHave
+    → IsReported w MayHave old new status
+reported_by w MayHave old new status (Ok u) done failed quiet told may =
+    (λ e. quiet (done.0 e), λ e. let wrong = failed.0 e in absurd cc)
+reported_by w MayHave old new status (Err fault) done failed quiet told may =
+    (λ e. let wrong = done.0 e in absurd cc, λ e. (fault, may, told))

@@ -1,5 +1,5 @@
 -- Which fault of the program stands for a fault of a layer below it.
-use Rattle.std.specs.Prelude.{◌≡◌, ◌⊎◌}
+use Rattle.std.specs.Prelude.{◌≡◌, ◌⊎◌, Bool, true}
 use Rattle.auction_runs.specs.declared.fault.Fault.{Fault}
 use Rattle.auction_runs.specs.declared.fault.Fault.TheVariants.{Memory as NoMemory, Store as FailedStore, Damaged as DamagedFile, Read as FailedInput, Write as FailedOutput}
 use Rattle.auction_runs.specs.declared.fault.Fault.TheVariants as report
@@ -33,6 +33,10 @@ fault_of_keep Damaged = DamagedFile
 abbrev pub IsOfKeep : Fault → Type 0
 IsOfKeep fault = (kept : KeepFault) × (fault ≡ fault_of_keep kept)
 
+-- a fault after what a run did: its keep's end reported it, or the output failed
+abbrev pub IsOfEnd : Fault → Type 0
+IsOfEnd fault = IsOfKeep fault ⊎ (fault ≡ FailedOutput)
+
 -- what stands for a fault of the words that name settings
 abbrev pub fault_of_settings : SettingsFault → Fault
 fault_of_settings (unset.Bands fault) = report.Bands fault
@@ -53,6 +57,13 @@ abbrev pub fault_of_serving : ServeFault → Fault
 fault_of_serving Read = FailedInput
 fault_of_serving Write = FailedOutput
 fault_of_serving UnbegunMemory = NoMemory
+
+-- a fault of a replay: memory was refused or the keep reported a fault of its own, the input failed, or
+-- the output did
+abbrev pub IsOfReplay : Bool → Bool → Fault → Type 0
+IsOfReplay input_failed output_failed fault = IsOfKeep fault
+    ⊎ ((fault ≡ FailedInput) × (input_failed ≡ true))
+    ⊎ ((fault ≡ FailedOutput) × (output_failed ≡ true))
 
 -- what stands for a fault of an import
 abbrev pub fault_of_import : ImportFault → Fault

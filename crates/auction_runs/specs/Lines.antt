@@ -62,7 +62,7 @@ pub record IsTold {W : Type 0} (w : sink.Ghosts W) (old new : W) (fault : Fault)
       → Appends (w.taken old) (w.taken new) (line_of fault ++ 10 ∷ [])
   pub handed_on : w.has_failed new ≡ false → w.handed_on new ≡ w.taken new
 
--- by the exit status of a run: nothing was written, or the line of a fault
-abbrev pub IsReported : {W : Type 0} → sink.Ghosts W → W → W → ℕ → Type 0
-IsReported w old new status = (status ≡ 0 → new ≡ old)
-    × (status ≡ 1 → (fault : Fault) × IsTold w old new fault)
+-- by the exit status of a run: nothing was written, or the line of a fault that it may have
+abbrev pub IsReported : {W : Type 0} → sink.Ghosts W → (Fault → Type 0) → W → W → ℕ → Type 0
+IsReported w MayHave old new status = (status ≡ 0 → new ≡ old)
+    × (status ≡ 1 → (fault : Fault) × MayHave fault × IsTold w old new fault)

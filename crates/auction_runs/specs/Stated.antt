@@ -1,5 +1,5 @@
 -- What a statement's run writes.
-use Rattle.std.specs.Prelude.{◌≡◌, ℕ, List, Bool, true, false, Option, is_some}
+use Rattle.std.specs.Prelude.{◌≡◌, ◌⊎◌, ◌<◌, ℕ, List, Bool, true, false, Option, is_some}
 use Rattle.std.specs.Io.KnownBytes.{Appends}
 use Rattle.house_rows.specs.Found.{sales_to}
 use Rattle.house_rows.specs.Keeping.{IsRead}
@@ -9,6 +9,9 @@ use Rattle.settle.specs.Statement.{Account, statement_of}
 use Rattle.settle.specs.Text.{statement_csv, statement_text}
 use Rattle.settle.specs.Zoned.{IsZoneOf}
 use Rattle.settle.specs.declared.zone.Zone.{Zone}
+use Rattle.auction_runs.specs.Faults.{IsOfKeep}
+use Rattle.auction_runs.specs.declared.fault.Fault.{Fault}
+use Rattle.auction_runs.specs.declared.fault.Fault.TheVariants.{Member, Memory, Order, Write}
 use Rattle.auction_runs.specs.declared.statement.Inquiry.{Inquiry}
 
 -- an account, as records of CSV where they are asked for, and else in columns
@@ -23,6 +26,23 @@ pub record IsAccount (t : Tables) (asked : Inquiry) (account : Account) : Type 0
   pub kept_zone : IsZoneOf t.settings.zone zone
   pub lines : account ≡ statement_of (sales_to t asked.member) asked.member asked.from asked.to zone
       t.settings.rate
+
+-- why there is no account: the keep reported a fault of its own, or memory was refused; the period
+-- ends before it begins; or nobody has the member's number
+abbrev pub IsUnread : {K : Type 0} → (K → Tables) → (K → Type 0) → Inquiry → K → K → Fault → Type 0
+IsUnread content is_honest asked old new fault = IsOfKeep fault
+    ⊎ ((fault ≡ Order) × (asked.to < asked.from))
+    ⊎ ((fault ≡ Member) × (is_honest new
+    → is_some (member_at (content old).members asked.member) ≡ false))
+
+-- why it was not written: memory was refused, or the output failed
+abbrev pub IsUnwritten : Fault → Type 0
+IsUnwritten fault = (fault ≡ Memory) ⊎ (fault ≡ Write)
+
+-- why there is no statement of a keep that was given
+abbrev pub IsUnstated : {K : Type 0} → (K → Tables) → (K → Type 0) → Inquiry → K → Fault → Type 0
+IsUnstated {K} content is_honest asked given fault =
+    ((left : K) × IsUnread content is_honest asked given left fault) ⊎ IsUnwritten fault
 
 -- an account was read from a keep, which changed nothing, and the keep was ended
 pub record HasRead {K : Type 0} (content : K → Tables) (is_failed : K → Bool)

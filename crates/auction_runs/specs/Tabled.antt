@@ -13,7 +13,7 @@ use Rattle.auction_runs.specs.Faults.{IsOfKeep}
 use Rattle.auction_runs.specs.Over.{IsOver}
 use Rattle.auction_runs.specs.Printed.{edition_line}
 use Rattle.auction_runs.specs.declared.fault.Fault.{Fault}
-use Rattle.auction_runs.specs.declared.fault.Fault.TheVariants.{Refused}
+use Rattle.auction_runs.specs.declared.fault.Fault.TheVariants.{Refused, Write}
 
 -- the house's command was accepted over the tables of a history, the new tables are those with it,
 -- and this is its edition. No crash takes it back
@@ -41,6 +41,11 @@ abbrev pub IsUndone : {K : Type 0} → (K → Tables) → (K → Type 0) → ℕ
     → Type 0
 IsUndone content is_honest moment command old new fault =
     IsOfKeep fault ⊎ IsRefused content is_honest moment command old new fault
+
+-- why no edition was told: the keep that was given didn't take the command, or the output failed
+abbrev pub IsUntold : {K : Type 0} → (K → Tables) → (K → Type 0) → ℕ → Command → K → Fault → Type 0
+IsUntold {K} content is_honest moment command given fault =
+    ((left : K) × IsUndone content is_honest moment command given left fault) ⊎ (fault ≡ Write)
 
 -- the keep that was given took the command as this edition, and was ended
 pub record HasSet {K : Type 0} (content : K → Tables) (is_honest : K → Type 0)

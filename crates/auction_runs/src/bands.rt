@@ -1,10 +1,10 @@
 //! `bands`: a band table that is set in the house in a file.
 ghost use Rattle.auction_runs.specs.Lines.{IsReported};
-ghost use Rattle.std.specs.Prelude.{◌≡◌, ◌≤◌, IfErr, IfOk, IsOk, OnOk};
+ghost use Rattle.std.specs.Prelude.{◌≡◌, ◌≤◌, ◌⊎◌, Err, IfErr, IfOk, IsOk, OnOk};
 ghost use Rattle.std.specs.Io.KnownBytes.{Appends};
 ghost use Rattle.house_rows.specs.declared.command.Command.TheVariants as command;
 ghost use Rattle.auction_runs.specs.Printed.{edition_line};
-ghost use Rattle.auction_runs.specs.Tabled.{HasSet, HasTabled, IsTabled, IsTabledOver, IsUndone, MayTable};
+ghost use Rattle.auction_runs.specs.Tabled.{HasSet, HasTabled, IsTabled, IsTabledOver, IsUndone, IsUntold, MayTable};
 
 use crate::ended::outcome_after_end;
 use crate::fault::{Fault, finish_run};
@@ -66,6 +66,7 @@ fn tell_set<W: Write>(output: &mut W, set: Result<u32, Fault>) -> Result<(), Fau
     ensures report { OnOk result (IfOk set (λ edition.
         Appends (W.contents output.old) (W.contents output.new) (edition_line edition))) }
     ensures set { OnOk result (IsOk set) }
+    ensures fault { IfErr result (λ fault. (set ≡ Err fault) ⊎ (fault ≡ Fault.Write)) }
 {
     tell(output, set?)
 }
@@ -85,7 +86,9 @@ pub fn bands_run<W: Write, E: Sink, K: Keep + Ends>(
         (W.contents output.old) (W.contents output.new) keep }
     ensures over { IsTabledOver K.content K.is_honest K.may_leave K.is_ended K.is_left moment
         (command.SetBands bands) keep result.1 }
-    ensures reported { IsReported E.Sink errors.old errors.new result.0 }
+    ensures reported { IsReported E.Sink
+        (IsUntold K.content K.is_honest moment (command.SetBands bands) keep)
+        errors.old errors.new result.0 }
     ensures within { result.0 ≤ 1 }
 {
     let command = Command::SetBands { bands };

@@ -12,6 +12,7 @@ pub fn outcome_after_end<T: Drop>(
 ) -> Result<T, Fault>
     ensures same { IfOk result (λ value. outcome ≡ Ok value) }
     ensures ended { OnOk result (IsOk ended) }
+    ensures first { IfErr outcome (λ fault. result ≡ Err fault) }
     ensures fault { IfErr result (λ fault. (outcome ≡ Err fault) ⊎ IsOfKeep fault) }
 {
     let value = outcome?;

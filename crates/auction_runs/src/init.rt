@@ -1,6 +1,7 @@
 //! `init`: a new house in a file.
+ghost use Rattle.auction_runs.specs.Faults.{IsOfEnd};
 ghost use Rattle.auction_runs.specs.Lines.{IsReported};
-ghost use Rattle.std.specs.Prelude.{◌≡◌, ◌≤◌, IsOk, OnOk};
+ghost use Rattle.std.specs.Prelude.{◌≡◌, ◌≤◌, IfErr, IsOk, OnOk};
 ghost use Rattle.std.specs.Io.KnownBytes.{Appends};
 ghost use Rattle.auction_runs.specs.Over.{IsOver};
 ghost use Rattle.auction_runs.specs.Printed.{created};
@@ -12,7 +13,8 @@ use std::io::Write;
 
 // Reports that a house is made.
 fn tell<W: Write>(output: &mut W) -> Result<(), Fault>
-    ensures { OnOk result (Appends (W.contents output.old) (W.contents output.new) created) }
+    ensures report { OnOk result (Appends (W.contents output.old) (W.contents output.new) created) }
+    ensures fault { IfErr result (λ fault. fault ≡ Fault.Write) }
 {
     match writeln!(output, "created") {
         Ok(()) => Ok(()),
@@ -24,6 +26,7 @@ fn tell<W: Write>(output: &mut W) -> Result<(), Fault>
 fn finish<W: Write>(output: &mut W, ended: Result<(), KeepFault>) -> Result<(), Fault>
     ensures report { OnOk result (Appends (W.contents output.old) (W.contents output.new) created) }
     ensures ended { OnOk result (IsOk ended) }
+    ensures fault { IfErr result IsOfEnd }
 {
     ended?;
     tell(output)
@@ -39,7 +42,7 @@ pub fn init_run<W: Write, E: Sink, K: Ends>(
     ensures done { result.0 ≡ 0 → Appends (W.contents output.old) (W.contents output.new) created }
     ensures ended { result.0 ≡ 0 → K.is_ended keep result.1 }
     ensures over { IsOver K.is_ended K.is_left keep result.1 }
-    ensures reported { IsReported E.Sink errors.old errors.new result.0 }
+    ensures reported { IsReported E.Sink IsOfEnd errors.old errors.new result.0 }
     ensures within { result.0 ≤ 1 }
 {
     let (ended, left) = keep.end();

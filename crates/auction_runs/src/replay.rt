@@ -1,8 +1,9 @@
 //! `replay`: the answers to the messages of an input, over a new house.
 ghost use Rattle.auction_runs.specs.Lines.{IsReported};
-ghost use Rattle.std.specs.Prelude.{◌≡◌, ◌≤◌, ◌++◌, ◌∷◌, [], IfSome, OnErr, OnOk};
+ghost use Rattle.std.specs.Prelude.{◌≡◌, ◌≤◌, ◌++◌, ◌∷◌, [], false, true, IfErr, IfSome, IsErr, OnErr, OnOk};
 ghost use Rattle.std.specs.Io.KnownBytes.{Appends};
 ghost use Rattle.device.specs.Given.{AppendsBeginning};
+ghost use Rattle.auction_runs.specs.Faults.{IsOfKeep, IsOfReplay};
 ghost use Rattle.auction_runs.specs.Replayed.{HasRecorded, HasReplayed, IsRecorded, IsRecordedPart, IsReplayedPart};
 ghost use Rattle.auction_runs.specs.Setup.{IsSetUp};
 ghost use Rattle.settle.specs.Zoned.{IsZoneOf};
@@ -24,6 +25,7 @@ fn prepare<K: Keep + Drop>(site: &mut Site<K>, asked: Replay) -> Result<(), Faul
     ensures set_up { OnOk result
         (IsSetUp (IsStep K.content K.is_failed K.is_honest K.may_leave (zone_of site.old))
         asked.preset (keep_of site.old) (keep_of site.new)) }
+    ensures fault { IfErr result IsOfKeep }
     ensures zone { zone_of site.new ≡ zone_of site.old }
 {
     if asked.preset { set_up(site) } else { Ok(()) }
@@ -35,6 +37,7 @@ fn give_record<W: Sink>(sink: &mut W, text: &[u8]) -> Result<(), Failure>
         (Appends (W.taken sink.old) (W.taken sink.new) (text.now ++ 10 ∷ [])) }
     ensures part { AppendsBeginning (W.taken sink.old) (W.taken sink.new) (text.now ++ 10 ∷ []) }
     ensures handed_on { OnOk result (W.handed_on sink.new ≡ W.taken sink.new) }
+    ensures failed { IsErr result → W.has_failed sink.new ≡ true }
 {
     give_all(sink, text)?;
     give_all(sink, b"\n")?;
@@ -49,6 +52,7 @@ fn append_record<W: Sink, K: Keep + Drop>(sink: &mut W, site: &mut Site<K>) -> R
     ensures part { OnErr result (IsRecordedPart K.Keep
         (W.taken sink.old) (W.taken sink.new) (keep_of site.old)) }
     ensures handed_on { OnOk result (W.handed_on sink.new ≡ W.taken sink.new) }
+    ensures fault { IfErr result (IsOfReplay false (W.has_failed sink.new)) }
 {
     let record = site.record()?;
     match give_record(sink, record.as_slice()) {
@@ -69,6 +73,7 @@ fn finish<W: Sink, K: Keep + Drop>(
     ensures part { OnErr result (IsRecordedPart K.Keep
         (W.taken sink.old) (W.taken sink.new) (keep_of site.old)) }
     ensures handed_on { OnOk result (IsFlushed W.handed_on W.taken sink.old sink.new) }
+    ensures fault { IfErr result (IsOfReplay false (W.has_failed sink.new)) }
 {
     if asked.record {
         append_record(sink, site)
@@ -95,6 +100,8 @@ fn answer_over<R: Source, W: Sink, K: Keep + Drop>(
         → OnErr result (IsReplayedPart K.Keep asked (R.left source.old) (R.left source.new)
         (W.taken sink.old) (W.taken sink.new) (keep_of site.old)) }
     ensures handed_on { OnOk result (IsFlushed W.handed_on W.taken sink.old sink.new) }
+    ensures fault { IfErr result
+        (IsOfReplay (R.has_failed source.new) (W.has_failed sink.new)) }
 {
     prepare(site, asked)?;
     serve(alloc, source, sink, site, u64::MAX)?;
@@ -115,6 +122,8 @@ fn answer_all<R: Source, W: Sink, K: Keep + Drop>(
     ensures part { OnErr result (IsReplayedPart K.Keep asked (R.left source.old)
         (R.left source.new) (W.taken sink.old) (W.taken sink.new) keep) }
     ensures handed_on { OnOk result (IsFlushed W.handed_on W.taken sink.old sink.new) }
+    ensures fault { IfErr result
+        (IsOfReplay (R.has_failed source.new) (W.has_failed sink.new)) }
 {
     let mut site = site_over(alloc, keep)?;
     answer_over(alloc, source, sink, &mut site, asked)
@@ -137,7 +146,9 @@ pub fn replay_run<R: Source, W: Sink, K: Keep + Drop, E: Sink>(
     ensures part { result ≡ 1 → IsReplayedPart K.Keep asked (R.left source.old)
         (R.left source.new) (W.taken sink.old) (W.taken sink.new) keep }
     ensures handed_on { result ≡ 0 → IsFlushed W.handed_on W.taken sink.old sink.new }
-    ensures reported { IsReported E.Sink errors.old errors.new result }
+    ensures reported { IsReported E.Sink
+        (IsOfReplay (R.has_failed source.new) (W.has_failed sink.new))
+        errors.old errors.new result }
     ensures within { result ≤ 1 }
 {
     finish_run(errors, answer_all(alloc, source, sink, keep, asked))

@@ -1,8 +1,8 @@
 //! `serve`: the answers to the messages of connections, one connection after the other.
-ghost use Rattle.auction_runs.specs.Lines.{IsReported};
-ghost use Rattle.std.specs.Prelude.{◌≡◌, ◌≤◌, IfErr, IfOk, IsOk, OnOk};
+ghost use Rattle.auction_runs.specs.Lines.{IsReported, IsTold};
+ghost use Rattle.std.specs.Prelude.{◌≡◌, ◌≤◌, ◌⊎◌, Err, IfErr, IfOk, IsOk, OnOk};
 ghost use Rattle.std.specs.Io.KnownBytes.{Appends};
-ghost use Rattle.auction_runs.specs.Faults.{IsOfKeep};
+ghost use Rattle.auction_runs.specs.Faults.{IsOfEnd, IsOfKeep};
 ghost use Rattle.auction_runs.specs.Over.{IsOver};
 ghost use Rattle.auction_runs.specs.Printed.{listening, served};
 ghost use Rattle.auction_runs.specs.Served.{StopsServing};
@@ -64,7 +64,9 @@ fn tell_listening<W: Write>(output: &mut W) -> Result<(), Fault>
 
 // Reports how many connections were answered.
 fn tell_served<W: Write>(output: &mut W, count: u64) -> Result<(), Fault>
-    ensures { OnOk result (Appends (W.contents output.old) (W.contents output.new) (served count)) }
+    ensures report { OnOk result
+        (Appends (W.contents output.old) (W.contents output.new) (served count)) }
+    ensures fault { IfErr result (λ fault. fault ≡ Fault.Write) }
 {
     match writeln!(output, "served {count}") {
         Ok(()) => Ok(()),
@@ -151,14 +153,16 @@ fn finish<W: Write>(
         (Appends (W.contents output.old) (W.contents output.new) (served count)) }
     ensures answered { OnOk result (IsOk answered) }
     ensures ended { OnOk result (IsOk ended) }
+    ensures first { IfErr answered (λ fault. result ≡ Err fault) }
+    ensures fault { IfErr result (λ fault. (answered ≡ Err fault) ⊎ IsOfEnd fault) }
 {
     outcome_after_end(answered, ended)?;
     tell_served(output, count)
 }
 
 /// Ends the keep over which connections were answered, reports how many were asked for where all
-/// were answered, and gives the exit status and what is left of the keep. A fault, one of answering
-/// them too, is written in its line on `errors`.
+/// were answered, and gives the exit status and what is left of the keep. A fault is written in its
+/// line on `errors`, one of answering them before one of the end.
 pub fn serve_run<W: Write, E: Sink, K: Ends>(
     output: &mut W,
     errors: &mut E,
@@ -171,7 +175,9 @@ pub fn serve_run<W: Write, E: Sink, K: Ends>(
     ensures ok { result.0 ≡ 0 → IsOk answered }
     ensures ended { result.0 ≡ 0 → K.is_ended keep result.1 }
     ensures over { IsOver K.is_ended K.is_left keep result.1 }
-    ensures reported { IsReported E.Sink errors.old errors.new result.0 }
+    ensures first { IfErr answered (IsTold E.Sink errors.old errors.new) }
+    ensures reported { IsReported E.Sink (λ fault. (answered ≡ Err fault) ⊎ IsOfEnd fault)
+        errors.old errors.new result.0 }
     ensures within { result.0 ≤ 1 }
 {
     let (ended, left) = keep.end();

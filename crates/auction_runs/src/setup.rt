@@ -1,5 +1,6 @@
 //! The house that `--preset` begins with.
-ghost use Rattle.std.specs.Prelude.{◌≡◌, true, OnOk};
+ghost use Rattle.std.specs.Prelude.{◌≡◌, true, IfErr, OnOk};
+ghost use Rattle.auction_runs.specs.Faults.{IsOfKeep};
 ghost use Rattle.auction_runs.specs.Setup.{IsCreated, IsSetUp, IsTaken};
 ghost use Rattle.site.specs.Answers.{IsStep, zone_of};
 ghost use Rattle.site_serve.specs.Serving.{keep_of};
@@ -32,7 +33,8 @@ pub(crate) const ATLAS: &str =
 
 // Whether a message of the setup was taken, by its answer.
 fn check_answer(answer: &[u8]) -> Result<(), Fault>
-    ensures { OnOk result (IsCreated answer.now) }
+    ensures taken { OnOk result (IsCreated answer.now) }
+    ensures fault { IfErr result IsOfKeep }
 {
     if answer.starts_with(b"HTTP/1.1 201 ") {
         Ok(())
@@ -50,6 +52,7 @@ fn order<K: Keep + Drop>(site: &mut Site<K>, message: &str) -> Result<(), Fault>
     ensures taken { OnOk result
         (IsTaken (IsStep K.content K.is_failed K.is_honest K.may_leave (zone_of site.old))
         (keep_of site.old) message.now (keep_of site.new)) }
+    ensures fault { IfErr result IsOfKeep }
     ensures zone { zone_of site.new ≡ zone_of site.old }
 {
     check_answer(&site.answer(message.as_bytes()))
@@ -62,6 +65,7 @@ pub fn set_up<K: Keep + Drop>(site: &mut Site<K>) -> Result<(), Fault>
     ensures taken { OnOk result
         (IsSetUp (IsStep K.content K.is_failed K.is_honest K.may_leave (zone_of site.old))
         true (keep_of site.old) (keep_of site.new)) }
+    ensures fault { IfErr result IsOfKeep }
     ensures zone { zone_of site.new ≡ zone_of site.old }
 {
     order(site, ANA)?;

@@ -1,11 +1,11 @@
 //! `statement`: what a member sold and bought in a period.
 ghost use Rattle.auction_runs.specs.Lines.{IsReported};
-ghost use Rattle.std.specs.Prelude.{◌≡◌, ◌≤◌, IfErr, IfOk, IsOk, OnOk};
+ghost use Rattle.std.specs.Prelude.{◌≡◌, ◌≤◌, ◌⊎◌, Err, IfErr, IfOk, IsOk, OnOk};
 ghost use Rattle.std.specs.Io.KnownBytes.{Appends};
 ghost use Rattle.settle.specs.Calendar.{day_text};
 ghost use Rattle.auction_runs.specs.Inquired.{IsUnasked};
 ghost use Rattle.auction_runs.specs.Over.{IsReadOver};
-ghost use Rattle.auction_runs.specs.Stated.{HasRead, HasStated, IsAccount, account_text};
+ghost use Rattle.auction_runs.specs.Stated.{HasRead, HasStated, IsAccount, IsUnread, IsUnstated, IsUnwritten, account_text};
 ghost use Rattle.house_rows.specs.Keeping.{IsRead};
 
 use crate::ended::outcome_after_end;
@@ -62,8 +62,9 @@ fn write_form<W: Sink>(
     statement: &Statement,
     csv: bool,
 ) -> Result<(), Fault>
-    ensures { OnOk result
+    ensures written { OnOk result
         (Appends (W.taken sink.old) (W.taken sink.new) (account_text csv statement.now)) }
+    ensures fault { IfErr result IsUnwritten }
 {
     if csv {
         Ok(statement.write_csv(alloc, sink)?)
@@ -82,6 +83,7 @@ fn write<W: Sink>(
     ensures written { OnOk result
         (Appends (W.taken sink.old) (W.taken sink.new) (account_text csv statement.now)) }
     ensures handed_on { OnOk result (W.handed_on sink.new ≡ W.taken sink.new) }
+    ensures fault { IfErr result IsUnwritten }
 {
     write_form(alloc, sink, statement, csv)?;
     sink.flush().map_err(|_| Fault::Write)
@@ -90,6 +92,7 @@ fn write<W: Sink>(
 // The statement from a keep.
 fn read_statement<K: Keep>(alloc: Global, keep: &mut K, asked: Inquiry) -> Result<Statement, Fault>
     ensures shown { K.is_honest keep.new → IfOk result (IsAccount (K.content keep.old) asked) }
+    ensures fault { IfErr result (IsUnread K.content K.is_honest asked keep.old keep.new) }
     ensures read { IsRead K.content K.is_failed K.is_honest K.may_leave keep.old keep.new }
 {
     Ok(statement(alloc, keep, asked.member, asked.from, asked.to)?)
@@ -103,6 +106,8 @@ fn make_statement<K: Keep + Drop + Ends>(
 ) -> (Result<Statement, Fault>, K::Left)
     ensures made { IfOk result.0 (HasRead K.content K.is_failed K.is_honest K.may_leave
         (λ last. K.is_ended last result.1) asked keep) }
+    ensures fault { IfErr result.0 (λ fault. (left : K)
+        × IsUnread K.content K.is_honest asked keep left fault) }
     ensures over { IsReadOver K.content K.is_failed K.is_honest K.may_leave K.is_ended K.is_left
         keep result.1 }
 {
@@ -123,6 +128,7 @@ fn write_made<W: Sink>(
         Appends (W.taken sink.old) (W.taken sink.new) (account_text csv statement))) }
     ensures handed_on { OnOk result (W.handed_on sink.new ≡ W.taken sink.new) }
     ensures made { OnOk result (IsOk made) }
+    ensures fault { IfErr result (λ fault. (made ≡ Err fault) ⊎ IsUnwritten fault) }
 {
     let statement = made?;
     write(alloc, sink, &statement, csv)
@@ -142,7 +148,8 @@ pub fn statement_run<W: Sink, E: Sink, K: Keep + Drop + Ends>(
     ensures handed_on { result.0 ≡ 0 → W.handed_on sink.new ≡ W.taken sink.new }
     ensures over { IsReadOver K.content K.is_failed K.is_honest K.may_leave K.is_ended K.is_left
         keep result.1 }
-    ensures reported { IsReported E.Sink errors.old errors.new result.0 }
+    ensures reported { IsReported E.Sink (IsUnstated K.content K.is_honest asked keep)
+        errors.old errors.new result.0 }
     ensures within { result.0 ≤ 1 }
 {
     let csv = asked.csv;

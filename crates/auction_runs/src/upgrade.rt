@@ -1,6 +1,7 @@
 //! `upgrade`: a house of version 1 in a file is made one of version 2.
+ghost use Rattle.auction_runs.specs.Faults.{IsOfEnd};
 ghost use Rattle.auction_runs.specs.Lines.{IsReported};
-ghost use Rattle.std.specs.Prelude.{◌≡◌, ◌≤◌, IsOk, OnOk};
+ghost use Rattle.std.specs.Prelude.{◌≡◌, ◌≤◌, IfErr, IsOk, OnOk};
 ghost use Rattle.std.specs.Io.KnownBytes.{Appends};
 ghost use Rattle.auction_runs.specs.Over.{IsOver};
 ghost use Rattle.auction_runs.specs.Printed.{upgraded_line, upgraded_word};
@@ -19,8 +20,9 @@ fn word(upgraded: bool) -> &'static str
 
 // Reports whether the house is upgraded.
 fn tell<W: Write>(output: &mut W, upgraded: bool) -> Result<(), Fault>
-    ensures { OnOk result
+    ensures report { OnOk result
         (Appends (W.contents output.old) (W.contents output.new) (upgraded_line upgraded)) }
+    ensures fault { IfErr result (λ fault. fault ≡ Fault.Write) }
 {
     match writeln!(output, "{}", word(upgraded)) {
         Ok(()) => Ok(()),
@@ -37,6 +39,7 @@ fn finish<W: Write>(
     ensures report { OnOk result
         (Appends (W.contents output.old) (W.contents output.new) (upgraded_line upgraded)) }
     ensures ended { OnOk result (IsOk ended) }
+    ensures fault { IfErr result IsOfEnd }
 {
     ended?;
     tell(output, upgraded)
@@ -54,7 +57,7 @@ pub fn upgrade_run<W: Write, E: Sink, K: Ends>(
         → Appends (W.contents output.old) (W.contents output.new) (upgraded_line upgraded) }
     ensures ended { result.0 ≡ 0 → K.is_ended keep result.1 }
     ensures over { IsOver K.is_ended K.is_left keep result.1 }
-    ensures reported { IsReported E.Sink errors.old errors.new result.0 }
+    ensures reported { IsReported E.Sink IsOfEnd errors.old errors.new result.0 }
     ensures within { result.0 ≤ 1 }
 {
     let (ended, left) = keep.end();

@@ -1,4 +1,4 @@
-use Rattle.auction_runs.proofs.Outcomes.{either_end, where_done}
+use Rattle.auction_runs.proofs.Outcomes.{either_end, reported_by, where_done}
 use Rattle.auction_runs.proofs.serve.serve_run.Goals as goal
 
 pub returns-clause-done : goal.returns-clause-done
@@ -16,3 +16,9 @@ returns-clause-over g c = either_end c.end-ended.result.0 c.end-ended.ensures.en
 pub returns-clause-ok : goal.returns-clause-ok
 returns-clause-ok g c =
     λ e. where_done c.finish.result (c.finish_run-status.ensures.done.0 e) c.finish.ensures.answered
+
+pub returns-clause-reported : goal.returns-clause-reported
+returns-clause-reported g c =
+    let run = c.finish_run-status.ensures in
+    reported_by g.E.Sink _ _ _ _ c.finish.result run.done run.fault run.quiet run.told
+    c.finish.ensures.fault

@@ -8,7 +8,7 @@ use Rattle.auction_runs.proofs.setup.order.Goals as goal
 pub returns-clause-taken : goal.returns-clause-taken
 returns-clause-taken g c =
     let (asked, by_text, step) = c.answer.ensures.step in
-    on_ok_then c.check_answer.result c.check_answer.ensures (λ created. record {
+    on_ok_then c.check_answer.result c.check_answer.ensures.taken (λ created. record {
       asked = asked;
       by_text = subst (λ text. IsAsked text asked) c.as_bytes.ensures.value by_text;
       reply = cow_slice_items c.answer.result;

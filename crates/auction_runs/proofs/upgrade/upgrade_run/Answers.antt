@@ -1,4 +1,4 @@
-use Rattle.auction_runs.proofs.Outcomes.{either_end, where_done}
+use Rattle.auction_runs.proofs.Outcomes.{either_end, reported_by, where_done}
 use Rattle.auction_runs.proofs.upgrade.upgrade_run.Goals as goal
 
 pub returns-clause-done : goal.returns-clause-done
@@ -12,3 +12,9 @@ returns-clause-ended g c = λ e.
 
 pub returns-clause-over : goal.returns-clause-over
 returns-clause-over g c = either_end c.end-ended.result.0 c.end-ended.ensures.ended c.end-ended.ensures.left
+
+pub returns-clause-reported : goal.returns-clause-reported
+returns-clause-reported g c =
+    let run = c.finish_run-status.ensures in
+    reported_by g.E.Sink _ _ _ _ c.finish.result run.done run.fault run.quiet run.told
+    c.finish.ensures.fault
