@@ -186,6 +186,9 @@ class Files:
             self.fails(f"no file {name[:20]}", path, making(name), STORE)
         os.mkfifo(path)
         self.fails("a pipe", path, making("bad"), STORE)
+        for name in ("bad", "/dev/full", "/dev/null"):
+            for words in commands(name):
+                self.fails(f"no regular file {name}", path, words, DAMAGED)
         path = self.clear()
         path.symlink_to("missing/bad")
         for words in (*commands("bad"), making("bad")):

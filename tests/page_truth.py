@@ -384,7 +384,7 @@ def named_spreadsheet(text, gateway):
 
 def all_of_it(gateway, ana, ben, cid):
     listings = Listings(gateway)
-    ben.page.tool("Emulation.setDeviceMetricsOverride", width=390, height=900, deviceScaleFactor=1, mobile=True)
+    ben.resize(390)
     failed_read(ben, listings)
     news_cover_nothing(ben, outcome_goes(ben, listings))
     short_of_the_reserve(ben, listings)
@@ -402,4 +402,5 @@ def all_of_it(gateway, ana, ben, cid):
     room_in_titles(ana)
     blank_titles(ben, listings)
     sleeps(ben)
+    ben.resize(1280)
     return listings
