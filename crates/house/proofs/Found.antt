@@ -1,6 +1,6 @@
 -- What is found, and rules in two parts.
 use Rattle.std.proofs.Common.{◌≡◌, List, [], ◌∷◌, ◌++◌, Bool, true, false, refl, inl, inr, ◌⊎◌, Option, Some, None}
-use Rattle.std.specs.Prelude.{find, is_some}
+use Rattle.std.specs.Prelude.{find, is_some, Result, Ok, Err, IfOk}
 use Rattle.std.specs.List.{list_any}
 use Rattle.proxy.specs.Rules.{first_failing}
 
@@ -25,3 +25,9 @@ first_none [] ys e = refl
 first_none (x ∷ xs) ys e = elim (by_test x.0) [ inl is ↦ absurd (something x.1 (first_failing (x ∷ xs)) (rw is refl) e) | inr not ↦ rw not (first_none xs ys (rw not at e)) ] where
   something : {A : Type 0} (r : A) (o : Option A) → o ≡ Some r → o ≡ None → ⊥
   something r o some none = cc
+
+-- and its answer is the whole's
+pub answer_after : {A E : Type 0} (xs ys : List (Bool × A)) (r : Result (Option A) E) → first_failing xs ≡ None
+    → IfOk r (λ v. v ≡ first_failing ys) → IfOk r (λ v. v ≡ first_failing (xs ++ ys))
+answer_after xs ys (Ok v) none is = rw (first_none xs ys none) is
+answer_after xs ys (Err fault) none is = tt

@@ -5,3 +5,4 @@ pub mod Judged
 pub mod Offered
 pub mod Waiting
 pub mod Filled
+pub mod Taken

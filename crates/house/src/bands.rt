@@ -7,6 +7,7 @@ ghost use Rattle.house_rows.specs.Asks.{ChangeFits};
 ghost use Rattle.house_rows.specs.History.{History};
 ghost use Rattle.house_rows.specs.Keeping.{AreSound, Faults, IsRead};
 ghost use Rattle.house_rows.specs.Tables.{tables_of};
+ghost use Rattle.house_rows.specs.Taken.{IsUndamaged};
 ghost use Rattle.house_rows.specs.Verdict.{IsHistory, common_rules, table_rules};
 ghost use Rattle.house.specs.Decided.{IfAccepted, IsDecided};
 ghost use Rattle.house.specs.Own.{IsOf};
@@ -29,6 +30,7 @@ pub fn set_bands<'c, K: Keep>(
     ensures own { K.is_honest keep.new
         → IfAccepted result (IsOf moment caller (command.SetBands bands.now)) }
     ensures faults { Faults result (K.is_honest keep.new) (K.is_failed keep.new) (K.content keep.old) }
+    ensures damaged { K.is_honest keep.new → IsUndamaged result }
     ensures read { IsRead K.content K.is_failed K.is_honest K.may_leave keep.old keep.new }
 {
     match set_bands_refused(keep, moment, caller, bands)? {
@@ -52,6 +54,7 @@ fn set_bands_refused<K: Keep>(
         common_rules (K.content keep.old).clock (length (K.content keep.old).members) moment caller true
         ++ table_rules bands.now (length (K.content keep.old).editions + 1))) }
     ensures faults { Faults result (K.is_honest keep.new) (K.is_failed keep.new) (K.content keep.old) }
+    ensures damaged { K.is_honest keep.new → IsUndamaged result }
     ensures read { IsRead K.content K.is_failed K.is_honest K.may_leave keep.old keep.new }
 {
     match common(keep, moment, caller, true)? {
@@ -65,6 +68,7 @@ fn table_refused<K: Keep>(keep: &K, bands: &Rows<(u64, u64)>) -> Result<Option<R
     requires going { K.is_failed keep.now ≡ false }
     ensures value { K.is_honest keep.now → IfOk result (λ r. r ≡ first_failing (table_rules bands.now (length (K.content keep.now).editions + 1))) }
     ensures faults { Faults result (K.is_honest keep.now) (K.is_failed keep.now) (K.content keep.now) }
+    ensures damaged { K.is_honest keep.now → IsUndamaged result }
 {
     if !Bands::are_rows(bands.as_slice()) {
         return Ok(Some(Refusal::Range));

@@ -9,10 +9,12 @@ ghost use Rattle.house_rows.specs.Asks.{ChangeFits};
 ghost use Rattle.house_rows.specs.History.{History};
 ghost use Rattle.house_rows.specs.Keeping.{AreSound, Faults, IsRead};
 ghost use Rattle.house_rows.specs.Tables.{tables_of};
+ghost use Rattle.house_rows.specs.Taken.{IsUndamaged};
 ghost use Rattle.house_rows.specs.Verdict.{IsHistory};
 ghost use Rattle.house.specs.Decided.{IfAccepted, IsDecided};
 ghost use Rattle.house.specs.Own.{IsOf};
 ghost use Rattle.house.specs.Refused.{as_refusal};
+ghost use Rattle.house.specs.Taken.{CommandRowsFit};
 
 use crate::targets::{on_auction, open_refused};
 use cents::Cents;
@@ -37,6 +39,9 @@ pub fn bid<'c, K: Keep>(
     ensures own { K.is_honest keep.new
         → IfAccepted result (IsOf moment caller (command.Bid item maximum)) }
     ensures faults { Faults result (K.is_honest keep.new) (K.is_failed keep.new) (K.content keep.old) }
+    ensures damaged { K.is_honest keep.new
+        → CommandRowsFit (K.content keep.old) caller (command.Bid item maximum)
+        → IsUndamaged result }
     ensures read { IsRead K.content K.is_failed K.is_honest K.may_leave keep.old keep.new }
 {
     let on = match on_auction(keep, moment, caller, item)? {

@@ -5,9 +5,11 @@ ghost use Rattle.house_rows.specs.Asks.{ChangeFits};
 ghost use Rattle.house_rows.specs.History.{History};
 ghost use Rattle.house_rows.specs.Keeping.{AreSound, Faults, IsRead};
 ghost use Rattle.house_rows.specs.Tables.{tables_of};
+ghost use Rattle.house_rows.specs.Taken.{IsUndamaged};
 ghost use Rattle.house_rows.specs.Verdict.{IsHistory};
 ghost use Rattle.house.specs.Decided.{IfAccepted, IsDecided};
 ghost use Rattle.house.specs.Own.{IsOf};
+ghost use Rattle.house.specs.Taken.{CommandRowsFit};
 
 use crate::answers::answer;
 use crate::bands::set_bands;
@@ -39,6 +41,8 @@ pub fn decide<'c, K: Keep>(
         → IfAccepted result (ChangeFits (K.content keep.old)) }
     ensures own { K.is_honest keep.new → IfAccepted result (IsOf moment caller command.now) }
     ensures faults { Faults result (K.is_honest keep.new) (K.is_failed keep.new) (K.content keep.old) }
+    ensures damaged { K.is_honest keep.new
+        → CommandRowsFit (K.content keep.old) caller command.now → IsUndamaged result }
     ensures read { IsRead K.content K.is_failed K.is_honest K.may_leave keep.old keep.new }
 {
     match command {

@@ -5,16 +5,20 @@ ghost use Rattle.proxy.specs.Rules.{first_failing};
 ghost use Rattle.house_rows.specs.declared.command.Command.TheVariants as command;
 ghost use Rattle.house_rows.specs.declared.settings.Settings.{Settings as TheSettings};
 ghost use Rattle.house_rows.specs.Asks.{ChangeFits};
+ghost use Rattle.house_rows.specs.Fits.{CategoryFits, IsItem};
+ghost use Rattle.house_rows.specs.Found.{category_at, item_with_lot};
 ghost use Rattle.house_rows.specs.History.{History};
 ghost use Rattle.house_rows.specs.Keeping.{AreSound, Faults, IsRead};
 ghost use Rattle.house_rows.specs.Limits.{most_cents};
 ghost use Rattle.house_rows.specs.Tables.{tables_of};
+ghost use Rattle.house_rows.specs.Taken.{IsUndamaged};
 ghost use Rattle.house_rows.specs.Text.{has_length, is_lot, is_lot_byte, same_text};
 ghost use Rattle.house_rows.specs.Verdict.{IsHistory, are_terms, is_buy_now, is_reserve};
 ghost use Rattle.house.specs.Decided.{IfAccepted, IsDecided};
 ghost use Rattle.house.specs.Own.{IsOf};
 ghost use Rattle.house.specs.Judged.{first_rules};
 ghost use Rattle.house.specs.Offered.{AreOf, offer_rules, terms_rules, report};
+ghost use Rattle.house.specs.Taken.{LotAndCategoryFit, CommandRowsFit};
 
 use crate::targets::{common, is_text};
 use cents::Cents;
@@ -66,6 +70,11 @@ pub fn list<'c, K: Keep>(
     ensures own { K.is_honest keep.new → IfAccepted result (IsOf moment caller (command.List offer.now.category
         offer.now.lot.now offer.now.title.now offer.now.text.now offer.now.start offer.now.buy_now offer.now.end offer.now.reserve)) }
     ensures faults { Faults result (K.is_honest keep.new) (K.is_failed keep.new) (K.content keep.old) }
+    ensures damaged { K.is_honest keep.new
+        → CommandRowsFit (K.content keep.old) caller
+        (command.List offer.now.category offer.now.lot.now offer.now.title.now offer.now.text.now
+        offer.now.start offer.now.buy_now offer.now.end offer.now.reserve)
+        → IsUndamaged result }
     ensures read { IsRead K.content K.is_failed K.is_honest K.may_leave keep.old keep.new }
 {
     let (category, prices) = match judge_offer(keep, moment, caller, offer)? {
@@ -99,6 +108,9 @@ fn judge_offer<K: Keep>(
     ensures same { K.is_honest keep.new → IfOk result (λ r. IfOk r (AreOf offer.now)) }
     ensures numbered { IfOk result (λ r. OnOk r (caller < 2 ^ 32)) }
     ensures faults { Faults result (K.is_honest keep.new) (K.is_failed keep.new) (K.content keep.old) }
+    ensures damaged { K.is_honest keep.new
+        → LotAndCategoryFit (K.content keep.old) caller offer.now.lot.now offer.now.category
+        → IsUndamaged result }
     ensures read { IsRead K.content K.is_failed K.is_honest K.may_leave keep.old keep.new }
 {
     match common(keep, moment, caller, false)? {
@@ -118,6 +130,9 @@ fn judge_lot<K: Keep>(
     ensures value { K.is_honest keep.new → IfOk result (λ r. report r ≡ first_failing (offer_rules (K.content keep.old) moment caller offer.now)) }
     ensures same { K.is_honest keep.new → IfOk result (λ r. IfOk r (AreOf offer.now)) }
     ensures faults { Faults result (K.is_honest keep.new) (K.is_failed keep.new) (K.content keep.old) }
+    ensures damaged { K.is_honest keep.new
+        → LotAndCategoryFit (K.content keep.old) caller offer.now.lot.now offer.now.category
+        → IsUndamaged result }
     ensures read { IsRead K.content K.is_failed K.is_honest K.may_leave keep.old keep.new }
 {
     if !is_lot(offer.lot) {
@@ -139,6 +154,9 @@ fn judge_terms<K: Keep>(
     ensures value { K.is_honest keep.new → IfOk result (λ r. report r ≡ first_failing (terms_rules (K.content keep.old) moment offer.now)) }
     ensures same { K.is_honest keep.new → IfOk result (λ r. IfOk r (AreOf offer.now)) }
     ensures faults { Faults result (K.is_honest keep.new) (K.is_failed keep.new) (K.content keep.old) }
+    ensures damaged { K.is_honest keep.new
+        → IfSome (category_at (K.content keep.old) offer.now.category) CategoryFits
+        → IsUndamaged result }
     ensures read { IsRead K.content K.is_failed K.is_honest K.may_leave keep.old keep.new }
 {
     let Some(prices) = prices_in_range(moment, offer) else {
@@ -159,6 +177,8 @@ fn category_number<K: Keep>(keep: &mut K, category: u64) -> Result<Option<u32>, 
     ensures value { K.is_honest keep.new → IfOk result (λ v. is_some v ≡ list_any (λ k. k.category == category) (K.content keep.old).categories) }
     ensures same { K.is_honest keep.new → IfOk result (λ v. IfSome v (λ n. n ≡ category)) }
     ensures faults { Faults result (K.is_honest keep.new) (K.is_failed keep.new) (K.content keep.old) }
+    ensures damaged { K.is_honest keep.new
+        → IfSome (category_at (K.content keep.old) category) CategoryFits → IsUndamaged result }
     ensures read { IsRead K.content K.is_failed K.is_honest K.may_leave keep.old keep.new }
 {
     if keep.has_category(category)? {
@@ -174,6 +194,8 @@ fn has_lot<K: Keep>(keep: &mut K, seller: u64, lot: &Text) -> Result<bool, KeepF
     ensures value { K.is_honest keep.new → IfOk result (λ v. v
         ≡ list_any (λ row. (row.item.terms.seller == seller) && same_text row.item.lot lot.now) (K.content keep.old).items) }
     ensures faults { Faults result (K.is_honest keep.new) (K.is_failed keep.new) (K.content keep.old) }
+    ensures damaged { K.is_honest keep.new
+        → IfSome (item_with_lot (K.content keep.old) seller lot.now) IsItem → IsUndamaged result }
     ensures read { IsRead K.content K.is_failed K.is_honest K.may_leave keep.old keep.new }
 {
     Ok(keep.item_of(seller, lot.as_str())?.is_some())

@@ -1,17 +1,21 @@
 //! Registering members and adding categories.
-ghost use Rattle.std.specs.Prelude.{◌≡◌, ◌++◌, IfOk, false, true, length};
+ghost use Rattle.std.specs.Prelude.{◌≡◌, ◌++◌, IfOk, IfSome, false, true, length};
 ghost use Rattle.std.specs.List.{list_any};
 ghost use Rattle.proxy.specs.Rules.{first_failing};
 ghost use Rattle.house_rows.specs.declared.command.Command.TheVariants as command;
 ghost use Rattle.house_rows.specs.declared.settings.Settings.{Settings as TheSettings};
 ghost use Rattle.house_rows.specs.Asks.{ChangeFits};
+ghost use Rattle.house_rows.specs.Fits.{CategoryFits, MemberFits};
+ghost use Rattle.house_rows.specs.Found.{category_named, member_named};
 ghost use Rattle.house_rows.specs.History.{History};
 ghost use Rattle.house_rows.specs.Keeping.{AreSound, Faults, IsRead};
 ghost use Rattle.house_rows.specs.Tables.{tables_of};
+ghost use Rattle.house_rows.specs.Taken.{IsUndamaged};
 ghost use Rattle.house_rows.specs.Text.{same_text};
 ghost use Rattle.house_rows.specs.Verdict.{IsHistory, category_rules, common_rules, register_rules};
 ghost use Rattle.house.specs.Decided.{IfAccepted, IsDecided};
 ghost use Rattle.house.specs.Own.{IsOf};
+ghost use Rattle.house.specs.Taken.{CommandRowsFit};
 
 use crate::targets::{common, is_text};
 use house_rows::{Change, Keep, KeepFault, MOST_CATEGORIES, MOST_MEMBERS, Refusal, Text};
@@ -30,6 +34,9 @@ pub fn register<'c, K: Keep>(
     ensures own { K.is_honest keep.new
         → IfAccepted result (IsOf moment caller (command.Register name.now)) }
     ensures faults { Faults result (K.is_honest keep.new) (K.is_failed keep.new) (K.content keep.old) }
+    ensures damaged { K.is_honest keep.new
+        → CommandRowsFit (K.content keep.old) caller (command.Register name.now)
+        → IsUndamaged result }
     ensures read { IsRead K.content K.is_failed K.is_honest K.may_leave keep.old keep.new }
 {
     match register_refused(keep, moment, caller, name)? {
@@ -50,6 +57,8 @@ fn register_refused<K: Keep>(
         common_rules (K.content keep.old).clock (length (K.content keep.old).members) moment caller true
         ++ register_rules name.now (K.content keep.old).members)) }
     ensures faults { Faults result (K.is_honest keep.new) (K.is_failed keep.new) (K.content keep.old) }
+    ensures damaged { K.is_honest keep.new
+        → IfSome (member_named (K.content keep.old) name.now) MemberFits → IsUndamaged result }
     ensures read { IsRead K.content K.is_failed K.is_honest K.may_leave keep.old keep.new }
 {
     match common(keep, moment, caller, true)? {
@@ -63,6 +72,8 @@ fn member_refused<K: Keep>(keep: &mut K, name: &Text) -> Result<Option<Refusal>,
     requires going { K.is_failed keep.old ≡ false }
     ensures value { K.is_honest keep.new → IfOk result (λ r. r ≡ first_failing (register_rules name.now (K.content keep.old).members)) }
     ensures faults { Faults result (K.is_honest keep.new) (K.is_failed keep.new) (K.content keep.old) }
+    ensures damaged { K.is_honest keep.new
+        → IfSome (member_named (K.content keep.old) name.now) MemberFits → IsUndamaged result }
     ensures read { IsRead K.content K.is_failed K.is_honest K.may_leave keep.old keep.new }
 {
     if !is_text(1, 40, name) {
@@ -91,6 +102,9 @@ pub fn add_category<'c, K: Keep>(
     ensures own { K.is_honest keep.new
         → IfAccepted result (IsOf moment caller (command.AddCategory name.now)) }
     ensures faults { Faults result (K.is_honest keep.new) (K.is_failed keep.new) (K.content keep.old) }
+    ensures damaged { K.is_honest keep.new
+        → CommandRowsFit (K.content keep.old) caller (command.AddCategory name.now)
+        → IsUndamaged result }
     ensures read { IsRead K.content K.is_failed K.is_honest K.may_leave keep.old keep.new }
 {
     match add_category_refused(keep, moment, caller, name)? {
@@ -111,6 +125,8 @@ fn add_category_refused<K: Keep>(
         common_rules (K.content keep.old).clock (length (K.content keep.old).members) moment caller true
         ++ category_rules name.now (K.content keep.old).categories)) }
     ensures faults { Faults result (K.is_honest keep.new) (K.is_failed keep.new) (K.content keep.old) }
+    ensures damaged { K.is_honest keep.new
+        → IfSome (category_named (K.content keep.old) name.now) CategoryFits → IsUndamaged result }
     ensures read { IsRead K.content K.is_failed K.is_honest K.may_leave keep.old keep.new }
 {
     match common(keep, moment, caller, true)? {
@@ -124,6 +140,8 @@ fn category_refused<K: Keep>(keep: &mut K, name: &Text) -> Result<Option<Refusal
     requires going { K.is_failed keep.old ≡ false }
     ensures value { K.is_honest keep.new → IfOk result (λ r. r ≡ first_failing (category_rules name.now (K.content keep.old).categories)) }
     ensures faults { Faults result (K.is_honest keep.new) (K.is_failed keep.new) (K.content keep.old) }
+    ensures damaged { K.is_honest keep.new
+        → IfSome (category_named (K.content keep.old) name.now) CategoryFits → IsUndamaged result }
     ensures read { IsRead K.content K.is_failed K.is_honest K.may_leave keep.old keep.new }
 {
     if !is_text(1, 40, name) {
@@ -143,6 +161,8 @@ fn category_refused<K: Keep>(keep: &mut K, name: &Text) -> Result<Option<Refusal
 fn is_member_named<K: Keep>(keep: &mut K, name: &Text) -> Result<bool, KeepFault>
     ensures value { K.is_honest keep.new → IfOk result (λ v. v ≡ list_any (λ m. same_text m.name name.now) (K.content keep.old).members) }
     ensures faults { Faults result (K.is_honest keep.new) (K.is_failed keep.new) (K.content keep.old) }
+    ensures damaged { K.is_honest keep.new
+        → IfSome (member_named (K.content keep.old) name.now) MemberFits → IsUndamaged result }
     ensures read { IsRead K.content K.is_failed K.is_honest K.may_leave keep.old keep.new }
 {
     Ok(keep.member_named(name.as_str())?.is_some())
@@ -153,6 +173,8 @@ fn is_member_named<K: Keep>(keep: &mut K, name: &Text) -> Result<bool, KeepFault
 fn is_category_named<K: Keep>(keep: &mut K, name: &Text) -> Result<bool, KeepFault>
     ensures value { K.is_honest keep.new → IfOk result (λ v. v ≡ list_any (λ m. same_text m.name name.now) (K.content keep.old).categories) }
     ensures faults { Faults result (K.is_honest keep.new) (K.is_failed keep.new) (K.content keep.old) }
+    ensures damaged { K.is_honest keep.new
+        → IfSome (category_named (K.content keep.old) name.now) CategoryFits → IsUndamaged result }
     ensures read { IsRead K.content K.is_failed K.is_honest K.may_leave keep.old keep.new }
 {
     Ok(keep.category_named(name.as_str())?.is_some())

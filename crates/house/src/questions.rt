@@ -7,9 +7,11 @@ ghost use Rattle.house_rows.specs.Asks.{ChangeFits};
 ghost use Rattle.house_rows.specs.History.{History};
 ghost use Rattle.house_rows.specs.Keeping.{AreSound, Faults, IsRead};
 ghost use Rattle.house_rows.specs.Tables.{tables_of};
+ghost use Rattle.house_rows.specs.Taken.{IsUndamaged};
 ghost use Rattle.house_rows.specs.Verdict.{IsHistory, question_rules};
 ghost use Rattle.house.specs.Decided.{IfAccepted, IsDecided};
 ghost use Rattle.house.specs.Own.{IsOf};
+ghost use Rattle.house.specs.Taken.{CommandRowsFit};
 
 use crate::targets::{is_text, on_item, open_refused};
 use house_rows::{Change, Keep, KeepFault, MOST_QUESTIONS, Refusal, Terms, Text};
@@ -29,6 +31,9 @@ pub fn ask<'c, K: Keep>(
     ensures own { K.is_honest keep.new
         → IfAccepted result (IsOf moment caller (command.Ask item text.now)) }
     ensures faults { Faults result (K.is_honest keep.new) (K.is_failed keep.new) (K.content keep.old) }
+    ensures damaged { K.is_honest keep.new
+        → CommandRowsFit (K.content keep.old) caller (command.Ask item text.now)
+        → IsUndamaged result }
     ensures read { IsRead K.content K.is_failed K.is_honest K.may_leave keep.old keep.new }
 {
     let on = match on_item(keep, moment, caller, item)? {

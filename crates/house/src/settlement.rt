@@ -7,9 +7,11 @@ ghost use Rattle.house_rows.specs.Asks.{ChangeFits};
 ghost use Rattle.house_rows.specs.History.{History};
 ghost use Rattle.house_rows.specs.Keeping.{AreSound, Faults, IsRead};
 ghost use Rattle.house_rows.specs.Tables.{tables_of};
+ghost use Rattle.house_rows.specs.Taken.{IsUndamaged};
 ghost use Rattle.house_rows.specs.Verdict.{IsHistory, settlement_rules};
 ghost use Rattle.house.specs.Decided.{IfAccepted, IsDecided};
 ghost use Rattle.house.specs.Own.{IsOf};
+ghost use Rattle.house.specs.Taken.{CommandRowsFit};
 
 use crate::targets::named_item;
 use house_rows::{Change, Keep, KeepFault, Refusal, State, Terms};
@@ -28,6 +30,8 @@ pub fn settle<'c, K: Keep>(
     ensures own { K.is_honest keep.new
         → IfAccepted result (IsOf moment caller (command.Settle item)) }
     ensures faults { Faults result (K.is_honest keep.new) (K.is_failed keep.new) (K.content keep.old) }
+    ensures damaged { K.is_honest keep.new
+        → CommandRowsFit (K.content keep.old) caller (command.Settle item) → IsUndamaged result }
     ensures read { IsRead K.content K.is_failed K.is_honest K.may_leave keep.old keep.new }
 {
     let terms = match named_item(keep, moment, caller, true, item)? {

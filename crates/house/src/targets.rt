@@ -4,9 +4,11 @@ ghost use Rattle.proxy.specs.Rules.{first_failing};
 ghost use Rattle.house_rows.specs.declared.item.Terms.{Terms as TheTerms};
 ghost use Rattle.house_rows.specs.Found.{standing_at, terms_at};
 ghost use Rattle.house_rows.specs.Keeping.{Faults, IsRead};
+ghost use Rattle.house_rows.specs.Taken.{IsUndamaged};
 ghost use Rattle.house_rows.specs.Verdict.{Rule, common_rules, open_rules};
 ghost use Rattle.house.specs.Decided.{of_terms};
 ghost use Rattle.house.specs.Judged.{IsNamed};
+ghost use Rattle.house.specs.Taken.{ItemAtFits};
 ghost use Rattle.house_rows.specs.Text.{has_length, is_text};
 
 use house_rows::{Keep, KeepFault, Refusal, State, Terms, Text};
@@ -46,6 +48,8 @@ pub(crate) fn named_item<K: Keep>(
     ensures value { K.is_honest keep.new → IfOk result (IsNamed (K.content keep.old) moment caller of_house item) }
     ensures numbered { IfOk result (λ r. OnOk r (caller < 2 ^ 32)) }
     ensures faults { Faults result (K.is_honest keep.new) (K.is_failed keep.new) (K.content keep.old) }
+    ensures damaged { K.is_honest keep.new
+        → ItemAtFits (K.content keep.old) item → IsUndamaged result }
     ensures read { IsRead K.content K.is_failed K.is_honest K.may_leave keep.old keep.new }
 {
     if let Some(refusal) = common(keep, moment, caller, of_house)? {
@@ -69,6 +73,8 @@ pub(crate) fn on_item<K: Keep>(
         common_rules (K.content keep.old).clock (length (K.content keep.old).members) moment caller false
         ++ of_terms (terms_at (K.content keep.old) item) rules))) }
     ensures faults { Faults result (K.is_honest keep.new) (K.is_failed keep.new) (K.content keep.old) }
+    ensures damaged { K.is_honest keep.new
+        → ItemAtFits (K.content keep.old) item → IsUndamaged result }
     ensures read { IsRead K.content K.is_failed K.is_honest K.may_leave keep.old keep.new }
 {
     let terms = match named_item(keep, moment, caller, false, item)? {
@@ -98,6 +104,8 @@ pub(crate) fn on_auction<K: Keep>(
         common_rules (K.content keep.old).clock (length (K.content keep.old).members) moment caller false
         ++ of_terms (terms_at (K.content keep.old) item) rules))) }
     ensures faults { Faults result (K.is_honest keep.new) (K.is_failed keep.new) (K.content keep.old) }
+    ensures damaged { K.is_honest keep.new
+        → ItemAtFits (K.content keep.old) item → IsUndamaged result }
     ensures read { IsRead K.content K.is_failed K.is_honest K.may_leave keep.old keep.new }
 {
     if let Some(refusal) = common(keep, moment, caller, false)? {
@@ -142,6 +150,7 @@ pub(crate) fn common<K: Keep>(
         (common_rules (K.content keep.old).clock (length (K.content keep.old).members) moment caller of_house)) }
     ensures numbered { IfOk result (λ r. r ≡ None → caller < 2 ^ 32) }
     ensures faults { Faults result (K.is_honest keep.new) (K.is_failed keep.new) (K.content keep.old) }
+    ensures damaged { K.is_honest keep.new → IsUndamaged result }
     ensures read { IsRead K.content K.is_failed K.is_honest K.may_leave keep.old keep.new }
 {
     let members = keep.counts()?.members;

@@ -6,9 +6,11 @@ ghost use Rattle.house_rows.specs.Asks.{ChangeFits};
 ghost use Rattle.house_rows.specs.History.{History};
 ghost use Rattle.house_rows.specs.Keeping.{AreSound, Faults, IsRead};
 ghost use Rattle.house_rows.specs.Tables.{tables_of};
+ghost use Rattle.house_rows.specs.Taken.{IsUndamaged};
 ghost use Rattle.house_rows.specs.Verdict.{IsHistory};
 ghost use Rattle.house.specs.Decided.{IfAccepted, IsDecided};
 ghost use Rattle.house.specs.Own.{IsOf};
+ghost use Rattle.house.specs.Taken.{CommandRowsFit};
 
 use crate::targets::on_item;
 use house_rows::{Change, Keep, KeepFault, Refusal};
@@ -28,6 +30,8 @@ pub fn unwatch<'c, K: Keep>(
     ensures own { K.is_honest keep.new
         → IfAccepted result (IsOf moment caller (command.Unwatch item)) }
     ensures faults { Faults result (K.is_honest keep.new) (K.is_failed keep.new) (K.content keep.old) }
+    ensures damaged { K.is_honest keep.new
+        → CommandRowsFit (K.content keep.old) caller (command.Unwatch item) → IsUndamaged result }
     ensures read { IsRead K.content K.is_failed K.is_honest K.may_leave keep.old keep.new }
 {
     match on_item(keep, moment, caller, item)? {

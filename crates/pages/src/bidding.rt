@@ -2,8 +2,10 @@
 ghost use Rattle.std.specs.Prelude.{◌≡◌, IfOk, ◌<◌, ◌^◌};
 ghost use Rattle.house_rows.specs.declared.query.Query.TheVariants as query;
 ghost use Rattle.house_rows.specs.Keeping.{Faults, IsRead};
+ghost use Rattle.house_rows.specs.Taken.{IsUndamaged};
 ghost use Rattle.pages_laws.specs.ByTables.{shown_by};
 ghost use Rattle.pages_text.specs.Fits.{PageFits};
+ghost use Rattle.pages.specs.Taken.{PageRowsFit};
 
 use house_rows::{Keep, KeepFault, Page, Rows};
 use settle::Day;
@@ -15,6 +17,8 @@ pub(crate) fn bids<K: Keep>(keep: &mut K, caller: u64, from: u64) -> Result<Page
         page ≡ shown_by (K.content keep.old) caller (query.MyBids from)) }
     ensures fits { IfOk result PageFits }
     ensures faults { Faults result (K.is_honest keep.new) (K.is_failed keep.new) (K.content keep.old) }
+    ensures damaged { K.is_honest keep.new
+        → PageRowsFit (K.content keep.old) caller (query.MyBids from) → IsUndamaged result }
     ensures read { IsRead K.content K.is_failed K.is_honest K.may_leave keep.old keep.new }
 {
     Ok(Page::Bids(Rows::new(keep.bids_of(caller, from)?)))
@@ -27,6 +31,8 @@ pub(crate) fn reserves<K: Keep>(keep: &mut K, caller: u64, from: u64) -> Result<
         page ≡ shown_by (K.content keep.old) caller (query.MyReserves from)) }
     ensures fits { IfOk result PageFits }
     ensures faults { Faults result (K.is_honest keep.new) (K.is_failed keep.new) (K.content keep.old) }
+    ensures damaged { K.is_honest keep.new
+        → PageRowsFit (K.content keep.old) caller (query.MyReserves from) → IsUndamaged result }
     ensures read { IsRead K.content K.is_failed K.is_honest K.may_leave keep.old keep.new }
 {
     Ok(Page::Reserves(Rows::new(keep.reserves_of(caller, from)?)))
@@ -45,6 +51,8 @@ pub(crate) fn statement<K: Keep>(
         page ≡ shown_by (K.content keep.old) caller (query.MyStatement from to)) }
     ensures fits { IfOk result PageFits }
     ensures faults { Faults result (K.is_honest keep.new) (K.is_failed keep.new) (K.content keep.old) }
+    ensures damaged { K.is_honest keep.new
+        → PageRowsFit (K.content keep.old) caller (query.MyStatement from to) → IsUndamaged result }
     ensures read { IsRead K.content K.is_failed K.is_honest K.may_leave keep.old keep.new }
 {
     let rate = keep.settings()?.rate;

@@ -2,8 +2,10 @@
 ghost use Rattle.std.specs.Prelude.{◌≡◌, IfOk, map};
 ghost use Rattle.house_rows.specs.declared.query.Query.TheVariants as query;
 ghost use Rattle.house_rows.specs.Keeping.{Faults, IsRead};
+ghost use Rattle.house_rows.specs.Taken.{IsUndamaged};
 ghost use Rattle.pages_laws.specs.ByTables.{shown_among, shown_by};
 ghost use Rattle.pages_text.specs.Fits.{PageFits};
+ghost use Rattle.pages.specs.Taken.{PageRowsFit};
 
 use house_rows::{Editions, Item, ItemShown, Keep, KeepFault, Page, Refusal, Rows};
 use pages_text::floor;
@@ -50,6 +52,8 @@ pub(crate) fn items_in<K: Keep>(
         page ≡ shown_by (K.content keep.old) 0 (query.ItemsIn category from)) }
     ensures fits { IfOk result PageFits }
     ensures faults { Faults result (K.is_honest keep.new) (K.is_failed keep.new) (K.content keep.old) }
+    ensures damaged { K.is_honest keep.new
+        → PageRowsFit (K.content keep.old) 0 (query.ItemsIn category from) → IsUndamaged result }
     ensures read { IsRead K.content K.is_failed K.is_honest K.may_leave keep.old keep.new }
 {
     if !keep.has_category(category)? {
@@ -67,6 +71,8 @@ pub(crate) fn item<K: Keep>(keep: &mut K, item: u64) -> Result<Page, KeepFault>
         page ≡ shown_by (K.content keep.old) 0 (query.Item item)) }
     ensures fits { IfOk result PageFits }
     ensures faults { Faults result (K.is_honest keep.new) (K.is_failed keep.new) (K.content keep.old) }
+    ensures damaged { K.is_honest keep.new
+        → PageRowsFit (K.content keep.old) 0 (query.Item item) → IsUndamaged result }
     ensures read { IsRead K.content K.is_failed K.is_honest K.may_leave keep.old keep.new }
 {
     let Some(found) = keep.item(item)? else {
@@ -82,6 +88,8 @@ pub(crate) fn watches<K: Keep>(alloc: Global, keep: &mut K, caller: u64) -> Resu
         page ≡ shown_by (K.content keep.old) caller query.MyWatches) }
     ensures fits { IfOk result PageFits }
     ensures faults { Faults result (K.is_honest keep.new) (K.is_failed keep.new) (K.content keep.old) }
+    ensures damaged { K.is_honest keep.new
+        → PageRowsFit (K.content keep.old) caller query.MyWatches → IsUndamaged result }
     ensures read { IsRead K.content K.is_failed K.is_honest K.may_leave keep.old keep.new }
 {
     let items = keep.watches_of(caller)?;

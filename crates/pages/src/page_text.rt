@@ -5,9 +5,11 @@ ghost use Rattle.house_rows.specs.History.{History};
 ghost use Rattle.house_rows.specs.Keeping.{Faults, IsRead};
 ghost use Rattle.house_rows.specs.Pages.{page_of};
 ghost use Rattle.house_rows.specs.Tables.{tables_of};
+ghost use Rattle.house_rows.specs.Taken.{IsUndamaged};
 ghost use Rattle.pages_laws.specs.ByTables.{page_by};
 ghost use Rattle.pages_text.specs.Fits.{PageFits};
 ghost use Rattle.pages.specs.Showing.{IsReported};
+ghost use Rattle.pages.specs.Taken.{PageRowsFit};
 
 use crate::reading::read_tables;
 use house_rows::{Keep, KeepFault, Page, Query, Refusal};
@@ -37,6 +39,8 @@ pub fn show<K: Keep>(
     ensures err { OnErr result (out.new.items ≡ out.old.items) }
     ensures refused { IfOk result (λ report. OnErr report (out.new.items ≡ out.old.items)) }
     ensures faults { Faults result (K.is_honest keep.new) (K.is_failed keep.new) (K.content keep.old) }
+    ensures damaged { K.is_honest keep.new
+        → PageRowsFit (K.content keep.old) caller query.now → IsUndamaged result }
     ensures read { IsRead K.content K.is_failed K.is_honest K.may_leave keep.old keep.new }
 {
     show_tables(alloc, keep, zone, caller, query, out)
@@ -57,6 +61,8 @@ fn show_tables<K: Keep>(
     ensures err { OnErr result (out.new.items ≡ out.old.items) }
     ensures refused { IfOk result (λ report. OnErr report (out.new.items ≡ out.old.items)) }
     ensures faults { Faults result (K.is_honest keep.new) (K.is_failed keep.new) (K.content keep.old) }
+    ensures damaged { K.is_honest keep.new
+        → PageRowsFit (K.content keep.old) caller query.now → IsUndamaged result }
     ensures read { IsRead K.content K.is_failed K.is_honest K.may_leave keep.old keep.new }
 {
     let page = read_tables(alloc, keep, caller, query)?;

@@ -5,8 +5,10 @@ ghost use Rattle.house_rows.specs.History.{History};
 ghost use Rattle.house_rows.specs.Keeping.{Faults, IsRead};
 ghost use Rattle.house_rows.specs.Pages.{page_of};
 ghost use Rattle.house_rows.specs.Tables.{tables_of};
+ghost use Rattle.house_rows.specs.Taken.{IsUndamaged};
 ghost use Rattle.pages_laws.specs.ByTables.{is_own, may_read, page_by, shown_by};
 ghost use Rattle.pages_text.specs.Fits.{PageFits};
+ghost use Rattle.pages.specs.Taken.{PageRowsFit};
 
 use crate::bidding::{bids, reserves, statement};
 use crate::items::{item, items_in, watches};
@@ -32,6 +34,8 @@ pub fn read<K: Keep>(
         → IfOk result (λ page. page ≡ page_of settings h caller query.now) }
     ensures fits { IfOk result PageFits }
     ensures faults { Faults result (K.is_honest keep.new) (K.is_failed keep.new) (K.content keep.old) }
+    ensures damaged { K.is_honest keep.new
+        → PageRowsFit (K.content keep.old) caller query.now → IsUndamaged result }
     ensures read { IsRead K.content K.is_failed K.is_honest K.may_leave keep.old keep.new }
 {
     read_tables(alloc, keep, caller, query)
@@ -49,6 +53,8 @@ pub(crate) fn read_tables<K: Keep>(
         page ≡ page_by (K.content keep.old) caller query.now) }
     ensures fits { IfOk result PageFits }
     ensures faults { Faults result (K.is_honest keep.new) (K.is_failed keep.new) (K.content keep.old) }
+    ensures damaged { K.is_honest keep.new
+        → PageRowsFit (K.content keep.old) caller query.now → IsUndamaged result }
     ensures read { IsRead K.content K.is_failed K.is_honest K.may_leave keep.old keep.new }
 {
     let members = keep.counts()?.members;
@@ -71,6 +77,8 @@ fn page_allowed<K: Keep>(
         page ≡ shown_by (K.content keep.old) caller query.now) }
     ensures fits { IfOk result PageFits }
     ensures faults { Faults result (K.is_honest keep.new) (K.is_failed keep.new) (K.content keep.old) }
+    ensures damaged { K.is_honest keep.new
+        → PageRowsFit (K.content keep.old) caller query.now → IsUndamaged result }
     ensures read { IsRead K.content K.is_failed K.is_honest K.may_leave keep.old keep.new }
 {
     match *query {

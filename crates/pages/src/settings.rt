@@ -2,6 +2,7 @@
 ghost use Rattle.std.specs.Prelude.{◌≡◌, IfOk};
 ghost use Rattle.house_rows.specs.declared.query.Query.TheVariants as query;
 ghost use Rattle.house_rows.specs.Keeping.{Faults, IsRead};
+ghost use Rattle.house_rows.specs.Taken.{IsUndamaged};
 ghost use Rattle.pages_laws.specs.ByTables.{shown_by};
 ghost use Rattle.pages_text.specs.Fits.{PageFits};
 
@@ -43,6 +44,7 @@ pub(crate) fn house<K: Keep>(alloc: Global, keep: &mut K) -> Result<Page, KeepFa
         page ≡ shown_by (K.content keep.old) 0 query.House) }
     ensures fits { IfOk result PageFits }
     ensures faults { Faults result (K.is_honest keep.new) (K.is_failed keep.new) (K.content keep.old) }
+    ensures damaged { K.is_honest keep.new → IsUndamaged result }
     ensures read { IsRead K.content K.is_failed K.is_honest K.may_leave keep.old keep.new }
 {
     let counts = keep.counts()?;
@@ -57,6 +59,7 @@ pub(crate) fn bands<K: Keep>(alloc: Global, keep: &mut K) -> Result<Page, KeepFa
         page ≡ shown_by (K.content keep.old) 0 query.Bands) }
     ensures fits { IfOk result PageFits }
     ensures faults { Faults result (K.is_honest keep.new) (K.is_failed keep.new) (K.content keep.old) }
+    ensures damaged { K.is_honest keep.new → IsUndamaged result }
     ensures read { IsRead K.content K.is_failed K.is_honest K.may_leave keep.old keep.new }
 {
     Ok(bands_page(alloc, keep.editions()?.newest_bands())?)
@@ -73,6 +76,7 @@ pub(crate) fn bands_of<K: Keep>(
         page ≡ shown_by (K.content keep.old) 0 (query.BandsOf edition)) }
     ensures fits { IfOk result PageFits }
     ensures faults { Faults result (K.is_honest keep.new) (K.is_failed keep.new) (K.content keep.old) }
+    ensures damaged { K.is_honest keep.new → IsUndamaged result }
     ensures read { IsRead K.content K.is_failed K.is_honest K.may_leave keep.old keep.new }
 {
     match keep.bands_of(edition)? {

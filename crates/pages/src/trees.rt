@@ -9,6 +9,7 @@ ghost use Rattle.pages_laws.specs.ByTables.{page_by};
 ghost use Rattle.pages_text.specs.Faults.{PageFaults};
 ghost use Rattle.pages_text.specs.Fits.{PageFits};
 ghost use Rattle.pages.specs.Showing.{IsGrown};
+ghost use Rattle.pages.specs.Taken.{IsTreeUndamaged, PageRowsFit};
 
 use crate::reading::read_tables;
 use house_rows::{Keep, Page, Query, Refusal};
@@ -35,6 +36,8 @@ pub fn page<K: Keep>(
         → IfOk result (λ report. IsGrown zone.now
         (page_of settings h caller query.now) report) }
     ensures faults { PageFaults result (K.is_honest keep.new) (K.is_failed keep.new) (K.content keep.old) }
+    ensures damaged { K.is_honest keep.new
+        → PageRowsFit (K.content keep.old) caller query.now → IsTreeUndamaged result }
     ensures read { IsRead K.content K.is_failed K.is_honest K.may_leave keep.old keep.new }
 {
     page_tables(alloc, keep, zone, caller, query)
@@ -52,6 +55,8 @@ fn page_tables<K: Keep>(
         IsGrown zone.now
         (page_by (K.content keep.old) caller query.now) report) }
     ensures faults { PageFaults result (K.is_honest keep.new) (K.is_failed keep.new) (K.content keep.old) }
+    ensures damaged { K.is_honest keep.new
+        → PageRowsFit (K.content keep.old) caller query.now → IsTreeUndamaged result }
     ensures read { IsRead K.content K.is_failed K.is_honest K.may_leave keep.old keep.new }
 {
     let page = read_tables(alloc, keep, caller, query)?;
