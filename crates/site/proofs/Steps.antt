@@ -1,5 +1,5 @@
 -- What answering one message does, from what carrying it out did.
-use Rattle.std.proofs.Common.{◌≡◌, ◌⊎◌, ◌∙◌, ◌++◌, ℕ, List, Bool, true, false, refl, sym, ap, subst, inl, inr, Ok, Err}
+use Rattle.std.proofs.Common.{◌≡◌, ◌⊎◌, ◌∙◌, ◌++◌, ℕ, List, [], Bool, true, false, refl, sym, ap, subst, inl, inr, Ok, Err}
 use Rattle.std.specs.Borrow.{Bor}
 use Rattle.std.specs.Fmt.{digits}
 use Rattle.std.specs.Prelude.{OnOk, Result, codes, drop, take}
@@ -11,7 +11,7 @@ use Rattle.house_rows.specs.declared.message.Message.{Message}
 use Rattle.house_rows.specs.declared.message.Message.TheVariants.{Broken, Order, Read}
 use Rattle.house_rows.specs.declared.query.Query.{Query}
 use Rattle.house_rows.specs.declared.reply.Reply.{Reply}
-use Rattle.house_rows.specs.declared.reply.Reply.TheVariants.{Done, Faulty, Shows}
+use Rattle.house_rows.specs.declared.reply.Reply.TheVariants.{Done, Denied, Faulty, Shows}
 use Rattle.house_rows.specs.declared.settings.Settings.{Settings}
 use Rattle.house_rows.specs.History.{History}
 use Rattle.house_rows.specs.Runs.{next, reply}
@@ -19,7 +19,7 @@ use Rattle.house_rows.specs.Tables.{Tables, tables_of}
 use Rattle.house_rows.proofs.Put.{by_test}
 use Rattle.pages_laws.specs.ByTables.{page_by}
 use Rattle.settle.specs.declared.zone.Zone.{Zone}
-use Rattle.site_acts.specs.Acted.{IfRead, IsActed, is_asking, is_entered}
+use Rattle.site_acts.specs.Acted.{IfRead, IsActed, IsOwnChangeOrNone, TellsUnchanged, is_asking, is_entered}
 use Rattle.site_request.specs.Asked.{asked_of, may_ask}
 use Rattle.site_request.specs.declared.asked.Asked.{Asked}
 use Rattle.site_request.specs.declared.fault.Fault.{Fault}
@@ -120,6 +120,47 @@ read_shown (Read caller query) zone t closes u before after text e shown =
     (reply_text zone closes (Shows (page_by t caller query))) (sym e ∙ shown)
 read_shown (Broken caller fault) zone t closes u before after text e shown = tt
 
+-- of a read, what is so of each
+each_read : (message : Message Fault) (P : ℕ → Query → Type 0)
+    → ((caller : ℕ) (query : Query) → P caller query) → IfRead message P
+each_read (Order moment caller command) P each = tt
+each_read (Read caller query) P each = each caller query
+each_read (Broken caller fault) P each = tt
+
+-- and what follows of it
+if_read_then : (message : Message Fault) (P Q : ℕ → Query → Type 0) → IfRead message P
+    → ((caller : ℕ) (query : Query) → P caller query → Q caller query) → IfRead message Q
+if_read_then (Order moment caller command) P Q p follows = tt
+if_read_then (Read caller query) P Q p follows = follows caller query p
+if_read_then (Broken caller fault) P Q p follows = tt
+
+-- where something comes before the bytes, they alone say what became of a message
+own_text : (message : Message Fault) (zone : Zone) (t now : Tables) (closes : Bool)
+    (before after text : List ℕ) → after ≡ before ++ text
+    → IsOwnChangeOrNone zone closes message t now before after
+    → IsOwnChangeOrNone zone closes message t now [] text
+own_text message zone t now closes before after text e (inr (made, (report, told))) = inr (
+  made,
+  (report, append_cancel_left before text (reply_text zone closes (Done report)) (sym e ∙ told)),
+)
+own_text (Order moment caller command) zone t now closes before after text e
+    (inl (same, (refusal, told))) = inl (
+      same,
+      (
+        refusal,
+        append_cancel_left before text (reply_text zone closes (Denied refusal)) (sym e ∙ told),
+      ),
+    )
+own_text (Read caller query) zone t now closes before after text e (inl (same, told)) = inl (
+  same,
+  append_cancel_left before text (reply_text zone closes (Shows (page_by t caller query)))
+      (sym e ∙ told),
+)
+own_text (Broken caller fault) zone t now closes before after text e (inl (same, told)) = inl (
+  same,
+  append_cancel_left before text (reply_text zone closes (Faulty fault)) (sym e ∙ told),
+)
+
 -- where it met a fault nothing has acted, unless the store failed
 unmade : {K : Type 0} (content : K → Tables) (is_failed : K → Bool) (is_honest : K → Type 0)
     (may_leave : K → Tables → Type 0)
@@ -165,19 +206,15 @@ step_ok content is_failed is_honest may_leave zone asked u before after old new 
           text = (r, refl);
           shown = λ honest. read_shown asked.message zone (content old) asked.closes u before after
               (reply_text zone asked.closes r) e (acted.shown honest);
-          accepted = λ honest going. elim (acted.accepted honest going) [
-            | inl same ↦ inl same
-            | inr done ↦ inr (
-              done.0,
-              append_cancel_left before (reply_text zone asked.closes r)
-                  (reply_text zone asked.closes (Done done.0)) (sym e ∙ done.1),
-            )
-          ];
+          made = λ honest going. own_text asked.message zone (content old) (content new)
+              asked.closes before after (reply_text zone asked.closes r) e
+              (acted.made honest going);
         });
-        made = acted.made;
         crash = acted.crash;
         failure = λ honest sound failing.
             absurd (not_both _ failing (reply_served zone asked.closes r).not_failed);
+        undamaged = λ honest. each_read asked.message _ (λ caller query fit failing.
+            absurd (not_both _ failing (reply_served zone asked.closes r).not_failed));
         down = λ failed asks. absurd (let wrong = acted.store.1 (failed, asks) in cc);
         store = λ report. absurd (served_not_store (reply_text zone asked.closes r)
             asked.closes (reply_served zone asked.closes r).not_failed report);
@@ -210,9 +247,10 @@ step_err content is_failed is_honest may_leave zone asked Memory before after ol
         crash = λ t may. acted.crash_next honest settings h is same t may;
       };
       report = inr (unmade content is_failed is_honest may_leave zone asked Memory before after old new acted);
-      made = acted.made;
       crash = acted.crash;
       failure = λ honest sound failing. absurd (not_both _ failing (memory_goes asked.closes));
+      undamaged = λ honest. each_read asked.message _ (λ caller query fit failing.
+          absurd (not_both _ failing (memory_goes asked.closes)));
       down = λ failed asks. absurd (let wrong = acted.store.1 (failed, asks) in cc);
       store = λ report. absurd (served_not_store (fault_text Memory asked.closes) asked.closes
           (memory_goes asked.closes) report);
@@ -231,9 +269,10 @@ step_err content is_failed is_honest may_leave zone asked Store before after old
         crash = λ t may. acted.crash_next honest settings h is same t may;
       };
       report = inr (unmade content is_failed is_honest may_leave zone asked Store before after old new acted);
-      made = acted.made;
       crash = acted.crash;
       failure = λ honest sound failing. inl (acted.store.0 refl).0;
+      undamaged = λ honest. each_read asked.message _ (λ caller query fit failing.
+          (acted.store.0 refl).0);
       down = λ failed asks. refl;
       store = λ report. ((acted.store.0 refl).0, asks_may asked.message (acted.store.0 refl).1);
       honest = acted.honest;
@@ -244,9 +283,10 @@ step_err content is_failed is_honest may_leave zone asked Damaged before after o
     record {
       answer = λ honest settings h is same. absurd (acted.whole honest settings h is same refl);
       report = inr (unmade content is_failed is_honest may_leave zone asked Damaged before after old new acted);
-      made = acted.made;
       crash = acted.crash;
       failure = λ honest sound failing. inr (acted.damaged honest sound refl);
+      undamaged = λ honest. if_read_then asked.message _ _ (acted.undamaged honest)
+          (λ caller query undamaged fit failing. absurd (undamaged fit refl));
       down = λ failed asks. absurd (let wrong = acted.store.1 (failed, asks) in cc);
       store = λ report. absurd (damage_not_store asked.closes report);
       honest = acted.honest;
@@ -293,9 +333,10 @@ unread_going content is_failed is_honest may_leave zone asked k going = record {
     tables = λ honest going. refl;
     left = λ honest going t may. may;
   });
-  made = λ honest going. inl refl;
   crash = λ honest t may. inl may;
   failure = λ honest sound failing. absurd (not_both _ failing (memory_goes asked.closes));
+  undamaged = λ honest. each_read asked.message _ (λ caller query fit failing.
+      absurd (not_both _ failing (memory_goes asked.closes)));
   down = λ failed asks. absurd (not_both _ failed going);
   store = λ report. absurd (served_not_store (fault_text Memory asked.closes) asked.closes
       (memory_goes asked.closes) report);
@@ -319,9 +360,9 @@ unread_down content is_failed is_honest may_leave zone asked k may failed = reco
     tables = λ honest going. refl;
     left = λ honest going t may. may;
   });
-  made = λ honest going. inl refl;
   crash = λ honest t may. inl may;
   failure = λ honest sound failing. inl failed;
+  undamaged = λ honest. each_read asked.message _ (λ caller query fit failing. failed);
   down = λ failed asks. refl;
   store = λ report. (failed, may);
   honest = λ honest. honest;
@@ -355,6 +396,11 @@ broken_reply : (zone : Zone) (f : WireFault)
     → (r : Reply Fault) × (broken_text f ≡ reply_text zone (asked_of (Err f)).closes r)
 unfolding asked_of reply_text
 broken_reply zone f = (Faulty (fault.Frame f), refl)
+
+broken_told : (zone : Zone) (f : WireFault) (t : Tables)
+    → TellsUnchanged zone (asked_of (Err f)).closes (asked_of (Err f)).message t [] (broken_text f)
+unfolding asked_of reply_text
+broken_told zone f t = refl
 
 broken_reads : (f : WireFault) (P : ℕ → Query → Type 0) → IfRead (asked_of (Err f)).message P
 unfolding asked_of
@@ -402,11 +448,11 @@ step_broken content is_failed is_honest may_leave zone f k = record {
   report = inl (record {
     text = broken_reply zone f;
     shown = λ honest. broken_reads f _;
-    accepted = λ honest going. inl refl;
+    made = λ honest going. inl (refl, broken_told zone f (content k));
   });
-  made = λ honest going. inl refl;
   crash = λ honest t may. inl may;
   failure = λ honest sound failing. absurd (not_both _ failing (broken_goes f));
+  undamaged = λ honest. broken_reads f _;
   down = λ failed asks. absurd (not_both _ asks (broken_asks f));
   store = λ report. absurd (served_not_store (broken_text f) (asked_of (Err f)).closes (broken_goes f)
       report);

@@ -12,10 +12,11 @@ use Rattle.house_rows.specs.Runs.{next, reply}
 use Rattle.house_rows.specs.Tables.{Tables, tables_of}
 use Rattle.house_rows.specs.Verdict.{IsHistory}
 use Rattle.jiff.specs.Words.{read_whole}
+use Rattle.pages.specs.Taken.{PageRowsFit}
 use Rattle.pages_laws.specs.ByTables.{page_by}
 use Rattle.settle.specs.Zoned.{IsPlainText}
 use Rattle.settle.specs.declared.zone.Zone.{Zone}
-use Rattle.site_acts.specs.Acted.{IfRead, IsMade, IsTaken, TellsDone, is_asking, is_entered}
+use Rattle.site_acts.specs.Acted.{IfRead, IsMade, IsOwnChangeOrNone, IsTaken, is_asking, is_entered}
 use Rattle.site_request.specs.Asked.{may_ask}
 use Rattle.site_request.specs.declared.asked.Asked.{Asked}
 use Rattle.site_request.specs.declared.fault.Fault.{Fault}
@@ -84,8 +85,8 @@ pub record Answers {K : Type 0} (content : K → Tables) (is_failed : K → Bool
       → may_leave old t ⊎ ((is_failed old ≡ false)
       × (t ≡ tables_of settings (next_of settings h asked)))
 
--- over any tables, the text of a reply: that of a read shows the page of the kept tables, and
--- nothing is changed but where it says that a command was accepted
+-- over any tables, the text of a reply: that of a read shows the page of the kept tables, and a
+-- command makes its own change or none, as the text says
 pub record IsReplied {K : Type 0} (content : K → Tables) (is_failed : K → Bool)
     (is_honest : K → Type 0) (zone : Zone) (asked : Asked) (reply : List ℕ) (old new : K)
     : Type 0 where
@@ -93,8 +94,8 @@ pub record IsReplied {K : Type 0} (content : K → Tables) (is_failed : K → Bo
   pub shown : is_honest new → IfRead asked.message (λ caller query.
       reply ≡ reply_text zone asked.closes
       (Shows (page_by (content old) caller query)))
-  pub accepted : is_honest new → is_failed new ≡ false → (content new ≡ content old)
-      ⊎ TellsDone zone asked.closes [] reply
+  pub made : is_honest new → is_failed new ≡ false
+      → IsOwnChangeOrNone zone asked.closes asked.message (content old) (content new) [] reply
 
 -- or a text of 500 or 503 that is ready: nothing has acted, unless the store failed
 pub record IsUnmade {K : Type 0} (content : K → Tables) (is_failed : K → Bool)
@@ -112,18 +113,19 @@ pub record IsStep {K : Type 0} (content : K → Tables) (is_failed : K → Bool)
   pub answer : is_honest new → (settings : Settings) (h : History) → IsHistory settings h
       → content old ≡ tables_of settings h
       → Answers content is_failed may_leave settings zone h asked reply old new
-  -- over any tables, of a history or not
+  -- over any tables, of a history or not: the message's own change is made, or nothing is changed
   pub report : IsReplied content is_failed is_honest zone asked reply old new
       ⊎ IsUnmade content is_failed is_honest may_leave asked reply old new
-  -- nothing is changed but by a change, and a crash leaves no more
-  pub made : is_honest new → is_failed new ≡ false → (content new ≡ content old)
-      ⊎ IsMade (content old) (content new)
+  -- and a crash leaves no more
   pub crash : is_honest new → (t : Tables) → may_leave new t
-      → may_leave old t ⊎ ((is_failed old ≡ false) × IsMade (content old) t)
+      → may_leave old t ⊎ ((is_failed old ≡ false) × IsMade asked.message (content old) t)
   -- over sound ones 500 is answered only where the store failed, or where the new key of a
   -- command's change is taken
   pub failure : is_honest new → AreSound (content old) → is_failure reply ≡ true
       → (is_failed new ≡ true) ⊎ IsTaken (content old) asked.message
+  -- nor is a read answered so over any tables in which the rows fit that its page takes
+  pub undamaged : is_honest new → IfRead asked.message (λ caller query.
+      PageRowsFit (content old) caller query → is_failure reply ≡ true → is_failed new ≡ true)
   -- and where the store has failed, each command and each read is answered so, and never that
   -- memory was refused
   pub down : is_failed new ≡ true → IsDown asked reply

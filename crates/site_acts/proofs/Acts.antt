@@ -11,9 +11,10 @@ use Rattle.house_rows.specs.declared.command.Command.{Command}
 use Rattle.house_rows.specs.declared.fault.KeepFault.{KeepFault}
 use Rattle.house_rows.specs.declared.fault.KeepFault.TheVariants.{Memory}
 use Rattle.house_rows.specs.declared.message.Message.{Message}
-use Rattle.house_rows.specs.declared.message.Message.TheVariants.{Order, Broken}
+use Rattle.house_rows.specs.declared.message.Message.TheVariants.{Order, Read, Broken}
+use Rattle.house_rows.specs.declared.refusal.Refusal.{Refusal}
 use Rattle.house_rows.specs.declared.reply.Reply.{Reply}
-use Rattle.house_rows.specs.declared.reply.Reply.TheVariants.{Done, Faulty, Shows}
+use Rattle.house_rows.specs.declared.reply.Reply.TheVariants.{Done, Denied, Faulty, Shows}
 use Rattle.house_rows.specs.declared.settings.Settings.{Settings}
 use Rattle.house_rows.specs.declared.command_result.CommandResult.{CommandResult}
 use Rattle.house_rows.specs.Asks.{ChangeFits}
@@ -22,20 +23,32 @@ use Rattle.house_rows.specs.History.{History}
 use Rattle.house_rows.specs.Keeping.{AreSound, Faults, IsRead}
 use Rattle.house_rows.specs.Runs.{next, reply}
 use Rattle.house_rows.specs.Tables.{Tables, tables_of}
+use Rattle.house_rows.specs.Taken.{IsUndamaged}
 use Rattle.house_rows.specs.Verdict.{IsHistory}
 use Rattle.house_rows.proofs.Next.{next_accepted, reply_accepted}
 use Rattle.house_rows.proofs.Sound.{rows_are_sound}
+use Rattle.pages.specs.Taken.{PageRowsFit}
 use Rattle.pages_laws.specs.ByTables.{page_by}
 use Rattle.settle.specs.declared.zone.Zone.{Zone}
 use Rattle.site_request.specs.declared.fault.Fault.{Fault}
 use Rattle.site_replies.specs.Texts.{reply_text}
-use Rattle.site_acts.specs.Acted.{IfRead, IsActed, TellsDone, is_asking, is_entered}
+use Rattle.site_acts.specs.Acted.{IfRead, IsActed, IsMade, TellsDone, TellsUnchanged, is_asking, is_entered}
 use Rattle.site_acts.specs.Entered.{IfReported, IsApplied}
 
 -- the tables of a history are sound
 held_is_sound : (t : Tables) (settings : Settings) (h : History) → IsHistory settings h
     → t ≡ tables_of settings h → AreSound t
 held_is_sound t settings h is e = rw e (rows_are_sound settings h is)
+
+-- what a read is told is its page
+page_told : (message : Message Fault) (result : Result (Unit {0}) KeepFault) (zone : Zone)
+    (closes : Bool) (t : Tables) (before after : List ℕ)
+    → OnOk result (TellsUnchanged zone closes message t before after)
+    → IfRead message (λ caller query. OnOk result (after ≡ before
+    ++ reply_text zone closes (Shows (page_by t caller query))))
+page_told (Order moment caller command) result zone closes t before after told = tt
+page_told (Read caller query) result zone closes t before after told = told
+page_told (Broken caller fault) result zone closes t before after told = tt
 
 -- a message that only read, and leaves the history
 pub acted_by_reading : {K : Type 0} (content : K → Tables) (is_failed : K → Bool)
@@ -50,29 +63,31 @@ pub acted_by_reading : {K : Type 0} (content : K → Tables) (is_failed : K → 
     × (next settings h message ≡ h) × (is_entered settings h message ≡ false)))
     → OnOk result ((r : Reply Fault)
     × (after ≡ before ++ reply_text zone closes r))
-    → (is_honest new → IfRead message (λ caller query. OnOk result (after ≡ before
-    ++ reply_text zone closes
-    (Shows (page_by (content old) caller query)))))
+    → (is_honest new → OnOk result
+    (TellsUnchanged zone closes message (content old) before after))
     → OnErr result (after ≡ before)
     → Faults result (is_honest new) (is_failed new) (content old)
+    → (is_honest new → IfRead message (λ caller query.
+    PageRowsFit (content old) caller query → IsUndamaged result))
     → IsRead content is_failed is_honest may_leave old new
     → IsActed content is_failed is_honest may_leave zone closes message result before after old new
 acted_by_reading content is_failed is_honest may_leave zone closes message (Ok u) before after old
-    new asks value text shown same faults read = record {
+    new asks value text told same faults undamaged read = record {
       report = λ honest settings h is e. (value honest settings h is e).0;
       tables = λ honest settings h is e.
           still_there u content is_failed is_honest may_leave old new faults read honest ∙ e
           ∙ ap (tables_of settings) (sym (value honest settings h is e).1);
       text = text;
-      shown = shown;
-      accepted = λ honest going. inl (read.same honest going);
+      shown = λ honest. page_told message (Ok u) zone closes (content old) before after
+          (told honest);
+      made = λ honest going. inl (read.same honest going, told honest);
       err = tt;
       unmade = λ honest going. tt;
       store = (λ e. (faults.store.0 e, asks), λ e. faults.store.1 e.0);
       whole = λ honest settings h is e. faults.damaged honest
           (held_is_sound (content old) settings h is e);
       damaged = λ honest sound wrong. absurd (faults.damaged honest sound wrong);
-      made = λ honest going. inl (read.same honest going);
+      undamaged = undamaged;
       honest = read.honest;
       stays = read.stays;
       asleep = λ e. absurd (let wrong : true ≡ false = sym asks ∙ e in cc);
@@ -83,19 +98,20 @@ acted_by_reading content is_failed is_honest may_leave zone closes message (Ok u
           ∙ (value honest settings h is e).2 in cc);
     }
 acted_by_reading content is_failed is_honest may_leave zone closes message (Err f) before after old
-    new asks value text shown same faults read = record {
+    new asks value text told same faults undamaged read = record {
       report = λ honest settings h is e. tt;
       tables = λ honest settings h is e. tt;
       text = tt;
-      shown = shown;
-      accepted = λ honest going. inl (read.same honest going);
+      shown = λ honest. page_told message (Err f) zone closes (content old) before after
+          (told honest);
+      made = λ honest going. tt;
       err = same;
       unmade = λ honest going. read.same honest going;
       store = (λ e. (faults.store.0 e, asks), λ e. faults.store.1 e.0);
       whole = λ honest settings h is e. faults.damaged honest
           (held_is_sound (content old) settings h is e);
       damaged = λ honest sound wrong. absurd (faults.damaged honest sound wrong);
-      made = λ honest going. inl (read.same honest going);
+      undamaged = undamaged;
       honest = read.honest;
       stays = read.stays;
       asleep = λ e. absurd (let wrong : true ≡ false = sym asks ∙ e in cc);
@@ -136,6 +152,21 @@ leads_on settings h moment caller command change t e is =
     ∙ ap (tables_of settings)
     (sym (next_accepted Fault settings h moment caller command is.accepted))
 
+-- and it is the command's own
+own_change : {K : Type 0} (content : K → Tables) (is_failed : K → Bool)
+    (is_honest : K → Type 0) (may_leave : K → Tables → Type 0)
+    (moment caller : ℕ) (command : Command) (change : Change) (old mid : K) (now : Tables)
+    → IsReady content is_failed is_honest may_leave moment caller command change old mid
+    → is_honest mid → now ≡ changed (content mid) change
+    → IsMade (Order moment caller command) (content old) now
+own_change content is_failed is_honest may_leave moment caller command change old mid now ready
+    honest leads = (
+      change,
+      ready.own honest,
+      ready.fits honest,
+      leads ∙ ap (λ (x : Tables). changed x change) (ready.same honest),
+    )
+
 -- what reports an accepted command is the text of a reply
 some_reply : (zone : Zone) (closes : Bool) (before after : List ℕ) → TellsDone zone closes before after
     → (r : Reply Fault) × (after ≡ before ++ reply_text zone closes r)
@@ -169,36 +200,26 @@ acted_by_change content is_failed is_honest may_leave zone closes moment caller 
           (ready.same b ∙ e) (ready.accepted b settings h is e);
       text = some_reply zone closes before after text;
       shown = λ honest. tt;
-      accepted = λ honest going. inr text;
+      made = λ honest going. inr (
+        own_change content is_failed is_honest may_leave moment caller command change old mid
+            (content new) ready (applied.honest honest) (applied.ok honest),
+        text,
+      );
       err = tt;
       unmade = λ honest going. tt;
       store = (λ e. cc, λ e. applied.faults.store.1 e.0);
       whole = λ honest settings h is e wrong. cc;
       damaged = λ honest sound wrong. cc;
-      made = λ honest going.
-          let b = applied.honest honest in
-          inr (
-            change,
-            ready.fits b,
-            applied.ok honest
-                ∙ ap (λ (x : Tables). changed x change) (ready.same b),
-          );
+      undamaged = λ honest. tt;
       honest = λ honest. ready.read.honest (applied.honest honest);
       stays = λ e. applied.stays (ready.read.stays e);
       asleep = λ e. cc;
       left = λ honest going. tt;
-      crash = λ honest t may.
-          let b = applied.honest honest in
-          inr (
-            not_before is_failed old mid ready.read.stays
-                ready.going,
-            (
-              change,
-              ready.fits b,
-              applied.kept honest t may ∙ applied.ok honest
-                  ∙ ap (λ (x : Tables). changed x change) (ready.same b),
-            ),
-          );
+      crash = λ honest t may. inr (
+        not_before is_failed old mid ready.read.stays ready.going,
+        own_change content is_failed is_honest may_leave moment caller command change old mid
+            t ready (applied.honest honest) (applied.kept honest t may ∙ applied.ok honest),
+      );
       crash_next = λ honest settings h is e t may.
           let b = applied.honest honest in
           inr (
@@ -215,7 +236,7 @@ acted_by_change content is_failed is_honest may_leave zone closes moment caller 
       tables = λ honest settings h is e. tt;
       text = tt;
       shown = λ honest. tt;
-      accepted = λ honest going. inl (applied.err honest going ∙ ready.same (applied.honest honest));
+      made = λ honest going. tt;
       err = same;
       unmade = λ honest going. applied.err honest going ∙ ready.same (applied.honest honest);
       store = (λ e. (applied.faults.store.0 e, refl), λ e. applied.faults.store.1 e.0);
@@ -232,7 +253,7 @@ acted_by_change content is_failed is_honest may_leave zone closes moment caller 
             λ free. applied.faults.damaged honest
                 (rw (ready.same b) sound) (rw (ready.same b) free) wrong,
           );
-      made = λ honest going. inl (applied.err honest going ∙ ready.same (applied.honest honest));
+      undamaged = λ honest. tt;
       honest = λ honest. ready.read.honest (applied.honest honest);
       stays = λ e. applied.stays (ready.read.stays e);
       asleep = λ e. cc;
@@ -243,14 +264,9 @@ acted_by_change content is_failed is_honest may_leave zone closes moment caller 
       crash = λ honest t may. elim (applied.crash honest t may) [
         | inl could ↦ inl (ready.read.crash (applied.honest honest) t could)
         | inr now ↦ inr (
-          not_before is_failed old mid ready.read.stays
-              ready.going,
-          (
-            change,
-            ready.fits (applied.honest honest),
-            now.2
-                ∙ ap (λ (x : Tables). changed x change) (ready.same (applied.honest honest)),
-          ),
+          not_before is_failed old mid ready.read.stays ready.going,
+          own_change content is_failed is_honest may_leave moment caller command change old mid
+              t ready (applied.honest honest) now.2,
         )
       ];
       crash_next = λ honest settings h is e t may. elim (applied.crash honest t may) [
@@ -281,13 +297,13 @@ acted_by_nothing content is_failed is_honest may_leave zone closes caller fault 
       tables = λ honest settings h is e. e;
       text = (Faulty fault, value);
       shown = λ honest. tt;
-      accepted = λ honest going. inl refl;
+      made = λ honest going. inl (refl, value);
       err = tt;
       unmade = λ honest going. tt;
       store = (λ e. cc, λ e. absurd (let wrong : false ≡ true = e.1 in cc));
       whole = λ honest settings h is e wrong. cc;
       damaged = λ honest sound wrong. cc;
-      made = λ honest going. inl refl;
+      undamaged = λ honest. tt;
       honest = λ honest. honest;
       stays = λ e. e;
       asleep = λ e. refl;
@@ -302,13 +318,13 @@ acted_by_nothing content is_failed is_honest may_leave zone closes caller fault 
       tables = λ honest settings h is e. tt;
       text = tt;
       shown = λ honest. tt;
-      accepted = λ honest going. inl refl;
+      made = λ honest going. tt;
       err = same;
       unmade = λ honest going. refl;
       store = (λ e. cc, λ e. absurd (let wrong : false ≡ true = e.1 in cc));
       whole = λ honest settings h is e wrong. cc;
       damaged = λ honest sound wrong. cc;
-      made = λ honest going. inl refl;
+      undamaged = λ honest. tt;
       honest = λ honest. honest;
       stays = λ e. e;
       asleep = λ e. refl;
@@ -326,6 +342,15 @@ pub some_text : (result : Result (Unit {0}) KeepFault) (zone : Zone) (closes : B
     × (after ≡ before ++ reply_text zone closes r))
 some_text (Ok u) zone closes r before after e = (r, e)
 some_text (Err f) zone closes r before after e = tt
+
+-- and that of a refusal is that of some refusal
+pub refused_text : (result : Result (Unit {0}) KeepFault) (zone : Zone) (closes : Bool)
+    (refusal : Refusal) (before after : List ℕ)
+    → OnOk result (after ≡ before ++ reply_text zone closes (Denied refusal))
+    → OnOk result ((refusal : Refusal)
+    × (after ≡ before ++ reply_text zone closes (Denied refusal)))
+refused_text (Ok u) zone closes refusal before after e = (refusal, e)
+refused_text (Err f) zone closes refusal before after e = tt
 
 -- and a text with the result of an accepted command says that it was accepted
 pub done_text : (result : Result (Unit {0}) KeepFault) (zone : Zone) (closes : Bool)

@@ -13,10 +13,11 @@ use Rattle.house_rows.specs.declared.reply.Reply.{Reply}
 use Rattle.house_rows.specs.declared.reply.Reply.TheVariants.{Denied, Shows}
 use Rattle.house_rows.specs.declared.settings.Settings.{Settings}
 use Rattle.house_rows.specs.History.{History}
-use Rattle.house_rows.specs.Keeping.{Faults, IsRead}
+use Rattle.house_rows.specs.Keeping.{Faults}
 use Rattle.house_rows.specs.Pages.{page_of}
 use Rattle.house_rows.specs.Runs.{next, reply}
-use Rattle.house_rows.specs.Tables.{Tables, tables_of}
+use Rattle.house_rows.specs.Tables.{Tables}
+use Rattle.house_rows.specs.Taken.{IsUndamaged}
 use Rattle.house_rows.specs.Verdict.{verdict}
 use Rattle.house_rows.proofs.Next.{next_refused, reply_refused}
 use Rattle.settle.specs.declared.zone.Zone.{Zone}
@@ -60,6 +61,17 @@ faults_err A B f is_honest is_failed content faults = record {
   );
   damaged = λ honest sound wrong. faults.damaged honest sound (same_fault B A f Damaged wrong);
 }
+
+-- nor is a call damaged whose fault is that of one that isn't
+pub undamaged_err : (A B : Type 0) (f : KeepFault) → IsUndamaged {A = A} (Err f)
+    → IsUndamaged {A = B} (Err f)
+undamaged_err A B f undamaged = λ wrong. undamaged (same_fault B A f Damaged wrong)
+
+-- or that only lacks memory
+pub undamaged_after : (result : Result (Unit {0}) KeepFault) → IfErr result (λ f. f ≡ Memory)
+    → IsUndamaged result
+undamaged_after (Ok u) memory = λ wrong. cc
+undamaged_after (Err f) memory = λ wrong. cc
 
 -- a refused command
 pub refused_reads : (result : Result (Unit {0}) KeepFault) (zone : Zone) (closes : Bool)

@@ -7,8 +7,9 @@ use Rattle.house_rows.specs.declared.fault.KeepFault.TheVariants.{Store, Damaged
 use Rattle.house_rows.specs.declared.message.Message.{Message}
 use Rattle.house_rows.specs.declared.message.Message.TheVariants.{Order, Read, Broken}
 use Rattle.house_rows.specs.declared.query.Query.{Query}
+use Rattle.house_rows.specs.declared.refusal.Refusal.{Refusal}
 use Rattle.house_rows.specs.declared.reply.Reply.{Reply}
-use Rattle.house_rows.specs.declared.reply.Reply.TheVariants.{Done, Shows}
+use Rattle.house_rows.specs.declared.reply.Reply.TheVariants.{Done, Denied, Faulty, Shows}
 use Rattle.house_rows.specs.declared.settings.Settings.{Settings}
 use Rattle.house_rows.specs.declared.command_result.CommandResult.{CommandResult}
 use Rattle.house_rows.specs.Asks.{ChangeFits, IsFree}
@@ -17,7 +18,9 @@ use Rattle.house_rows.specs.History.{History}
 use Rattle.house_rows.specs.Keeping.{AreSound}
 use Rattle.house_rows.specs.Runs.{next, reply}
 use Rattle.house_rows.specs.Tables.{Tables, tables_of}
+use Rattle.house_rows.specs.Taken.{IsUndamaged}
 use Rattle.house_rows.specs.Verdict.{IsHistory, verdict}
+use Rattle.pages.specs.Taken.{PageRowsFit}
 use Rattle.pages_laws.specs.ByTables.{page_by}
 use Rattle.settle.specs.declared.zone.Zone.{Zone}
 use Rattle.site_request.specs.declared.fault.Fault.{Fault}
@@ -36,9 +39,14 @@ is_entered settings h (Order moment caller command) =
 is_entered settings h (Read caller query) = false
 is_entered settings h (Broken caller fault) = false
 
--- the tables are those after one change, which fits where the tables before it are sound
-abbrev pub IsMade : Tables → Tables → Type 0
-IsMade t now = (change : Change) × (AreSound t → ChangeFits t change) × (now ≡ changed t change)
+-- the tables are those after the message's own change, which fits where the tables before it are
+-- sound; only a command has one
+abbrev pub IsMade : Message Fault → Tables → Tables → Type 0
+IsMade (Order moment caller command) t now =
+    (change : Change) × IsOf moment caller command change × (AreSound t → ChangeFits t change)
+    × (now ≡ changed t change)
+IsMade (Read caller query) t now = ⊥
+IsMade (Broken caller fault) t now = ⊥
 
 -- a command whose own change fits, but whose new key is taken: in tables that belong to no history
 abbrev pub IsTaken : Tables → Message Fault → Type 0
@@ -58,6 +66,24 @@ IfRead (Broken caller fault) P = Unit {0}
 abbrev pub TellsDone : Zone → Bool → List ℕ → List ℕ → Type 0
 TellsDone zone closes before after =
     (report : CommandResult) × (after ≡ before ++ reply_text zone closes (Done report))
+
+-- what is appended for a message that changes nothing: a command is refused, a read is shown the
+-- page of the tables, and any other message is told its fault
+abbrev pub TellsUnchanged : Zone → Bool → Message Fault → Tables → List ℕ → List ℕ → Type 0
+TellsUnchanged zone closes (Order moment caller command) t before after =
+    (refusal : Refusal) × (after ≡ before ++ reply_text zone closes (Denied refusal))
+TellsUnchanged zone closes (Read caller query) t before after =
+    after ≡ before ++ reply_text zone closes (Shows (page_by t caller query))
+TellsUnchanged zone closes (Broken caller fault) t before after =
+    after ≡ before ++ reply_text zone closes (Faulty fault)
+
+-- a message has made its own change and is answered that it was accepted, or it has changed
+-- nothing and is answered otherwise
+abbrev pub IsOwnChangeOrNone : Zone → Bool → Message Fault → Tables → Tables → List ℕ → List ℕ
+    → Type 0
+IsOwnChangeOrNone zone closes message t now before after =
+    ((now ≡ t) × TellsUnchanged zone closes message t before after)
+    ⊎ (IsMade message t now × TellsDone zone closes before after)
 
 -- what a message does to a keep, and which bytes are appended for it; `old` and `new` are the keep,
 -- `before` and `after` the bytes
@@ -81,9 +107,9 @@ pub record IsActed {K : Type 0} (content : K → Tables) (is_failed : K → Bool
   pub shown : is_honest new → IfRead message (λ caller query. OnOk result (after ≡ before
       ++ reply_text zone closes
       (Shows (page_by (content old) caller query))))
-  -- nothing is changed but where a command is answered that it was accepted
-  pub accepted : is_honest new → is_failed new ≡ false → (content new ≡ content old)
-      ⊎ TellsDone zone closes before after
+  -- and a command makes its own change or none, as it is answered
+  pub made : is_honest new → is_failed new ≡ false → OnOk result
+      (IsOwnChangeOrNone zone closes message (content old) (content new) before after)
   -- a call that fails appends nothing, and has not acted unless the store failed
   pub err : OnErr result (after ≡ before)
   pub unmade : is_honest new → is_failed new ≡ false → OnErr result (content new ≡ content old)
@@ -94,19 +120,19 @@ pub record IsActed {K : Type 0} (content : K → Tables) (is_failed : K → Bool
       → ¬ (IsErrOf result Damaged)
   pub damaged : is_honest new → AreSound (content old) → IsErrOf result Damaged
       → IsTaken (content old) message
-  -- over any tables nothing is changed but by a change
-  pub made : is_honest new → is_failed new ≡ false → (content new ≡ content old)
-      ⊎ IsMade (content old) (content new)
+  -- nor is a read damaged over any tables in which the rows fit that its page takes
+  pub undamaged : is_honest new → IfRead message (λ caller query.
+      PageRowsFit (content old) caller query → IsUndamaged result)
   pub honest : is_honest new → is_honest old
   pub stays : is_failed old ≡ true → is_failed new ≡ true
   pub asleep : is_asking message ≡ false → new ≡ old
   -- after a fault a crash leaves what it could have left before, unless the store failed
   pub left : is_honest new → is_failed new ≡ false
       → OnErr result ((t : Tables) → may_leave new t → may_leave old t)
-  -- a crash leaves what it could have left before, or the tables with one change, those of the next
-  -- history
+  -- a crash leaves what it could have left before, or the tables with the message's own change,
+  -- those of the next history
   pub crash : is_honest new → (t : Tables) → may_leave new t
-      → may_leave old t ⊎ ((is_failed old ≡ false) × IsMade (content old) t)
+      → may_leave old t ⊎ ((is_failed old ≡ false) × IsMade message (content old) t)
   pub crash_next : is_honest new → (settings : Settings) (h : History) → IsHistory settings h
       → content old ≡ tables_of settings h
       → (t : Tables) → may_leave new t

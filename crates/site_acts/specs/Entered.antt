@@ -14,7 +14,6 @@ use Rattle.house_rows.specs.Runs.{entry}
 use Rattle.house_rows.specs.Tables.{Tables, tables_of}
 use Rattle.house_rows.specs.CommandResult.{result_of}
 use Rattle.house_rows.specs.Verdict.{IsHistory}
-use Rattle.site_request.specs.declared.fault.Fault.{Fault}
 
 -- the result of an accepted command whose change it is has the property, over every history whose
 -- tables these are

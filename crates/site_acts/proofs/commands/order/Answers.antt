@@ -1,7 +1,7 @@
 use Rattle.std.proofs.Common.{refl, Err}
 use Rattle.house.proofs.Unchanged.{not_failed, still_there}
 use Rattle.house_rows.specs.declared.reply.Reply.TheVariants.{Denied}
-use Rattle.site_acts.proofs.Acts.{acted_by_change, acted_by_reading, some_text}
+use Rattle.site_acts.proofs.Acts.{acted_by_change, acted_by_reading, refused_text, some_text}
 use Rattle.site_acts.proofs.Staying.{faults_after, faults_err, refused_reads}
 use Rattle.site_acts.proofs.commands.order.Goals as goal
 
@@ -38,8 +38,10 @@ returns-in-Ok-Err-clause-acted g c =
     (rw c.in-Ok-Err.field-0-is at (d.decided honest settings h is e)) c.write.ensures.ok)
     (some_text c.write.result c.args.writer.now.zone c.args.closes (Denied c.in-Ok-Err.refusal)
     c.args.out.now.items c.write.new.out.items c.write.ensures.ok)
-    (λ honest. tt) c.write.ensures.err (faults_after c.in-Ok-Err.field-0 c.write.result _ _ _ d.faults
-    c.write.ensures.memory) d.read
+    (λ honest. refused_text c.write.result c.args.writer.now.zone c.args.closes c.in-Ok-Err.refusal
+    c.args.out.now.items c.write.new.out.items c.write.ensures.ok)
+    c.write.ensures.err (faults_after c.in-Ok-Err.field-0 c.write.result _ _ _ d.faults
+    c.write.ensures.memory) (λ honest. tt) d.read
 
 pub returns-in-Err-clause-acted : goal.returns-in-Err-clause-acted
 returns-in-Err-clause-acted g c =
@@ -48,4 +50,4 @@ returns-in-Err-clause-acted g c =
     (Err c.in-Err.fault) c.args.out.now.items c.args.out.now.items c.args.keep.now c.decide.new.keep
     refl
     (λ honest settings h is e. tt) tt (λ honest. tt) refl
-    (faults_err _ _ c.in-Err.fault _ _ _ c.in-Err.ensures.faults) c.in-Err.ensures.read
+    (faults_err _ _ c.in-Err.fault _ _ _ c.in-Err.ensures.faults) (λ honest. tt) c.in-Err.ensures.read
