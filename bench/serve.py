@@ -110,14 +110,19 @@ def new_file(name, program, file):
         subprocess.run([program.path, "init", file, *SETTINGS], cwd=program.folder, check=True, capture_output=True)
 
 
+def item_text(number):
+    """The message that lists an item."""
+    return command("/items", number % 3 + 1, 1_000, compact(
+        {"category": number % CATEGORIES + 1, "end": workload.FAR, "lot": f"L{number}", "start": 500,
+         "text": "Text" * 20, "title": "Title"})).text()
+
+
 def house_texts(items):
     """The messages that make a house of so many items, in parts that one connection may send."""
     texts = PRESET[:3]
     texts = texts + [command("/categories", 0, 1_000, compact({"name": f"C{number}"})).text()
                      for number in range(1, CATEGORIES + 1)]
-    texts += [command("/items", number % 3 + 1, 1_000, compact(
-        {"category": number % CATEGORIES + 1, "end": workload.FAR, "lot": f"L{number}", "start": 500,
-         "text": "Text" * 20, "title": "Title"})).text() for number in range(1, items + 1)]
+    texts += [item_text(number) for number in range(1, items + 1)]
     return [texts[at:at + MOST] for at in range(0, len(texts), MOST)]
 
 
