@@ -106,7 +106,7 @@ def build_older(program, folder):
         shutil.copytree(ROOT / "examples", tree / "examples")
         for part in ("docs", "bench"):
             shutil.copytree(ROOT / part, tree / part, ignore=shutil.ignore_patterns("plain"))
-        for file in ("README.md", "CHANGELOG.md", "crates.txt"):
+        for file in ("README.md", "CHANGELOG.md", "CONTRIBUTING.md", "crates.txt"):
             shutil.copy(ROOT / file, tree)
         servers = tree / "examples" / "gateway" / "server.conf"
         servers.write_text("".join(line for line in servers.read_text().splitlines(True) if "Referrer-Policy" not in line))

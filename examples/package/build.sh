@@ -50,7 +50,7 @@ put_gateway() {
 
 put_documents() {
     documents=$root/usr/share/doc/auction
-    put usr/share/doc/auction package/copyright ../README.md ../CHANGELOG.md ../crates.txt
+    put usr/share/doc/auction package/copyright ../README.md ../CHANGELOG.md ../CONTRIBUTING.md ../crates.txt
     put usr/share/doc/auction/docs $(cd "$here/.." && echo ../docs/*.md ../docs/*.png ../docs/openapi.yaml)
     put usr/share/doc/auction/bench ../bench/README.md ../bench/TABLE.md ../bench/figures.json
     # Sources aren't in the package, so no link leads to one.
