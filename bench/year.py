@@ -128,7 +128,7 @@ def look(program, items):
 
 
 def main(path, folder, items=ITEMS):
-    with kept("year", "bench/year.py"):
+    with kept(f"year of {items} items", "bench/year.py"):
         program = Program(str(pathlib.Path(path).resolve()), folder)
         make(program, int(items))
         look(program, int(items))
