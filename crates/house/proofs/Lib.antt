@@ -7,6 +7,7 @@ pub mod OnItems
 pub mod ByTables
 pub mod ListedTerms
 pub mod Rows
+pub mod Taken
 pub mod Watched
 pub mod Placed
 pub mod Offers

@@ -25,7 +25,7 @@ use Rattle.house_rows.specs.Changed.{changed, with_standing}
 use Rattle.house_rows.specs.Found.{standing_at, terms_at}
 use Rattle.house_rows.specs.History.{History, clock}
 use Rattle.house_rows.specs.Items.{closings, floor_of, is_bought, is_open, is_settled, is_taken, leader_of, purchase_of, shown_now, state_of, terms_now, close_sells, met_of}
-use Rattle.house_rows.specs.Keeping.{AreSound, ItemRowFits}
+use Rattle.house_rows.specs.Keeping.{ItemRowFits}
 use Rattle.house_rows.specs.Limits.{most_bids, most_cents}
 use Rattle.house_rows.specs.Listings.{Listing, bands_by, listed_opening, listing_at, listings}
 use Rattle.house_rows.specs.People.{members}
@@ -34,7 +34,6 @@ use Rattle.house_rows.specs.Runs.{entry}
 use Rattle.house_rows.specs.Tables.{ItemRow, Tables, bands_for, row_now, row_opening, tables_of}
 use Rattle.house_rows.specs.Verdict.{IsHistory, Rule, bid_rules, common_rules, open_rules, verdict}
 use Rattle.house_rows.proofs.AcceptedBids.{floor_is, more_accepted}
-use Rattle.house_rows.proofs.ChangedRows.{there_fits_by}
 use Rattle.house_rows.proofs.Every.{every_as, every_put, found_is}
 use Rattle.house_rows.proofs.GoesBy.{bands_kept}
 use Rattle.house_rows.proofs.Numbered.{numbered}
@@ -45,8 +44,10 @@ use Rattle.house.proofs.ByTables.{caller_fits, sound_here, standing_same}
 use Rattle.house.proofs.Found.{by_test, first_none, first_some}
 use Rattle.house.proofs.OnItems.{item_judged, item_refused, row_there}
 use Rattle.house.proofs.Rows.{apart_from}
+use Rattle.house.proofs.Taken.{found_fits, item_at_fits}
 use Rattle.house.specs.Decided.{IsAccepted, of_terms}
 use Rattle.house.specs.Refused.{as_refusal}
+use Rattle.house.specs.Taken.{ItemAtFits}
 
 -- the rules of a bid up to its range, and those of the item's bids
 abbrev pub first_rules : ℕ → ℕ → ℕ → Terms → List Rule
@@ -320,17 +321,17 @@ bid_refused t settings given h moment caller item maximum terms kept member amou
     rw f.numbered_so at (judged settings h moment caller maximum l f.listed now first' ∙ sym answer)
 
 -- the change fits where they take it
-pub bid_fits : (t : Tables) (given : List (ℕ × ℕ)) (moment caller item maximum : ℕ) (terms : Terms) (kept after : Kept) (member amount count : ℕ) → AreSound t
+pub bid_fits : (t : Tables) (given : List (ℕ × ℕ)) (moment caller item maximum : ℕ) (terms : Terms) (kept after : Kept) (member amount count : ℕ) → ItemAtFits t item
     → terms_at t item ≡ Some terms → None ≡ first_failing (common_rules t.clock (length t.members) moment caller false) → None ≡ first_failing (first_rules moment caller maximum terms)
     → standing_at t item ≡ Some kept → given ≡ bands_for t item → member ≡ caller → amount ≡ maximum → count ≡ after.count
     → ((bids : List bid.Bid) → kept ≡ standing_of given (opening_of kept) bids
     → (refusal given (opening_of kept) bids member amount ≡ None) × (after ≡ standing_of given (opening_of kept) (one_more bids member amount)))
     → BidFits t moment terms.item (record { member = member; maximum = amount; no = count }) after
-bid_fits t given moment caller item maximum terms kept after member amount count sound found common first is_consistent bands same equal counts so =
+bid_fits t given moment caller item maximum terms kept after member amount count rows found common first is_consistent bands same equal counts so =
     let row = row_there t item terms found in
     let opening : Opening = row_opening row.row in
     let table : List (ℕ × ℕ) = bands_for t item in
-    let fits : ItemRowFits table row.row = there_fits_by t item row.row sound row.there in
+    let fits : ItemRowFits table row.row = found_fits t item row.row rows row.there in
     let bids : List bid.Bid = fits.bids in
     let kept_is : kept ≡ standing_of table opening bids = standing_same t item row.row kept row.there is_consistent ∙ fits.is_consistent in
     let answer : (refusal table opening bids caller maximum ≡ None) × (after ≡ standing_of table opening (one_more bids caller maximum)) =
@@ -385,7 +386,7 @@ bid_accepts t settings given h moment caller item maximum terms kept after membe
     record {
       accepted = accepted;
       fits = rw (e, named, same, equal, counted, answer.1) at
-          (bid_fits t given moment caller item maximum terms kept after member amount count (sound_here t settings h is e) found common first is_consistent bands same equal counts so);
+          (bid_fits t given moment caller item maximum terms kept after member amount count (item_at_fits t item (sound_here t settings h is e)) found common first is_consistent bands same equal counts so);
       free = number_free settings h l.item;
       leads = bid_leads settings h moment caller maximum l f.listed can;
     } in

@@ -15,7 +15,6 @@ use Rattle.house_rows.specs.Asks.{UnwatchFits, WatchFits}
 use Rattle.house_rows.specs.Changed.{changed}
 use Rattle.house_rows.specs.Found.{is_watched, terms_at, watch_count}
 use Rattle.house_rows.specs.History.{History, counted}
-use Rattle.house_rows.specs.Keeping.{AreSound}
 use Rattle.house_rows.specs.Limits.{most_watches}
 use Rattle.house_rows.specs.Listings.{Listing, listings}
 use Rattle.house_rows.specs.Questions.{questions}
@@ -95,16 +94,17 @@ pub watch_full : (t : Tables) (settings : Settings) (h : History) (moment caller
     → (is_watched t caller item || nat_lt (watch_count t caller) most_watches) ≡ false → verdict settings h moment caller (Watch item) ≡ Some Limit
 watch_full t settings h moment caller item terms is e found passed full = watch_judged t settings h moment caller item terms is e found passed ∙ rw full refl
 
-pub watch_fits : (t : Tables) (moment caller item : ℕ) (terms : Terms) (member : ℕ) → AreSound t
+pub watch_fits : (t : Tables) (moment caller item : ℕ) (terms : Terms) (member : ℕ)
+    → counted (λ w. w.member == member) t.watches ≤ most_watches
     → member ≡ caller → terms_at t item ≡ Some terms → None ≡ first_failing (common_rules t.clock (length t.members) moment caller false)
     → (is_watched t caller item || nat_lt (watch_count t caller) most_watches) ≡ true → WatchFits t member terms.item
-watch_fits t moment caller item terms member sound same found passed room =
+watch_fits t moment caller item terms member few same found passed room =
     let row = row_there t item terms found in
-    let few : nat_lt (others caller item t.watches) most_watches ≡ true = sym (others_room caller item t.watches (sound.few_watches caller)) ∙ room in
+    let fewer : nat_lt (others caller item t.watches) most_watches ≡ true = sym (others_room caller item t.watches (rw same at few)) ∙ room in
     rw (same, row.numbered) (record {
       member_there = (caller_fits t moment caller false (sym passed)).there refl;
       item_there = (row.row, row.there);
-      room = grind (arith, nat_tests, few);
+      room = grind (arith, nat_tests, fewer);
     })
 
 pub watch_accepts : (t : Tables) (settings : Settings) (h : History) (moment caller item : ℕ) (terms : Terms) (member : ℕ) → IsHistory settings h → t ≡ tables_of settings h
@@ -114,7 +114,7 @@ watch_accepts t settings h moment caller item terms member is e same found passe
     let named : terms.item ≡ item = (row_there t item terms found).numbered in
     rw (same, named) (record {
       accepted = watch_judged t settings h moment caller item terms is e found passed ∙ rw room refl;
-      fits = rw (e, same, named) at (watch_fits t moment caller item terms member (sound_here t settings h is e) same found passed room);
+      fits = rw (e, same, named) at (watch_fits t moment caller item terms member ((sound_here t settings h is e).few_watches member) same found passed room);
       free = tt;
       leads = watch_leads settings h moment caller item;
     })

@@ -1,12 +1,19 @@
--- Which rows deciding on a command takes: that these fit is enough for it not to be damaged.
-use Rattle.std.specs.Prelude.{ℕ, List, ◌==◌, IfSome}
+-- Which rows deciding on a command takes: that these fit is enough for it not to be damaged, and for
+-- its change to fit.
+use Rattle.std.specs.Prelude.{ℕ, List, Result, ◌==◌, IfSome}
+use Rattle.house.specs.Decided.{IfAccepted}
+use Rattle.house_rows.specs.declared.change.Change.{Change}
 use Rattle.house_rows.specs.declared.command.Command.{Command}
 use Rattle.house_rows.specs.declared.command.Command.TheVariants as command
+use Rattle.house_rows.specs.declared.fault.KeepFault.{KeepFault}
+use Rattle.house_rows.specs.declared.refusal.Refusal.{Refusal}
+use Rattle.house_rows.specs.Asks.{ChangeFits}
 use Rattle.house_rows.specs.Changed.{is_item}
 use Rattle.house_rows.specs.Fits.{CategoryFits, FeedbackFits, IsItem, MemberFits, QuestionFits}
 use Rattle.house_rows.specs.Fits.{WatchRowFits}
 use Rattle.house_rows.specs.Found.{category_at, category_named, item_with_lot, member_named}
 use Rattle.house_rows.specs.Found.{question_at}
+use Rattle.house_rows.specs.Making.{ChangeRowsFit}
 use Rattle.house_rows.specs.Tables.{Tables}
 use Rattle.house_rows.specs.Taken.{FitWhere, ItemsFitWhere}
 
@@ -39,3 +46,8 @@ CommandRowsFit t caller (command.Answer item asker number text) =
 CommandRowsFit t caller (command.Feedback item rating text) =
     ItemAtFits t item × FitWhere (λ f. f.from == caller) FeedbackFits t.feedback
 CommandRowsFit t caller (command.SetBands bands) = Unit {0}
+
+-- where a command is accepted, its change fits if the rows do that deciding and making it take
+abbrev pub FitsByRows : Tables → ℕ → Command → Result (Result Change Refusal) KeepFault → Type 0
+FitsByRows t caller command result = CommandRowsFit t caller command
+    → IfAccepted result (λ change. ChangeRowsFit t change → ChangeFits t change)

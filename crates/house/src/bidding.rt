@@ -5,16 +5,15 @@ ghost use Rattle.proxy.specs.declared.bid.Bid.{Bid as TheBid};
 ghost use Rattle.proxy.specs.Bids.{one_more, refusal, standing_of};
 ghost use Rattle.house_rows.specs.declared.command.Command.TheVariants as command;
 ghost use Rattle.house_rows.specs.declared.settings.Settings.{Settings as TheSettings};
-ghost use Rattle.house_rows.specs.Asks.{ChangeFits};
 ghost use Rattle.house_rows.specs.History.{History};
-ghost use Rattle.house_rows.specs.Keeping.{AreSound, Faults, IsRead};
+ghost use Rattle.house_rows.specs.Keeping.{Faults, IsRead};
 ghost use Rattle.house_rows.specs.Tables.{tables_of};
 ghost use Rattle.house_rows.specs.Taken.{IsUndamaged};
 ghost use Rattle.house_rows.specs.Verdict.{IsHistory};
 ghost use Rattle.house.specs.Decided.{IfAccepted, IsDecided};
 ghost use Rattle.house.specs.Own.{IsOf};
 ghost use Rattle.house.specs.Refused.{as_refusal};
-ghost use Rattle.house.specs.Taken.{CommandRowsFit};
+ghost use Rattle.house.specs.Taken.{CommandRowsFit, FitsByRows};
 
 use crate::targets::{on_auction, open_refused};
 use cents::Cents;
@@ -34,8 +33,8 @@ pub fn bid<'c, K: Keep>(
 ) -> Result<Result<Change<'c>, Refusal>, KeepFault>
     ensures decided { K.is_honest keep.new → (settings : TheSettings) (h : History) → IsHistory settings h
         → K.content keep.old ≡ tables_of settings h → IfOk result (IsDecided settings h moment caller (command.Bid item maximum)) }
-    ensures fits { K.is_honest keep.new → AreSound (K.content keep.old)
-        → IfAccepted result (ChangeFits (K.content keep.old)) }
+    ensures fits { K.is_honest keep.new
+        → FitsByRows (K.content keep.old) caller (command.Bid item maximum) result }
     ensures own { K.is_honest keep.new
         → IfAccepted result (IsOf moment caller (command.Bid item maximum)) }
     ensures faults { Faults result (K.is_honest keep.new) (K.is_failed keep.new) (K.content keep.old) }

@@ -9,7 +9,7 @@ ghost use Rattle.house_rows.specs.Taken.{IsUndamaged};
 ghost use Rattle.house_rows.specs.Verdict.{IsHistory};
 ghost use Rattle.house.specs.Decided.{IfAccepted, IsDecided};
 ghost use Rattle.house.specs.Own.{IsOf};
-ghost use Rattle.house.specs.Taken.{CommandRowsFit};
+ghost use Rattle.house.specs.Taken.{CommandRowsFit, FitsByRows};
 
 use crate::answers::answer;
 use crate::bands::set_bands;
@@ -26,7 +26,7 @@ use crate::watchlist::watch;
 use house_rows::{Change, Command, Keep, KeepFault, Refusal};
 
 /// Decides on a command: the change that it makes, or why it is refused. Nothing is changed yet, and
-/// the change fits the tables wherever these are sound.
+/// the change fits the tables wherever the rows do that it takes.
 ///
 /// `moment` is in whole seconds since 1970-01-01T00:00:00Z, and `caller` 0 is the house.
 pub fn decide<'c, K: Keep>(
@@ -37,7 +37,9 @@ pub fn decide<'c, K: Keep>(
 ) -> Result<Result<Change<'c>, Refusal>, KeepFault>
     ensures decided { K.is_honest keep.new → (settings : TheSettings) (h : History) → IsHistory settings h
         → K.content keep.old ≡ tables_of settings h → IfOk result (IsDecided settings h moment caller command.now) }
-    ensures fits { K.is_honest keep.new → AreSound (K.content keep.old)
+    ensures fits { K.is_honest keep.new
+        → FitsByRows (K.content keep.old) caller command.now result }
+    ensures sound { K.is_honest keep.new → AreSound (K.content keep.old)
         → IfAccepted result (ChangeFits (K.content keep.old)) }
     ensures own { K.is_honest keep.new → IfAccepted result (IsOf moment caller command.now) }
     ensures faults { Faults result (K.is_honest keep.new) (K.is_failed keep.new) (K.content keep.old) }

@@ -4,11 +4,10 @@ ghost use Rattle.std.specs.List.{list_all, list_any};
 ghost use Rattle.proxy.specs.Rules.{first_failing};
 ghost use Rattle.house_rows.specs.declared.command.Command.TheVariants as command;
 ghost use Rattle.house_rows.specs.declared.settings.Settings.{Settings as TheSettings};
-ghost use Rattle.house_rows.specs.Asks.{ChangeFits};
 ghost use Rattle.house_rows.specs.Fits.{CategoryFits, IsItem};
 ghost use Rattle.house_rows.specs.Found.{category_at, item_with_lot};
 ghost use Rattle.house_rows.specs.History.{History};
-ghost use Rattle.house_rows.specs.Keeping.{AreSound, Faults, IsRead};
+ghost use Rattle.house_rows.specs.Keeping.{Faults, IsRead};
 ghost use Rattle.house_rows.specs.Limits.{most_cents};
 ghost use Rattle.house_rows.specs.Tables.{tables_of};
 ghost use Rattle.house_rows.specs.Taken.{IsUndamaged};
@@ -18,7 +17,7 @@ ghost use Rattle.house.specs.Decided.{IfAccepted, IsDecided};
 ghost use Rattle.house.specs.Own.{IsOf};
 ghost use Rattle.house.specs.Judged.{first_rules};
 ghost use Rattle.house.specs.Offered.{AreOf, offer_rules, terms_rules, report};
-ghost use Rattle.house.specs.Taken.{LotAndCategoryFit, CommandRowsFit};
+ghost use Rattle.house.specs.Taken.{CommandRowsFit, FitsByRows, LotAndCategoryFit};
 
 use crate::targets::{common, is_text};
 use cents::Cents;
@@ -65,8 +64,11 @@ pub fn list<'c, K: Keep>(
     ensures decided { K.is_honest keep.new → (settings : TheSettings) (h : History) → IsHistory settings h
         → K.content keep.old ≡ tables_of settings h → IfOk result (IsDecided settings h moment caller
         (command.List offer.now.category offer.now.lot.now offer.now.title.now offer.now.text.now offer.now.start offer.now.buy_now offer.now.end offer.now.reserve)) }
-    ensures fits { K.is_honest keep.new → AreSound (K.content keep.old)
-        → IfAccepted result (ChangeFits (K.content keep.old)) }
+    ensures fits { K.is_honest keep.new
+        → FitsByRows (K.content keep.old) caller
+        (command.List offer.now.category offer.now.lot.now offer.now.title.now offer.now.text.now
+        offer.now.start offer.now.buy_now offer.now.end offer.now.reserve)
+        result }
     ensures own { K.is_honest keep.new → IfAccepted result (IsOf moment caller (command.List offer.now.category
         offer.now.lot.now offer.now.title.now offer.now.text.now offer.now.start offer.now.buy_now offer.now.end offer.now.reserve)) }
     ensures faults { Faults result (K.is_honest keep.new) (K.is_failed keep.new) (K.content keep.old) }

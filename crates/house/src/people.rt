@@ -4,18 +4,17 @@ ghost use Rattle.std.specs.List.{list_any};
 ghost use Rattle.proxy.specs.Rules.{first_failing};
 ghost use Rattle.house_rows.specs.declared.command.Command.TheVariants as command;
 ghost use Rattle.house_rows.specs.declared.settings.Settings.{Settings as TheSettings};
-ghost use Rattle.house_rows.specs.Asks.{ChangeFits};
 ghost use Rattle.house_rows.specs.Fits.{CategoryFits, MemberFits};
 ghost use Rattle.house_rows.specs.Found.{category_named, member_named};
 ghost use Rattle.house_rows.specs.History.{History};
-ghost use Rattle.house_rows.specs.Keeping.{AreSound, Faults, IsRead};
+ghost use Rattle.house_rows.specs.Keeping.{Faults, IsRead};
 ghost use Rattle.house_rows.specs.Tables.{tables_of};
 ghost use Rattle.house_rows.specs.Taken.{IsUndamaged};
 ghost use Rattle.house_rows.specs.Text.{same_text};
 ghost use Rattle.house_rows.specs.Verdict.{IsHistory, category_rules, common_rules, register_rules};
 ghost use Rattle.house.specs.Decided.{IfAccepted, IsDecided};
 ghost use Rattle.house.specs.Own.{IsOf};
-ghost use Rattle.house.specs.Taken.{CommandRowsFit};
+ghost use Rattle.house.specs.Taken.{CommandRowsFit, FitsByRows};
 
 use crate::targets::{common, is_text};
 use house_rows::{Change, Keep, KeepFault, MOST_CATEGORIES, MOST_MEMBERS, Refusal, Text};
@@ -29,8 +28,8 @@ pub fn register<'c, K: Keep>(
 ) -> Result<Result<Change<'c>, Refusal>, KeepFault>
     ensures decided { K.is_honest keep.new → (settings : TheSettings) (h : History) → IsHistory settings h
         → K.content keep.old ≡ tables_of settings h → IfOk result (IsDecided settings h moment caller (command.Register name.now)) }
-    ensures fits { K.is_honest keep.new → AreSound (K.content keep.old)
-        → IfAccepted result (ChangeFits (K.content keep.old)) }
+    ensures fits { K.is_honest keep.new
+        → FitsByRows (K.content keep.old) caller (command.Register name.now) result }
     ensures own { K.is_honest keep.new
         → IfAccepted result (IsOf moment caller (command.Register name.now)) }
     ensures faults { Faults result (K.is_honest keep.new) (K.is_failed keep.new) (K.content keep.old) }
@@ -97,8 +96,8 @@ pub fn add_category<'c, K: Keep>(
 ) -> Result<Result<Change<'c>, Refusal>, KeepFault>
     ensures decided { K.is_honest keep.new → (settings : TheSettings) (h : History) → IsHistory settings h
         → K.content keep.old ≡ tables_of settings h → IfOk result (IsDecided settings h moment caller (command.AddCategory name.now)) }
-    ensures fits { K.is_honest keep.new → AreSound (K.content keep.old)
-        → IfAccepted result (ChangeFits (K.content keep.old)) }
+    ensures fits { K.is_honest keep.new
+        → FitsByRows (K.content keep.old) caller (command.AddCategory name.now) result }
     ensures own { K.is_honest keep.new
         → IfAccepted result (IsOf moment caller (command.AddCategory name.now)) }
     ensures faults { Faults result (K.is_honest keep.new) (K.is_failed keep.new) (K.content keep.old) }

@@ -4,16 +4,15 @@ ghost use Rattle.proxy.specs.Bids.{is_leader};
 ghost use Rattle.proxy.specs.Rules.{first_failing};
 ghost use Rattle.house_rows.specs.declared.command.Command.TheVariants as command;
 ghost use Rattle.house_rows.specs.declared.settings.Settings.{Settings as TheSettings};
-ghost use Rattle.house_rows.specs.Asks.{ChangeFits};
 ghost use Rattle.house_rows.specs.History.{History};
-ghost use Rattle.house_rows.specs.Keeping.{AreSound, Faults, IsRead};
+ghost use Rattle.house_rows.specs.Keeping.{Faults, IsRead};
 ghost use Rattle.house_rows.specs.Ratings.{other_party};
 ghost use Rattle.house_rows.specs.Tables.{tables_of};
 ghost use Rattle.house_rows.specs.Taken.{IsUndamaged};
 ghost use Rattle.house_rows.specs.Verdict.{IsHistory, feedback_rules};
 ghost use Rattle.house.specs.Decided.{IfAccepted, IsDecided};
 ghost use Rattle.house.specs.Own.{IsOf};
-ghost use Rattle.house.specs.Taken.{CommandRowsFit};
+ghost use Rattle.house.specs.Taken.{CommandRowsFit, FitsByRows};
 
 use crate::targets::{is_text, on_item};
 use house_rows::{Change, Keep, KeepFault, Rating, Refusal, State, Terms, Text};
@@ -29,8 +28,8 @@ pub fn feedback<'c, K: Keep>(
 ) -> Result<Result<Change<'c>, Refusal>, KeepFault>
     ensures decided { K.is_honest keep.new → (settings : TheSettings) (h : History) → IsHistory settings h
         → K.content keep.old ≡ tables_of settings h → IfOk result (IsDecided settings h moment caller (command.Feedback item rating text.now)) }
-    ensures fits { K.is_honest keep.new → AreSound (K.content keep.old)
-        → IfAccepted result (ChangeFits (K.content keep.old)) }
+    ensures fits { K.is_honest keep.new
+        → FitsByRows (K.content keep.old) caller (command.Feedback item rating text.now) result }
     ensures own { K.is_honest keep.new
         → IfAccepted result (IsOf moment caller (command.Feedback item rating text.now)) }
     ensures faults { Faults result (K.is_honest keep.new) (K.is_failed keep.new) (K.content keep.old) }

@@ -126,12 +126,6 @@ pub record Faults {A : Type 0} (result : Result A KeepFault) (is_honest : Type 0
   pub store : IsErrOf result Store ↔ (is_failed ≡ true)
   pub damaged : is_honest → AreSound content → ¬ (IsErrOf result Damaged)
 
--- and of a change only there, or where its new key is taken
-pub record ChangeFaults (result : Result (Unit {0}) KeepFault) (is_honest : Type 0) (is_failed : Bool) (content : Tables) (change : Change) : Type 0 where
-  pub store : IsErrOf result Store ↔ (is_failed ≡ true)
-  pub damaged : is_honest → AreSound content → IsFree content change → ¬ (IsErrOf result Damaged)
-  pub taken : is_honest → OnOk result (IsFree content change)
-
 -- a call that only reads leaves the tables, and a crash leaves what it could have left before. Failed stays, and what is
 -- honest after a call was so before
 pub record IsRead {K : Type 0} (content : K → Tables) (is_failed : K → Bool) (is_honest : K → Type 0) (may_leave : K → Tables → Type 0) (old new : K) : Type 0 where

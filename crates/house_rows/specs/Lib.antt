@@ -23,3 +23,4 @@ pub mod Asks
 pub mod Keeping
 pub mod Reached
 pub mod Taken
+pub mod Making

@@ -1,5 +1,5 @@
 -- Which rows a look-up or a list of a keep takes: that these fit is enough for it not to be damaged.
-use Rattle.std.specs.Prelude.{◌≡◌, ◌==◌, ◌||◌, ◌&&◌, if◌then◌else◌, ℕ, List, Bool, true, Result, IsErrOf, is_some, nat_le, nat_lt}
+use Rattle.std.specs.Prelude.{◌≡◌, ◌-◌, ◌==◌, ◌||◌, ◌&&◌, if◌then◌else◌, ℕ, List, [], ◌∷◌, Bool, true, Result, IsErrOf, is_some, nat_le, nat_lt}
 use Rattle.std.specs.List.{AllByRecursion}
 use Rattle.proxy.specs.Bids.{is_leader}
 use Rattle.house_rows.specs.declared.fault.KeepFault.{KeepFault}
@@ -36,6 +36,12 @@ has_own_reserve member from row =
 -- where a list begins that is asked for from a number on: at the last number of 32 bits at most
 abbrev pub start_of : ℕ → ℕ
 start_of from = if nat_lt from 4294967295 then from else 4294967295
+
+-- the rows of a list up to the one with which so many have passed a test
+abbrev pub up_to : {A : Type 0} → ℕ → (A → Bool) → List A → List A
+up_to n test [] = []
+up_to n test (x ∷ xs) =
+    if n == 0 then [] else x ∷ up_to (if test x then n - 1 else n) test xs
 
 -- whether fewer than fifty of the rows that pass a test have a lesser number
 abbrev pub is_near : {A : Type 0} → (A → Bool) → (A → ℕ) → List A → A → Bool

@@ -1,7 +1,8 @@
 //! What a house was set up with, and the band tables that it has set since.
-ghost use Rattle.std.specs.Prelude.{◌≡◌, ◌<◌, ◌++◌, ◌∷◌, ◌+◌, [], OnOk, OnErr, length, map, option_map};
+ghost use Rattle.std.specs.Prelude.{◌≡◌, ◌<◌, ◌++◌, ◌∷◌, ◌+◌, [], List, OnOk, OnErr, length, map, option_map};
 ghost use Rattle.house_rows.specs.Editions.{bands_among, bands_in, bands_of, edition_among, edition_in, newest_bands_in, newest_in, table_of};
 ghost use Rattle.house_rows.specs.Limits.{most_editions};
+ghost use Rattle.house_rows.specs.declared.edition.Edition.{Edition as TheEdition};
 ghost use Rattle.house_rows.specs.Listings.{newest_of};
 
 use crate::edition::Edition;
@@ -140,13 +141,6 @@ impl Editions {
         &self.later
     }
 
-    /// Makes room for one more.
-    pub fn make_room(&mut self) -> Result<(), AllocError>
-        ensures { self.new ≡ self.old }
-    {
-        self.later.reserve(1)
-    }
-
     /// Sets one more, which begins with an item that is still to come.
     pub fn set(&mut self, first: u32, bands: Bands) -> Result<(), AllocError>
         requires room { length self.old.later + 1 < most_editions }
@@ -163,5 +157,13 @@ impl Editions {
             bands,
         })?;
         Ok(())
+    }
+
+    /// Takes the newest back that was set.
+    pub fn unset(&mut self)
+        ensures { (later : List TheEdition) (newest : TheEdition) → self.old.later ≡ later ++ newest ∷ []
+            → self.new ≡ record { settings = self.old.settings; later = later } }
+    {
+        self.later.pop();
     }
 }

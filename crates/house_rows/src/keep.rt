@@ -8,8 +8,9 @@ ghost use Rattle.house_rows.specs.Editions.{bands_of, newest_in};
 ghost use Rattle.house_rows.specs.Fits.{BidRowFits, CategoryFits, FeedbackFits, IsItem, IsMember, IsMoment, IsWithin, ItemFits, MemberFits, OwnBidFits, OwnReserveFits, QuestionFits, StandingFits, TermsFit, WatchRowFits};
 ghost use Rattle.house_rows.specs.Found.{all_items, all_published, ask_count, auction_at, best_of, category_at, category_named, counts_of, due_at, feedback_to, first_waiting, is_given, is_watched, item_at, item_with_lot, items_in, items_watched, member_named, own_bids, own_reserves, published_on, question_at, questions_of, reserve_at, row_at, sales_to, sells, standing_at, terms_at, waiting_for, watch_count};
 ghost use Rattle.house_rows.specs.Items.{is_due};
-ghost use Rattle.house_rows.specs.Keeping.{AllConsistent, AreSound, ChangeFaults, Faults, IsRead, RowFits, IsConsistentAt, IsConsistentIn};
-ghost use Rattle.house_rows.specs.Taken.{FirstFit, FitWhere, has_own_reserve, IsUndamaged, ItemsFitWhere, may_be_party, start_of};
+ghost use Rattle.house_rows.specs.Keeping.{AllConsistent, AreSound, Faults, IsRead, RowFits, IsConsistentAt, IsConsistentIn};
+ghost use Rattle.house_rows.specs.Making.{ChangeFaults};
+ghost use Rattle.house_rows.specs.Taken.{FirstFit, FitWhere, has_own_reserve, IsUndamaged, ItemsFitWhere, may_be_party, start_of, up_to};
 ghost use Rattle.house_rows.specs.Limits.{most_categories, most_items, most_shown};
 ghost use Rattle.house_rows.specs.Pages.{member_at, ratings_of, sale_of};
 ghost use Rattle.house_rows.specs.Reached.{FitsSoFar};
@@ -287,6 +288,9 @@ pub trait Keep {
         ensures read { IsRead content is_failed is_honest may_leave self.old self.new };
 
     /// The items on which a member has bid, from a number on; at most fifty.
+    ///
+    /// An item whose number is none of ours stands in the tables under one that a bid may name, first
+    /// or last: so the list takes the number of each item of the house.
     fn bids_of(&mut self, member: u64, from: u64) -> Result<Vec<OwnBid>, KeepFault>
         ensures value { is_honest self.new → IfOk result (λ v. v.items ≡ own_bids (content self.old) member from) }
         ensures fits { IfOk result (λ v. AllByRecursion OwnBidFits v.items) }
@@ -306,14 +310,15 @@ pub trait Keep {
         ensures read { IsRead content is_failed is_honest may_leave self.old self.new };
 
     /// A member's reserves on what it sells, from an item on; at most fifty. The list takes the number
-    /// of each item that the member sells.
+    /// of each item that the member sells, up to the one whose reserve is the fiftieth.
     fn reserves_of(&mut self, member: u64, from: u64) -> Result<Vec<OwnReserve>, KeepFault>
         ensures value { is_honest self.new → IfOk result (λ v. v.items ≡ own_reserves (content self.old) member from) }
         ensures fits { IfOk result (λ v. AllByRecursion OwnReserveFits v.items) }
         ensures faults { Faults result (is_honest self.new) (is_failed self.new) (content self.old) }
         ensures damaged { is_honest self.new
-            → FitWhere (λ row. row.item.terms.seller == member) (λ row. row.item.terms.item < 2 ^ 32)
-            (content self.old).items
+            → AllByRecursion (λ row. row.item.terms.item < 2 ^ 32) (up_to most_shown
+            (has_own_reserve member from)
+            (filter (λ row. row.item.terms.seller == member) (content self.old).items))
             → AllByRecursion (RowFits (content self.old)) (take most_shown
             (filter (has_own_reserve member from) (content self.old).items))
             → IsUndamaged result }
@@ -433,6 +438,9 @@ pub trait Keep {
 
     /// The first of the questions that wait for a member's answer, by item, asker and number; at most
     /// fifty.
+    ///
+    /// Which items the member sells is found before the first question is looked for, so the list
+    /// takes the row of each.
     fn first_waiting(&mut self, member: u64) -> Result<Vec<Question>, KeepFault>
         ensures value { is_honest self.new → IfOk result (λ v. v.items ≡ first_waiting (content self.old) member) }
         ensures fits { IfOk result (λ v. AllByRecursion QuestionFits v.items) }
@@ -459,9 +467,9 @@ pub trait Keep {
 
     /// Makes a change, whole or not at all.
     ///
-    /// Damaged is answered where a row that the call takes doesn't fit, or where the new key of a
-    /// change other than a watch is taken. After Memory or Damaged the tables are as before; after
-    /// Store a crash may leave them as before or changed.
+    /// Damaged is answered only where a row that the change takes doesn't fit, whatever else is wrong
+    /// with the tables, or where the new key of a change other than a watch is taken. After Memory or
+    /// Damaged the tables are as before; after Store a crash may leave them as before or changed.
     fn apply(&mut self, change: &Change<'_>) -> Result<(), KeepFault>
         requires fits { is_honest self.old → AreSound (content self.old) → ChangeFits (content self.old) change.now }
         ensures ok { is_honest self.new → OnOk result (content self.new ≡ changed (content self.old) change.now) }

@@ -15,7 +15,7 @@ use Rattle.house_rows.specs.Pages.{member_at}
 use Rattle.house_rows.specs.Reached.{FitsSoFar}
 use Rattle.house_rows.specs.Tables.{ItemRow, Tables, band_tables}
 use Rattle.house_rows.specs.Taken.{FirstFit, FitWhere, ItemsFitWhere, has_own_reserve, may_be_party}
-use Rattle.house_rows.specs.Taken.{start_of}
+use Rattle.house_rows.specs.Taken.{start_of, up_to}
 use Rattle.pages_text.specs.declared.fault.PageFault.{PageFault}
 use Rattle.pages_text.specs.declared.fault.PageFault.TheVariants.{Keep}
 
@@ -50,7 +50,8 @@ PageRowsFit t caller (query.FeedbackTo member from) =
     × FitWhere (λ f. (f.to == member) && nat_le 4294967296 f.item) FeedbackFits t.feedback
 PageRowsFit t caller (query.MyBids from) = FitsSoFar (band_tables t) t caller from
 PageRowsFit t caller (query.MyReserves from) =
-    FitWhere (λ row. row.item.terms.seller == caller) (λ row. row.item.terms.item < 2 ^ 32) t.items
+    AllByRecursion (λ row. row.item.terms.item < 2 ^ 32) (up_to most_shown
+    (has_own_reserve caller from) (filter (λ row. row.item.terms.seller == caller) t.items))
     × FirstItemsFit (has_own_reserve caller from) t
 PageRowsFit t caller query.MyWatches =
     FitWhere (λ w. w.member == caller) WatchRowFits t.watches

@@ -120,29 +120,22 @@ read_shown (Read caller query) zone t closes u before after text e shown =
     (reply_text zone closes (Shows (page_by t caller query))) (sym e ∙ shown)
 read_shown (Broken caller fault) zone t closes u before after text e shown = tt
 
--- of a read, what is so of each
-each_read : (message : Message Fault) (P : ℕ → Query → Type 0)
-    → ((caller : ℕ) (query : Query) → P caller query) → IfRead message P
-each_read (Order moment caller command) P each = tt
-each_read (Read caller query) P each = each caller query
-each_read (Broken caller fault) P each = tt
-
--- and what follows of it
-if_read_then : (message : Message Fault) (P Q : ℕ → Query → Type 0) → IfRead message P
-    → ((caller : ℕ) (query : Query) → P caller query → Q caller query) → IfRead message Q
-if_read_then (Order moment caller command) P Q p follows = tt
-if_read_then (Read caller query) P Q p follows = follows caller query p
-if_read_then (Broken caller fault) P Q p follows = tt
-
 -- where something comes before the bytes, they alone say what became of a message
 own_text : (message : Message Fault) (zone : Zone) (t now : Tables) (closes : Bool)
     (before after text : List ℕ) → after ≡ before ++ text
     → IsOwnChangeOrNone zone closes message t now before after
     → IsOwnChangeOrNone zone closes message t now [] text
-own_text message zone t now closes before after text e (inr (made, (report, told))) = inr (
-  made,
-  (report, append_cancel_left before text (reply_text zone closes (Done report)) (sym e ∙ told)),
-)
+own_text message zone t now closes before after text e
+    (inr (change, own, leads, (report, is, told))) = inr (
+      change,
+      own,
+      leads,
+      (
+        report,
+        is,
+        append_cancel_left before text (reply_text zone closes (Done report)) (sym e ∙ told),
+      ),
+    )
 own_text (Order moment caller command) zone t now closes before after text e
     (inl (same, (refusal, told))) = inl (
       same,
@@ -213,8 +206,8 @@ step_ok content is_failed is_honest may_leave zone asked u before after old new 
         crash = acted.crash;
         failure = λ honest sound failing.
             absurd (not_both _ failing (reply_served zone asked.closes r).not_failed);
-        undamaged = λ honest. each_read asked.message _ (λ caller query fit failing.
-            absurd (not_both _ failing (reply_served zone asked.closes r).not_failed));
+        undamaged = λ honest fit failing.
+            absurd (not_both _ failing (reply_served zone asked.closes r).not_failed);
         down = λ failed asks. absurd (let wrong = acted.store.1 (failed, asks) in cc);
         store = λ report. absurd (served_not_store (reply_text zone asked.closes r)
             asked.closes (reply_served zone asked.closes r).not_failed report);
@@ -249,8 +242,7 @@ step_err content is_failed is_honest may_leave zone asked Memory before after ol
       report = inr (unmade content is_failed is_honest may_leave zone asked Memory before after old new acted);
       crash = acted.crash;
       failure = λ honest sound failing. absurd (not_both _ failing (memory_goes asked.closes));
-      undamaged = λ honest. each_read asked.message _ (λ caller query fit failing.
-          absurd (not_both _ failing (memory_goes asked.closes)));
+      undamaged = λ honest fit failing. absurd (not_both _ failing (memory_goes asked.closes));
       down = λ failed asks. absurd (let wrong = acted.store.1 (failed, asks) in cc);
       store = λ report. absurd (served_not_store (fault_text Memory asked.closes) asked.closes
           (memory_goes asked.closes) report);
@@ -271,8 +263,7 @@ step_err content is_failed is_honest may_leave zone asked Store before after old
       report = inr (unmade content is_failed is_honest may_leave zone asked Store before after old new acted);
       crash = acted.crash;
       failure = λ honest sound failing. inl (acted.store.0 refl).0;
-      undamaged = λ honest. each_read asked.message _ (λ caller query fit failing.
-          (acted.store.0 refl).0);
+      undamaged = λ honest fit failing. inl (acted.store.0 refl).0;
       down = λ failed asks. refl;
       store = λ report. ((acted.store.0 refl).0, asks_may asked.message (acted.store.0 refl).1);
       honest = acted.honest;
@@ -285,8 +276,7 @@ step_err content is_failed is_honest may_leave zone asked Damaged before after o
       report = inr (unmade content is_failed is_honest may_leave zone asked Damaged before after old new acted);
       crash = acted.crash;
       failure = λ honest sound failing. inr (acted.damaged honest sound refl);
-      undamaged = λ honest. if_read_then asked.message _ _ (acted.undamaged honest)
-          (λ caller query undamaged fit failing. absurd (undamaged fit refl));
+      undamaged = λ honest fit failing. inr (acted.undamaged honest fit refl);
       down = λ failed asks. absurd (let wrong = acted.store.1 (failed, asks) in cc);
       store = λ report. absurd (damage_not_store asked.closes report);
       honest = acted.honest;
@@ -335,8 +325,7 @@ unread_going content is_failed is_honest may_leave zone asked k going = record {
   });
   crash = λ honest t may. inl may;
   failure = λ honest sound failing. absurd (not_both _ failing (memory_goes asked.closes));
-  undamaged = λ honest. each_read asked.message _ (λ caller query fit failing.
-      absurd (not_both _ failing (memory_goes asked.closes)));
+  undamaged = λ honest fit failing. absurd (not_both _ failing (memory_goes asked.closes));
   down = λ failed asks. absurd (not_both _ failed going);
   store = λ report. absurd (served_not_store (fault_text Memory asked.closes) asked.closes
       (memory_goes asked.closes) report);
@@ -362,7 +351,7 @@ unread_down content is_failed is_honest may_leave zone asked k may failed = reco
   });
   crash = λ honest t may. inl may;
   failure = λ honest sound failing. inl failed;
-  undamaged = λ honest. each_read asked.message _ (λ caller query fit failing. failed);
+  undamaged = λ honest fit failing. inl failed;
   down = λ failed asks. refl;
   store = λ report. (failed, may);
   honest = λ honest. honest;
@@ -452,7 +441,7 @@ step_broken content is_failed is_honest may_leave zone f k = record {
   });
   crash = λ honest t may. inl may;
   failure = λ honest sound failing. absurd (not_both _ failing (broken_goes f));
-  undamaged = λ honest. broken_reads f _;
+  undamaged = λ honest fit failing. absurd (not_both _ failing (broken_goes f));
   down = λ failed asks. absurd (not_both _ asks (broken_asks f));
   store = λ report. absurd (served_not_store (broken_text f) (asked_of (Err f)).closes (broken_goes f)
       report);

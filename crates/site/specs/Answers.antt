@@ -12,11 +12,11 @@ use Rattle.house_rows.specs.Runs.{next, reply}
 use Rattle.house_rows.specs.Tables.{Tables, tables_of}
 use Rattle.house_rows.specs.Verdict.{IsHistory}
 use Rattle.jiff.specs.Words.{read_whole}
-use Rattle.pages.specs.Taken.{PageRowsFit}
 use Rattle.pages_laws.specs.ByTables.{page_by}
 use Rattle.settle.specs.Zoned.{IsPlainText}
 use Rattle.settle.specs.declared.zone.Zone.{Zone}
-use Rattle.site_acts.specs.Acted.{IfRead, IsMade, IsOwnChangeOrNone, IsTaken, is_asking, is_entered}
+use Rattle.site_acts.specs.Acted.{IfRead, IsKeyTaken, IsMade, IsOwnChangeOrNone, IsTaken}
+use Rattle.site_acts.specs.Acted.{MessageRowsFit, is_asking, is_entered}
 use Rattle.site_request.specs.Asked.{may_ask}
 use Rattle.site_request.specs.declared.asked.Asked.{Asked}
 use Rattle.site_request.specs.declared.fault.Fault.{Fault}
@@ -123,9 +123,10 @@ pub record IsStep {K : Type 0} (content : K → Tables) (is_failed : K → Bool)
   -- command's change is taken
   pub failure : is_honest new → AreSound (content old) → is_failure reply ≡ true
       → (is_failed new ≡ true) ⊎ IsTaken (content old) asked.message
-  -- nor is a read answered so over any tables in which the rows fit that its page takes
-  pub undamaged : is_honest new → IfRead asked.message (λ caller query.
-      PageRowsFit (content old) caller query → is_failure reply ≡ true → is_failed new ≡ true)
+  -- nor is it answered over any tables in which the rows fit that the message takes
+  pub undamaged : is_honest new → MessageRowsFit (content old) asked.message
+      → is_failure reply ≡ true
+      → (is_failed new ≡ true) ⊎ IsKeyTaken (content old) asked.message
   -- and where the store has failed, each command and each read is answered so, and never that
   -- memory was refused
   pub down : is_failed new ≡ true → IsDown asked reply

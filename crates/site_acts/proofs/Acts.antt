@@ -4,7 +4,9 @@ use Rattle.std.proofs.Common.{◌≡◌, ◌++◌, ◌∙◌, ℕ, List, Bool, t
 use Rattle.std.specs.Prelude.{Option, Result, Ok, Err, IfErr, OnOk, OnErr}
 use Rattle.house.specs.Decided.{IsAccepted}
 use Rattle.house.specs.Own.{IsOf}
+use Rattle.house.specs.Taken.{CommandRowsFit}
 use Rattle.house.proofs.Found.{by_test}
+use Rattle.house.proofs.Taken.{command_rows_fit}
 use Rattle.house.proofs.Unchanged.{still_there}
 use Rattle.house_rows.specs.declared.change.Change.{Change}
 use Rattle.house_rows.specs.declared.command.Command.{Command}
@@ -21,19 +23,21 @@ use Rattle.house_rows.specs.Asks.{ChangeFits}
 use Rattle.house_rows.specs.Changed.{changed}
 use Rattle.house_rows.specs.History.{History}
 use Rattle.house_rows.specs.Keeping.{AreSound, Faults, IsRead}
+use Rattle.house_rows.specs.Making.{ChangeRowsFit}
 use Rattle.house_rows.specs.Runs.{next, reply}
 use Rattle.house_rows.specs.Tables.{Tables, tables_of}
 use Rattle.house_rows.specs.Taken.{IsUndamaged}
 use Rattle.house_rows.specs.Verdict.{IsHistory}
 use Rattle.house_rows.proofs.Next.{next_accepted, reply_accepted}
-use Rattle.house_rows.proofs.Sound.{rows_are_sound}
-use Rattle.pages.specs.Taken.{PageRowsFit}
+use Rattle.house_rows.proofs.Sound.{change_rows_fit, rows_are_sound}
 use Rattle.pages_laws.specs.ByTables.{page_by}
 use Rattle.settle.specs.declared.zone.Zone.{Zone}
 use Rattle.site_request.specs.declared.fault.Fault.{Fault}
 use Rattle.site_replies.specs.Texts.{reply_text}
-use Rattle.site_acts.specs.Acted.{IfRead, IsActed, IsMade, TellsDone, TellsUnchanged, is_asking, is_entered}
-use Rattle.site_acts.specs.Entered.{IfReported, IsApplied}
+use Rattle.site_results.specs.ByTables.{IsResultBy}
+use Rattle.site_acts.specs.Acted.{IfRead, IsActed, IsMade, MessageRowsFit, TellsResult}
+use Rattle.site_acts.specs.Acted.{TellsUnchanged, is_asking, is_entered}
+use Rattle.site_acts.specs.Entered.{IfReported, IsApplied, TellsDone}
 
 -- the tables of a history are sound
 held_is_sound : (t : Tables) (settings : Settings) (h : History) → IsHistory settings h
@@ -67,8 +71,7 @@ pub acted_by_reading : {K : Type 0} (content : K → Tables) (is_failed : K → 
     (TellsUnchanged zone closes message (content old) before after))
     → OnErr result (after ≡ before)
     → Faults result (is_honest new) (is_failed new) (content old)
-    → (is_honest new → IfRead message (λ caller query.
-    PageRowsFit (content old) caller query → IsUndamaged result))
+    → (is_honest new → MessageRowsFit (content old) message → IsUndamaged result)
     → IsRead content is_failed is_honest may_leave old new
     → IsActed content is_failed is_honest may_leave zone closes message result before after old new
 acted_by_reading content is_failed is_honest may_leave zone closes message (Ok u) before after old
@@ -87,7 +90,7 @@ acted_by_reading content is_failed is_honest may_leave zone closes message (Ok u
       whole = λ honest settings h is e. faults.damaged honest
           (held_is_sound (content old) settings h is e);
       damaged = λ honest sound wrong. absurd (faults.damaged honest sound wrong);
-      undamaged = undamaged;
+      undamaged = λ honest fit wrong. absurd (undamaged honest fit wrong);
       honest = read.honest;
       stays = read.stays;
       asleep = λ e. absurd (let wrong : true ≡ false = sym asks ∙ e in cc);
@@ -111,7 +114,7 @@ acted_by_reading content is_failed is_honest may_leave zone closes message (Err 
       whole = λ honest settings h is e. faults.damaged honest
           (held_is_sound (content old) settings h is e);
       damaged = λ honest sound wrong. absurd (faults.damaged honest sound wrong);
-      undamaged = undamaged;
+      undamaged = λ honest fit wrong. absurd (undamaged honest fit wrong);
       honest = read.honest;
       stays = read.stays;
       asleep = λ e. absurd (let wrong : true ≡ false = sym asks ∙ e in cc);
@@ -130,7 +133,8 @@ pub record IsReady {K : Type 0} (content : K → Tables) (is_failed : K → Bool
   pub same : is_honest mid → content mid ≡ content old
   pub accepted : is_honest mid → (settings : Settings) (h : History) → IsHistory settings h
       → content old ≡ tables_of settings h → IsAccepted settings h moment caller command change
-  pub fits : is_honest mid → AreSound (content old) → ChangeFits (content old) change
+  pub fits : is_honest mid → CommandRowsFit (content old) caller command
+      → ChangeRowsFit (content old) change → ChangeFits (content old) change
   pub own : is_honest mid → IsOf moment caller command change
 
 -- the keep hadn't failed before either
@@ -152,6 +156,16 @@ leads_on settings h moment caller command change t e is =
     ∙ ap (tables_of settings)
     (sym (next_accepted Fault settings h moment caller command is.accepted))
 
+-- the change of a ready command fits sound tables
+sound_change : {K : Type 0} (content : K → Tables) (is_failed : K → Bool)
+    (is_honest : K → Type 0) (may_leave : K → Tables → Type 0)
+    (moment caller : ℕ) (command : Command) (change : Change) (old mid : K)
+    → IsReady content is_failed is_honest may_leave moment caller command change old mid
+    → is_honest mid → AreSound (content old) → ChangeFits (content old) change
+sound_change content is_failed is_honest may_leave moment caller command change old mid ready honest
+    sound = ready.fits honest (command_rows_fit (content old) caller command sound)
+    (change_rows_fit (content old) change sound)
+
 -- and it is the command's own
 own_change : {K : Type 0} (content : K → Tables) (is_failed : K → Bool)
     (is_honest : K → Type 0) (may_leave : K → Tables → Type 0)
@@ -162,8 +176,11 @@ own_change : {K : Type 0} (content : K → Tables) (is_failed : K → Bool)
 own_change content is_failed is_honest may_leave moment caller command change old mid now ready
     honest leads = (
       change,
-      ready.own honest,
-      ready.fits honest,
+      (
+        ready.own honest,
+        sound_change content is_failed is_honest may_leave moment caller command change old mid
+            ready honest,
+      ),
       leads ∙ ap (λ (x : Tables). changed x change) (ready.same honest),
     )
 
@@ -181,12 +198,13 @@ pub acted_by_change : {K : Type 0} (content : K → Tables) (is_failed : K → B
     → (is_honest new → IfReported (content mid) change
     (λ report. OnOk result (after ≡ before ++ reply_text zone closes (Done report))))
     → OnOk result (TellsDone zone closes before after)
+    → (is_honest new → OnOk result (TellsResult zone closes (content mid) change before after))
     → OnErr result (after ≡ before)
     → IsApplied content is_failed is_honest may_leave change result mid new
     → IsActed content is_failed is_honest may_leave zone closes (Order moment caller command) result
     before after old new
 acted_by_change content is_failed is_honest may_leave zone closes moment caller command change
-    (Ok u) before after old mid new ready value text same applied = record {
+    (Ok u) before after old mid new ready value text told same applied = record {
       report = λ honest settings h is e.
           let b = applied.honest honest in
           let accepted = ready.accepted b settings h is e in
@@ -200,17 +218,24 @@ acted_by_change content is_failed is_honest may_leave zone closes moment caller 
           (ready.same b ∙ e) (ready.accepted b settings h is e);
       text = some_reply zone closes before after text;
       shown = λ honest. tt;
-      made = λ honest going. inr (
-        own_change content is_failed is_honest may_leave moment caller command change old mid
-            (content new) ready (applied.honest honest) (applied.ok honest),
-        text,
-      );
+      made = λ honest going.
+          let b = applied.honest honest in
+          inr (
+            change,
+            (
+              ready.own b,
+              sound_change content is_failed is_honest may_leave moment caller command change old
+                  mid ready b,
+            ),
+            applied.ok honest ∙ ap (λ (x : Tables). changed x change) (ready.same b),
+            rw (ready.same b) at (told honest),
+          );
       err = tt;
       unmade = λ honest going. tt;
       store = (λ e. cc, λ e. applied.faults.store.1 e.0);
       whole = λ honest settings h is e wrong. cc;
       damaged = λ honest sound wrong. cc;
-      undamaged = λ honest. tt;
+      undamaged = λ honest fit wrong. cc;
       honest = λ honest. ready.read.honest (applied.honest honest);
       stays = λ e. applied.stays (ready.read.stays e);
       asleep = λ e. cc;
@@ -231,7 +256,7 @@ acted_by_change content is_failed is_honest may_leave zone closes moment caller 
       kept = λ honest settings h is e entered. applied.kept honest;
     }
 acted_by_change content is_failed is_honest may_leave zone closes moment caller command change
-    (Err f) before after old mid new ready value text same applied = record {
+    (Err f) before after old mid new ready value text told same applied = record {
       report = λ honest settings h is e. tt;
       tables = λ honest settings h is e. tt;
       text = tt;
@@ -243,17 +268,30 @@ acted_by_change content is_failed is_honest may_leave zone closes moment caller 
       whole = λ honest settings h is e wrong.
           let b = applied.honest honest in
           let now : content mid ≡ tables_of settings h = ready.same b ∙ e in
-          applied.faults.damaged honest (held_is_sound (content mid) settings h is now)
-          (rw now (ready.accepted b settings h is e).free) wrong;
+          let accepted = ready.accepted b settings h is e in
+          applied.faults.damaged honest (rw now accepted.fits)
+          (change_rows_fit (content mid) change (held_is_sound (content mid) settings h is now))
+          (rw now accepted.free) wrong;
       damaged = λ honest sound wrong.
-          let b = applied.honest honest in (
+          let b = applied.honest honest in
+          let fits = sound_change content is_failed is_honest may_leave moment caller command change
+          old mid ready b sound in (
             change,
             ready.own b,
-            ready.fits b sound,
-            λ free. applied.faults.damaged honest
-                (rw (ready.same b) sound) (rw (ready.same b) free) wrong,
+            fits,
+            λ free. applied.faults.damaged honest (rw (ready.same b) fits)
+                (rw (ready.same b) (change_rows_fit (content old) change sound))
+                (rw (ready.same b) free) wrong,
           );
-      undamaged = λ honest. tt;
+      undamaged = λ honest fit wrong.
+          let b = applied.honest honest in
+          let own = ready.own b in
+          let made = fit.1 change own in (
+            change,
+            own,
+            λ free. applied.faults.damaged honest (rw (ready.same b) (ready.fits b fit.0 made))
+                (rw (ready.same b) made) (rw (ready.same b) free) wrong,
+          );
       honest = λ honest. ready.read.honest (applied.honest honest);
       stays = λ e. applied.stays (ready.read.stays e);
       asleep = λ e. cc;
@@ -303,7 +341,7 @@ acted_by_nothing content is_failed is_honest may_leave zone closes caller fault 
       store = (λ e. cc, λ e. absurd (let wrong : false ≡ true = e.1 in cc));
       whole = λ honest settings h is e wrong. cc;
       damaged = λ honest sound wrong. cc;
-      undamaged = λ honest. tt;
+      undamaged = λ honest fit wrong. cc;
       honest = λ honest. honest;
       stays = λ e. e;
       asleep = λ e. refl;
@@ -324,7 +362,7 @@ acted_by_nothing content is_failed is_honest may_leave zone closes caller fault 
       store = (λ e. cc, λ e. absurd (let wrong : false ≡ true = e.1 in cc));
       whole = λ honest settings h is e wrong. cc;
       damaged = λ honest sound wrong. cc;
-      undamaged = λ honest. tt;
+      undamaged = λ honest fit wrong. cc;
       honest = λ honest. honest;
       stays = λ e. e;
       asleep = λ e. refl;
@@ -359,3 +397,12 @@ pub done_text : (result : Result (Unit {0}) KeepFault) (zone : Zone) (closes : B
     → OnOk result (TellsDone zone closes before after)
 done_text (Ok u) zone closes report before after e = (report, e)
 done_text (Err f) zone closes report before after e = tt
+
+-- and, where the result is the change's, it tells that
+pub result_text : (result : Result (Unit {0}) KeepFault) (zone : Zone) (closes : Bool) (t : Tables)
+    (change : Change) (report : CommandResult) (before after : List ℕ)
+    → IsResultBy t change report
+    → OnOk result (after ≡ before ++ reply_text zone closes (Done report))
+    → OnOk result (TellsResult zone closes t change before after)
+result_text (Ok u) zone closes t change report before after is e = (report, is, e)
+result_text (Err f) zone closes t change report before after is e = tt

@@ -1,6 +1,7 @@
 -- What a message does, and what it is replied. Start here.
 use Rattle.std.specs.Prelude.{◌≡◌, ◌⊎◌, ◌↔◌, ◌++◌, ℕ, List, Bool, true, false, Result, OnOk, OnErr, IsErrOf, is_none}
 use Rattle.house.specs.Own.{IsOf}
+use Rattle.house.specs.Taken.{CommandRowsFit}
 use Rattle.house_rows.specs.declared.change.Change.{Change}
 use Rattle.house_rows.specs.declared.fault.KeepFault.{KeepFault}
 use Rattle.house_rows.specs.declared.fault.KeepFault.TheVariants.{Store, Damaged}
@@ -16,15 +17,16 @@ use Rattle.house_rows.specs.Asks.{ChangeFits, IsFree}
 use Rattle.house_rows.specs.Changed.{changed}
 use Rattle.house_rows.specs.History.{History}
 use Rattle.house_rows.specs.Keeping.{AreSound}
+use Rattle.house_rows.specs.Making.{ChangeRowsFit}
 use Rattle.house_rows.specs.Runs.{next, reply}
 use Rattle.house_rows.specs.Tables.{Tables, tables_of}
-use Rattle.house_rows.specs.Taken.{IsUndamaged}
 use Rattle.house_rows.specs.Verdict.{IsHistory, verdict}
 use Rattle.pages.specs.Taken.{PageRowsFit}
 use Rattle.pages_laws.specs.ByTables.{page_by}
 use Rattle.settle.specs.declared.zone.Zone.{Zone}
 use Rattle.site_request.specs.declared.fault.Fault.{Fault}
 use Rattle.site_replies.specs.Texts.{reply_text}
+use Rattle.site_results.specs.ByTables.{IsResultBy}
 
 -- whether a message asks the keep for anything
 abbrev pub is_asking : Message Fault → Bool
@@ -39,14 +41,16 @@ is_entered settings h (Order moment caller command) =
 is_entered settings h (Read caller query) = false
 is_entered settings h (Broken caller fault) = false
 
--- the tables are those after the message's own change, which fits where the tables before it are
--- sound; only a command has one
+-- the change is the message's own, and fits where the tables are sound; only a command has one
+abbrev pub IsOwn : Message Fault → Tables → Change → Type 0
+IsOwn (Order moment caller command) t change =
+    IsOf moment caller command change × (AreSound t → ChangeFits t change)
+IsOwn (Read caller query) t change = ⊥
+IsOwn (Broken caller fault) t change = ⊥
+
+-- the tables are those after the message's own change
 abbrev pub IsMade : Message Fault → Tables → Tables → Type 0
-IsMade (Order moment caller command) t now =
-    (change : Change) × IsOf moment caller command change × (AreSound t → ChangeFits t change)
-    × (now ≡ changed t change)
-IsMade (Read caller query) t now = ⊥
-IsMade (Broken caller fault) t now = ⊥
+IsMade message t now = (change : Change) × IsOwn message t change × (now ≡ changed t change)
 
 -- a command whose own change fits, but whose new key is taken: in tables that belong to no history
 abbrev pub IsTaken : Tables → Message Fault → Type 0
@@ -56,16 +60,32 @@ IsTaken t (Order moment caller command) =
 IsTaken t (Read caller query) = ⊥
 IsTaken t (Broken caller fault) = ⊥
 
+-- the new key of a command's own change is taken
+abbrev pub IsKeyTaken : Tables → Message Fault → Type 0
+IsKeyTaken t (Order moment caller command) =
+    (change : Change) × IsOf moment caller command change × ¬ (IsFree t change)
+IsKeyTaken t (Read caller query) = ⊥
+IsKeyTaken t (Broken caller fault) = ⊥
+
+-- the rows that a message takes fit: those that deciding on a command takes and those that making
+-- its own change does, and those that the page of a read takes
+abbrev pub MessageRowsFit : Tables → Message Fault → Type 0
+MessageRowsFit t (Order moment caller command) = CommandRowsFit t caller command
+    × ((change : Change) → IsOf moment caller command change → ChangeRowsFit t change)
+MessageRowsFit t (Read caller query) = PageRowsFit t caller query
+MessageRowsFit t (Broken caller fault) = Unit {0}
+
 -- of a read, what is said of its caller and its query
 abbrev pub IfRead : Message Fault → (ℕ → Query → Type 0) → Type 0
 IfRead (Order moment caller command) P = Unit {0}
 IfRead (Read caller query) P = P caller query
 IfRead (Broken caller fault) P = Unit {0}
 
--- what is appended says that a command was accepted
-abbrev pub TellsDone : Zone → Bool → List ℕ → List ℕ → Type 0
-TellsDone zone closes before after =
-    (report : CommandResult) × (after ≡ before ++ reply_text zone closes (Done report))
+-- what is appended tells the result of a change
+abbrev pub TellsResult : Zone → Bool → Tables → Change → List ℕ → List ℕ → Type 0
+TellsResult zone closes t change before after =
+    (report : CommandResult) × IsResultBy t change report
+    × (after ≡ before ++ reply_text zone closes (Done report))
 
 -- what is appended for a message that changes nothing: a command is refused, a read is shown the
 -- page of the tables, and any other message is told its fault
@@ -77,13 +97,14 @@ TellsUnchanged zone closes (Read caller query) t before after =
 TellsUnchanged zone closes (Broken caller fault) t before after =
     after ≡ before ++ reply_text zone closes (Faulty fault)
 
--- a message has made its own change and is answered that it was accepted, or it has changed
--- nothing and is answered otherwise
+-- a message has made its own change and is told the result of that, or it has changed nothing and is
+-- answered otherwise
 abbrev pub IsOwnChangeOrNone : Zone → Bool → Message Fault → Tables → Tables → List ℕ → List ℕ
     → Type 0
 IsOwnChangeOrNone zone closes message t now before after =
     ((now ≡ t) × TellsUnchanged zone closes message t before after)
-    ⊎ (IsMade message t now × TellsDone zone closes before after)
+    ⊎ ((change : Change) × IsOwn message t change × (now ≡ changed t change)
+    × TellsResult zone closes t change before after)
 
 -- what a message does to a keep, and which bytes are appended for it; `old` and `new` are the keep,
 -- `before` and `after` the bytes
@@ -120,9 +141,9 @@ pub record IsActed {K : Type 0} (content : K → Tables) (is_failed : K → Bool
       → ¬ (IsErrOf result Damaged)
   pub damaged : is_honest new → AreSound (content old) → IsErrOf result Damaged
       → IsTaken (content old) message
-  -- nor is a read damaged over any tables in which the rows fit that its page takes
-  pub undamaged : is_honest new → IfRead message (λ caller query.
-      PageRowsFit (content old) caller query → IsUndamaged result)
+  -- nor is it over any tables in which the rows fit that the message takes
+  pub undamaged : is_honest new → MessageRowsFit (content old) message → IsErrOf result Damaged
+      → IsKeyTaken (content old) message
   pub honest : is_honest new → is_honest old
   pub stays : is_failed old ≡ true → is_failed new ≡ true
   pub asleep : is_asking message ≡ false → new ≡ old

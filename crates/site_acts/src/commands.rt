@@ -4,8 +4,10 @@ ghost use Rattle.house_rows.specs.declared.message.Message.TheVariants.{Order};
 ghost use Rattle.house_rows.specs.declared.reply.Reply.TheVariants.{Done};
 ghost use Rattle.house_rows.specs.Asks.{ChangeFits};
 ghost use Rattle.house_rows.specs.Keeping.{AreSound, Faults, IsRead};
-ghost use Rattle.site_acts.specs.Acted.{IsActed, TellsDone};
-ghost use Rattle.site_acts.specs.Entered.{IfReported, IsApplied};
+ghost use Rattle.house_rows.specs.Making.{ChangeRowsFit};
+ghost use Rattle.house_rows.specs.Taken.{IsUndamaged};
+ghost use Rattle.site_acts.specs.Acted.{IsActed, TellsResult};
+ghost use Rattle.site_acts.specs.Entered.{IfReported, IsApplied, TellsDone};
 ghost use Rattle.site_replies.specs.Texts.{reply_text};
 
 use house::decide;
@@ -52,6 +54,9 @@ fn enter<K: Keep>(
         ≡ out.old.items ++ reply_text writer.old.zone closes (Done report))) }
     ensures text { OnOk result
         (TellsDone writer.old.zone closes out.old.items out.new.items) }
+    ensures told { K.is_honest keep.new
+        → OnOk result (TellsResult writer.old.zone closes (K.content keep.old) change.now
+        out.old.items out.new.items) }
     ensures err { OnErr result (out.new.items ≡ out.old.items) }
     ensures applied { IsApplied K.content K.is_failed K.is_honest K.may_leave change.now result
         keep.old keep.new }
@@ -82,9 +87,14 @@ fn foretell<K: Keep>(
         ≡ out.old.items ++ reply_text writer.old.zone closes (Done report))) }
     ensures text { OnOk result
         (TellsDone writer.old.zone closes out.old.items out.new.items) }
+    ensures told { K.is_honest keep.new
+        → OnOk result (TellsResult writer.old.zone closes (K.content keep.old) change.now
+        out.old.items out.new.items) }
     ensures err { OnErr result (out.new.items ≡ out.old.items) }
     ensures faults { Faults result (K.is_honest keep.new) (K.is_failed keep.new)
         (K.content keep.old) }
+    ensures damaged { K.is_honest keep.new
+        → ChangeRowsFit (K.content keep.old) change.now → IsUndamaged result }
     ensures read { IsRead K.content K.is_failed K.is_honest K.may_leave keep.old keep.new }
     ensures zone { writer.new.zone ≡ writer.old.zone }
 {

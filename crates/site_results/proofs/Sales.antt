@@ -1,6 +1,6 @@
 -- The results of a purchase, a close and a settlement.
 use Rattle.std.proofs.Common.{◌≡◌, ◌∷◌, ◌-◌, ℕ, suc, List, [], map, Bool, true, not, refl, ◌∙◌, ap, sym, inl, inr, arith, Some}
-use Rattle.std.specs.Prelude.{Result, IfOk, ◌==◌, ◌&&◌, option_map}
+use Rattle.std.specs.Prelude.{Result, Ok, Err, IfOk, ◌==◌, ◌&&◌, option_map}
 use Rattle.std.proofs.lemmas.Bool.Decides.{nat_tests}
 use Rattle.settle.specs.Fee.{fee_of}
 use Rattle.house.specs.Decided.{IsAccepted}
@@ -23,6 +23,7 @@ use Rattle.house_rows.specs.CommandResult.{bought_result, settled_result}
 use Rattle.house_rows.proofs.ChangedRows.{purchase_number, settlement_number, there_is}
 use Rattle.house_rows.proofs.Put.{by_test}
 use Rattle.house_rows.proofs.Shown.{shown_row}
+use Rattle.site_results.specs.ByTables.{IsResultBy}
 use Rattle.site_results.proofs.Seen.{IsReported, accepted_as, ok_as, row_changed, seen_after, report_as}
 
 numbered : (i : ℕ) (row : ItemRow) → is_item i row ≡ true → row.item.terms.item ≡ i
@@ -119,3 +120,12 @@ settle_reported t settings h moment caller k result at' i e is own value =
     (λ r v. report_as settings h moment caller (command.Settle i) k r own.same_command
     (sale_reported settings h moment caller at' i fits.row r fits.row_there (accepted_as settings h moment caller (command.Settle i) k (change.Settle at' i) own.same_command is) v))
     ((rw e at value) fits.row.item.terms terms_there)
+
+-- the result of a settlement is that of its change
+pub settled_by_tables : (t : Tables) (moment item : ℕ) (result : Result CommandResult KeepFault)
+    → ((terms : Terms) → terms_at t item ≡ Some terms → IfOk result (λ r. r
+    ≡ Settlement (fee_of terms.price t.settings.rate) item
+    (terms.price - fee_of terms.price t.settings.rate) terms.price))
+    → IfOk result (IsResultBy t (change.Settle moment item))
+settled_by_tables t moment item (Ok told) each = each
+settled_by_tables t moment item (Err fault) each = tt

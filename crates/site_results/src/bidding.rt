@@ -5,6 +5,7 @@ ghost use Rattle.proxy.specs.Kept.{opening_of};
 ghost use Rattle.proxy.specs.declared.bid.Bid.{Bid as TheBid};
 ghost use Rattle.house_rows.specs.Keeping.{Faults};
 ghost use Rattle.house_rows.specs.Tables.{bands_for};
+ghost use Rattle.house_rows.specs.Taken.{IsUndamaged};
 
 use house_rows::{CommandResult, Keep, KeepFault};
 use proxy::Standing;
@@ -21,6 +22,7 @@ pub(crate) fn tell_bid<K: Keep>(
         → IfOk result (λ r. r ≡ CommandResult.Placed standing.now.count
         (floor (bands_for (K.content keep.now) item) (opening_of standing.now) bids) standing.now.leader standing.now.price) }
     ensures faults { Faults result (K.is_honest keep.now) (K.is_failed keep.now) (K.content keep.now) }
+    ensures damaged { K.is_honest keep.now → IsUndamaged result }
 {
     let bands = keep.editions()?.bands_for(u64::from(item));
     let floor = standing.floor(bands);

@@ -2,6 +2,7 @@
 ghost use Rattle.std.specs.Prelude.{◌≡◌, ◌<◌, ◌+◌, length, IfOk};
 ghost use Rattle.house_rows.specs.Keeping.{Faults, IsRead};
 ghost use Rattle.house_rows.specs.Limits.{most_categories, most_members};
+ghost use Rattle.house_rows.specs.Taken.{IsUndamaged};
 
 use house_rows::{CommandResult, Keep, KeepFault};
 
@@ -10,6 +11,7 @@ pub(crate) fn tell_member<K: Keep>(keep: &mut K) -> Result<CommandResult, KeepFa
     ensures value { K.is_honest keep.new → length (K.content keep.old).members < most_members
         → IfOk result (λ r. r ≡ CommandResult.Registered (length (K.content keep.old).members + 1)) }
     ensures faults { Faults result (K.is_honest keep.new) (K.is_failed keep.new) (K.content keep.old) }
+    ensures damaged { K.is_honest keep.new → IsUndamaged result }
     ensures read { IsRead K.content K.is_failed K.is_honest K.may_leave keep.old keep.new }
 {
     let counts = keep.counts()?;
@@ -23,6 +25,7 @@ pub(crate) fn tell_category<K: Keep>(keep: &mut K) -> Result<CommandResult, Keep
     ensures value { K.is_honest keep.new → length (K.content keep.old).categories < most_categories
         → IfOk result (λ r. r ≡ CommandResult.Added (length (K.content keep.old).categories + 1)) }
     ensures faults { Faults result (K.is_honest keep.new) (K.is_failed keep.new) (K.content keep.old) }
+    ensures damaged { K.is_honest keep.new → IsUndamaged result }
     ensures read { IsRead K.content K.is_failed K.is_honest K.may_leave keep.old keep.new }
 {
     let counts = keep.counts()?;

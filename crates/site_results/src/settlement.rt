@@ -2,8 +2,10 @@
 ghost use Rattle.std.specs.Prelude.{◌≡◌, ◌≤◌, ◌-◌, Some, IfOk};
 ghost use Rattle.settle.specs.Fee.{fee_of};
 ghost use Rattle.house_rows.specs.declared.item.Terms.{Terms as TheTerms};
+ghost use Rattle.house_rows.specs.Changed.{is_item};
 ghost use Rattle.house_rows.specs.Found.{terms_at};
 ghost use Rattle.house_rows.specs.Keeping.{Faults, IsRead};
+ghost use Rattle.house_rows.specs.Taken.{IsUndamaged, ItemsFitWhere};
 
 use cents::Cents;
 use house_rows::{CommandResult, Keep, KeepFault};
@@ -14,6 +16,8 @@ pub(crate) fn tell_settlement<K: Keep>(keep: &mut K, item: u32) -> Result<Comman
         → IfOk result (λ r. r ≡ CommandResult.Settlement (fee_of terms.price (K.content keep.old).settings.rate) item
         (terms.price - fee_of terms.price (K.content keep.old).settings.rate) terms.price) }
     ensures faults { Faults result (K.is_honest keep.new) (K.is_failed keep.new) (K.content keep.old) }
+    ensures damaged { K.is_honest keep.new
+        → ItemsFitWhere (is_item item) (K.content keep.old) → IsUndamaged result }
     ensures read { IsRead K.content K.is_failed K.is_honest K.may_leave keep.old keep.new }
 {
     let rate = keep.settings()?.rate.value();

@@ -32,6 +32,17 @@ use Rattle.store_rows.specs.House.{ServesBy}
 use Rattle.store_rows.specs.declared.reserve.ReserveRow.{ReserveRow}
 use Rattle.store.specs.Kept.{House, IsKept, IsKnown, is_failed}
 
+-- rows that fit in the tables fit by band tables that are those of the tables
+module _ (db : Trees) (editions : BandTables) (same : band_tables (tables_in db) ≡ editions) where
+  pub where_by : (test : ItemRow → Bool) → FitWhere test (RowFits (tables_in db)) (tables_in db).items → FitWhere test (FitsBy editions) (items_in db)
+  unfolding tables_in
+  where_by test = subst (λ (b : BandTables). FitWhere test (FitsBy b) (items_in db)) same
+
+  pub row_by : (item : ℕ) → FitWhere (is_item item) (RowFits (tables_in db)) (tables_in db).items → RowFitsAt editions db item
+  row_by item fits =
+      every_as (λ (row : ItemRow). is_item item row ≡ true → FitsBy editions row) (λ (row : ItemRow). row.item.terms.item ≡ item → FitsBy editions row) (items_in db)
+      (λ row fit at. fit (grind (arith, nat_tests, at))) (where_by (is_item item) fits)
+
 module _ (db : Trees) (editions : BandTables) (reserves : List ReserveRow) (counts : Counts) (clock : ℕ) (known : IsKnown editions reserves counts clock db) where
   pub known_sound : AreSound (tables_in db) → AreSoundBy editions (tables_in db)
   known_sound sound = record { sound = sound; same = sym known.editions_are }
@@ -44,13 +55,10 @@ module _ (db : Trees) (editions : BandTables) (reserves : List ReserveRow) (coun
   known_list rows = subst (λ (b : BandTables). AllByRecursion (FitsBy b) rows) known.editions_are
 
   pub known_where : (test : ItemRow → Bool) → FitWhere test (RowFits (tables_in db)) (tables_in db).items → FitWhere test (FitsBy editions) (items_in db)
-  unfolding tables_in
-  known_where test = subst (λ (b : BandTables). FitWhere test (FitsBy b) (items_in db)) known.editions_are
+  known_where = where_by db editions known.editions_are
 
   pub known_row : (item : ℕ) → FitWhere (is_item item) (RowFits (tables_in db)) (tables_in db).items → RowFitsAt editions db item
-  known_row item fits =
-      every_as (λ (row : ItemRow). is_item item row ≡ true → FitsBy editions row) (λ (row : ItemRow). row.item.terms.item ≡ item → FitsBy editions row) (items_in db)
-      (λ row fit same. fit (grind (arith, nat_tests, same))) (known_where (is_item item) fits)
+  known_row = row_by db editions known.editions_are
 
   pub known_so_far : (member from : ℕ) → FitsSoFar (band_tables (tables_in db)) (tables_in db) member from → FitsSoFar editions (tables_in db) member from
   known_so_far member from = subst (λ (b : BandTables). FitsSoFar b (tables_in db) member from) known.editions_are

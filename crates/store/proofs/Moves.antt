@@ -1,8 +1,7 @@
 -- What a keep knows of the tables after a change.
-use Rattle.std.proofs.Common.{◌≡◌, ◌⊎◌, ◌+◌, ℕ, List, length, Bool, true, false, true≢false, Result, Ok, Err, refl, ap, ap₂, sym, subst, ◌∙◌, inl, inr}
-use Rattle.std.specs.Prelude.{◌<◌, IfSome, IsTrue, None, OnOk, Option, Some, is_err}
-use Rattle.steps.specs.Table.{IsBandTable}
-use Rattle.house_rows.specs.Limits.{most_editions}
+use Rattle.std.proofs.Common.{◌≡◌, ◌⊎◌, ◌+◌, ℕ, List, length, Bool, true, false, true≢false, Result, Ok, Err, refl, ap, ap₂, sym, subst, ◌∙◌, inl, inr, arith}
+use Rattle.std.specs.Prelude.{◌<◌, ◌≤◌, All, IsTrue, OnOk, is_err}
+use Rattle.house_rows.specs.Limits.{most_editions, most_items}
 use Rattle.std.proofs.lemmas.List.{length-append, length-map}
 use Rattle.sqlite_trees.specs.Tree.{Trees}
 use Rattle.sqlite.specs.Effect.{Database}
@@ -11,16 +10,19 @@ use Rattle.house_rows.specs.Changed.{changed, with_close, with_purchase, with_se
 use Rattle.house_rows.specs.Asks.{ChangeFits}
 use Rattle.house_rows.specs.Fits.{IsMoment}
 use Rattle.house_rows.specs.Found.{counts_of}
+use Rattle.house_rows.specs.Making.{ChangeRowsFit}
 use Rattle.house_rows.specs.Tables.{Tables, band_tables}
 use Rattle.house_rows.specs.declared.change.Change.{Change}
 use Rattle.house_rows.specs.declared.change.Change.TheVariants.{Register, AddCategory, List as Listed, Bid, Buy, Close, Settle, Watch, Unwatch, Ask, Answer, Feedback, SetBands}
 use Rattle.house_rows.specs.declared.people.Counts.{Counts}
 use Rattle.house_rows.specs.Editions.{BandTables}
 use Rattle.store_rows.specs.ItemRows.{items_in}
-use Rattle.store_rows.specs.Rows.{reserves_in}
-use Rattle.store_rows.specs.Tables.{Changes, reserves_after, tables_in}
+use Rattle.store_rows.specs.Rows.{edition_rows_in, later_bands_in, reserves_in}
+use Rattle.store_rows.specs.Tables.{Changes, IsNumbered, bands_at, reserves_after, tables_in}
+use Rattle.store_rows.specs.declared.edition.EditionRow.{EditionRow}
 use Rattle.store_rows.specs.declared.reserve.ReserveRow.{ReserveRow}
-use Rattle.store.specs.After.{IsSettable, bands_set, clock_after, counts_after, with_table}
+use Rattle.store_rows.specs.declared.rules.Rules.{Rules}
+use Rattle.store.specs.After.{CanAdd, bands_set, clock_after, counts_after, with_table}
 use Rattle.store.specs.Kept.{IsKnown}
 
 editions_move : (t : Tables) (change : Change) → band_tables (changed t change) ≡ with_table (band_tables t) (counts_after (counts_of t) change).items (bands_set change)
@@ -75,6 +77,12 @@ so_many : (db : Trees) → (counts_of (tables_in db)).items ≡ length (items_in
 unfolding tables_in
 so_many db = refl
 
+-- the band tables after the first are as many as the rows of editions
+pub editions_long : (db : Trees) → length (band_tables (tables_in db)).later ≡ length (edition_rows_in db)
+unfolding tables_in
+editions_long db =
+    length-map (edition_rows_in db) (λ (r : EditionRow). record { edition = r.edition; first = r.first; bands = bands_at r.edition (later_bands_in db) })
+
 -- a listing has the number that the counts after it give
 next_number : (change : Change) (reserves : List ReserveRow) (counts : Counts) (many : ℕ) → counts.items ≡ many
     → reserves_after reserves (counts_after counts change).items change ≡ reserves_after reserves (many + 1) change
@@ -121,25 +129,32 @@ fits_moment t (Answer moment item asker number text) clock is fits = fits.moment
 fits_moment t (Feedback moment item from to rating text) clock is fits = fits.moment_fits
 fits_moment t (SetBands moment bands) clock is fits = fits.moment_fits
 
--- a band table that fits can be set
-pub fits_settable : (t : Tables) (change : Change) → ChangeFits t change → IsSettable (band_tables t) change
-fits_settable t (Register moment name) fits = tt
-fits_settable t (AddCategory moment name) fits = tt
-fits_settable t (Listed moment item) fits = tt
-fits_settable t (Bid moment item placed standing) fits = tt
-fits_settable t (Buy moment item buyer price) fits = tt
-fits_settable t (Close moment) fits = tt
-fits_settable t (Settle moment item) fits = tt
-fits_settable t (Watch member item) fits = tt
-fits_settable t (Unwatch member item) fits = tt
-fits_settable t (Ask item asker number text) fits = tt
-fits_settable t (Answer moment item asker number text) fits = tt
-fits_settable t (Feedback moment item from to rating text) fits = tt
-fits_settable t (SetBands moment bands) fits = (fits.valid, fits.room)
-
-pub room_of : (o : Option (List (ℕ × ℕ))) (n : ℕ) → IfSome o (λ bands. IsBandTable bands × (n < most_editions)) → IfSome o (λ _. n < most_editions)
-room_of None n can = tt
-room_of (Some bands) n can = can.1
+-- what a change adds can be added to rules that are known
+pub can_add : (db : Trees) (rules : Rules) (counts : Counts) (clock : ℕ) (change : Change)
+    → IsKnown rules.editions rules.reserves counts clock db → IsNumbered db
+    → ChangeFits (tables_in db) change → ChangeRowsFit (tables_in db) change
+    → CanAdd rules (counts_after counts change).items change
+can_add db rules counts clock (Register moment name) known numbered fits rows = tt
+can_add db rules counts clock (AddCategory moment name) known numbered fits rows = tt
+can_add db rules counts clock (Listed moment item) known numbered fits rows = λ k d lt.
+    let within = subst (All (λ (r : ReserveRow). r.item ≤ length (items_in db))) (sym known.reserves_are) numbered.reserves in
+    let low = within k d lt in
+    let many : length (items_in db) ≡ counts.items = sym (so_many db) ∙ ap (λ (c : Counts). c.items) known.counts_are in
+    omega (arith, low, many)
+can_add db rules counts clock (Bid moment item placed standing) known numbered fits rows = tt
+can_add db rules counts clock (Buy moment item buyer price) known numbered fits rows = tt
+can_add db rules counts clock (Close moment) known numbered fits rows = tt
+can_add db rules counts clock (Settle moment item) known numbered fits rows = tt
+can_add db rules counts clock (Watch member item) known numbered fits rows = tt
+can_add db rules counts clock (Unwatch member item) known numbered fits rows = tt
+can_add db rules counts clock (Ask item asker number text) known numbered fits rows = tt
+can_add db rules counts clock (Answer moment item asker number text) known numbered fits rows = tt
+can_add db rules counts clock (Feedback moment item from to rating text) known numbered fits rows = tt
+can_add db rules counts clock (SetBands moment bands) known numbered fits rows = (
+  fits.valid,
+  subst (λ (b : BandTables). length b.later + 1 < most_editions) known.editions_are fits.room,
+  subst (λ (c : Counts). c.items ≤ most_items) known.counts_are rows,
+)
 
 -- what a crash may leave after a change that failed: what it could leave before, or the new tables where the keep failed
 pub left_after : (old mid : State) (change : Change) (failed : Bool) (db : Trees) → old.may_leave old.committed.trees → (IsTrue mid.is_open → db ≡ mid.committed.trees)

@@ -1,11 +1,13 @@
 -- What a change makes of what a keep knows.
-use Rattle.std.specs.Prelude.{◌<◌, ◌+◌, ◌++◌, ◌∷◌, [], ℕ, List, Option, Some, None, IfSome, length}
+use Rattle.std.specs.Prelude.{◌<◌, ◌≤◌, ◌+◌, ◌++◌, ◌∷◌, [], ℕ, List, Option, Some, None, All, length}
 use Rattle.steps.specs.Table.{IsBandTable}
 use Rattle.house_rows.specs.Editions.{BandTables}
-use Rattle.house_rows.specs.Limits.{most_editions}
+use Rattle.house_rows.specs.Limits.{most_editions, most_items}
 use Rattle.house_rows.specs.declared.change.Change.{Change}
 use Rattle.house_rows.specs.declared.change.Change.TheVariants.{Register, AddCategory, List as Listed, Bid, Buy, Close, Settle, Watch, Unwatch, Ask, Answer, Feedback, SetBands}
 use Rattle.house_rows.specs.declared.people.Counts.{Counts}
+use Rattle.store_rows.specs.declared.rules.Rules.{Rules}
+use Rattle.store_rows.specs.Tables.{reserves_after}
 
 -- the counts after a change
 abbrev pub counts_after : Counts → Change → Counts
@@ -55,10 +57,6 @@ bands_set (Answer moment item asker number text) = None
 bands_set (Feedback moment item from to rating text) = None
 bands_set (SetBands moment bands) = Some bands.now
 
--- it is one, and there is room for it
-abbrev pub IsSettable : BandTables → Change → Type 0
-IsSettable b change = IfSome (bands_set change) (λ bands. IsBandTable bands × (length b.later + 1 < most_editions))
-
 -- with one band table more, if there is one, which begins with the item after so many
 abbrev pub with_table : BandTables → ℕ → Option (List (ℕ × ℕ)) → BandTables
 with_table b items None = b
@@ -66,3 +64,28 @@ with_table b items (Some bands) = record {
   settings = b.settings;
   later = b.later ++ record { edition = length b.later + 2; first = items + 1; bands = bands } ∷ [];
 }
+
+-- the rules with what a change adds, which makes so many items
+abbrev pub rules_after : Rules → ℕ → Change → Rules
+rules_after rules items change = record {
+  editions = with_table rules.editions items (bands_set change);
+  reserves = reserves_after rules.reserves items change;
+}
+
+-- a change can add to the rules: the reserve of a listing comes after all others, and a band table is
+-- one, for which there is room
+abbrev pub CanAdd : Rules → ℕ → Change → Type 0
+CanAdd rules items (Register moment name) = Unit {0}
+CanAdd rules items (AddCategory moment name) = Unit {0}
+CanAdd rules items (Listed moment item) = All (λ r. r.item < items) rules.reserves
+CanAdd rules items (Bid moment item placed standing) = Unit {0}
+CanAdd rules items (Buy moment item buyer price) = Unit {0}
+CanAdd rules items (Close moment) = Unit {0}
+CanAdd rules items (Settle moment item) = Unit {0}
+CanAdd rules items (Watch member item) = Unit {0}
+CanAdd rules items (Unwatch member item) = Unit {0}
+CanAdd rules items (Ask item asker number text) = Unit {0}
+CanAdd rules items (Answer moment item asker number text) = Unit {0}
+CanAdd rules items (Feedback moment item from to rating text) = Unit {0}
+CanAdd rules items (SetBands moment bands) = IsBandTable bands.now
+    × (length rules.editions.later + 1 < most_editions) × (items ≤ most_items)

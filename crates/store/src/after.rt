@@ -1,13 +1,15 @@
 //! What a keep knows of its tables after a change.
-ghost use Rattle.std.specs.Prelude.{◌≡◌, ◌+◌, ◌<◌, ◌≤◌, length, true, IfOk, IfSome, IsErrOf, OnOk, is_some};
+ghost use Rattle.std.specs.Prelude.{◌≡◌, ◌+◌, ◌<◌, ◌≤◌, ℕ, All, Some, length, true, IfSome, IsErrOf, OnErr, OnOk, is_some};
+ghost use Rattle.steps.specs.Table.{IsBandTable};
 ghost use Rattle.house_rows.specs.Asks.{ChangeFits};
 ghost use Rattle.house_rows.specs.Fits.{IsMoment};
 ghost use Rattle.house_rows.specs.Found.{counts_of};
-ghost use Rattle.house_rows.specs.Limits.{most_editions};
+ghost use Rattle.house_rows.specs.Limits.{most_editions, most_items};
 ghost use Rattle.house_rows.specs.Tables.{Tables};
 ghost use Rattle.house_rows.specs.declared.fault.KeepFault.TheVariants.{Damaged, Store};
-ghost use Rattle.store_rows.specs.Tables.{reserves_after, with_reserve};
-ghost use Rattle.store.specs.After.{IsSettable, bands_set, clock_after, counts_after, with_table};
+ghost use Rattle.store_rows.specs.Tables.{with_reserve};
+ghost use Rattle.store_rows.specs.declared.rules.Rules.{Rules as TheRules};
+ghost use Rattle.store.specs.After.{CanAdd, bands_set, clock_after, counts_after, rules_after, with_table};
 
 use cents::Cents;
 use house_rows::{
@@ -15,7 +17,6 @@ use house_rows::{
 };
 use settle::LAST_MOMENT;
 use std::alloc::Global;
-use steps::Bands;
 use store_open::table_of;
 use store_rows::{Reserves, Rules};
 
@@ -86,40 +87,12 @@ pub(crate) fn counts_after(counts: Counts, change: &Change<'_>) -> Option<Counts
     }
 }
 
-/// Makes room for the reserve or the band table that a change adds, and gives the table. `Damaged` where
-/// it is none, or where there are as many as there may be.
-pub(crate) fn prepare_rules(
-    alloc: Global,
-    rules: &mut Rules,
-    change: &Change<'_>,
-) -> Result<Option<Bands>, KeepFault>
-    ensures value { IfOk result (λ table. table ≡ bands_set change.now) }
-    ensures settable { OnOk result (IsSettable rules.old.editions change.now) }
-    ensures same { rules.new ≡ rules.old }
-    ensures damaged { IsSettable rules.old.editions change.now → ¬ (IsErrOf result Damaged) }
-    ensures working { ¬ (IsErrOf result Store) }
-{
-    match *change {
-        Change::List { .. } => match rules.reserves.make_room() {
-            Ok(()) => Ok(None),
-            Err(_) => Err(KeepFault::Memory),
-        },
-        Change::SetBands { bands, .. } => {
-            if rules.editions.newest() >= MOST_EDITIONS {
-                return Err(KeepFault::Damaged);
-            }
-            match rules.editions.make_room() {
-                Ok(()) => Ok(Some(table_of(alloc, bands)?)),
-                Err(_) => Err(KeepFault::Memory),
-            }
-        }
-        _ => Ok(None),
-    }
-}
-
 // Adds the reserve of a listing, if it has one.
 fn add_reserve(reserves: &mut Reserves, item: u32, amount: Option<Cents>) -> Result<(), KeepFault>
     ensures value { OnOk result (reserves.new ≡ with_reserve item amount reserves.old) }
+    ensures left { OnErr result (reserves.new ≡ reserves.old) }
+    ensures damaged { All (λ r. r.item < item) reserves.old → ¬ (IsErrOf result Damaged) }
+    ensures working { ¬ (IsErrOf result Store) }
 {
     match amount {
         Some(amount) => reserves.add(item, amount),
@@ -127,42 +100,73 @@ fn add_reserve(reserves: &mut Reserves, item: u32, amount: Option<Cents>) -> Res
     }
 }
 
-// Adds a band table, if there is one, which begins with the item after so many.
-fn add_table(editions: &mut Editions, items: u32, table: Option<Bands>) -> Result<(), KeepFault>
-    requires room { IfSome table (λ _. length editions.old.later + 1 < most_editions) }
-    ensures value { OnOk result (editions.new ≡ with_table editions.old items table) }
+// Sets a band table as the next edition, which begins with the item after so many. `Damaged` where it
+// is none, or where there are as many as there may be.
+fn add_table(
+    alloc: Global,
+    editions: &mut Editions,
+    items: u32,
+    rows: &[(u64, u64)],
+) -> Result<(), KeepFault>
+    ensures value { OnOk result (editions.new ≡ with_table editions.old items (Some rows.now)) }
+    ensures valid { OnOk result (IsBandTable rows.now) }
+    ensures left { OnErr result (editions.new ≡ editions.old) }
+    ensures damaged { IsBandTable rows.now
+        → length editions.old.later + 1 < most_editions
+        → items ≤ most_items
+        → ¬ (IsErrOf result Damaged) }
+    ensures working { ¬ (IsErrOf result Store) }
 {
-    let Some(bands) = table else {
-        return Ok(());
-    };
+    if editions.newest() >= MOST_EDITIONS {
+        return Err(KeepFault::Damaged);
+    }
     let Some(first) = items.checked_add(1) else {
         return Err(KeepFault::Damaged);
     };
+    let bands = table_of(alloc, rows)?;
     match editions.set(first, bands) {
         Ok(()) => Ok(()),
         Err(_) => Err(KeepFault::Memory),
     }
 }
 
-/// Adds the reserve and the band table of a change, if it has one. The counts are those after it.
+/// Adds the reserve or the band table of a change, if it has one. The counts are those after it. After
+/// an error all is as it was.
 pub(crate) fn add_rules(
+    alloc: Global,
     rules: &mut Rules,
     after: Counts,
     change: &Change<'_>,
-    table: Option<Bands>,
 ) -> Result<(), KeepFault>
-    requires room { IfSome table (λ _. length rules.old.editions.later + 1 < most_editions) }
-    requires set { table ≡ bands_set change.now }
-    ensures reserves { OnOk result (rules.new.reserves
-        ≡ reserves_after rules.old.reserves after.items change.now) }
-    ensures editions { OnOk result (rules.new.editions
-        ≡ with_table rules.old.editions after.items table) }
+    ensures value { OnOk result (rules.new ≡ rules_after rules.old after.items change.now) }
+    ensures valid { OnOk result (IfSome (bands_set change.now) IsBandTable) }
+    ensures left { OnErr result (rules.new ≡ rules.old) }
+    ensures damaged { CanAdd rules.old after.items change.now → ¬ (IsErrOf result Damaged) }
+    ensures working { ¬ (IsErrOf result Store) }
 {
     match *change {
         Change::List { ref item, .. } => {
             add_reserve(&mut rules.reserves, after.items, item.reserve)
         }
-        Change::SetBands { .. } => add_table(&mut rules.editions, after.items, table),
+        Change::SetBands { bands, .. } => {
+            add_table(alloc, &mut rules.editions, after.items, bands)
+        }
         _ => Ok(()),
+    }
+}
+
+/// Takes back what a change has added.
+pub(crate) fn remove_rules(rules: &mut Rules, change: &Change<'_>)
+    ensures { (before : TheRules) (items : ℕ) → rules.old ≡ rules_after before items change.now
+        → rules.new ≡ before }
+{
+    match *change {
+        Change::List { ref item, .. } => {
+            if item.reserve.is_some() {
+                rules.reserves.remove_last();
+            }
+        }
+        Change::SetBands { .. } => rules.editions.unset(),
+        _ => {}
     }
 }

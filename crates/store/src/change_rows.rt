@@ -1,19 +1,19 @@
 //! The changes, each made by the function that writes its rows.
-ghost use Rattle.std.specs.Prelude.{◌≡◌, ◌+◌, ◌<◌, false, length, OnOk, IsErrOf};
+ghost use Rattle.std.specs.Prelude.{◌≡◌, ◌≤◌, ◌+◌, false, length, IfSome, OnOk, IsErrOf};
 ghost use Rattle.sqlite.specs.State.{HasCleanDisk};
 ghost use Rattle.sqlite.specs.Held.{state};
 ghost use Rattle.house_rows.specs.Asks.{ChangeFits, IsFree};
 ghost use Rattle.house_rows.specs.Found.{counts_of};
-ghost use Rattle.house_rows.specs.Keeping.{AreSound};
-ghost use Rattle.house_rows.specs.Limits.{most_editions};
+ghost use Rattle.house_rows.specs.Making.{ChangeRowsFit};
+ghost use Rattle.house_rows.specs.Limits.{most_items};
 ghost use Rattle.house_rows.specs.Tables.{band_tables};
 ghost use Rattle.house_rows.specs.declared.change.Change.TheVariants.{SetBands};
 ghost use Rattle.house_rows.specs.declared.fault.KeepFault.TheVariants.{Damaged};
 ghost use Rattle.steps.specs.Table.{IsBandTable};
-ghost use Rattle.store_rows.specs.Rows.{reserves_in};
-ghost use Rattle.store_rows.specs.Tables.{Rests, tables_in};
+ghost use Rattle.store_rows.specs.Rows.{edition_rows_in, reserves_in};
+ghost use Rattle.store_rows.specs.Tables.{Rests, reserves_after, tables_in};
 ghost use Rattle.store_rows.specs.Commits.{Commits};
-ghost use Rattle.store.specs.After.{IsSettable, counts_after};
+ghost use Rattle.store.specs.After.{bands_set, counts_after, with_table};
 
 use house_rows::{Change, Counts, KeepFault};
 use sqlite::{Alter, Connection};
@@ -29,7 +29,7 @@ use store_watches::{unwatch, watch};
 // Sets a band table as the next edition, which begins with the item after so many.
 fn set_next<S: Alter>(
     conn: &mut Connection<S>,
-    rules: &Rules,
+    edition: u32,
     items: u32,
     moment: u64,
     bands: &[(u64, u64)],
@@ -37,25 +37,24 @@ fn set_next<S: Alter>(
     requires valid { IsBandTable bands.now }
     requires rests { Rests (state S.Store conn.old) }
     requires mode { conn.old.in_transaction ≡ false }
-    requires editions { HasCleanDisk (state S.Store conn.old)
-        → rules.now.editions ≡ band_tables (tables_in (state S.Store conn.old).now.trees) }
+    requires next { HasCleanDisk (state S.Store conn.old)
+        → edition ≡ length (edition_rows_in (state S.Store conn.old).now.trees) + 2 }
     requires counted { HasCleanDisk (state S.Store conn.old)
         → items ≡ (counts_of (tables_in (state S.Store conn.old).now.trees)).items }
-    requires room { length rules.now.editions.later + 1 < most_editions }
     ensures commit { Commits (SetBands moment bands.entry) (state S.Store conn.old)
         (state S.Store conn.new) result }
     ensures damaged { HasCleanDisk (state S.Store conn.new)
-        → AreSound (tables_in (state S.Store conn.old).now.trees)
+        → length (tables_in (state S.Store conn.old).now.trees).items ≤ most_items
         → ChangeFits (tables_in (state S.Store conn.old).now.trees) (SetBands moment bands.entry)
         → ¬ (IsErrOf result Damaged) }
 {
     let Some(first) = items.checked_add(1) else {
         return Err(KeepFault::Damaged);
     };
-    set_bands(conn, rules.editions.newest() + 1, first, moment, bands)
+    set_bands(conn, edition, first, moment, bands)
 }
 
-/// Makes a change. The counts are those after it.
+/// Makes a change. The counts and the rules are those after it.
 pub(crate) fn make_change<S: Alter>(
     alloc: Global,
     conn: &mut Connection<S>,
@@ -65,20 +64,21 @@ pub(crate) fn make_change<S: Alter>(
 ) -> Result<(), KeepFault>
     requires rests { Rests (state S.Store conn.old) }
     requires mode { conn.old.in_transaction ≡ false }
-    requires editions { HasCleanDisk (state S.Store conn.old)
-        → rules.now.editions ≡ band_tables (tables_in (state S.Store conn.old).now.trees) }
-    requires reserves { HasCleanDisk (state S.Store conn.old)
-        → rules.now.reserves ≡ reserves_in (state S.Store conn.old).now.trees }
+    requires editions { HasCleanDisk (state S.Store conn.old) → rules.now.editions ≡ with_table
+        (band_tables (tables_in (state S.Store conn.old).now.trees)) after.items
+        (bands_set change.now) }
+    requires reserves { HasCleanDisk (state S.Store conn.old) → rules.now.reserves ≡ reserves_after
+        (reserves_in (state S.Store conn.old).now.trees) after.items change.now }
     requires counted { HasCleanDisk (state S.Store conn.old)
         → after ≡ counts_after (counts_of (tables_in
         (state S.Store conn.old).now.trees)) change.now }
-    requires settable { IsSettable rules.now.editions change.now }
+    requires valid { IfSome (bands_set change.now) IsBandTable }
     ensures commit { Commits change.now (state S.Store conn.old) (state S.Store conn.new) result }
     ensures taken { HasCleanDisk (state S.Store conn.new)
         → OnOk result (IsFree (tables_in (state S.Store conn.old).now.trees) change.now) }
     ensures damaged { HasCleanDisk (state S.Store conn.new)
-        → AreSound (tables_in (state S.Store conn.old).now.trees)
         → ChangeFits (tables_in (state S.Store conn.old).now.trees) change.now
+        → ChangeRowsFit (tables_in (state S.Store conn.old).now.trees) change.now
         → IsFree (tables_in (state S.Store conn.old).now.trees) change.now
         → ¬ (IsErrOf result Damaged) }
 {
@@ -125,6 +125,8 @@ pub(crate) fn make_change<S: Alter>(
             text,
         } => give_feedback(conn, moment, item, from, to, rating, text),
         Change::Close { moment } => close(conn, rules, alloc, moment),
-        Change::SetBands { moment, bands } => set_next(conn, rules, after.items, moment, bands),
+        Change::SetBands { moment, bands } => {
+            set_next(conn, rules.editions.newest(), after.items, moment, bands)
+        }
     }
 }

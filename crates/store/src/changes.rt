@@ -2,11 +2,12 @@
 ghost use Rattle.std.specs.Prelude.{◌≡◌, ◌⊎◌, true, false, OnOk, OnErr};
 ghost use Rattle.house_rows.specs.Asks.{ChangeFits};
 ghost use Rattle.house_rows.specs.Changed.{changed};
-ghost use Rattle.house_rows.specs.Keeping.{AreSound, ChangeFaults};
+ghost use Rattle.house_rows.specs.Keeping.{AreSound};
+ghost use Rattle.house_rows.specs.Making.{ChangeFaults};
 ghost use Rattle.house_rows.specs.Tables.{Tables};
 ghost use Rattle.store.specs.Kept.{IsHonest, MayLeave, content, is_failed};
 
-use crate::after::{add_rules, clock_after, counts_after, prepare_rules};
+use crate::after::{add_rules, clock_after, counts_after, remove_rules};
 use crate::change_rows::make_change;
 use crate::keep::SqlKeep;
 use crate::settled::reported_fault;
@@ -46,20 +47,18 @@ impl<S: Alter> SqlKeep<S> {
         let Some(counts) = counts_after(self.counts, change) else {
             return Err(KeepFault::Damaged);
         };
-        let table = prepare_rules(self.alloc, &mut self.rules, change)?;
+        // What may lack memory comes before the commit: taking it back doesn't.
+        add_rules(self.alloc, &mut self.rules, counts, change)?;
         match make_change(self.alloc, &mut self.conn, &self.rules, counts, change) {
             Ok(()) => {
                 self.counts = counts;
                 self.clock = clock;
-                // There is room, so it doesn't fail: had it, the keep would know less than its
-                // tables.
-                if add_rules(&mut self.rules, counts, change, table).is_err() {
-                    self.failed = true;
-                    return Err(KeepFault::Store);
-                }
                 Ok(())
             }
-            Err(fault) => Err(reported_fault(&mut self.conn, &mut self.failed, fault)),
+            Err(fault) => {
+                remove_rules(&mut self.rules, change);
+                Err(reported_fault(&mut self.conn, &mut self.failed, fault))
+            }
         }
     }
 }

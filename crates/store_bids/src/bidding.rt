@@ -9,14 +9,13 @@ ghost use Rattle.proxy.specs.declared.bid.Bid.{Bid as TheBid};
 ghost use Rattle.house_rows.specs.Editions.{bands_in};
 ghost use Rattle.house_rows.specs.Tables.{band_tables};
 ghost use Rattle.house_rows.specs.Asks.{BidFits, ChangeFits, IsFree};
-ghost use Rattle.house_rows.specs.Keeping.{AreSound};
 ghost use Rattle.house_rows.specs.declared.change.Change.TheVariants as change;
 ghost use Rattle.house_rows.specs.declared.fault.KeepFault.TheVariants.{Damaged};
 ghost use Rattle.store_rows.specs.House.{IsBegun, IsHouse, KeepsCommitted, ServesBy, AddsBid};
 ghost use Rattle.store_items.specs.Items.{OfItem};
 ghost use Rattle.store_rows.specs.Rows.{reserves_in};
 ghost use Rattle.store_rows.specs.Tables.{Changes, IsNumbered, Rests, tables_in};
-ghost use Rattle.store_items.specs.ConsistentRows.{HasStandingItem};
+ghost use Rattle.store_items.specs.ConsistentRows.{HasStandingItem, RowFitsAt};
 ghost use Rattle.store_items.specs.Sales.{StartsAt};
 ghost use Rattle.store_rows.specs.Frames.{OnlyReads, WritesMany, WritesOnce};
 ghost use Rattle.store_rows.specs.Commits.{Commits};
@@ -45,7 +44,7 @@ fn check_standing<S: Alter>(
     ensures is_consistent { OnOk result (is_standing (bands_in rules.now.editions item) standing.now
         ≡ true) }
     ensures damaged { HasCleanDisk (state S.Store conn.new)
-        → AreSound (tables_in (state S.Store conn.old).now.trees)
+        → RowFitsAt rules.now.editions (state S.Store conn.old).now.trees item
         → rules.now.editions ≡ band_tables (tables_in (state S.Store conn.old).now.trees)
         → (moment : ℕ) (placed : TheBid)
         → BidFits (tables_in (state S.Store conn.old).now.trees) moment item placed standing.now
@@ -190,7 +189,7 @@ pub fn bid<S: Alter>(
         → OnOk result (IsFree (tables_in (state S.Store conn.old).now.trees)
         (change.Bid moment item placed standing.now)) }
     ensures damaged { HasCleanDisk (state S.Store conn.new)
-        → AreSound (tables_in (state S.Store conn.old).now.trees)
+        → RowFitsAt rules.now.editions (state S.Store conn.old).now.trees item
         → ChangeFits (tables_in (state S.Store conn.old).now.trees)
         (change.Bid moment item placed standing.now)
         → IsFree (tables_in (state S.Store conn.old).now.trees)

@@ -3,7 +3,6 @@ ghost use Rattle.std.specs.Prelude.{◌≡◌, ◌<◌, ◌+◌, ◌^◌, false,
 ghost use Rattle.sqlite.specs.State.{HasCleanDisk};
 ghost use Rattle.sqlite.specs.Held.{state};
 ghost use Rattle.house_rows.specs.Asks.{ChangeFits, IsFree};
-ghost use Rattle.house_rows.specs.Keeping.{AreSound};
 ghost use Rattle.house_rows.specs.declared.change.Change.TheVariants.{AddCategory, Register};
 ghost use Rattle.house_rows.specs.declared.fault.KeepFault.TheVariants.{Damaged};
 ghost use Rattle.store_rows.specs.House.{IsBegun};
@@ -84,7 +83,6 @@ pub fn register<S: Alter>(
         (Register moment name.entry)) }
     ensures moment { OnOk result (moment < 2 ^ 32) }
     ensures damaged { HasCleanDisk (state S.Store conn.new)
-        → AreSound (tables_in (state S.Store conn.old).now.trees)
         → ChangeFits (tables_in (state S.Store conn.old).now.trees) (Register moment name.entry)
         → IsFree (tables_in (state S.Store conn.old).now.trees) (Register moment name.entry)
         → ¬ (IsErrOf result Damaged) }
@@ -162,7 +160,6 @@ pub fn add_category<S: Alter>(
         (AddCategory moment name.entry)) }
     ensures moment { OnOk result (moment < 2 ^ 32) }
     ensures damaged { HasCleanDisk (state S.Store conn.new)
-        → AreSound (tables_in (state S.Store conn.old).now.trees)
         → ChangeFits (tables_in (state S.Store conn.old).now.trees) (AddCategory moment name.entry)
         → IsFree (tables_in (state S.Store conn.old).now.trees) (AddCategory moment name.entry)
         → ¬ (IsErrOf result Damaged) }

@@ -21,6 +21,7 @@ pub mod Small
 pub mod Sold
 pub mod IsConsistent
 pub mod TermMeaning
+pub mod UpTo
 pub mod TermFinds
 pub mod Undone
 pub mod DueBound

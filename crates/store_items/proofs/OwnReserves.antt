@@ -12,7 +12,7 @@ use Rattle.house_rows.specs.Found.{own_reserve, own_reserves, reserves_in as res
 use Rattle.house_rows.specs.Limits.{most_shown}
 use Rattle.house_rows.specs.Pages.{reserve_reported}
 use Rattle.house_rows.specs.Tables.{ItemRow}
-use Rattle.house_rows.specs.Taken.{has_own_reserve}
+use Rattle.house_rows.specs.Taken.{has_own_reserve, up_to}
 use Rattle.house_rows.specs.declared.item.OwnReserve.{OwnReserve}
 use Rattle.house_rows.specs.declared.item.Terms.{Terms}
 use Rattle.store_rows.specs.ItemRows.{amount_of, item_row_in, items_in, terms_by}
@@ -25,6 +25,7 @@ use Rattle.store_items.specs.OwnReserves.{reserve_in, reserve_shown}
 use Rattle.store_items.proofs.ItemMeaning.{terms_shown}
 use Rattle.store_items.proofs.Rows.{IsReserved, rows_reserved}
 use Rattle.store_items.proofs.TermFinds.{IsRow, seller_test}
+use Rattle.store_items.proofs.UpTo.{up_to-more}
 
 -- ---- which reserves are shown
 
@@ -109,6 +110,18 @@ next_held {A} P report terms most found x rest room held = go (report x) refl
         let long : length (found ++ reserve_reported (terms x) (report x)) ≡ length found + 1 = ap (λ o. length (found ++ reserve_reported (terms x) o)) is ∙ length-append found (reserve_reported (terms x) (Some a)) in
         let both = here_held P (λ y. is_some (report y)) most (length found) x rest room yes held in
         (λ e. both.0, subst (λ k. AllByRecursion P (take (most - k) (filter (λ y. is_some (report y)) rest))) (sym long) both.1)
+
+-- where the rows up to the one with which a list is full have a property, the next has it, and so do those after it
+pub next_low : {A : Type 0} (P : A → Type 0) (report : A → Option ℕ) (terms : A → Terms) (most : ℕ) (found : List OwnReserve) (x : A) (rest : List A) → length found < most
+    → AllByRecursion P (up_to (most - length found) (λ y. is_some (report y)) (x ∷ rest))
+    → P x × AllByRecursion P (up_to (most - length (found ++ reserve_reported (terms x) (report x))) (λ y. is_some (report y)) rest)
+next_low {A} P report terms most found x rest room low =
+    let more = up_to-more P (most - length found) (λ y. is_some (report y)) x rest (omega (arith, room)) low in
+    (more.0, subst (λ k. AllByRecursion P (up_to k (λ y. is_some (report y)) rest)) (go (report x)) more.1)
+  where
+    go : (o : Option ℕ) → cond (is_some o) (most - length found - 1) (most - length found) ≡ most - length (found ++ reserve_reported (terms x) o)
+    go None = sym (ap (λ l. most - length l) (append-nil found))
+    go (Some a) = let long = length-append found (reserve_reported (terms x) (Some a)) in omega (arith, long, room)
 
 pub report_few : (t : Terms) (o : Option ℕ) → length (reserve_reported t o) ≤ 1
 report_few t None = omega arith

@@ -22,11 +22,11 @@ use Rattle.house_rows.specs.declared.auction.Auction.{Auction}
 use Rattle.house_rows.specs.declared.item.Terms.{Terms}
 use Rattle.house_rows.specs.Fits.{TermsFit}
 use Rattle.house_rows.specs.Found.{auction_of, row_at}
-use Rattle.house_rows.specs.Editions.{BandTables}
-use Rattle.house_rows.specs.Keeping.{AreSound, FitsBy}
+use Rattle.house_rows.specs.Editions.{BandTables, bands_in}
+use Rattle.house_rows.specs.Keeping.{FitsBy}
 use Rattle.house_rows.specs.Limits.{most_cents}
-use Rattle.house_rows.specs.Tables.{ItemRow, band_tables, bands_for, row_opening}
-use Rattle.house_rows.proofs.ChangedRows.{there_fits}
+use Rattle.house_rows.specs.Tables.{ItemRow, row_opening}
+use Rattle.house_rows.proofs.ChangedRows.{there_numbered}
 use Rattle.house_rows.proofs.Every.{found_has}
 use Rattle.store_rows.specs.House.{IsHouse}
 use Rattle.store_rows.specs.declared.reserve.ReserveRow.{ReserveRow}
@@ -35,6 +35,7 @@ use Rattle.store_rows.specs.Rows.{maybe_number_in, number_in, reserves_in}
 use Rattle.store_rows.proofs.RowLemmas.{filter_same_on, one_row}
 use Rattle.store_items.specs.Items.{OfItem}
 use Rattle.store_rows.specs.Tables.{tables_in}
+use Rattle.store_items.specs.ConsistentRows.{RowFitsAt}
 use Rattle.store_items.specs.Sales.{IsUnbid, StartFits, StartsAt}
 use Rattle.store_items.proofs.ItemLemmas.{fits_state, kept_opening}
 
@@ -152,26 +153,26 @@ unbid_checked db house n low a found fits is =
       ap (λ (k : Kept). k.top) standing ∙ report.2,
     )
 
--- ---- sound tables
-
--- the items of sound tables fit, each by its own band table
-pub items_sound : (db : Trees) (editions : BandTables) → AreSound (tables_in db) → editions ≡ band_tables (tables_in db) → AllByRecursion (FitsBy editions) (items_in db)
-unfolding tables_in
-items_sound db editions sound same = rw same sound.items
+-- ---- an item that is there
 
 pub item_there : (db : Trees) (item : ℕ) (row : ItemRow) → row_at (tables_in db) item ≡ Some row → find (is_item item) (items_in db) ≡ Some row
 unfolding tables_in
 item_there db item row there = there
 
+item_fits : (db : Trees) (editions : BandTables) (item : ℕ) (row : ItemRow) → RowFitsAt editions db item → row_at (tables_in db) item ≡ Some row → FitsBy editions row
+item_fits db editions item row here there =
+    found_has (λ (r : ItemRow). r.item.terms.item ≡ item → FitsBy editions r) (is_item item) (items_in db) row here (item_there db item row there)
+    (there_numbered (tables_in db) item row there)
+
 -- of an item that may be bought the row says so
-pub purchase_unbid : (db : Trees) (moment item buyer price : ℕ) (a : Auction) → AreSound (tables_in db) → PurchaseFits (tables_in db) moment item buyer price → option_map auction_of (find (is_item item) (items_in db)) ≡ Some a
+pub purchase_unbid : (db : Trees) (editions : BandTables) (moment item buyer price : ℕ) (a : Auction) → RowFitsAt editions db item → PurchaseFits (tables_in db) moment item buyer price → option_map auction_of (find (is_item item) (items_in db)) ≡ Some a
     → is_unbid a.terms.start a.standing ≡ true
-purchase_unbid db moment item buyer price a sound p found =
+purchase_unbid db editions moment item buyer price a here p found =
     let there = item_there db item p.row p.row_there in
     let found' : Some (auction_of p.row) ≡ Some a = ap (option_map auction_of) (sym there) ∙ found in
     let same : auction_of p.row ≡ a = cc in
-    let fits = there_fits (tables_in db) item p.row sound p.row_there in
-    let bands : List (ℕ × ℕ) = bands_for (tables_in db) p.row.item.terms.item in
+    let fits = item_fits db editions item p.row here p.row_there in
+    let bands : List (ℕ × ℕ) = bands_in editions p.row.item.terms.item in
     let none : length fits.bids ≡ 0 = sym fits.count ∙ p.no_bid in
     let report : a.standing ≡ record { start = p.row.item.terms.start; reserve = p.row.standing.reserve; price = p.row.item.terms.start; leader = None; top = None; second = None; count = 0 } =
     sym (ap (λ (x : Auction). x.standing) same) ∙ fits.is_consistent ∙ ap (standing_of bands (row_opening p.row)) (no_bids fits.bids none) ∙ standing-none bands (row_opening p.row) in

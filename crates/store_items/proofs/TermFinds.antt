@@ -16,14 +16,14 @@ use Rattle.sqlite_sql.specs.Ops.{binary, is_true}
 use Rattle.sqlite_sql.specs.Program.{overlay}
 use Rattle.sqlite_sql.specs.Term.{Term}
 use Rattle.sqlite_trees.specs.View.{is_int}
-use Rattle.sqlite_keyed.proofs.ListLemmas.{all_both, all_map, all_unmap, all_weaker, filter-map}
+use Rattle.sqlite_keyed.proofs.ListLemmas.{all_both, all-filter, all_map, all_unmap, all_weaker, filter-map}
 use Rattle.sqlite_keyed.proofs.RuleLemmas.{first_of_both}
 use Rattle.sqlite.specs.Effect.{Database}
 use Rattle.sqlite.specs.State.{State, Shown}
 use Rattle.sqlite.proofs.Callers.{reads_as}
 use Rattle.proxy.specs.Bids.{is_leader}
 use Rattle.house_rows.specs.Keeping.{FitsBy}
-use Rattle.house_rows.specs.Taken.{FitWhere}
+use Rattle.house_rows.specs.Taken.{FitWhere, up_to}
 use Rattle.house_rows.specs.Items.{is_due, is_open}
 use Rattle.house_rows.specs.Tables.{ItemRow}
 use Rattle.house_rows.specs.Editions.{BandTables}
@@ -38,13 +38,14 @@ use Rattle.store_rows.proofs.ColumnLemmas.{holds_all}
 use Rattle.store_rows.proofs.RowLemmas.{int_if, equals_number, alone, filter_same_on, passing_fit}
 use Rattle.store_rows.proofs.Select.{by_rowid, equals, in_order, listed, typed_part}
 use Rattle.store_rows.proofs.Tested.{filter_both}
-use Rattle.store_rows.proofs.Update.{IsStrict}
+use Rattle.store_rows.proofs.Update.{IsStrict, numbered_passes}
 use Rattle.store_items.specs.Standing.{TermsHold}
 use Rattle.store_items.proofs.Holding.{rows_hold, terms_row}
 use Rattle.store_items.proofs.ItemMeaning.{terms_shown}
 use Rattle.store_rows.proofs.ColumnKinds.{kinds_of}
 use Rattle.store_rows.proofs.Ordered.{equals_maybe, within}
 use Rattle.store_items.proofs.TermMeaning.{AsksTerms, ended_by}
+use Rattle.store_items.proofs.UpTo.{up_to-map, up_to-same}
 
 -- the columns by which rows are found
 pub record IsRow (r : Row) : Type 0 where
@@ -111,18 +112,28 @@ module _ (sql : List ℕ) (test : List Term) (is : AsksTerms sql test) (params :
       let each = passing_fit make (FitsBy editions) keep IsRow (passes test params) tests rows (are_rows old.now house) fit in
       subst (AllByRecursion (TermsHold editions R)) (sym order) (all_map (TermsHold editions R) show kept (all_weaker (λ r. FitsBy editions (make r)) (λ r. TermsHold editions R (show r)) (terms_row editions R params) kept each))
 
-  -- where the items that the query keeps have numbers of ours, it shows such
-  pub terms_numbered : (keep : ItemRow → Bool) → ((r : Row) → IsRow r → passes test params r ≡ keep (make r)) → FitWhere keep (λ row. row.item.terms.item < 2 ^ 32) (items_in old.now.trees)
-      → AllByRecursion (λ r. number_in (column r 0) < 2 ^ 32) answer
-  terms_numbered keep tests low =
+  -- where the items that the query keeps have numbers of ours, up to the one with which so many pass a further test, it shows such
+  pub terms_numbered : (keep shows : ItemRow → Bool) (further : Row → Bool) → ((r : Row) → IsRow r → passes test params r ≡ keep (make r))
+      → ((r : Row) → IsRow r → (passes test params r && further (shown_by terms_shown params r)) ≡ shows (make r)) → (many : ℕ)
+      → AllByRecursion (λ row. row.item.terms.item < 2 ^ 32) (up_to many shows (filter keep (items_in old.now.trees)))
+      → AllByRecursion (λ r. number_in (column r 0) < 2 ^ 32) (up_to many further answer)
+  terms_numbered keep shows further keeps tests many low =
       let rows = old.now.trees 6 in
-      let kept = filter (passes test params) rows in
+      let passing = passes test params in
+      let kept = filter passing rows in
       let show = shown_by terms_shown params in
+      let Low = λ (row : ItemRow). row.item.terms.item < 2 ^ 32 in
+      let Small = λ (r : Row). number_in (column r 0) < 2 ^ 32 in
       let read = reads_as sql params old new house_schema house.schema _ is.0 is.2 is.1 answer h in
       let order = in_order test terms_shown params rows answer house.shaped.1.1.1.1.0.0 (listed 6 test terms_shown by_rowid (overlay old.now.trees []) params answer (read.answer Null)) in
-      let each = passing_fit make (λ (row : ItemRow). row.item.terms.item < 2 ^ 32) keep IsRow (passes test params) tests rows (are_rows old.now house) low in
-      subst (AllByRecursion (λ r. number_in (column r 0) < 2 ^ 32)) (sym order)
-      (all_map (λ r. number_in (column r 0) < 2 ^ 32) show kept (all_weaker (λ r. (make r).item.terms.item < 2 ^ 32) (λ r. number_in (column (show r) 0) < 2 ^ 32) (λ r small. small) kept each))
+      let typed : filter keep (map make rows) ≡ map make kept = filter-map keep make rows ∙ ap (map make) (sym (filter_same_on IsRow passing (λ r. keep (make r)) keeps rows (are_rows old.now house))) in
+      let are : AllByRecursion (λ r. IsRow r × (passing r ≡ true)) kept =
+      all_both IsRow (λ r. passing r ≡ true) (λ r. IsRow r × (passing r ≡ true)) (λ r is_row passed. (is_row, passed)) kept (all-filter IsRow passing rows (are_rows old.now house)) (numbered_passes passing rows) in
+      let same : up_to many (λ r. shows (make r)) kept ≡ up_to many (λ r. further (show r)) kept =
+      up_to-same (λ r. IsRow r × (passing r ≡ true)) (λ r. shows (make r)) (λ r. further (show r)) (λ r both. sym (tests r both.0) ∙ ap (λ b. b && further (show r)) both.1) many kept are in
+      let front = all_unmap Low make (up_to many (λ r. shows (make r)) kept) (subst (AllByRecursion Low) (ap (up_to many shows) typed ∙ up_to-map make shows many kept) low) in
+      let held = all_map Small show (up_to many (λ r. further (show r)) kept) (all_weaker (λ r. Low (make r)) (λ r. Small (show r)) (λ r small. small) (up_to many (λ r. further (show r)) kept) (subst (AllByRecursion (λ r. Low (make r))) same front)) in
+      subst (AllByRecursion Small) (sym (ap (up_to many further) order ∙ up_to-map show further many kept)) held
 
   -- where the first items that the query keeps and that pass a further test fit
   pub first_kept : (keep : ItemRow → Bool) (further : Row → Bool) → ((r : Row) → IsRow r → (passes test params r && further (shown_by terms_shown params r)) ≡ keep (make r)) → (editions : BandTables) (many : ℕ)

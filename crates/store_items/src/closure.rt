@@ -3,12 +3,14 @@ ghost use Rattle.std.specs.Prelude.{◌≡◌, ◌<◌, ◌^◌, false, IfOk, On
 ghost use Rattle.sqlite.specs.State.{HasCleanDisk};
 ghost use Rattle.sqlite.specs.Held.{state};
 ghost use Rattle.house_rows.specs.Tables.{band_tables};
-ghost use Rattle.house_rows.specs.Asks.{ChangeFits, IsFree};
+ghost use Rattle.house_rows.specs.Fits.{IsMoment};
 ghost use Rattle.house_rows.specs.Items.{is_due};
-ghost use Rattle.house_rows.specs.Keeping.{AreSound};
+ghost use Rattle.house_rows.specs.Keeping.{FitsBy};
 ghost use Rattle.house_rows.specs.declared.change.Change.TheVariants.{Close};
 ghost use Rattle.house_rows.specs.declared.fault.KeepFault.TheVariants.{Damaged};
 ghost use Rattle.store_rows.specs.House.{IsBegun, ServesBy};
+ghost use Rattle.house_rows.specs.Taken.{FitWhere};
+ghost use Rattle.store_rows.specs.ItemRows.{items_in};
 ghost use Rattle.store_rows.specs.Rows.{reserves_in};
 ghost use Rattle.store_rows.specs.Tables.{Changes, IsNumbered, Rests, tables_in};
 ghost use Rattle.store_items.specs.ConsistentRows.{RowsFit, RowsAreConsistent};
@@ -41,8 +43,8 @@ fn find_due<S: Alter>(
         → OnOk result (RowsAreConsistent rules.now.editions (λ row. is_due moment row.item.terms)
         (state S.Store conn.old).now.trees) }
     ensures damaged { HasCleanDisk (state S.Store conn.new)
-        → AreSound (tables_in (state S.Store conn.old).now.trees)
-        → rules.now.editions ≡ band_tables (tables_in (state S.Store conn.old).now.trees)
+        → FitWhere (λ row. is_due moment row.item.terms) (FitsBy rules.now.editions)
+        (items_in (state S.Store conn.old).now.trees)
         → ¬ (IsErrOf result Damaged) }
     ensures read { OnlyReads (state S.Store conn.old) (state S.Store conn.new) result }
 {
@@ -117,9 +119,9 @@ pub fn close<S: Alter>(
         (state S.Store conn.old).now.trees) }
     ensures moment { OnOk result (moment < 2 ^ 32) }
     ensures damaged { HasCleanDisk (state S.Store conn.new)
-        → AreSound (tables_in (state S.Store conn.old).now.trees)
-        → ChangeFits (tables_in (state S.Store conn.old).now.trees) (Close moment)
-        → IsFree (tables_in (state S.Store conn.old).now.trees) (Close moment)
+        → IsMoment moment
+        → FitWhere (λ row. is_due moment row.item.terms) (FitsBy rules.now.editions)
+        (items_in (state S.Store conn.old).now.trees)
         → ¬ (IsErrOf result Damaged) }
 {
     let moment = stored_moment(moment)?;

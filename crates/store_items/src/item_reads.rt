@@ -4,11 +4,11 @@ ghost use Rattle.sqlite.specs.State.{HasCleanDisk};
 ghost use Rattle.sqlite.specs.Held.{state};
 ghost use Rattle.house_rows.specs.Changed.{is_item};
 ghost use Rattle.house_rows.specs.Found.{auction_of};
-ghost use Rattle.house_rows.specs.Tables.{ItemRow, band_tables};
+ghost use Rattle.house_rows.specs.Tables.{ItemRow};
 ghost use Rattle.house_rows.specs.Text.{same_text};
 ghost use Rattle.std.specs.List.{AllByRecursion};
 ghost use Rattle.house_rows.specs.Fits.{ItemFits, StandingFits, TermsFit};
-ghost use Rattle.house_rows.specs.Keeping.{FitsBy, IsConsistentBy, AreSound};
+ghost use Rattle.house_rows.specs.Keeping.{FitsBy, IsConsistentBy};
 ghost use Rattle.house_rows.specs.declared.fault.KeepFault.TheVariants.{Damaged};
 ghost use Rattle.store_rows.specs.House.{Serves, ServesBy};
 ghost use Rattle.store_rows.specs.ItemRows.{items_in};
@@ -181,8 +181,7 @@ pub fn auction_there<S: Alter>(
     ensures fits { IfOk result (λ a. TermsFit a.terms) }
     ensures is_consistent { IfOk result (λ a. IsConsistentBy rules.now.editions a.terms) }
     ensures damaged { HasCleanDisk (state S.Store conn.new)
-        → AreSound (tables_in (state S.Store conn.old).now.trees)
-        → rules.now.editions ≡ band_tables (tables_in (state S.Store conn.old).now.trees)
+        → RowFitsAt rules.now.editions (state S.Store conn.old).now.trees item
         → HasItem (tables_in (state S.Store conn.old).now.trees) item
         → ¬ (IsErrOf result Damaged) }
     ensures read { OnlyReads (state S.Store conn.old) (state S.Store conn.new) result }

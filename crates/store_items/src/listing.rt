@@ -4,7 +4,6 @@ ghost use Rattle.sqlite.specs.State.{HasCleanDisk};
 ghost use Rattle.sqlite.specs.Held.{state};
 ghost use Rattle.house_rows.specs.Asks.{ChangeFits, IsFree};
 ghost use Rattle.house_rows.specs.Changed.{new_item};
-ghost use Rattle.house_rows.specs.Keeping.{AreSound};
 ghost use Rattle.house_rows.specs.declared.change.Change.TheVariants.{List};
 ghost use Rattle.house_rows.specs.declared.fault.KeepFault.TheVariants.{Damaged};
 ghost use Rattle.store_rows.specs.House.{IsBegun};
@@ -117,7 +116,6 @@ pub fn list<S: Alter>(
     ensures moment { OnOk result (moment < 2 ^ 32) }
     ensures end { OnOk result (item.now.end < 2 ^ 32) }
     ensures damaged { HasCleanDisk (state S.Store conn.new)
-        → AreSound (tables_in (state S.Store conn.old).now.trees)
         → ChangeFits (tables_in (state S.Store conn.old).now.trees) (List moment item.now)
         → IsFree (tables_in (state S.Store conn.old).now.trees) (List moment item.now)
         → ¬ (IsErrOf result Damaged) }

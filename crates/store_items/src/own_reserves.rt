@@ -9,7 +9,7 @@ ghost use Rattle.house_rows.specs.Fits.{OwnReserveFits};
 ghost use Rattle.house_rows.specs.Found.{own_reserves};
 ghost use Rattle.house_rows.specs.Keeping.{FitsBy};
 ghost use Rattle.house_rows.specs.Limits.{most_shown};
-ghost use Rattle.house_rows.specs.Taken.{FitWhere, has_own_reserve};
+ghost use Rattle.house_rows.specs.Taken.{has_own_reserve, up_to};
 ghost use Rattle.house_rows.specs.declared.fault.KeepFault.TheVariants.{Damaged};
 ghost use Rattle.store_rows.specs.Frames.{OnlyReads};
 ghost use Rattle.store_rows.specs.House.{ServesBy};
@@ -79,7 +79,8 @@ fn first_reserves(
     ensures value { IfOk result (λ found. found.items ≡ take most_shown
         (flat_map (reserve_shown rules.now.reserves from) rows.now)) }
     ensures fits { IfOk result (λ found. AllByRecursion OwnReserveFits found.items) }
-    ensures damaged { AllByRecursion (λ row. number_in (column row 0) < 2 ^ 32) rows.now
+    ensures damaged { AllByRecursion (λ row. number_in (column row 0) < 2 ^ 32) (up_to most_shown
+        (λ row. is_some (reserve_in rules.now.reserves from row)) rows.now)
         → AllByRecursion (TermsHold rules.now.editions rules.now.reserves) (take most_shown
         (filter (λ row. is_some (reserve_in rules.now.reserves from row)) rows.now))
         → ¬ (IsErrOf result Damaged) }
@@ -95,8 +96,8 @@ fn first_reserves(
 }
 
 /// The reserves of a member on what it sells, from an item on; at most fifty. They are damaged only
-/// where an item of the member has no number of ours, or where the row of one that is shown doesn't
-/// fit.
+/// where an item of the member up to the last one shown has no number of ours, or where the row of
+/// one that is shown doesn't fit.
 pub fn reserves_of<S: Alter>(
     alloc: Global,
     conn: &mut Connection<S>,
@@ -113,8 +114,9 @@ pub fn reserves_of<S: Alter>(
         → AllByRecursion (FitsBy rules.now.editions) (items_in (state S.Store conn.old).now.trees)
         → ¬ (IsErrOf result Damaged) }
     ensures here { HasCleanDisk (state S.Store conn.new)
-        → FitWhere (λ row. row.item.terms.seller == member) (λ row. row.item.terms.item < 2 ^ 32)
-        (items_in (state S.Store conn.old).now.trees)
+        → AllByRecursion (λ row. row.item.terms.item < 2 ^ 32) (up_to most_shown
+        (has_own_reserve member from) (filter (λ row. row.item.terms.seller == member)
+        (items_in (state S.Store conn.old).now.trees)))
         → AllByRecursion (FitsBy rules.now.editions) (take most_shown
         (filter (has_own_reserve member from) (items_in (state S.Store conn.old).now.trees)))
         → ¬ (IsErrOf result Damaged) }

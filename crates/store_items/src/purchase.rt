@@ -3,15 +3,14 @@ ghost use Rattle.std.specs.Prelude.{◌≡◌, ◌<◌, ◌^◌, ◌==◌, ◌&&
 ghost use Rattle.sqlite.specs.State.{HasCleanDisk};
 ghost use Rattle.sqlite.specs.Held.{state};
 ghost use Rattle.house_rows.specs.Tables.{band_tables};
-ghost use Rattle.house_rows.specs.Asks.{ChangeFits, IsFree, PurchaseFits};
-ghost use Rattle.house_rows.specs.Keeping.{AreSound};
+ghost use Rattle.house_rows.specs.Asks.{ChangeFits, PurchaseFits};
 ghost use Rattle.house_rows.specs.declared.change.Change.TheVariants.{Buy};
 ghost use Rattle.house_rows.specs.declared.fault.KeepFault.TheVariants.{Damaged};
 ghost use Rattle.store_rows.specs.House.{IsBegun, ServesBy};
 ghost use Rattle.store_items.specs.Items.{OfItem};
 ghost use Rattle.store_rows.specs.Rows.{reserves_in};
 ghost use Rattle.store_rows.specs.Tables.{Changes, IsNumbered, Rests, tables_in};
-ghost use Rattle.store_items.specs.ConsistentRows.{HasStandingItem};
+ghost use Rattle.store_items.specs.ConsistentRows.{HasStandingItem, RowFitsAt};
 ghost use Rattle.store_items.specs.Sales.{IsUnbid};
 ghost use Rattle.store_rows.specs.Frames.{OnlyReads, WritesMany};
 ghost use Rattle.store_rows.specs.Commits.{Commits};
@@ -46,8 +45,7 @@ fn check_unbid<S: Alter>(
     ensures unbid { HasCleanDisk (state S.Store conn.new)
         → OnOk result (OfItem item IsUnbid (state S.Store conn.old).now) }
     ensures damaged { HasCleanDisk (state S.Store conn.new)
-        → AreSound (tables_in (state S.Store conn.old).now.trees)
-        → rules.now.editions ≡ band_tables (tables_in (state S.Store conn.old).now.trees)
+        → RowFitsAt rules.now.editions (state S.Store conn.old).now.trees item
         → (moment buyer price : ℕ)
         → PurchaseFits (tables_in (state S.Store conn.old).now.trees) moment item buyer price
         → ¬ (IsErrOf result Damaged) }
@@ -112,9 +110,8 @@ pub fn buy<S: Alter>(
         → OnOk result (OfItem item IsUnbid (state S.Store conn.old).now) }
     ensures moment { OnOk result (moment < 2 ^ 32) }
     ensures damaged { HasCleanDisk (state S.Store conn.new)
-        → AreSound (tables_in (state S.Store conn.old).now.trees)
+        → RowFitsAt rules.now.editions (state S.Store conn.old).now.trees item
         → ChangeFits (tables_in (state S.Store conn.old).now.trees) (Buy moment item buyer price)
-        → IsFree (tables_in (state S.Store conn.old).now.trees) (Buy moment item buyer price)
         → ¬ (IsErrOf result Damaged) }
 {
     let moment = stored_moment(moment)?;

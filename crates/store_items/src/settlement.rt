@@ -3,15 +3,14 @@ ghost use Rattle.std.specs.Prelude.{◌≡◌, ◌<◌, ◌^◌, false, OnOk, Is
 ghost use Rattle.sqlite.specs.State.{HasCleanDisk};
 ghost use Rattle.sqlite.specs.Held.{state};
 ghost use Rattle.house_rows.specs.Tables.{band_tables};
-ghost use Rattle.house_rows.specs.Asks.{ChangeFits, HasItem, IsFree};
-ghost use Rattle.house_rows.specs.Keeping.{AreSound};
+ghost use Rattle.house_rows.specs.Asks.{ChangeFits, HasItem};
 ghost use Rattle.house_rows.specs.declared.change.Change.TheVariants.{Settle};
 ghost use Rattle.house_rows.specs.declared.fault.KeepFault.TheVariants.{Damaged};
 ghost use Rattle.store_rows.specs.House.{IsBegun, ServesBy};
 ghost use Rattle.store_items.specs.Items.{OfItem};
 ghost use Rattle.store_rows.specs.Rows.{reserves_in};
 ghost use Rattle.store_rows.specs.Tables.{Changes, IsNumbered, Rests, tables_in};
-ghost use Rattle.store_items.specs.ConsistentRows.{HasStandingItem};
+ghost use Rattle.store_items.specs.ConsistentRows.{HasStandingItem, RowFitsAt};
 ghost use Rattle.store_items.specs.Sales.{StartFits};
 ghost use Rattle.store_rows.specs.Frames.{OnlyReads, WritesMany};
 ghost use Rattle.store_rows.specs.Commits.{Commits};
@@ -34,8 +33,7 @@ fn check_terms<S: Alter>(
     ensures fits { HasCleanDisk (state S.Store conn.new)
         → OnOk result (OfItem item StartFits (state S.Store conn.old).now) }
     ensures damaged { HasCleanDisk (state S.Store conn.new)
-        → AreSound (tables_in (state S.Store conn.old).now.trees)
-        → rules.now.editions ≡ band_tables (tables_in (state S.Store conn.old).now.trees)
+        → RowFitsAt rules.now.editions (state S.Store conn.old).now.trees item
         → HasItem (tables_in (state S.Store conn.old).now.trees) item
         → ¬ (IsErrOf result Damaged) }
     ensures read { OnlyReads (state S.Store conn.old) (state S.Store conn.new) result }
@@ -88,9 +86,8 @@ pub fn settle<S: Alter>(
         → OnOk result (HasStandingItem rules.now.editions (state S.Store conn.old).now.trees item) }
     ensures moment { OnOk result (moment < 2 ^ 32) }
     ensures damaged { HasCleanDisk (state S.Store conn.new)
-        → AreSound (tables_in (state S.Store conn.old).now.trees)
+        → RowFitsAt rules.now.editions (state S.Store conn.old).now.trees item
         → ChangeFits (tables_in (state S.Store conn.old).now.trees) (Settle moment item)
-        → IsFree (tables_in (state S.Store conn.old).now.trees) (Settle moment item)
         → ¬ (IsErrOf result Damaged) }
 {
     let moment = stored_moment(moment)?;

@@ -85,15 +85,6 @@ rising_more rows new rising above i j lt in_range =
           let up = above i (omega (arith, lt, there, in_range, long)) in omega (arith, first, second, up))
     ]
 
--- so where they rise with it, it is over the last
-pub over_last : (rows : List ReserveRow) (new : ReserveRow) → AreRising (rows ++ new ∷ []) → 0 < length rows → item_at rows (length rows - 1) < new.item
-over_last rows new rising some =
-    let long : length (rows ++ new ∷ []) ≡ length rows + 1 = length-append rows (new ∷ []) in
-    let first : item_at (rows ++ new ∷ []) (length rows - 1) ≡ item_at rows (length rows - 1) = ap (λ (r : ReserveRow). r.item) (get_or-append rows (new ∷ []) no_row (length rows - 1) (omega (arith, some))) in
-    let second : item_at (rows ++ new ∷ []) (length rows) ≡ new.item = ap (λ (r : ReserveRow). r.item) (get_or-append_seam rows new [] no_row) in
-    let up = rising (length rows - 1) (length rows) (omega (arith, some)) (omega (arith, long)) in
-    omega (arith, first, second, up)
-
 -- what is found at a place is there
 pub slice_get_is : (rows : List ReserveRow) (i : ℕ) (r : ReserveRow) → slice_get rows i ≡ Some r → (i < length rows) × (item_at rows i ≡ r.item)
 slice_get_is [] i r e = absurd (let h : None ≡ Some r = e in cc)

@@ -1,8 +1,9 @@
 //! The reserves of a house, as a keep holds them beside its file.
-ghost use Rattle.std.specs.Prelude.{◌≡◌, ◌++◌, ◌∷◌, [], IfSome, IsSome, OnErr, OnOk, IsErrOf};
-ghost use Rattle.house_rows.specs.declared.fault.KeepFault.TheVariants.{Damaged};
+ghost use Rattle.std.specs.Prelude.{◌≡◌, ◌<◌, ◌++◌, ◌∷◌, [], All, List, IfSome, IsSome, OnErr, OnOk, IsErrOf};
+ghost use Rattle.house_rows.specs.declared.fault.KeepFault.TheVariants.{Damaged, Store};
 ghost use Rattle.store_rows.specs.ItemRows.{amount_of};
 ghost use Rattle.store_rows.specs.Reserves.{AreRising};
+ghost use Rattle.store_rows.specs.declared.reserve.ReserveRow.{ReserveRow as TheRow};
 
 use crate::reserve::ReserveRow;
 use cents::Cents;
@@ -52,17 +53,6 @@ impl Reserves {
         }
     }
 
-    /// Makes room for one more.
-    pub fn make_room(&mut self) -> Result<(), KeepFault>
-        ensures same { self.new ≡ self.old }
-        ensures sound { ¬ (IsErrOf result Damaged) }
-    {
-        match self.rows.reserve(1) {
-            Ok(()) => Ok(()),
-            Err(_) => Err(KeepFault::Memory),
-        }
-    }
-
     /// Adds that of an item as the last.
     ///
     /// `Damaged` where the item has a number under the last, or that of the last. After an error all
@@ -71,13 +61,21 @@ impl Reserves {
         ensures value { OnOk result (self.new ≡ self.old ++ record { item = item; amount = amount }
             ∷ []) }
         ensures left { OnErr result (self.new ≡ self.old) }
-        ensures sound { AreRising (self.old ++ record { item = item; amount = amount } ∷ [])
-            → ¬ (IsErrOf result Damaged) }
+        ensures sound { All (λ r. r.item < item) self.old → ¬ (IsErrOf result Damaged) }
+        ensures working { ¬ (IsErrOf result Store) }
     {
         match self.rows.last() {
             Some(last) if last.item >= item => Err(KeepFault::Damaged),
             _ => push(&mut self.rows, ReserveRow { item, amount }),
         }
+    }
+
+    /// Takes the last back.
+    pub fn remove_last(&mut self)
+        ensures { (before : List TheRow) (last : TheRow) → self.old ≡ before ++ last ∷ []
+            → self.new ≡ before }
+    {
+        self.rows.pop();
     }
 
     /// The reserve of an item, if it has one.

@@ -1,10 +1,11 @@
 //! Feedback between the parties of a sale.
-ghost use Rattle.std.specs.Prelude.{◌≡◌, ◌<◌, ◌^◌, false, OnOk, IsErrOf};
-ghost use Rattle.std.specs.List.{AllByRecursion, list_any};
+ghost use Rattle.std.specs.Prelude.{◌≡◌, ◌<◌, ◌^◌, ◌==◌, false, OnOk, IsErrOf};
+ghost use Rattle.std.specs.List.{list_any};
 ghost use Rattle.sqlite.specs.State.{HasCleanDisk};
 ghost use Rattle.sqlite.specs.Held.{state};
 ghost use Rattle.house_rows.specs.Asks.{IsFree};
 ghost use Rattle.house_rows.specs.Fits.{FeedbackFits, IsMoment};
+ghost use Rattle.house_rows.specs.Taken.{FitWhere};
 ghost use Rattle.house_rows.specs.declared.change.Change.TheVariants.{Feedback};
 ghost use Rattle.house_rows.specs.declared.fault.KeepFault.TheVariants.{Damaged};
 ghost use Rattle.store_rows.specs.House.{IsBegun};
@@ -92,7 +93,8 @@ pub fn give_feedback<S: Alter>(
         ((state S.Store conn.old).now.trees 14) ≡ false) }
     ensures moment { OnOk result (moment < 2 ^ 32) }
     ensures damaged { HasCleanDisk (state S.Store conn.new)
-        → AllByRecursion FeedbackFits (tables_in (state S.Store conn.old).now.trees).feedback
+        → FitWhere (λ f. f.from == from) FeedbackFits
+        (tables_in (state S.Store conn.old).now.trees).feedback
         → IsMoment moment
         → IsFree (tables_in (state S.Store conn.old).now.trees)
         (Feedback moment item from to rating text.entry)

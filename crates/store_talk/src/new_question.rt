@@ -3,7 +3,6 @@ ghost use Rattle.std.specs.Prelude.{◌≡◌, false, OnOk, IsErrOf};
 ghost use Rattle.sqlite.specs.State.{HasCleanDisk};
 ghost use Rattle.sqlite.specs.Held.{state};
 ghost use Rattle.house_rows.specs.Asks.{IsFree};
-ghost use Rattle.house_rows.specs.Keeping.{AreSound};
 ghost use Rattle.house_rows.specs.declared.change.Change.TheVariants.{Ask};
 ghost use Rattle.house_rows.specs.declared.fault.KeepFault.TheVariants.{Damaged};
 ghost use Rattle.store_rows.specs.House.{IsBegun};
@@ -76,7 +75,6 @@ pub fn ask<S: Alter>(
         → OnOk result (IsFree (tables_in (state S.Store conn.old).now.trees)
         (Ask item asker number text.entry)) }
     ensures damaged { HasCleanDisk (state S.Store conn.new)
-        → AreSound (tables_in (state S.Store conn.old).now.trees)
         → IsFree (tables_in (state S.Store conn.old).now.trees) (Ask item asker number text.entry)
         → ¬ (IsErrOf result Damaged) }
 {

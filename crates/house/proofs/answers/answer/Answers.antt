@@ -45,7 +45,7 @@ returns-in-Ok-waiting-clause-decided g c = λ honest settings h is e.
     e refl on.1 on.2 (sells c.from.result c.in-Ok.on.terms.seller c.args.caller c.from.ensures c.if-from-caller.false) asked.0 asked.1
 
 pub returns-in-Ok-waiting-clause-fits : goal.returns-in-Ok-waiting-clause-fits
-returns-in-Ok-waiting-clause-fits g c = λ honest sound.
+returns-in-Ok-waiting-clause-fits g c = λ honest rows change_rows.
     let on = rw c.in-Ok.is at c.in_ok-on.ensures.value (c.in_ok-question.ensures.read.honest honest) in
     let asked = rw (found g (goal.at.returns-in-Ok-waiting-clause-fits g c).In_ok-question honest) at c.in-Ok-waiting.ensures in
     answer_fits (g.K.Keep.content c.args.keep.now) c.args.moment c.args.caller c.args.item c.args.asker c.args.number c.args.text.now c.in-Ok-waiting.question c.args.text

@@ -57,11 +57,11 @@ returns-in-Ok-place_bid-clause-decided g c = λ honest settings h is e.
     fit on.2 (bands_are g known c.bands_for-bands.result.now c.bands_for-bands.ensures honest) on.0 c.in-Some-new.ensures.value c.count.ensures c.in-Ok-place_bid.ensures
 
 pub returns-in-Ok-place_bid-clause-fits : goal.returns-in-Ok-place_bid-clause-fits
-returns-in-Ok-place_bid-clause-fits g c = λ honest sound.
+returns-in-Ok-place_bid-clause-fits g c = λ honest rows change_rows.
     let on = rw c.in-Ok.is at c.in_ok-on.ensures.value honest in
     let known = (goal.at.returns-in-Ok-place_bid-clause-fits g c).In_ok-editions in
     let fit = is_fit g (goal.at.returns-in-Ok-place_bid-clause-fits g c).In-Some-new in
-    bid_fits (g.K.Keep.content c.args.keep.now) c.bands_for-bands.result.now c.args.moment c.args.caller c.args.item c.args.maximum c.in-Ok.on.terms c.in-Ok.on.standing c.in-Ok-place_bid.standing c.in-Ok.on.member c.in-Some-new.maximum c.count.result sound on.1 on.3
+    bid_fits (g.K.Keep.content c.args.keep.now) c.bands_for-bands.result.now c.args.moment c.args.caller c.args.item c.args.maximum c.in-Ok.on.terms c.in-Ok.on.standing c.in-Ok-place_bid.standing c.in-Ok.on.member c.in-Some-new.maximum c.count.result rows on.1 on.3
     fit on.2 (bands_are g known c.bands_for-bands.result.now c.bands_for-bands.ensures honest) on.0 c.in-Some-new.ensures.value c.count.ensures c.in-Ok-place_bid.ensures
 
 pub returns-in-Ok-place_bid-clause-own : goal.returns-in-Ok-place_bid-clause-own

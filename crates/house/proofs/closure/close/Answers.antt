@@ -11,5 +11,5 @@ returns-in-None-clause-decided g c = λ honest settings h is e.
     close_accepts (g.K.Keep.content c.args.keep.now) settings h c.args.moment c.args.caller is e (sym c.in-None.is ∙ c.in_ok-refusal.ensures.value honest)
 
 pub returns-in-None-clause-fits : goal.returns-in-None-clause-fits
-returns-in-None-clause-fits g c = λ honest sound.
+returns-in-None-clause-fits g c = λ honest rows change_rows.
     close_fits (g.K.Keep.content c.args.keep.now) c.args.moment c.args.caller (sym c.in-None.is ∙ c.in_ok-refusal.ensures.value honest)

@@ -14,7 +14,7 @@ returns-clause-decided g c = λ honest settings h is e.
     (rw c.in-Ok.is at (c.in_ok-taken.ensures.value honest))
 
 pub returns-clause-fits : goal.returns-clause-fits
-returns-clause-fits g c = λ honest sound.
+returns-clause-fits g c = λ honest rows change_rows.
     let same = rw c.in-Ok.is at (c.in_ok-taken.ensures.same honest) in
     listing_fits (g.K.Keep.content c.args.keep.now) c.args.moment c.args.caller c.args.offer.now _
     (offered c.args.caller c.args.offer.now c.in-Ok.taken same)

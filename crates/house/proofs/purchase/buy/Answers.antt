@@ -21,7 +21,7 @@ returns-in-Err-purchase_price-clause-decided g c = λ honest settings h is e.
     (rw c.in-Ok.is at (c.in_ok-terms.ensures.value honest)) c.in-Err-purchase_price.ensures
 
 pub returns-in-Ok-purchase_price-clause-fits : goal.returns-in-Ok-purchase_price-clause-fits
-returns-in-Ok-purchase_price-clause-fits g c = λ honest sound.
+returns-in-Ok-purchase_price-clause-fits g c = λ honest rows change_rows.
     buy_fits (g.K.Keep.content c.args.keep.now) c.args.moment c.args.caller c.args.item c.in-Ok-purchase_price.price c.in-Ok.terms
     (rw c.in-Ok.is at (c.in_ok-terms.ensures.value honest)) c.in-Ok-purchase_price.ensures
 

@@ -30,7 +30,7 @@ returns-in-Ok-next_number-clause-decided g c = λ honest settings h is e.
     is e refl on.0 next.0 on.1 on.2 next.1
 
 pub returns-in-Ok-next_number-clause-fits : goal.returns-in-Ok-next_number-clause-fits
-returns-in-Ok-next_number-clause-fits g c = λ honest sound.
+returns-in-Ok-next_number-clause-fits g c = λ honest rows change_rows.
     let on = rw c.in-Ok.is at c.in_ok-on.ensures.value (c.in_ok-count.ensures.read.honest honest) in
     let next = rw (counted g (goal.at.returns-in-Ok-next_number-clause-fits g c).In_ok-count honest) at c.in-Ok-next_number.ensures in
     ask_fits (g.K.Keep.content c.args.keep.now) c.args.moment c.args.caller c.args.item c.args.text.now c.in-Ok.on.terms c.in-Ok.on.member c.in-Ok-next_number.number c.args.text

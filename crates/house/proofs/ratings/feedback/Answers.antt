@@ -30,7 +30,7 @@ returns-in-Ok-taken_rating-clause-decided g c = λ honest settings h is e.
     e refl on.0 c.other_party.ensures taken.0 on.1 on.2 taken.1
 
 pub returns-in-Ok-taken_rating-clause-fits : goal.returns-in-Ok-taken_rating-clause-fits
-returns-in-Ok-taken_rating-clause-fits g c = λ honest sound.
+returns-in-Ok-taken_rating-clause-fits g c = λ honest rows change_rows.
     let on = rw c.in-Ok.is at c.in_ok-on.ensures.value (c.in_ok-is_given.ensures.read.honest honest) in
     let taken = rw (given g (goal.at.returns-in-Ok-taken_rating-clause-fits g c).In_ok-is_given honest) at c.in-Ok-taken_rating.ensures in
     feedback_fits (g.K.Keep.content c.args.keep.now) c.args.moment c.args.caller c.args.item c.args.rating c.args.text.now c.in-Ok.on.terms c.in-Ok.on.member c.other_party.result c.args.text

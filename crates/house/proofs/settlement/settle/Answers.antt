@@ -21,7 +21,7 @@ returns-in-None-clause-decided g c = λ honest settings h is e.
     (rw c.in-Ok.is at (c.in_ok-terms.ensures.value honest)) (sym c.in-None.is ∙ c.settlement_refused.ensures)
 
 pub returns-in-None-clause-fits : goal.returns-in-None-clause-fits
-returns-in-None-clause-fits g c = λ honest sound.
+returns-in-None-clause-fits g c = λ honest rows change_rows.
     settle_fits (g.K.Keep.content c.args.keep.now) c.args.moment c.args.caller c.args.item c.in-Ok.terms
     (rw c.in-Ok.is at (c.in_ok-terms.ensures.value honest)) (sym c.in-None.is ∙ c.settlement_refused.ensures)
 

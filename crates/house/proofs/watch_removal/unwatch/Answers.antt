@@ -14,7 +14,7 @@ returns-in-Ok-clause-decided g c = λ honest settings h is e.
     unwatch_accepts (g.K.Keep.content c.args.keep.now) settings h c.args.moment c.args.caller c.args.item c.in-Ok.on.terms c.in-Ok.on.member e on.0 on.1 on.2
 
 pub returns-in-Ok-clause-fits : goal.returns-in-Ok-clause-fits
-returns-in-Ok-clause-fits g c = λ honest sound.
+returns-in-Ok-clause-fits g c = λ honest rows change_rows.
     let on = rw c.in-Ok.is at c.in_ok-refusal.ensures.value honest in
     unwatch_fits (g.K.Keep.content c.args.keep.now) c.args.moment c.args.caller c.args.item c.in-Ok.on.terms c.in-Ok.on.member on.0 on.1 on.2
 

@@ -33,9 +33,9 @@ returns-clause-decided g c = λ honest settings h is e.
     (sym (room g (goal.at.returns-clause-decided g c).In_ok-may_watch honest) ∙ c.if-not-branch.false)
 
 pub returns-clause-fits : goal.returns-clause-fits
-returns-clause-fits g c = λ honest sound.
+returns-clause-fits g c = λ honest rows few.
     let on = rw c.in-Ok.is at c.in_ok-on.ensures.value (c.in_ok-may_watch.ensures.read.honest honest) in
-    watch_fits (g.K.Keep.content c.args.keep.now) c.args.moment c.args.caller c.args.item c.in-Ok.on.terms c.in-Ok.on.member sound on.0 on.1 on.2
+    watch_fits (g.K.Keep.content c.args.keep.now) c.args.moment c.args.caller c.args.item c.in-Ok.on.terms c.in-Ok.on.member few on.0 on.1 on.2
     (sym (room g (goal.at.returns-clause-fits g c).In_ok-may_watch honest) ∙ c.if-not-branch.false)
 
 pub returns-clause-own : goal.returns-clause-own

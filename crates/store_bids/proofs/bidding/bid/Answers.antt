@@ -28,8 +28,8 @@ placing_fault-requires g c clean is_open =
     subst IsHouse (sym ((c.in-Err.ensures.commit.err clean is_open).0 ∙ same.committed_is ∙ sym rest.settled)) rest.house
 
 pub returns-in_err-check_standing-clause-damaged : goal.returns-in_err-check_standing-clause-damaged
-returns-in_err-check_standing-clause-damaged g c clean sound fits free =
-    let none = c.in_err-check_standing.ensures.damaged clean sound (c.requires.editions (omega (arith, c.check_standing.ensures.read.crash.clean))) c.args.moment c.args.placed fits in
+returns-in_err-check_standing-clause-damaged g c clean here fits free =
+    let none = c.in_err-check_standing.ensures.damaged clean here (c.requires.editions (omega (arith, c.check_standing.ensures.read.crash.clean))) c.args.moment c.args.placed fits in
     search (rules, none)
 
 pub returns-in-Ok-clause-commit : goal.returns-in-Ok-clause-commit
@@ -56,7 +56,7 @@ returns-in-Ok-clause-taken g c = λ clean.
     subst (λ (db : Database). list_any (λ b. (b.item == c.args.item) && (b.bid.no == c.args.placed.no)) (tables_in db.trees).bids ≡ false) (c.in_ok-check_standing.ensures.read.same mid).0.now_is (c.in-Ok.ensures.free clean)
 
 pub returns-in-Err-clause-damaged : goal.returns-in-Err-clause-damaged
-returns-in-Err-clause-damaged g c clean sound fits free is =
+returns-in-Err-clause-damaged g c clean here fits free is =
     let last : HasCleanDisk (state g.S.Store c.place_bid.new.conn) = omega (arith, c.placing_fault.ensures.crash.clean, clean) in
     let mid : HasCleanDisk (state g.S.Store c.check_standing.new.conn) = omega (arith, c.in-Err.ensures.commit.crash.clean, last) in
     let before : HasCleanDisk (state g.S.Store c.args.conn.now) = omega (arith, c.check_standing.ensures.read.crash.clean, mid) in

@@ -31,7 +31,7 @@ returns-then-eq-clause-start g c clean =
     (begins ∙ ap (λ (r : Option ℕ). record { start = terms.start; reserve = r }) same)
 
 pub returns-else-eq-clause-damaged : goal.returns-else-eq-clause-damaged
-returns-else-eq-clause-damaged g c clean sound bands moment placed fits _ =
+returns-else-eq-clause-damaged g c clean here bands moment placed fits _ =
     let db = (state g.S.Store c.args.conn.now).now.trees in
     let before = c.requires (omega (arith, c.auction_there.ensures.read.crash.clean)) in
     let auction = c.in_ok-terms.field-0 in

@@ -10,11 +10,11 @@ use Rattle.store_house.proofs.registration.add_category.Goals as goal
 
 pub returns-in_err-category_named-clause-damaged : goal.returns-in_err-category_named-clause-damaged
 unfolding tables_in
-returns-in_err-category_named-clause-damaged g c clean sound fits free is = c.in_err-category_named.ensures.damaged clean sound.categories (search rules)
+returns-in_err-category_named-clause-damaged g c clean fits free is = c.in_err-category_named.ensures.here clean (rw (c.as_str.ensures, free) tt) (search rules)
 
 pub returns-then-is_some-clause-damaged : goal.returns-then-is_some-clause-damaged
 unfolding tables_in
-returns-then-is_some-clause-damaged g c clean sound fits free is =
+returns-then-is_some-clause-damaged g c clean fits free is =
     let there : is_some c.in_ok-category_named.field-0 ≡ true = search rules in
     some_there c.in_ok-category_named.field-0 _ there (rw c.as_str.ensures at (c.in_ok-category_named.ensures.found clean)) free
 

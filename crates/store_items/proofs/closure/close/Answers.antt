@@ -1,11 +1,14 @@
-use Rattle.std.proofs.Common.{◌∙◌, ℕ, arith, rules, subst, IsTrue}
+use Rattle.std.proofs.Common.{◌∙◌, ℕ, arith, rules, subst, sym, IsTrue}
 use Rattle.std.specs.Prelude.{OnOk}
 use Rattle.sqlite.specs.Held.{state}
 use Rattle.sqlite.specs.State.{HasCleanDisk, Survives}
 use Rattle.house_rows.specs.Items.{is_due}
+use Rattle.house_rows.specs.Keeping.{FitsBy}
 use Rattle.house_rows.specs.Tables.{ItemRow}
+use Rattle.house_rows.specs.Taken.{FitWhere}
 use Rattle.house_rows.specs.declared.change.Change.TheVariants as change
 use Rattle.store_rows.specs.Commits.{IsBack, MadeBy}
+use Rattle.store_rows.specs.ItemRows.{items_in}
 use Rattle.store_rows.proofs.CommitSteps.{survives_change, survives_commit}
 use Rattle.store_items.specs.ConsistentRows.{RowsFit, RowsAreConsistent}
 use Rattle.store_items.proofs.ConsistentRows.{ok_so}
@@ -16,8 +19,10 @@ pub find_due-requires : goal.find_due-requires
 find_due-requires g c clean = let rest = c.requires.rests clean in (rest.is_open, rest.house, c.requires.reserves clean)
 
 pub returns-in_err-due-clause-damaged : goal.returns-in_err-due-clause-damaged
-returns-in_err-due-clause-damaged g c clean sound fits =
-    let none = c.in_err-due.ensures.damaged clean sound (c.requires.editions (omega (arith, c.find_due.ensures.read.crash.clean))) in
+returns-in_err-due-clause-damaged g c clean fits here =
+    let old = state g.S.Store c.args.conn.now in
+    let here' = subst (λ (m : ℕ). FitWhere (λ (row : ItemRow). is_due m row.item.terms) (FitsBy c.args.rules.now.editions) (items_in old.now.trees)) (sym c.in_ok-moment.ensures.value) here in
+    let none = c.in_err-due.ensures.damaged clean here' in
     search (rules, none)
 
 pub returns-clause-commit : goal.returns-clause-commit

@@ -1,11 +1,10 @@
 use Rattle.sqlite.specs.Held.{state}
 use Rattle.house_rows.specs.Items.{is_due}
-use Rattle.store_items.proofs.Rows.{items_sound}
 use Rattle.store_items.proofs.ConsistentRows.{ok_both, terms_fit, terms_are_consistent}
 use Rattle.store_items.proofs.closure.find_due.Goals as goal
 
 pub returns-clause-damaged : goal.returns-clause-damaged
-returns-clause-damaged g c clean sound bands = c.due_terms.ensures.damaged clean (items_sound (state g.S.Store c.args.conn.now).now.trees c.args.rules.now.editions sound bands)
+returns-clause-damaged g c clean fits = c.due_terms.ensures.here clean fits
 
 pub returns-clause-fits : goal.returns-clause-fits
 returns-clause-fits g c clean =

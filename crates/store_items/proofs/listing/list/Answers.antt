@@ -1,4 +1,4 @@
-use Rattle.std.proofs.Common.{◌≡◌, is_some, true, false, rules, subst, arith, ℕ}
+use Rattle.std.proofs.Common.{◌≡◌, ◌<◌, ◌^◌, is_some, true, false, rules, subst, sym, arith, ℕ, Option, IfSome}
 use Rattle.sqlite.specs.Held.{state}
 use Rattle.sqlite.specs.State.{Survives}
 use Rattle.house_rows.specs.declared.change.Change.TheVariants.{List}
@@ -6,17 +6,16 @@ use Rattle.store_rows.specs.Tables.{tables_in}
 use Rattle.store_rows.specs.Commits.{MadeBy}
 use Rattle.store_rows.proofs.Keys.{none_there, on_ok, some_there}
 use Rattle.store_rows.proofs.CommitSteps.{survives_change}
-use Rattle.store_rows.proofs.Sound.{items_fit}
 use Rattle.store_items.proofs.listing.list.Goals as goal
 
 pub returns-in_err-item_with_lot-clause-damaged : goal.returns-in_err-item_with_lot-clause-damaged
 unfolding tables_in
-returns-in_err-item_with_lot-clause-damaged g c clean sound fits free is =
-    c.in_err-item_with_lot.ensures.damaged clean (items_fit (state g.S.Store c.args.conn.now).now.trees sound) (search rules)
+returns-in_err-item_with_lot-clause-damaged g c clean fits free is =
+    c.in_err-item_with_lot.ensures.here clean (rw c.as_str.ensures (subst (λ (o : Option ℕ). IfSome o (λ n. n < 2 ^ 32)) (sym free) tt)) (search rules)
 
 pub returns-then-is_some-clause-damaged : goal.returns-then-is_some-clause-damaged
 unfolding tables_in
-returns-then-is_some-clause-damaged g c clean sound fits free is =
+returns-then-is_some-clause-damaged g c clean fits free is =
     let there : is_some c.in_ok-item_with_lot.field-0 ≡ true = search rules in
     some_there c.in_ok-item_with_lot.field-0 _ there (rw c.as_str.ensures at (c.in_ok-item_with_lot.ensures.found clean)) free
 

@@ -4,13 +4,13 @@ use Rattle.std.specs.List.{AllByRecursion}
 use Rattle.std.proofs.lemmas.List.{drop_more, length-append}
 use Rattle.sqlite_value.specs.Order.{Row, column}
 use Rattle.house_rows.specs.Limits.{most_shown}
+use Rattle.house_rows.specs.Taken.{up_to}
 use Rattle.store_rows.specs.ItemRows.{terms_by}
 use Rattle.store_rows.specs.Rows.{number_in}
 use Rattle.store_rows.proofs.Steps.{first_found_all, first_found_full, found_more}
 use Rattle.store_items.specs.OwnReserves.{reserve_in, reserve_shown}
 use Rattle.store_items.specs.Standing.{TermsHold}
-use Rattle.store_items.proofs.OwnReserves.{next_held, report_few}
-use Rattle.store_items.proofs.IsConsistent.{row_has}
+use Rattle.store_items.proofs.OwnReserves.{next_held, next_low, report_few}
 use Rattle.store_items.proofs.own_reserves.first_reserves.Goals as goal
 
 pub loop-row-preserved : goal.loop-row-preserved
@@ -18,6 +18,7 @@ loop-row-preserved c =
     let R = c.args.rules.now.reserves in
     let F = reserve_shown R c.args.from in
     let Holds = TermsHold c.args.rules.now.editions R in
+    let Low = λ (r : Row). number_in (column r 0) < 2 ^ 32 in
     let shows = λ (r : Row). is_some (reserve_in R c.args.from r) in
     let rows = c.args.rows.now in
     let i = c.loop-row.row-index in
@@ -37,6 +38,9 @@ loop-row-preserved c =
       held = λ fit. (let now = subst (λ l. AllByRecursion Holds (take (most_shown - length c.loop-row.found.items) (filter shows l))) (drop_more rows i c.row-item.result c.loop-row-test.true) (held.held fit) in
           let next = next_held Holds (reserve_in R c.args.from) (terms_by R) most_shown c.loop-row.found.items x (drop (i + 1) rows) room now in
           subst (λ l. AllByRecursion Holds (take (most_shown - length l) (filter shows (drop (i + 1) rows)))) (sym one) next.1);
+      low = λ small. (let now = subst (λ l. AllByRecursion Low (up_to (most_shown - length c.loop-row.found.items) shows l)) (drop_more rows i c.row-item.result c.loop-row-test.true) (held.low small) in
+          let next = next_low Low (reserve_in R c.args.from) (terms_by R) most_shown c.loop-row.found.items x (drop (i + 1) rows) room now in
+          subst (λ l. AllByRecursion Low (up_to (most_shown - length l) shows (drop (i + 1) rows))) (sym one) next.1);
     }
 
 pub returns-then-len-ge-MOST_SHOWN-clause-value : goal.returns-then-len-ge-MOST_SHOWN-clause-value
@@ -57,6 +61,7 @@ pub returns-in_err-add_reserve-clause-damaged : goal.returns-in_err-add_reserve-
 returns-in_err-add_reserve-clause-damaged c low fit is =
     let R = c.args.rules.now.reserves in
     let Holds = TermsHold c.args.rules.now.editions R in
+    let Low = λ (r : Row). number_in (column r 0) < 2 ^ 32 in
     let shows = λ (r : Row). is_some (reserve_in R c.args.from r) in
     let rows = c.args.rows.now in
     let i = c.loop-row.row-index in
@@ -65,6 +70,7 @@ returns-in_err-add_reserve-clause-damaged c low fit is =
     let room : length c.loop-row.found.items < most_shown = omega (arith, whole) in
     let now = subst (λ l. AllByRecursion Holds (take (most_shown - length c.loop-row.found.items) (filter shows l))) (drop_more rows i c.row-item.result c.loop-row-test.true) (c.loop-row.invariant.held fit) in
     let next = next_held Holds (reserve_in R c.args.from) (terms_by R) most_shown c.loop-row.found.items x (drop (i + 1) rows) room now in
-    let small = row_has (λ (r : Row). number_in (column r 0) < 2 ^ 32) rows i c.row-item.result (omega (arith, c.loop-row-test.true)) low in
-    c.in_err-add_reserve.ensures.damaged (subst (λ (r : Row). number_in (column r 0) < 2 ^ 32) (sym c.row-item.is) small)
+    let low_now = subst (λ l. AllByRecursion Low (up_to (most_shown - length c.loop-row.found.items) shows l)) (drop_more rows i c.row-item.result c.loop-row-test.true) (c.loop-row.invariant.low low) in
+    let small = next_low Low (reserve_in R c.args.from) (terms_by R) most_shown c.loop-row.found.items x (drop (i + 1) rows) room low_now in
+    c.in_err-add_reserve.ensures.damaged (subst Low (sym c.row-item.is) small.0)
     (subst (λ (r : Row). is_some (reserve_in R c.args.from r) ≡ true → Holds r) (sym c.row-item.is) next.0) (search rules)

@@ -1,4 +1,4 @@
-use Rattle.std.proofs.Common.{◌≡◌, ◌<◌, ◌^◌, ◌∙◌, ◌==◌, [], ◌∷◌, pos, ℕ, true, List, ap, arith, filter, flat_map, rules, subst, sym, take}
+use Rattle.std.proofs.Common.{◌≡◌, ◌<◌, ◌^◌, ◌∙◌, ◌==◌, [], ◌∷◌, pos, ℕ, List, ap, arith, filter, flat_map, rules, subst, sym, take}
 use Rattle.std.specs.Prelude.{is_some}
 use Rattle.std.specs.List.{AllByRecursion}
 use Rattle.sqlite_value.specs.declared.value.Value.TheVariants.{Int}
@@ -9,7 +9,7 @@ use Rattle.house_rows.specs.Editions.{BandTables}
 use Rattle.house_rows.specs.Keeping.{FitsBy}
 use Rattle.house_rows.specs.Limits.{most_shown}
 use Rattle.house_rows.specs.Tables.{ItemRow}
-use Rattle.house_rows.specs.Taken.{FitWhere, has_own_reserve}
+use Rattle.house_rows.specs.Taken.{has_own_reserve, up_to}
 use Rattle.house_rows.proofs.Every.{every_as}
 use Rattle.store_rows.specs.declared.reserve.ReserveRow.{ReserveRow}
 use Rattle.store_rows.specs.ItemRows.{items_in}
@@ -22,6 +22,7 @@ use Rattle.store_items.specs.Standing.{TermsHold}
 use Rattle.store_items.proofs.OwnReserves.{own_test, reserves_are}
 use Rattle.store_items.proofs.TermMeaning.{terms_of_seller_is, terms_of_seller_text}
 use Rattle.store_items.proofs.TermFinds.{first_kept, seller_test, terms_found, terms_numbered}
+use Rattle.store_items.proofs.UpTo.{all-up_to}
 use Rattle.store_rows.proofs.ReservesServing.{serves}
 use Rattle.store_items.proofs.own_reserves.reserves_of.Goals as goal
 
@@ -60,21 +61,26 @@ returns-clause-here g c clean numbered fits =
     let new = state g.S.Store c.rows_shown.new.conn in
     let params = Int (pos c.args.member) ∷ [] in
     let small = terms_numbered terms_of_seller_text (equals 2 ∷ []) terms_of_seller_is params old new items house shown
-    (λ row. row.item.terms.seller == c.args.member) (seller_test (reserves_in db) c.args.member low) numbered in
+    (λ row. row.item.terms.seller == c.args.member) (has_own_reserve c.args.member c.args.from) (λ (r : Row). is_some (reserve_in (reserves_in db) c.args.from r))
+    (seller_test (reserves_in db) c.args.member low) (own_test (reserves_in db) c.args.member c.args.from low) most_shown numbered in
     let held = first_kept terms_of_seller_text (equals 2 ∷ []) terms_of_seller_is params old new items house shown
     (has_own_reserve c.args.member c.args.from) (λ (r : Row). is_some (reserve_in (reserves_in db) c.args.from r)) (own_test (reserves_in db) c.args.member c.args.from low) editions most_shown fits in
     let Held = λ (rs : List ReserveRow) (l : List Row). AllByRecursion (TermsHold editions rs) (take most_shown (filter (λ (r : Row). is_some (reserve_in rs c.args.from r)) l)) in
+    let Low = λ (rs : List ReserveRow) (l : List Row). AllByRecursion (λ (r : Row). number_in (column r 0) < 2 ^ 32) (up_to most_shown (λ (r : Row). is_some (reserve_in rs c.args.from r)) l) in
     c.first_reserves.ensures.damaged
-    (subst (AllByRecursion (λ (r : Row). number_in (column r 0) < 2 ^ 32)) (sym same) small)
+    (subst (λ (rs : List ReserveRow). Low rs c.deref.result.now) (sym known) (subst (Low (reserves_in db)) (sym same) small))
     (subst (λ (rs : List ReserveRow). Held rs c.deref.result.now) (sym known) (subst (Held (reserves_in db)) (sym same) held))
 
-numbered : (member : ℕ) (rows : List ItemRow) (editions : BandTables) → AllByRecursion (FitsBy editions) rows
-    → FitWhere (λ row. row.item.terms.seller == member) (λ row. row.item.terms.item < 2 ^ 32) rows
-numbered member rows editions fit = every_as (FitsBy editions) (λ (row : ItemRow). (row.item.terms.seller == member) ≡ true → row.item.terms.item < 2 ^ 32) rows (λ row fits mine. omega (arith, fits.item.terms.item.1)) fit
+numbered : (member from : ℕ) (rows : List ItemRow) (editions : BandTables) → AllByRecursion (FitsBy editions) rows
+    → AllByRecursion (λ row. row.item.terms.item < 2 ^ 32) (up_to most_shown (has_own_reserve member from) (filter (λ row. row.item.terms.seller == member) rows))
+numbered member from rows editions fit =
+    let Low = λ (row : ItemRow). row.item.terms.item < 2 ^ 32 in
+    let mine = λ (row : ItemRow). row.item.terms.seller == member in
+    all-up_to Low most_shown (has_own_reserve member from) (filter mine rows) (all-filter Low mine rows (every_as (FitsBy editions) Low rows (λ row fits. omega (arith, fits.item.terms.item.1)) fit))
 
 pub returns-clause-damaged : goal.returns-clause-damaged
 returns-clause-damaged g c clean fits =
     let rows = items_in (state g.S.Store c.args.conn.now).now.trees in
     let editions = c.args.rules.now.editions in
-    returns-clause-here g c clean (numbered c.args.member rows editions fits)
+    returns-clause-here g c clean (numbered c.args.member c.args.from rows editions fits)
     (all-take (FitsBy editions) most_shown (filter (has_own_reserve c.args.member c.args.from) rows) (all-filter (FitsBy editions) (has_own_reserve c.args.member c.args.from) rows fits))

@@ -1,4 +1,4 @@
-use Rattle.std.proofs.Common.{ℕ, arith, rules, subst}
+use Rattle.std.proofs.Common.{ℕ, rules, subst}
 use Rattle.sqlite.specs.Held.{state}
 use Rattle.sqlite.specs.State.{Survives}
 use Rattle.house_rows.specs.declared.change.Change.TheVariants as change
@@ -10,8 +10,8 @@ pub check_unbid-requires : goal.check_unbid-requires
 check_unbid-requires g c clean = let rest = c.requires.rests clean in (rest.is_open, rest.house, c.requires.reserves clean)
 
 pub returns-in_err-check_unbid-clause-damaged : goal.returns-in_err-check_unbid-clause-damaged
-returns-in_err-check_unbid-clause-damaged g c clean sound fits =
-    let none = c.in_err-check_unbid.ensures.damaged clean sound (c.requires.editions (omega (arith, c.check_unbid.ensures.read.crash.clean))) c.args.moment c.args.buyer c.args.price fits in
+returns-in_err-check_unbid-clause-damaged g c clean here fits =
+    let none = c.in_err-check_unbid.ensures.damaged clean here c.args.moment c.args.buyer c.args.price fits in
     search (rules, none)
 
 pub returns-clause-commit : goal.returns-clause-commit

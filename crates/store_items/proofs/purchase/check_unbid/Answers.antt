@@ -12,8 +12,8 @@ returns-then-is_unbid-clause-unbid g c clean =
     unbid_checked (state g.S.Store c.args.conn.now).now before.1 c.args.item low c.in_ok-auction.auction (c.in_ok-auction.ensures.found clean) c.in_ok-auction.ensures.fits (sym c.is_unbid.ensures ∙ c.if-is_unbid.true)
 
 pub returns-else-is_unbid-clause-damaged : goal.returns-else-is_unbid-clause-damaged
-returns-else-is_unbid-clause-damaged g c clean sound bands moment buyer price fits _ =
-    let is = purchase_unbid (state g.S.Store c.args.conn.now).now.trees moment c.args.item buyer price c.in_ok-auction.auction sound fits (c.in_ok-auction.ensures.found clean) in
+returns-else-is_unbid-clause-damaged g c clean here moment buyer price fits _ =
+    let is = purchase_unbid (state g.S.Store c.args.conn.now).now.trees c.args.rules.now.editions moment c.args.item buyer price c.in_ok-auction.auction here fits (c.in_ok-auction.ensures.found clean) in
     true≢false (sym is ∙ sym c.is_unbid.ensures ∙ c.if-is_unbid.false)
 
 pub returns-then-is_unbid-clause-there : goal.returns-then-is_unbid-clause-there

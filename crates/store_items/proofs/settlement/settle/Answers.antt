@@ -1,4 +1,4 @@
-use Rattle.std.proofs.Common.{ℕ, arith, rules, subst}
+use Rattle.std.proofs.Common.{ℕ, rules, subst}
 use Rattle.sqlite.specs.Held.{state}
 use Rattle.sqlite.specs.State.{Survives}
 use Rattle.house_rows.specs.declared.change.Change.TheVariants as change
@@ -10,9 +10,8 @@ pub check_terms-requires : goal.check_terms-requires
 check_terms-requires g c clean = let rest = c.requires.rests clean in (rest.is_open, rest.house, c.requires.reserves clean)
 
 pub returns-in_err-check_terms-clause-damaged : goal.returns-in_err-check_terms-clause-damaged
-returns-in_err-check_terms-clause-damaged g c clean sound fits =
-    let bands = c.requires.editions (omega (arith, c.check_terms.ensures.read.crash.clean)) in
-    let none = c.in_err-check_terms.ensures.damaged clean sound bands (fits.row, fits.row_there) in
+returns-in_err-check_terms-clause-damaged g c clean here fits =
+    let none = c.in_err-check_terms.ensures.damaged clean here (fits.row, fits.row_there) in
     search (rules, none)
 
 pub returns-clause-commit : goal.returns-clause-commit

@@ -1,24 +1,21 @@
-use Rattle.std.proofs.Common.{◌∙◌, true≢false, subst, sym, arith, ℕ, rules}
+use Rattle.std.proofs.Common.{◌==◌, ◌∙◌, true≢false, subst, sym, arith, ℕ, rules}
 use Rattle.sqlite.specs.Held.{state}
 use Rattle.sqlite.specs.State.{Survives}
-use Rattle.house_rows.specs.Fits.{FeedbackFits}
-use Rattle.house_rows.specs.Ratings.{feedback_key}
 use Rattle.house_rows.specs.declared.change.Change.TheVariants.{Feedback}
 use Rattle.store_rows.specs.Tables.{tables_in}
 use Rattle.store_rows.specs.Commits.{MadeBy}
 use Rattle.store_rows.proofs.Keys.{on_ok}
-use Rattle.store_rows.proofs.Shown.{every_stored}
+use Rattle.store_rows.proofs.Sound.{feedback_where}
 use Rattle.store_rows.proofs.CommitSteps.{survives_change}
 use Rattle.store_talk.proofs.new_feedback.give_feedback.Goals as goal
 
 pub returns-in_err-given-clause-damaged : goal.returns-in_err-given-clause-damaged
-unfolding tables_in
-returns-in_err-given-clause-damaged g c clean fit fits free is =
-    c.in_err-given.ensures.damaged clean (every_stored feedback_key FeedbackFits _ fit) (search rules)
+returns-in_err-given-clause-damaged g c clean fit moment free is =
+    c.in_err-given.ensures.here clean (feedback_where (state g.S.Store c.args.conn.now).now.trees (λ f. f.from == c.args.from) fit) (search rules)
 
 pub returns-then-given-clause-damaged : goal.returns-then-given-clause-damaged
 unfolding tables_in
-returns-then-given-clause-damaged g c clean fit fits free is =
+returns-then-given-clause-damaged g c clean fit moment free is =
     true≢false (sym c.if-given.true ∙ c.in_ok-given.ensures.found clean ∙ free)
 
 pub returns-clause-taken : goal.returns-clause-taken

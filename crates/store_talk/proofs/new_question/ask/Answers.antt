@@ -1,23 +1,22 @@
 use Rattle.std.proofs.Common.{◌≡◌, ◌∙◌, is_some, true, false, rules, sym, arith}
 use Rattle.sqlite.specs.Held.{state}
-use Rattle.house_rows.specs.Changed.{question_key}
-use Rattle.house_rows.specs.Fits.{QuestionFits}
 use Rattle.house_rows.specs.declared.change.Change.TheVariants.{Ask}
 use Rattle.store_rows.specs.Tables.{tables_in}
 use Rattle.store_talk.proofs.SortedTalk.{found_sorted}
 use Rattle.store_rows.proofs.Keys.{none_there, on_ok, some_there}
 use Rattle.store_rows.proofs.CommitSteps.{survives_change}
-use Rattle.store_rows.proofs.Shown.{every_stored}
 use Rattle.store_talk.proofs.new_question.ask.Goals as goal
 
 pub returns-in_err-question_at-clause-damaged : goal.returns-in_err-question_at-clause-damaged
 unfolding tables_in
-returns-in_err-question_at-clause-damaged g c clean sound free is =
-    c.in_err-question_at.ensures.damaged clean (every_stored question_key QuestionFits _ sound.questions) (search rules)
+returns-in_err-question_at-clause-damaged g c clean free is =
+    let house = (c.requires.rests (omega (arith, c.in_err-question_at.ensures.read.crash.clean))).house in
+    let same = found_sorted (state g.S.Store c.args.conn.now).now house c.args.item c.args.asker c.args.number (omega (arith, c.ranges.item)) (omega (arith, c.ranges.asker)) (omega (arith, c.ranges.number)) in
+    c.in_err-question_at.ensures.here clean (rw (sym same ∙ free) tt) (search rules)
 
 pub returns-then-is_some-clause-damaged : goal.returns-then-is_some-clause-damaged
 unfolding tables_in
-returns-then-is_some-clause-damaged g c clean sound free is =
+returns-then-is_some-clause-damaged g c clean free is =
     let there : is_some c.in_ok-question_at.field-0 ≡ true = search rules in
     let house = (c.requires.rests (omega (arith, c.in_ok-question_at.ensures.read.crash.clean))).house in
     let same = found_sorted (state g.S.Store c.args.conn.now).now house c.args.item c.args.asker c.args.number (omega (arith, c.ranges.item)) (omega (arith, c.ranges.asker)) (omega (arith, c.ranges.number)) in

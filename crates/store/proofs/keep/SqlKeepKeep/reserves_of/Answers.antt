@@ -5,7 +5,7 @@ use Rattle.sqlite.specs.Held.{state}
 use Rattle.sqlite.specs.State.{HasCleanDisk}
 use Rattle.house_rows.specs.Keeping.{FitsBy}
 use Rattle.house_rows.specs.Limits.{most_shown}
-use Rattle.house_rows.specs.Taken.{FitWhere, has_own_reserve}
+use Rattle.house_rows.specs.Taken.{has_own_reserve, up_to}
 use Rattle.house_rows.specs.Tables.{ItemRow}
 use Rattle.store_rows.specs.ItemRows.{items_in}
 use Rattle.store_rows.specs.Tables.{tables_in}
@@ -30,7 +30,8 @@ returns-in-Err-clause-damaged g c = rw (← c.self.view_is)
     let before : HasCleanDisk (state g.S.Store c.self.inside.conn) = omega (arith, c.in-Err.ensures.read.crash.clean, clean) in
     let same : c.in-Ok.member ≡ c.args.member = search rules in
     let rows = items_in (state g.S.Store c.self.inside.conn).now.trees in
-    let sold = λ (member : ℕ). FitWhere (λ (row : ItemRow). row.item.terms.seller == member) (λ (row : ItemRow). row.item.terms.item < 2 ^ 32) rows in
+    let sold = λ (member : ℕ). AllByRecursion (λ (row : ItemRow). row.item.terms.item < 2 ^ 32)
+    (up_to most_shown (has_own_reserve member c.args.from) (filter (λ (row : ItemRow). row.item.terms.seller == member) rows)) in
     let shown = λ (member : ℕ). AllByRecursion (FitsBy c.self.inside.rules.editions) (take most_shown (filter (has_own_reserve member c.args.from) rows)) in
     let known = c.self.invariant.known (works _ _ c.self.view_is c.in_ok-serves.ensures.ok) before in
     c.in-Err.ensures.here clean (subst sold (sym same) numbered) (subst shown (sym same) (known_list _ _ _ _ _ known _ fits)) (ap Err is)))

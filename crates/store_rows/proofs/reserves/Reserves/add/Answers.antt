@@ -1,6 +1,8 @@
-use Rattle.std.proofs.Common.{◌≡◌, ◌∙◌, ◌++◌, ◌∷◌, [], rules, ap, arith, subst, sym}
-use Rattle.store_rows.specs.Reserves.{AreRising}
-use Rattle.store_rows.proofs.ReservePlaces.{after_push, below_last, none_last, over_last, rising_more, slice_get_is}
+use Rattle.std.proofs.Common.{◌≡◌, ◌<◌, ◌∙◌, ◌++◌, ◌∷◌, [], rules, ap, arith, subst, sym}
+use Rattle.std.specs.Prelude.{All}
+use Rattle.store_rows.specs.Reserves.{AreRising, item_at, no_row}
+use Rattle.store_rows.specs.declared.reserve.ReserveRow.{ReserveRow}
+use Rattle.store_rows.proofs.ReservePlaces.{after_push, below_last, none_last, rising_more, slice_get_is}
 use Rattle.store_rows.proofs.reserves.Reserves.add.Goals as goal
 use Rattle.store_rows.proofs.reserves.Reserves.add.Goals.{in_default-via-in-Some+else-last-item, in_default-via-in_default}
 
@@ -24,8 +26,9 @@ invariant_of-self c =
     ]
 
 pub returns-in-Some-clause-sound : goal.returns-in-Some-clause-sound
-returns-in-Some-clause-sound c rising was =
+returns-in-Some-clause-sound c lesser was =
     let same : c.deref.result.now ≡ c.args.self.now = search rules in
     let last = slice_get_is c.deref.result.now _ c.in-Some.last.now (sym c.in-Some.ensures.value) in
-    let over = over_last c.deref.result.now _ (subst (λ rows. AreRising (rows ++ record { item = c.args.item; amount = c.args.amount } ∷ [])) (sym same) rising) (omega (arith, last.0)) in
-    omega (arith, over, last.1, c.if-last-item.true)
+    let low = (subst (All (λ (r : ReserveRow). r.item < c.args.item)) (sym same) lesser) _ no_row last.0 in
+    let is : item_at c.deref.result.now _ ≡ c.in-Some.last.now.item = last.1 in
+    omega (arith, low, is, c.if-last-item.true)

@@ -1,0 +1,44 @@
+-- The result of a change, by the tables that it is made to.
+use Rattle.std.specs.Prelude.{◌≡◌, ◌<◌, ◌+◌, ◌-◌, List, Some, length, true, false}
+use Rattle.proxy.specs.Bids.{floor, standing_of}
+use Rattle.proxy.specs.Kept.{opening_of}
+use Rattle.proxy.specs.declared.bid.Bid.{Bid}
+use Rattle.settle.specs.Fee.{fee_of}
+use Rattle.house_rows.specs.declared.change.Change.{Change}
+use Rattle.house_rows.specs.declared.change.Change.TheVariants as change
+use Rattle.house_rows.specs.declared.command_result.CommandResult.{CommandResult}
+use Rattle.house_rows.specs.declared.command_result.CommandResult.TheVariants as told
+use Rattle.house_rows.specs.declared.item.Terms.{Terms}
+use Rattle.house_rows.specs.Found.{due_at, terms_at}
+use Rattle.house_rows.specs.Limits.{most_categories, most_editions, most_items, most_members}
+use Rattle.house_rows.specs.Tables.{Tables, bands_for}
+
+-- the result is the change's: the next number, where there is room for one; the standing after a bid;
+-- what a close ends; the shares of a sale; and what the change itself names
+abbrev pub IsResultBy : Tables → Change → CommandResult → Type 0
+IsResultBy t (change.Register moment name) result =
+    length t.members < most_members → result ≡ told.Registered (length t.members + 1)
+IsResultBy t (change.AddCategory moment name) result =
+    length t.categories < most_categories → result ≡ told.Added (length t.categories + 1)
+IsResultBy t (change.List moment item) result =
+    length t.items < most_items → result ≡ told.Listing (length t.items + 1)
+IsResultBy t (change.Bid moment item placed standing) result =
+    (bids : List Bid) → standing ≡ standing_of (bands_for t item) (opening_of standing) bids
+    → result ≡ told.Placed standing.count (floor (bands_for t item) (opening_of standing) bids)
+    standing.leader standing.price
+IsResultBy t (change.Buy moment item buyer price) result = result ≡ told.Bought item price
+IsResultBy t (change.Close moment) result =
+    result ≡ told.Closed (due_at t moment).sold (due_at t moment).unsold
+IsResultBy t (change.Settle moment item) result =
+    (terms : Terms) → terms_at t item ≡ Some terms
+    → result ≡ told.Settlement (fee_of terms.price t.settings.rate) item
+    (terms.price - fee_of terms.price t.settings.rate) terms.price
+IsResultBy t (change.Watch member item) result = result ≡ told.Watched item true
+IsResultBy t (change.Unwatch member item) result = result ≡ told.Watched item false
+IsResultBy t (change.Ask item asker number text) result = result ≡ told.Question asker item number
+IsResultBy t (change.Answer moment item asker number text) result =
+    result ≡ told.Question asker item number
+IsResultBy t (change.Feedback moment item from to rating text) result =
+    result ≡ told.Rated item rating to
+IsResultBy t (change.SetBands moment bands) result =
+    length t.editions + 1 < most_editions → result ≡ told.Edition (length t.editions + 2)
