@@ -3,9 +3,14 @@ use Rattle.std.proofs.Common.{◌≡◌, ◌⊎◌, ◌↔◌, ℕ, List, Option
 use Rattle.std.specs.Prelude.{IfErr, IfOk, IsErr, IsOk, OnErr, OnOk, Result}
 use Rattle.device.specs.declared.sink.Sink as sink
 use Rattle.site_serve.specs.Serving.{IsFlushed}
-use Rattle.auction_runs.specs.Faults.{IsOfKeep}
+use Rattle.house_rows.specs.declared.fault.KeepFault.{KeepFault}
+use Rattle.auction_runs.specs.Faults.{IsEndFault, IsOfEnd, IsOfEnded, IsOfKeep}
+use Rattle.house_rows.specs.declared.command.Command.{Command}
+use Rattle.house_rows.specs.Tables.{Tables}
 use Rattle.auction_runs.specs.Lines.{IsReported, IsTold}
+use Rattle.auction_runs.specs.Tabled.{HasSet, IsUndone, IsUntold}
 use Rattle.auction_runs.specs.declared.fault.Fault.{Fault}
+use Rattle.auction_runs.specs.declared.fault.Fault.TheVariants.{Write}
 
 -- what a run promises where it goes well, it has done where it went well
 pub where_done : {T E P : Type 0} (r : Result T E) → IsOk r → OnOk r P → P
@@ -40,12 +45,59 @@ both_of s (Err e) done ok p q = absurd cc
 
 -- what is so of the fault of a run whose keep was ended
 pub err_after : {T : Type 0} {P Q : Fault → Type 0} (r s : Result T Fault)
-    → IfErr r (λ fault. (s ≡ Err fault) ⊎ IsOfKeep fault) → IfErr s Q
+    (ended : Result (Unit {0}) KeepFault)
+    → IfErr r (λ fault. (s ≡ Err fault) ⊎ IsEndFault ended fault) → IfErr s Q
     → ((fault : Fault) → Q fault → P fault) → ((fault : Fault) → IsOfKeep fault → P fault)
     → IfErr r P
-err_after (Ok x) s why q f g = tt
-err_after {Q = Q} (Err e) s (inl is) q f g = f e (subst (λ v. IfErr v Q) is q)
-err_after (Err e) s (inr kept) q f g = g e kept
+err_after (Ok x) s ended why q f g = tt
+err_after {Q = Q} (Err e) s ended (inl is) q f g = f e (subst (λ v. IfErr v Q) is q)
+err_after (Err e) s ended (inr (kept, gave, is)) q f g = g e (kept, is)
+
+-- a fault by how a keep's end went is one by what is left of the keep
+end_fault : {K L : Type 0} (is_ended is_left : K → L → Type 0) (keep : K) (left : L)
+    (ended : Result (Unit {0}) KeepFault) (fault : Fault) → IsOfEnded ended fault
+    → OnOk ended (is_ended keep left) → OnErr ended (is_left keep left)
+    → IsOfEnd is_ended is_left keep left fault
+end_fault is_ended is_left keep left (Ok u) fault (inl (kept, gave, is)) done failed = absurd cc
+end_fault is_ended is_left keep left (Err e) fault (inl (kept, gave, is)) done failed =
+    inl ((kept, is), failed)
+end_fault is_ended is_left keep left (Ok u) fault (inr (is, ok)) done failed = inr (is, done)
+end_fault is_ended is_left keep left (Err e) fault (inr (is, ok)) done failed = absurd cc
+
+pub end_faults : {T K L : Type 0} (is_ended is_left : K → L → Type 0) (keep : K) (left : L)
+    (r : Result T Fault) (ended : Result (Unit {0}) KeepFault) → IfErr r (IsOfEnded ended)
+    → OnOk ended (is_ended keep left) → OnErr ended (is_left keep left)
+    → IfErr r (IsOfEnd is_ended is_left keep left)
+end_faults is_ended is_left keep left (Ok x) ended why done failed = tt
+end_faults is_ended is_left keep left (Err e) ended why done failed =
+    end_fault is_ended is_left keep left ended e why done failed
+
+-- and so is one that comes after another
+pub first_or_end_faults : {T K L : Type 0} (First : Fault → Type 0) (is_ended is_left : K → L → Type 0)
+    (keep : K) (left : L) (r : Result T Fault) (ended : Result (Unit {0}) KeepFault)
+    → IfErr r (λ fault. First fault ⊎ IsOfEnded ended fault)
+    → OnOk ended (is_ended keep left) → OnErr ended (is_left keep left)
+    → IfErr r (λ fault. First fault ⊎ IsOfEnd is_ended is_left keep left fault)
+first_or_end_faults First is_ended is_left keep left (Ok x) ended why done failed = tt
+first_or_end_faults First is_ended is_left keep left (Err e) ended (inl first) done failed = inl first
+first_or_end_faults First is_ended is_left keep left (Err e) ended (inr why) done failed =
+    inr (end_fault is_ended is_left keep left ended e why done failed)
+
+-- why no edition was told, by what setting the table came to
+pub untold : {K : Type 0} (content : K → Tables) (is_honest : K → Type 0)
+    (may_leave : K → Tables → Type 0) (is_ended : K → Type 0) (moment : ℕ) (command : Command)
+    (given : K) (set : Result ℕ Fault) (r : Result (Unit {0}) Fault)
+    → IfErr r (λ fault. (set ≡ Err fault) ⊎ ((fault ≡ Write) × IsOk set))
+    → IfErr set (λ fault. (left : K) × IsUndone content is_honest moment command given left fault)
+    → IfOk set (HasSet content is_honest may_leave is_ended moment command given)
+    → IfErr r (IsUntold content is_honest may_leave is_ended moment command given)
+untold content is_honest may_leave is_ended moment command given set (Ok u) why undone has = tt
+untold {K = K} content is_honest may_leave is_ended moment command given set (Err e) (inl is) undone has =
+    inl (subst (λ v. IfErr v (λ fault. (left : K) × IsUndone content is_honest moment command given left fault)) is undone)
+untold content is_honest may_leave is_ended moment command given (Ok x) (Err e) (inr (is, ok)) undone has =
+    inr (is, (x, has))
+untold content is_honest may_leave is_ended moment command given (Err f) (Err e) (inr (is, ok)) undone has =
+    absurd cc
 
 -- what is so of a result, whichever it is
 pub either_end : {T E P Q : Type 0} (r : Result T E) → OnOk r P → OnErr r Q → P ⊎ Q

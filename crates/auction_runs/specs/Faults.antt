@@ -1,5 +1,5 @@
 -- Which fault of the program stands for a fault of a layer below it.
-use Rattle.std.specs.Prelude.{◌≡◌, ◌⊎◌, Bool, true}
+use Rattle.std.specs.Prelude.{◌≡◌, ◌⊎◌, Bool, true, Result, Err, IsOk}
 use Rattle.auction_runs.specs.declared.fault.Fault.{Fault}
 use Rattle.auction_runs.specs.declared.fault.Fault.TheVariants.{Memory as NoMemory, Store as FailedStore, Damaged as DamagedFile, Read as FailedInput, Write as FailedOutput}
 use Rattle.auction_runs.specs.declared.fault.Fault.TheVariants as report
@@ -33,9 +33,20 @@ fault_of_keep Damaged = DamagedFile
 abbrev pub IsOfKeep : Fault → Type 0
 IsOfKeep fault = (kept : KeepFault) × (fault ≡ fault_of_keep kept)
 
--- a fault after what a run did: its keep's end reported it, or the output failed
-abbrev pub IsOfEnd : Fault → Type 0
-IsOfEnd fault = IsOfKeep fault ⊎ (fault ≡ FailedOutput)
+-- the fault that a keep's end reported
+abbrev pub IsEndFault : Result (Unit {0}) KeepFault → Fault → Type 0
+IsEndFault ended fault =
+    (kept : KeepFault) × (ended ≡ Err kept) × (fault ≡ fault_of_keep kept)
+
+-- a fault after what a run did, by how its keep's end went: the end reported it, or the output failed
+-- after it
+abbrev pub IsOfEnded : Result (Unit {0}) KeepFault → Fault → Type 0
+IsOfEnded ended fault = IsEndFault ended fault ⊎ ((fault ≡ FailedOutput) × IsOk ended)
+
+-- and by what is left of the keep
+abbrev pub IsOfEnd : {K L : Type 0} → (K → L → Type 0) → (K → L → Type 0) → K → L → Fault → Type 0
+IsOfEnd is_ended is_left keep left fault =
+    (IsOfKeep fault × is_left keep left) ⊎ ((fault ≡ FailedOutput) × is_ended keep left)
 
 -- what stands for a fault of the words that name settings
 abbrev pub fault_of_settings : SettingsFault → Fault

@@ -42,11 +42,6 @@ abbrev pub IsUndone : {K : Type 0} → (K → Tables) → (K → Type 0) → ℕ
 IsUndone content is_honest moment command old new fault =
     IsOfKeep fault ⊎ IsRefused content is_honest moment command old new fault
 
--- why no edition was told: the keep that was given didn't take the command, or the output failed
-abbrev pub IsUntold : {K : Type 0} → (K → Tables) → (K → Type 0) → ℕ → Command → K → Fault → Type 0
-IsUntold {K} content is_honest moment command given fault =
-    ((left : K) × IsUndone content is_honest moment command given left fault) ⊎ (fault ≡ Write)
-
 -- the keep that was given took the command as this edition, and was ended
 pub record HasSet {K : Type 0} (content : K → Tables) (is_honest : K → Type 0)
     (may_leave : K → Tables → Type 0) (is_ended : K → Type 0) (moment : ℕ) (command : Command)
@@ -54,6 +49,15 @@ pub record HasSet {K : Type 0} (content : K → Tables) (is_honest : K → Type 
   pub left : K
   pub tabled : is_honest left → IsTabled content may_leave moment command given left edition
   pub ended : is_ended left
+
+-- why no edition was told: the keep that was given didn't take the command, or it took it and was
+-- ended, and the output failed
+abbrev pub IsUntold : {K : Type 0} → (K → Tables) → (K → Type 0) → (K → Tables → Type 0)
+    → (K → Type 0) → ℕ → Command → K → Fault → Type 0
+IsUntold {K} content is_honest may_leave is_ended moment command given fault =
+    ((left : K) × IsUndone content is_honest moment command given left fault)
+    ⊎ ((fault ≡ Write) × ((edition : ℕ)
+    × HasSet content is_honest may_leave is_ended moment command given edition))
 
 -- and its edition was printed
 pub record HasTabled {K : Type 0} (content : K → Tables) (is_honest : K → Type 0)

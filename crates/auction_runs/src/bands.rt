@@ -66,7 +66,8 @@ fn tell_set<W: Write>(output: &mut W, set: Result<u32, Fault>) -> Result<(), Fau
     ensures report { OnOk result (IfOk set (λ edition.
         Appends (W.contents output.old) (W.contents output.new) (edition_line edition))) }
     ensures set { OnOk result (IsOk set) }
-    ensures fault { IfErr result (λ fault. (set ≡ Err fault) ⊎ (fault ≡ Fault.Write)) }
+    ensures fault { IfErr result (λ fault. (set ≡ Err fault)
+        ⊎ ((fault ≡ Fault.Write) × IsOk set)) }
 {
     tell(output, set?)
 }
@@ -87,7 +88,8 @@ pub fn bands_run<W: Write, E: Sink, K: Keep + Ends>(
     ensures over { IsTabledOver K.content K.is_honest K.may_leave K.is_ended K.is_left moment
         (command.SetBands bands) keep result.1 }
     ensures reported { IsReported E.Sink
-        (IsUntold K.content K.is_honest moment (command.SetBands bands) keep)
+        (IsUntold K.content K.is_honest K.may_leave (λ last. K.is_ended last result.1) moment
+        (command.SetBands bands) keep)
         errors.old errors.new result.0 }
     ensures within { result.0 ≤ 1 }
 {

@@ -1,6 +1,6 @@
 //! What a run came to, whose keep was ended.
 ghost use Rattle.std.specs.Prelude.{◌≡◌, ◌⊎◌, Err, Ok, IfErr, IfOk, IsOk, OnOk};
-ghost use Rattle.auction_runs.specs.Faults.{IsOfKeep};
+ghost use Rattle.auction_runs.specs.Faults.{IsEndFault};
 
 use crate::fault::Fault;
 use house_rows::KeepFault;
@@ -13,7 +13,7 @@ pub fn outcome_after_end<T: Drop>(
     ensures same { IfOk result (λ value. outcome ≡ Ok value) }
     ensures ended { OnOk result (IsOk ended) }
     ensures first { IfErr outcome (λ fault. result ≡ Err fault) }
-    ensures fault { IfErr result (λ fault. (outcome ≡ Err fault) ⊎ IsOfKeep fault) }
+    ensures fault { IfErr result (λ fault. (outcome ≡ Err fault) ⊎ IsEndFault ended fault) }
 {
     let value = outcome?;
     ended?;

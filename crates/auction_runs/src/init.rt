@@ -1,5 +1,5 @@
 //! `init`: a new house in a file.
-ghost use Rattle.auction_runs.specs.Faults.{IsOfEnd};
+ghost use Rattle.auction_runs.specs.Faults.{IsOfEnd, IsOfEnded};
 ghost use Rattle.auction_runs.specs.Lines.{IsReported};
 ghost use Rattle.std.specs.Prelude.{◌≡◌, ◌≤◌, IfErr, IsOk, OnOk};
 ghost use Rattle.std.specs.Io.KnownBytes.{Appends};
@@ -26,7 +26,7 @@ fn tell<W: Write>(output: &mut W) -> Result<(), Fault>
 fn finish<W: Write>(output: &mut W, ended: Result<(), KeepFault>) -> Result<(), Fault>
     ensures report { OnOk result (Appends (W.contents output.old) (W.contents output.new) created) }
     ensures ended { OnOk result (IsOk ended) }
-    ensures fault { IfErr result IsOfEnd }
+    ensures fault { IfErr result (IsOfEnded ended) }
 {
     ended?;
     tell(output)
@@ -42,7 +42,8 @@ pub fn init_run<W: Write, E: Sink, K: Ends>(
     ensures done { result.0 ≡ 0 → Appends (W.contents output.old) (W.contents output.new) created }
     ensures ended { result.0 ≡ 0 → K.is_ended keep result.1 }
     ensures over { IsOver K.is_ended K.is_left keep result.1 }
-    ensures reported { IsReported E.Sink IsOfEnd errors.old errors.new result.0 }
+    ensures reported { IsReported E.Sink (IsOfEnd K.is_ended K.is_left keep result.1)
+        errors.old errors.new result.0 }
     ensures within { result.0 ≤ 1 }
 {
     let (ended, left) = keep.end();

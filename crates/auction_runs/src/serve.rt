@@ -2,7 +2,7 @@
 ghost use Rattle.auction_runs.specs.Lines.{IsReported, IsTold};
 ghost use Rattle.std.specs.Prelude.{◌≡◌, ◌≤◌, ◌⊎◌, Err, IfErr, IfOk, IsOk, OnOk};
 ghost use Rattle.std.specs.Io.KnownBytes.{Appends};
-ghost use Rattle.auction_runs.specs.Faults.{IsOfEnd, IsOfKeep};
+ghost use Rattle.auction_runs.specs.Faults.{IsOfEnd, IsOfEnded, IsOfKeep};
 ghost use Rattle.auction_runs.specs.Over.{IsOver};
 ghost use Rattle.auction_runs.specs.Printed.{listening, served};
 ghost use Rattle.auction_runs.specs.Served.{StopsServing};
@@ -154,7 +154,7 @@ fn finish<W: Write>(
     ensures answered { OnOk result (IsOk answered) }
     ensures ended { OnOk result (IsOk ended) }
     ensures first { IfErr answered (λ fault. result ≡ Err fault) }
-    ensures fault { IfErr result (λ fault. (answered ≡ Err fault) ⊎ IsOfEnd fault) }
+    ensures fault { IfErr result (λ fault. (answered ≡ Err fault) ⊎ IsOfEnded ended fault) }
 {
     outcome_after_end(answered, ended)?;
     tell_served(output, count)
@@ -176,7 +176,8 @@ pub fn serve_run<W: Write, E: Sink, K: Ends>(
     ensures ended { result.0 ≡ 0 → K.is_ended keep result.1 }
     ensures over { IsOver K.is_ended K.is_left keep result.1 }
     ensures first { IfErr answered (IsTold E.Sink errors.old errors.new) }
-    ensures reported { IsReported E.Sink (λ fault. (answered ≡ Err fault) ⊎ IsOfEnd fault)
+    ensures reported { IsReported E.Sink
+        (λ fault. (answered ≡ Err fault) ⊎ IsOfEnd K.is_ended K.is_left keep result.1 fault)
         errors.old errors.new result.0 }
     ensures within { result.0 ≤ 1 }
 {

@@ -1,5 +1,5 @@
 //! `upgrade`: a house of version 1 in a file is made one of version 2.
-ghost use Rattle.auction_runs.specs.Faults.{IsOfEnd};
+ghost use Rattle.auction_runs.specs.Faults.{IsOfEnd, IsOfEnded};
 ghost use Rattle.auction_runs.specs.Lines.{IsReported};
 ghost use Rattle.std.specs.Prelude.{◌≡◌, ◌≤◌, IfErr, IsOk, OnOk};
 ghost use Rattle.std.specs.Io.KnownBytes.{Appends};
@@ -39,7 +39,7 @@ fn finish<W: Write>(
     ensures report { OnOk result
         (Appends (W.contents output.old) (W.contents output.new) (upgraded_line upgraded)) }
     ensures ended { OnOk result (IsOk ended) }
-    ensures fault { IfErr result IsOfEnd }
+    ensures fault { IfErr result (IsOfEnded ended) }
 {
     ended?;
     tell(output, upgraded)
@@ -57,7 +57,8 @@ pub fn upgrade_run<W: Write, E: Sink, K: Ends>(
         → Appends (W.contents output.old) (W.contents output.new) (upgraded_line upgraded) }
     ensures ended { result.0 ≡ 0 → K.is_ended keep result.1 }
     ensures over { IsOver K.is_ended K.is_left keep result.1 }
-    ensures reported { IsReported E.Sink IsOfEnd errors.old errors.new result.0 }
+    ensures reported { IsReported E.Sink (IsOfEnd K.is_ended K.is_left keep result.1)
+        errors.old errors.new result.0 }
     ensures within { result.0 ≤ 1 }
 {
     let (ended, left) = keep.end();

@@ -1,4 +1,4 @@
-use Rattle.auction_runs.proofs.Outcomes.{either_end, reported_by, where_done}
+use Rattle.auction_runs.proofs.Outcomes.{either_end, end_faults, reported_by, where_done}
 use Rattle.auction_runs.proofs.init.init_run.Goals as goal
 
 pub returns-clause-done : goal.returns-clause-done
@@ -17,4 +17,5 @@ pub returns-clause-reported : goal.returns-clause-reported
 returns-clause-reported g c =
     let run = c.finish_run-status.ensures in
     reported_by g.E.Sink _ _ _ _ c.finish.result run.done run.fault run.quiet run.told
-    c.finish.ensures.fault
+    (end_faults g.K.Ends.is_ended g.K.Ends.is_left c.args.keep c.end-ended.result.1 c.finish.result
+    c.end-ended.result.0 c.finish.ensures.fault c.end-ended.ensures.ended c.end-ended.ensures.left)
