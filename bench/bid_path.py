@@ -13,8 +13,8 @@ import tempfile
 
 ROOT = pathlib.Path(__file__).resolve().parent.parent
 sys.path.insert(0, str(ROOT / "tests"))
-from served import message  # noqa: E402
-from statement_counts import Counted  # noqa: E402
+from lib.counted import Counted  # noqa: E402
+from lib.serving import message  # noqa: E402
 
 CRATES = {path.name for path in (ROOT / "crates").iterdir()}
 

@@ -15,7 +15,7 @@ import published
 
 ROOT = pathlib.Path(__file__).resolve().parent.parent
 sys.path.insert(0, str(ROOT / "tests"))
-import progress  # noqa: E402
+from lib import crates, progress  # noqa: E402
 
 OF_PROGRAM = ("proof", "build")
 WHOLE = re.compile(r"the whole run ([0-9.]+)$", re.M)
@@ -26,7 +26,7 @@ PROVED = re.compile(r"^\[.*?, ([0-9.]+) min, .*\] auction proved$", re.M)
 def figures(times, log):
     """What a run took: the whole, and the program with all that it stands on."""
     text, minutes = times.read_text(), progress.minutes_in(times)
-    below = progress.crates_of(["rt", "ci", "auction"], ROOT)
+    below = crates.crates_of(["rt", "ci", "auction"], ROOT)
     program = sum(minutes[crate].get(step, 0.0) for crate in below for step in OF_PROGRAM)
     found = [("make test", float(WHOLE.search(text)[1]), "processor minutes"),
              ("make test", float(ON_CLOCK.search(text)[1]), "minutes"),

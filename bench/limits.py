@@ -15,8 +15,8 @@ import tempfile
 import time
 
 import serve
+from lib.serving import PRESET, Program
 from measured import in_turn, kept, shown
-from served import PRESET, Program
 
 HOUSE, COPY = "house", "copy"
 BOTH = {name: name for name in ("ours", "kit")}

@@ -18,8 +18,8 @@ import sys
 ROOT = pathlib.Path(__file__).resolve().parent.parent
 sys.path.insert(0, str(ROOT / "tests"))
 import workload  # noqa: E402
+from lib.sent import Request, command, compact, read  # noqa: E402
 from measured import RUNS, counted, in_turn, medians, seconds, shown, without_lacking  # noqa: E402
-from sent import Request, command, compact, read  # noqa: E402
 
 SIZES = [1_000, 100_000]
 CATEGORIES, MOMENT = 20, 1_001

@@ -14,8 +14,8 @@ import sys
 
 sys.path.insert(0, str(pathlib.Path(__file__).resolve().parent.parent / "tests"))
 import workload  # noqa: E402
+from lib.sent import answers_in, command, compact, read  # noqa: E402
 from measured import counted, in_turn, medians, seconds, shown, without_lacking  # noqa: E402
-from sent import answers_in, command, compact, read  # noqa: E402
 
 MORE = 1_000
 # By stream, of how many messages times are shown and instructions are counted.

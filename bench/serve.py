@@ -24,9 +24,9 @@ import time
 ROOT = pathlib.Path(__file__).resolve().parent.parent
 sys.path.insert(0, str(ROOT / "tests"))
 import workload  # noqa: E402
+from lib.sent import command, compact, read  # noqa: E402
+from lib.serving import PRESET, Program  # noqa: E402
 from measured import in_turn, medians, shown, without_lacking  # noqa: E402
-from sent import command, compact, read  # noqa: E402
-from served import PRESET, Program  # noqa: E402
 
 RUNS, BIDS, READS, MIXED = 5, 2_000, 9_999, 9_999
 # How many messages one connection may send.

@@ -9,9 +9,9 @@ import sys
 import tempfile
 
 import serve
+from lib.sent import command, compact
+from lib.serving import Program
 from measured import kept, shown
-from sent import command, compact
-from served import Program
 
 SIZES, WITH_BIDS, BIDS = [0, 1_000, 10_000, 100_000], [1_000, 10_000, 100_000], 5
 # Sellers and bidders are the preset's.

@@ -12,9 +12,9 @@ import sys
 import time
 
 import serve
+from lib.sent import command, compact, read
+from lib.serving import Program
 from measured import kept, shown
-from sent import command, compact, read
-from served import Program
 from sizes import BIDS, MEMBERS
 
 ITEMS, PAGES, LATER_BIDS = 1_000_000, 10_000, 50_000

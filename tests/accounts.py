@@ -2,7 +2,7 @@
 """Reads the statements of random houses in files: `accounts.py PROGRAM [HOUSES [SEED]]`.
 
 Sales lie round the midnights of two zones with summer time. Each member's statement of some periods has to be, as text,
-as CSV and as the page of `/me/statement`, the one of tests/plain_office.py, and Python's `csv` has to read cents from
+as CSV and as the page of `/me/statement`, the one of tests/lib/plain_office.py, and Python's `csv` has to read cents from
 it that add up: what was sold to fees and net, and over all members what was bought to what was earned and the fees, and
 to the prices of the public record. HOUSES is 6 without it. The last line is 'N checks, M wrong'.
 
@@ -14,12 +14,13 @@ import random
 import sys
 import tempfile
 
-from days import day_of
-from lots import SEED, Office
-from plain_office import (lines_of, read_back, set_zone, spelled, statement_csv, statement_page, statement_text)
-from plain_site import Site
-from sent import answers_in, command, compact, read, replayed, value_of
-from served import CHECKS, Program, check
+from lib.checks import check, verdict
+from lib.days import day_of
+from lib.office import SEED, Office
+from lib.plain_office import lines_of, read_back, set_zone, spelled, statement_csv, statement_page, statement_text
+from lib.plain_site import Site
+from lib.sent import answers_in, command, compact, read, replayed, value_of
+from lib.serving import Program
 
 ZONES = ["CET-1CEST,M3.5.0,M10.5.0/3", "EST5EDT,M3.2.0,M11.1.0"]
 DAY = 86_400
@@ -138,8 +139,7 @@ def main():
     with tempfile.TemporaryDirectory() as folder:
         office = Office(Program(str(pathlib.Path(sys.argv[1]).resolve()), folder), folder)
         statements(office, random.Random(seed), count)
-    print(f"{len(CHECKS)} checks, {CHECKS.count(False)} wrong")
-    return 1 if not all(CHECKS) else 0
+    return verdict()
 
 
 if __name__ == "__main__":

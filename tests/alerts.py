@@ -12,9 +12,10 @@ import subprocess
 import sys
 import tempfile
 
-from served import CHECKS, check
+from lib.checks import check, verdict
+from lib.places import ROOT
 
-RULES = pathlib.Path(__file__).resolve().parent.parent / "examples" / "service" / "alerts.yml"
+RULES = ROOT / "examples" / "service" / "alerts.yml"
 QUEUE = '{job="auction-queue", city="lindow", proxy="house"}'
 WATCH = '{job="auction-watch", city="lindow"}'
 ERRORS = '{job="auction-queue", city="lindow", proxy="queue", code="5xx"}'
@@ -58,8 +59,7 @@ def main():
         check("no copy", fires(folder, "AuctionCopyOld", "auction_up" + WATCH, "1x90"), "fires")
         unread = 'up{job="auction-watch", city="lindow"}'
         check("nothing can be read", fires(folder, "AuctionUnwatched", unread, "0x15"), "fires")
-    print(f"{len(CHECKS)} checks, {CHECKS.count(False)} wrong")
-    return 1 if not all(CHECKS) else 0
+    return verdict()
 
 
 if __name__ == "__main__":

@@ -10,9 +10,12 @@ import sys
 import tempfile
 import time
 
-from served import CHECKS, MESSAGES, PATIENCE, SETTINGS, Program, check, message
+from lib.checks import check, verdict
+from lib.places import ROOT
+from lib.sent import PATIENCE
+from lib.serving import MESSAGES, SETTINGS, Program, message
 
-BANDS = pathlib.Path(__file__).resolve().parent.parent / "examples" / "bands.csv"
+BANDS = ROOT / "examples" / "bands.csv"
 BIDS = 100
 # Of each so many batches the fastest is taken, and as often as this where others keep the machine busy.
 BATCHES, ROUNDS = 5, 8
@@ -75,8 +78,7 @@ def main():
                         break
         check("ending", server.ending, (0, b"listening\nserved 1\n", b""))
         check(f"at once {together:.4f} s, one at a time {single:.4f} s", together <= single, True)
-    print(f"{len(CHECKS)} checks, {CHECKS.count(False)} wrong")
-    sys.exit(0 if all(CHECKS) else 1)
+    sys.exit(verdict())
 
 
 if __name__ == "__main__":

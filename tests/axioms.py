@@ -14,10 +14,9 @@ import subprocess
 import sys
 import tempfile
 
-import build_program
-import ported
-import progress
-from times import ROOT
+from lib.crates import copy_below, dependencies, ported
+from lib.places import ROOT
+from lib.progress import run
 
 # By kind of file the words that assume something: functions of C, bodies that the borrow check doesn't follow, and leave to end or
 # stop the program in place of returning; and declarations with a type alone.
@@ -39,7 +38,7 @@ def kit():
 def check(name, folder, kit):
     """What the prover says of a program, over the libraries that `rt ci` has left in a repository."""
     line = next(line for line in (folder / "crates.txt").read_text().splitlines() if line.startswith(f"{name}:"))
-    ours = progress.dependencies(folder)[name]
+    ours = dependencies(folder)[name]
     libraries = {below: folder / "crates" / below / "out" / "rlib" / f"{below}.rlib" for below in ours}
     of_kit = {below: kit / "rlibs" / f"{below}.rlib" for below in ["std", *line.split()[1:]] if below not in ours}
     words = ["--crate-name", name, "src/main.rt", "--antt-project", kit / "rattle" / "logic" / "antt-project.json",
@@ -91,7 +90,7 @@ def told(name, said, kit):
     looked, found = ours()
     taken = [library for library in BELOW.findall(said) if (kit / "rlibs" / f"{library}.rlib").exists()]
     verdict = VERDICT.search(said)
-    named = [library for library in taken if library in ported.ported()]
+    named = [library for library in taken if library in ported()]
     return [
         f"The proof of {name} assumes the contracts of {count} functions of C, which the kit declares:", *lines, "",
         f"It stands on {len(taken)} libraries, which it takes as the kit has them built. crates.txt names {len(named)}:",
@@ -106,8 +105,8 @@ def main(name):
     home = kit()
     with tempfile.TemporaryDirectory(prefix=f"{name}-") as place:
         folder = pathlib.Path(place)
-        build_program.copy_below(name, folder)
-        if progress.run(["rt", "ci"], folder):
+        copy_below(name, folder)
+        if run(["rt", "ci"], folder):
             return 1
         print(f"Checking {name} once more, for the list.", flush=True)
         said = check(name, folder, home)

@@ -25,16 +25,18 @@ import tempfile
 import threading
 import time
 
-from house_file import limited
-from kills import Client, commands, made, rows
-from sent import PATIENCE
-from served import CHECKS, SETTINGS, Program, check, exchange, message, served
+from lib.checks import check, verdict
+from lib.confined import limited
+from lib.growing import Client, commands, made
+from lib.house_files import rows
+from lib.places import ROOT
+from lib.sent import PATIENCE
+from lib.serving import SETTINGS, Program, exchange, message, served
 
-ROOT = pathlib.Path(__file__).resolve().parent.parent
 SCRIPTS = ROOT / "examples" / "backup"
 sys.path.insert(0, str(SCRIPTS))
-import copy_city
-import copy_house
+import copy_city  # noqa: E402
+import copy_house  # noqa: E402
 
 LOCKED = "database is locked"
 HOUSE = message("GET", "/house", 0)
@@ -359,8 +361,7 @@ def main():
             snapshots(path, folder, count)
         else:
             print("no snapshots: they need a superuser and btrfs-progs")
-    print(f"{len(CHECKS)} checks, {CHECKS.count(False)} wrong")
-    return 1 if not all(CHECKS) else 0
+    return verdict()
 
 
 if __name__ == "__main__":

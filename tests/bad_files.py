@@ -18,33 +18,19 @@ import subprocess
 import sys
 import tempfile
 
-from plain_house import BANDS
-from plain_site import setup
-from sent import read, value_of
-from served import CHECKS, Program, check, exchange, fault, served
+from lib.checks import check, verdict
+from lib.confined import as_nobody
+from lib.house_files import commands, is_small_log
+from lib.plain_house import BANDS
+from lib.plain_site import setup
+from lib.sent import read, value_of
+from lib.serving import Program, exchange, fault, served
 
-NOBODY = 65_534
-# A log has a head of 32 bytes, and for each page 24 bytes and the page, of which none is committed in so few.
-SMALL_LOG = 100
 STORE, DAMAGED = fault("file: Store"), fault("file: Damaged")
-
-
-def commands(file):
-    """The words of each command on a file that is there; none gets as far as to take a port."""
-    return (["serve", file, "--port", "1", "--count", "1"], ["import", file, "lots.csv", "--member", "1", "--moment", "1000"],
-            ["statement", file, "--member", "1", "--from", "1970-01-01", "--to", "1970-01-01"], ["upgrade", file])
 
 
 def making(file):
     return ["init", file, "--bands", "bands.csv", "--rate", "1000", "--zone", "UTC0"]
-
-
-def as_nobody():
-    """Makes a process nobody's, if it was the superuser's."""
-    if os.geteuid() == 0:
-        os.setgroups([])
-        os.setgid(NOBODY)
-        os.setuid(NOBODY)
 
 
 def database(path, *statements):
@@ -259,10 +245,6 @@ class Files:
         check("lent", server.ending, served(1))
 
 
-def is_small_log(path):
-    return path.name.endswith("-wal") and path.is_file() and not path.is_symlink() and path.stat().st_size < SMALL_LOG
-
-
 def shown(path):
     mode = path.lstat().st_mode
     content = hashlib.sha256(path.read_bytes()).hexdigest() if stat.S_ISREG(mode) else None
@@ -278,8 +260,7 @@ def main():
         files = Files(str(program), folder)
         for part in (files.no_houses, files.counted, files.no_files, files.beside, files.no_rights, files.locked, files.lends):
             part()
-    print(f"{len(CHECKS)} checks, {CHECKS.count(False)} wrong")
-    return 1 if not all(CHECKS) else 0
+    return verdict()
 
 
 if __name__ == "__main__":

@@ -12,20 +12,9 @@ import shutil
 import sys
 import tempfile
 
-import progress
-from times import ROOT
-
-
-def copy_below(name, folder):
-    """Copies a crate, and those below it, as a repository of their own."""
-    wanted = progress.crates_of(["rt", "ci", name], ROOT)
-    lines = (ROOT / "crates.txt").read_text().splitlines(keepends=True)
-    (folder / "crates.txt").write_text("".join(line for line in lines if line.split(":")[0] in wanted))
-    shutil.copy(ROOT / "HANDLES", folder)
-    for crate in wanted:
-        place = ROOT / "crates" / crate
-        shutil.copytree(place, folder / "crates" / crate, symlinks=True,
-                        ignore=lambda at, _: ["out", "must-fail"] if pathlib.Path(at) == place else [])
+from lib.crates import copy_below
+from lib.places import ROOT
+from lib.progress import run
 
 
 def main(name):
@@ -34,7 +23,7 @@ def main(name):
     with tempfile.TemporaryDirectory(prefix=f"{name}-") as place:
         folder = pathlib.Path(place)
         copy_below(name, folder)
-        status = progress.run(["rt", "ci"], folder)
+        status = run(["rt", "ci"], folder)
         if status == 0:
             for target in (ROOT / "crates" / name / "out", ROOT / "bin"):
                 target.mkdir(exist_ok=True)

@@ -6,11 +6,11 @@ its clauses, `-` being the one that needs none; and its wrong bodies, which are 
 those in wrong/ by number. A program's functions are all public here. Crates of tests and benches are left out. With
 --check nothing is written, and the status is 1 where the page is not the one that is made.
 """
-import pathlib
 import re
 import sys
 
-ROOT = pathlib.Path(__file__).resolve().parent.parent
+from lib.places import ROOT
+
 PAGE = ROOT / "docs" / "CLAUSES.md"
 LEFT_OUT = re.compile(r"test_|bench_|house_script$|transcript$|stop_files$")
 PROGRAM = "auction"

@@ -9,8 +9,8 @@ import pathlib
 import subprocess
 import sys
 
-from sent import PATIENCE
-from statement import lines, records, statement
+from lib.sent import PATIENCE
+from lib.statement import lines, records, statement
 
 # Without a line, with one, with so few that they are sorted in place, with more, and with many.
 SALES = [0, 10, 200, 240, 100_000]

@@ -15,7 +15,8 @@ import random
 import sys
 import time
 
-from transcript import MARK
+from lib.days import day_of
+from lib.transcript import MARK
 
 LAST = 4_102_444_800
 COUNT = 200
@@ -27,12 +28,6 @@ RULES = [
     "NZST-12NZDT,M9.5.0,M4.1.0/3",
     "<-1130>11:30",
 ]
-
-
-def day_of(moment):
-    shown = time.localtime(moment)
-    date = datetime.date(shown.tm_year, shown.tm_mon, shown.tm_mday)
-    return date.toordinal() - datetime.date(1970, 1, 1).toordinal()
 
 
 def changes(year):

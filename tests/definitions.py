@@ -1,8 +1,8 @@
 #!/usr/bin/env python3
 """Prints how many lines of definitions there are, and how many of them say the five promises."""
-import pathlib
+from lib.places import ROOT
 
-CRATES = pathlib.Path(__file__).resolve().parent.parent / "crates"
+CRATES = ROOT / "crates"
 # Whose definitions the contracts name that README's table of promises leads to.
 STATING = ["auction", "auction_runs", "house_laws", "house_rows", "lives", "office", "pages_laws", "pages_text", "proxy",
            "settle", "site", "site_acts", "site_connections", "site_replies", "site_request", "site_serve", "steps", "store",

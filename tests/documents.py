@@ -16,16 +16,14 @@ import shutil
 import subprocess
 import sys
 
-import clauses
-import definitions
-import ported
+from lib.checks import claim, verdict
+from lib.places import ROOT
 
-ROOT = pathlib.Path(__file__).resolve().parent.parent
 PAGES = [*(ROOT / name for name in ("README.md", "CHANGELOG.md", "CONTRIBUTING.md", "bench/README.md")),
          *sorted((ROOT / "docs").glob("*.md")), *sorted((ROOT / "examples").glob("*/*.md"))]
 OF_CODE = [f"docs/{name}.md" for name in ("ARCHITECTURE", "CHANGING", "DEFINITIONS", "GLOSSARY", "LAYERS", "PROMISES", "PROOFS")]
 MANUAL = ROOT / "docs" / "auction.1"
-FIGURES = ROOT / "tests" / "figures.py"
+HERE = pathlib.Path(__file__).resolve().parent
 MOST_COLUMNS, MOST_IN_MANUAL = 100, 80
 
 LINK = re.compile(r"\]\(([^)#\s]*)(?:#([^)\s]*))?\)")
@@ -43,14 +41,6 @@ RANGE = re.compile(r"[0-9]+ to [0-9]+(?![-0-9])")
 MAKES = re.compile(r"^(?:\$ )?(?:.*\W)?auction init \S", re.M)
 BLOCK = re.compile(r"^```\w*\n.*?^```$|^\.Bd .*?^\.Ed$", re.M | re.S)
 WRONG = re.compile(r"`([a-z0-9]+(?:-[a-z]+){2,})`")
-CHECKS = []
-
-
-def check(what, holds):
-    CHECKS.append(bool(holds))
-    if not holds:
-        print(what)
-
 
 def named(page):
     return str(page.relative_to(ROOT))
@@ -67,56 +57,65 @@ def links(page, text):
         if target.startswith(("http:", "https:")):
             continue
         found = (page.parent / target).resolve() if target else page
-        check(f"{named(page)}: no file {target}", found.exists())
+        claim(f"{named(page)}: no file {target}", found.exists())
         if anchor and found.exists():
-            check(f"{named(page)}: no heading {target}#{anchor}", anchor in anchors(found.read_text()))
+            claim(f"{named(page)}: no heading {target}#{anchor}", anchor in anchors(found.read_text()))
 
 
 def files(page, text, there):
     for quoted in QUOTED.findall(FENCED.sub("", text)):
         if FILE.fullmatch(quoted) and "*" not in quoted:
             path = quoted.removeprefix("./").removeprefix("../")
-            check(f"{named(page)}: no file {quoted}", any(("/" + file).endswith("/" + path) for file in there))
+            claim(f"{named(page)}: no file {quoted}", any(("/" + file).endswith("/" + path) for file in there))
 
 
 def code(page, text, words):
     for quoted in QUOTED.findall(FENCED.sub("", text)):
         name = NAME.fullmatch(quoted)
         if name and len(name[1]) > 1 and not HEX.fullmatch(quoted):
-            check(f"{named(page)}: no name {quoted}", name[1] in words)
+            claim(f"{named(page)}: no name {quoted}", name[1] in words)
 
 
 def wrong_bodies(page, text, there):
     edits = {pathlib.Path(file).stem for file in there if file.endswith(".edit")}
     for name in WRONG.findall(text):
-        check(f"{named(page)}: no wrong body {name}", name in edits)
+        claim(f"{named(page)}: no wrong body {name}", name in edits)
 
 
 def quotes(page, text, sources):
     """Each block of Rust is there in a source, whatever the spaces between words."""
     for block in RUST.findall(text):
-        check(f"{named(page)}: in no source:\n{block}", any(" ".join(block.split()) in source for source in sources))
+        claim(f"{named(page)}: in no source:\n{block}", any(" ".join(block.split()) in source for source in sources))
 
 
 def columns(page, text):
     wide = [line for line in RUST.sub("", text).splitlines() if len(line) > MOST_COLUMNS and not line.startswith("|")]
-    check("\n".join([f"{named(page)}: over {MOST_COLUMNS} columns:", *wide]), not wide)
+    claim("\n".join([f"{named(page)}: over {MOST_COLUMNS} columns:", *wide]), not wide)
 
 
 def made_shut(page, text):
     """A house is made by who reads a page, so its user alone has to be let to read the file: each block that makes one says so."""
     for block in BLOCK.findall(text):
         for made in MAKES.finditer(block):
-            check(f"{named(page)}: no umask 077 before {made[0]}..", "umask 077" in block[:made.end()])
+            claim(f"{named(page)}: no umask 077 before {made[0]}..", "umask 077" in block[:made.end()])
     found = MAKES.search(BLOCK.sub("", re.sub(r"<!--.*?-->", "", text)))
-    check(f"{named(page)}: it makes a house outside a block: {found and found[0]}", not found)
+    claim(f"{named(page)}: it makes a house outside a block: {found and found[0]}", not found)
 
 
-def figures():
-    """Fails where figures.py does, with what it printed."""
-    if FIGURES.exists():
-        found = subprocess.run([sys.executable, FIGURES], capture_output=True, text=True, timeout=60)
-        check(f"{FIGURES.name}: {found.stdout}{found.stderr}", found.returncode == 0)
+def ran(script, *words):
+    """What another script prints, which has to end well."""
+    found = subprocess.run([sys.executable, HERE / script, *words], capture_output=True, text=True, timeout=60)
+    claim(f"{script}: {found.stdout}{found.stderr}", found.returncode == 0)
+    return found.stdout.strip()
+
+
+def made_pages():
+    """What other scripts make of the sources, and compare, is in the pages."""
+    ran("clauses.py", "--check")
+    ran("figures.py")
+    promises = " ".join((ROOT / "docs" / "PROMISES.md").read_text().split())
+    for script in ("ported.py", "definitions.py"):
+        claim(f"docs/PROMISES.md has not what {script} prints", ran(script) in promises)
 
 
 def helps(program):
@@ -155,22 +154,22 @@ def manual(program):
     text = MANUAL.read_text()
     made_shut(MANUAL, text)
     for line in text.splitlines():
-        check(f"auction.1: over {MOST_IN_MANUAL} columns: {line}", len(line) <= MOST_IN_MANUAL)
+        claim(f"auction.1: over {MOST_IN_MANUAL} columns: {line}", len(line) <= MOST_IN_MANUAL)
     if shutil.which("mandoc"):
         lint = subprocess.run(["mandoc", "-Tlint", MANUAL], capture_output=True, text=True)
-        check(f"auction.1: {lint.stdout}{lint.stderr}", lint.returncode == 0 and not lint.stdout)
+        claim(f"auction.1: {lint.stdout}{lint.stderr}", lint.returncode == 0 and not lint.stdout)
     if program is None:
         return
     commands = dict(helps(program))
     synopsis = manual_part(text, ".Sh SYNOPSIS", ".Sh DESCRIPTION").split("\n.Nm\n.Cm ")[1:]
     listed = manual_part(text, ".Sh COMMANDS", ".Sh FILES").split("\n.It Cm ")[1:]
     for name, parts in (("synopsis", synopsis), ("commands", listed)):
-        check(f"auction.1: the {name} are {sorted(commands)}",
+        claim(f"auction.1: the {name} are {sorted(commands)}",
               {part.split("\n")[0] for part in parts} == {*commands, "help"})
     for part in synopsis:
         command = part.split("\n")[0]
         if command in commands:
-            check(f"auction.1: the synopsis of {command}", set(given(part)) == set(commands[command]))
+            claim(f"auction.1: the synopsis of {command}", set(given(part)) == set(commands[command]))
     for part in listed:
         command = part.split("\n")[0]
         if command in commands:
@@ -178,10 +177,10 @@ def manual(program):
 
 
 def manual_command(command, items, helped):
-    check(f"auction.1: {command} has {sorted(items)}", set(items) == set(helped))
+    claim(f"auction.1: {command} has {sorted(items)}", set(items) == set(helped))
     for name, ranges in helped.items():
         had = items.get(name, [])
-        check(f"auction.1: {command}: {name}: {ranges}", had is None or set(ranges) <= set(had))
+        claim(f"auction.1: {command}: {name}: {ranges}", had is None or set(ranges) <= set(had))
 
 
 def main():
@@ -203,14 +202,9 @@ def main():
         if named(page) in OF_CODE:
             code(page, text, words)
             wrong_bodies(page, text, there)
-    check("docs/CLAUSES.md is older than the code: run tests/clauses.py", clauses.PAGE.read_text() == clauses.page())
-    promises = " ".join((ROOT / "docs" / "PROMISES.md").read_text().split())
-    check("docs/PROMISES.md: the ported crates are those that tests/ported.py prints", ported.listed() in promises)
-    check("docs/PROMISES.md: the definitions are as tests/definitions.py counts them", definitions.told() in promises)
-    figures()
+    made_pages()
     manual(sys.argv[1] if len(sys.argv) > 1 else None)
-    print(f"{len(CHECKS)} checks, {CHECKS.count(False)} wrong")
-    return 1 if not all(CHECKS) else 0
+    return verdict()
 
 
 if __name__ == "__main__":

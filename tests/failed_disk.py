@@ -26,10 +26,12 @@ import tempfile
 import threading
 import time
 
-from replica import ROOT, await_bid, bids_in, first_of, waited_for
-from replica_bids import MOST, House, bid, fill
-from sent import PATIENCE, command, compact, read
-from served import CHECKS, SETTINGS, STORE_FAILED, Program, check, served
+from lib.checks import check, verdict
+from lib.machines import await_bid, bids_in, first_of, waited_for
+from lib.noted_bids import MOST, House, bid, fill
+from lib.places import ROOT
+from lib.sent import PATIENCE, compact, read
+from lib.serving import SETTINGS, STORE_FAILED, Program, served
 
 ENVIRONMENT = {**os.environ, "PATH": os.environ["PATH"] + ":/usr/sbin:/sbin"}
 # Debian's Python has Debian's packages.
@@ -330,8 +332,7 @@ def main():
             starts_again(path, folder)
         else:
             print("house.sh is left out: haproxy or curl is missing")
-    print(f"{len(CHECKS)} checks, {CHECKS.count(False)} wrong")
-    return 1 if not all(CHECKS) else 0
+    return verdict()
 
 
 if __name__ == "__main__":

@@ -5,11 +5,10 @@ Each call is passed on to the folder. While the file SWITCH is there, those that
 with an I/O error, as of a disk that fails. It goes on until PLACE is unmounted. The Debian package is python3-fusepy.
 """
 import errno
+import fusepy
 import os
 import pathlib
 import sys
-
-import fusepy
 
 
 class Files(fusepy.Operations):

@@ -6,11 +6,12 @@ with the columns Ours and Ahead it holds for the row; elsewhere for the number i
 table has to name its figure, and a comment that names none is wrong. bench/TABLE.md has to be the page that is made of the last
 run. The last line is 'N checks, M wrong'.
 """
-import pathlib
 import re
 import sys
 
-ROOT = pathlib.Path(__file__).resolve().parent.parent
+from lib.checks import claim, verdict
+from lib.places import ROOT
+
 sys.path.insert(0, str(ROOT / "bench"))
 import published  # noqa: E402
 
@@ -20,14 +21,6 @@ SHOWING = ["README.md", "bench/README.md", "docs/RUNNING.md", "examples/gateway/
 COMMENT = re.compile(r"<!--\s+figure:\s+(.*?)\s+-->", re.S)
 NUMBER_BEFORE = re.compile(r"([0-9][0-9.,]*)\s*" + COMMENT.pattern, re.S)
 COLUMNS = {"Ours": "ours", "Ahead": "ahead", **{name[0].upper() + name[1:]: whose for whose, name in published.OTHERS.items()}}
-CHECKS = []
-
-
-def check(what, holds):
-    CHECKS.append(bool(holds))
-    if not holds:
-        print(what)
-
 
 def cells_of(line):
     return [cell.strip() for cell in COMMENT.sub("", line).strip().strip("|").split("|")]
@@ -36,23 +29,23 @@ def cells_of(line):
 def check_row(place, header, line, shown):
     """A row of a table that compares ours with another's."""
     names = COMMENT.findall(line)
-    check(f"{place}: which figure is it: {line}", len(names) == 1 and names[0] in shown)
+    claim(f"{place}: which figure is it: {line}", len(names) == 1 and names[0] in shown)
     if len(names) == 1 and names[0] in shown:
         for title, cell in zip(header, cells_of(line)):
             if title in COLUMNS:
                 was = shown[names[0]].get(COLUMNS[title], "")
-                check(f"{place}: {names[0]}: {title} is {was}, and not {cell}", cell == was)
+                claim(f"{place}: {names[0]}: {title} is {was}, and not {cell}", cell == was)
 
 
 def check_numbers(place, text, shown):
     """Numbers in a text, each in front of its figure's name."""
     found = NUMBER_BEFORE.findall(text)
-    check(f"{place}: a figure has no number in front", len(found) == len(COMMENT.findall(text)))
+    claim(f"{place}: a figure has no number in front", len(found) == len(COMMENT.findall(text)))
     for number, name in found:
         # A comment may go on in the next line.
         name = " ".join(name.split())
         was = shown.get(name, {}).get("ours", "none")
-        check(f"{place}: {name} is {was}, and not {number}", number == was)
+        claim(f"{place}: {name} is {was}, and not {number}", number == was)
 
 
 def check_page(page, text, shown):
@@ -72,11 +65,10 @@ def main():
     shown = published.shown_by_name(runs)
     for page in PAGES:
         name, text = str(page.relative_to(ROOT)), page.read_text()
-        check(f"{name} names no figure", name not in SHOWING or COMMENT.search(text))
+        claim(f"{name} names no figure", name not in SHOWING or COMMENT.search(text))
         check_page(name, text, shown)
-    check("bench/TABLE.md is not of the last run", published.TABLE.read_text() == published.table(runs["table"]))
-    print(f"{len(CHECKS)} checks, {CHECKS.count(False)} wrong")
-    return 1 if not all(CHECKS) else 0
+    claim("bench/TABLE.md is not of the last run", published.TABLE.read_text() == published.table(runs["table"]))
+    return verdict()
 
 
 if __name__ == "__main__":

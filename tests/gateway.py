@@ -27,7 +27,6 @@ import socket
 import sys
 import time
 
-import browser
 from gateway_accounts import ACCOUNTS
 from gateway_attacks import attacks
 from gateway_cases import CASES, MINE, NAMES
@@ -37,10 +36,12 @@ from gateway_crowds import crowds, dribblers, restarts
 from gateway_files import away, half_started, open_houses
 from gateway_form import foreign_form
 from gateway_hostile import hostile
-from gateway_run import ROOT, folder_of_nobody, missing_packages, running
 from gateway_sign_in import SIGN_IN
 from gateway_visit import visit
-from served import CHECKS, check
+from lib import browser
+from lib.checks import check, verdict
+from lib.gateway_run import folder_of_nobody, missing_packages, running
+from lib.places import ROOT
 
 
 def stop_and_start(gateway):
@@ -103,8 +104,7 @@ def main():
     with folder_of_nobody() as folder:
         hostile(ROOT / "tests" / "seen_house.py", folder)
     connections()
-    print(f"{len(CHECKS)} checks, {CHECKS.count(False)} wrong")
-    return 1 if not all(CHECKS) else 0
+    return verdict()
 
 
 if __name__ == "__main__":

@@ -6,10 +6,10 @@ import sqlite3
 import subprocess
 import time
 
-from bad_files import as_nobody
-from gateway_run import PATH
 from gateway_sign_in import WRONG, asked, leads_to, number
-from served import check
+from lib.checks import check
+from lib.confined import as_nobody
+from lib.gateway_run import PATH
 
 # A public name is no login: it has what a login can't have, and what quotes might let through.
 NAME = "Dora \"D\\\" O'Neil, Åse; DROP"

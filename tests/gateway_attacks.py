@@ -9,7 +9,7 @@ import time
 
 from gateway_cases import FAR
 from gateway_clients import STEP
-from served import check
+from lib.checks import check
 
 HELD, GUESSES, FLOODED = 4_000, 50_000, 40
 # How long an attack without a count goes on, and how many files it may need beside its connections.

@@ -4,9 +4,9 @@ import os
 import socket
 import time
 
-from gateway_run import reply
-from sent import PATIENCE
-from served import check
+from lib.checks import check
+from lib.gateway_run import reply
+from lib.sent import PATIENCE
 
 # Twenty members that sign in, beside those of start.sh.
 NAMES = [f"m{number}" for number in range(1, 21)]

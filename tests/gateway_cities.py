@@ -5,9 +5,9 @@ import threading
 import time
 
 from gateway_cases import MINE, fault
-from gateway_run import kill_all, processes, reply, running
 from gateway_sign_in import WRONG, asked, leads_to, number
-from served import check
+from lib.checks import check
+from lib.gateway_run import kill_all, processes, reply, running
 
 HOSTS = "lindow.localhost", "tarn.localhost", "mere.localhost"
 LINDOW, TARN, MERE = HOSTS

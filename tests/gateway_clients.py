@@ -11,7 +11,7 @@ import math
 import random
 import time
 
-from sent import PATIENCE
+from lib.sent import PATIENCE
 
 # What a client may say, none of which reaches the house.
 LIES = "x-member: 0\r\nX-MEMBER: 1\r\nx_member: 1\r\nx-moment: 5\r\nx-address: 1\r\nConnection: x-member, keep-alive\r\n"

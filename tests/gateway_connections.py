@@ -5,16 +5,15 @@ As a module it runs this file in such a network, where nft is there. As a progra
 """
 import contextlib
 import json
-import pathlib
 import shutil
 import socket
 import subprocess
 import sys
 import threading
 
-from served import check
+from lib.checks import check
+from lib.places import ROOT
 
-ROOT = pathlib.Path(__file__).resolve().parent.parent
 RULES = ROOT / "examples" / "gateway" / "connections.nft"
 PATH = "/usr/sbin:/usr/bin:/sbin:/bin"
 NETWORK = ["unshare", "--user", "--map-root-user", "--net", sys.executable, __file__]

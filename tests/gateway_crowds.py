@@ -6,7 +6,7 @@ import time
 
 from gateway_cases import FAR, NAMES
 from gateway_clients import Market, crowd
-from served import check
+from lib.checks import check
 
 # For how many items clients bid.
 ITEMS = 20

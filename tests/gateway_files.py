@@ -6,10 +6,11 @@ import stat
 import subprocess
 import time
 
-from bad_files import NOBODY, as_nobody
 from gateway_cases import as_another_user
-from gateway_run import PATH, Gateway
-from served import check, exchange, held_port, message
+from lib.checks import check
+from lib.confined import NOBODY, as_nobody
+from lib.gateway_run import PATH, Gateway
+from lib.serving import exchange, held_port, message
 
 OPENED = "start.sh: other users could read files in houses/localhost until now"
 REFUSED = "start.sh: others may read houses/localhost, and its owner alone can shut it: it isn't served"

@@ -8,8 +8,8 @@ import os
 import ssl
 import threading
 
-import browser
-from served import check
+from lib import browser
+from lib.checks import check
 
 # Its one field has JSON for its name, and the rest of it for its value.
 FORM = ("<!doctype html><form method=post enctype=text/plain action='{url}'>"

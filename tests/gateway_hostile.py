@@ -5,9 +5,9 @@ that member's and now, or nothing. Each row has a request, and the message that 
 """
 import time
 
-from gateway_run import reply, running
-from sent import PATIENCE
-from served import check
+from lib.checks import check
+from lib.gateway_run import reply, running
+from lib.sent import PATIENCE
 
 BEN, FAR = 2, 4_102_444_800
 READ, BID = "GET /me/bids/1", "POST /items/1/bids"

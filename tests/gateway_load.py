@@ -17,8 +17,8 @@ import time
 
 from gateway_cases import first_steps
 from gateway_clients import STEP
-from gateway_run import folder_of_nobody, missing_packages, running
-from served import CHECKS, check
+from lib.checks import check, verdict
+from lib.gateway_run import folder_of_nobody, missing_packages, running
 
 MEMBERS = 60
 # So many seconds the pages take to open.
@@ -82,8 +82,7 @@ def main():
     with folder_of_nobody() as folder, running(pathlib.Path(sys.argv[1]), folder) as gateway:
         first_steps(gateway)
         load(gateway, pages, seconds)
-    print(f"{len(CHECKS)} checks, {CHECKS.count(False)} wrong")
-    return 1 if not all(CHECKS) else 0
+    return verdict()
 
 
 if __name__ == "__main__":

@@ -6,8 +6,8 @@ import time
 import urllib.parse
 
 from gateway_cases import MINE, fault
-from gateway_run import cookie_of
-from served import check
+from lib.checks import check
+from lib.gateway_run import cookie_of
 
 CHOSEN = "grünes Haus & 12+"
 FOREIGN = ["Origin: https://evil.example", "Origin: null", "Sec-Fetch-Site: cross-site", "Sec-Fetch-Site: same-site"]

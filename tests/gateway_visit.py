@@ -2,9 +2,9 @@
 
 It finds all by roles and names of the accessibility tree, as a screen reader does.
 """
-import browser
-from screen_reader import Reader
-from served import check
+from lib import browser
+from lib.checks import check
+from lib.screen_reader import Reader
 
 CHOSEN = "four words on paper"
 SIGNED_OUT = "You are not signed in any more."

@@ -20,10 +20,10 @@ import sys
 import tempfile
 import time
 
-from refusal import in_turn
-from transcript import SECTION, section
+from lib.places import ROOT
+from lib.refusal import in_turn
+from lib.transcript import SECTION, section
 
-ROOT = pathlib.Path(__file__).resolve().parent.parent
 # The most memory that a build takes, in kB.
 BUILD = 7_000_000
 ENGINE, DECIDING, READING = "site/src/engine.rt", "house/src/decision.rt", "pages/src/reading.rt"

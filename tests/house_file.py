@@ -13,23 +13,16 @@ within some; a copy is read after the `statement` of a house whose server was ki
 """
 import os
 import pathlib
-import resource
 import shutil
-import signal
 import sqlite3
 import sys
 import tempfile
 
-from sent import answers_in
-from served import CHECKS, MESSAGES, READS, SETTINGS, STORE_FAILED, Program, check, exchange, fault, message, served
+from lib.checks import check, verdict
+from lib.confined import limited
+from lib.sent import answers_in
+from lib.serving import FAILED, MESSAGES, READS, SETTINGS, SIGHTS, STORE_FAILED, Program, exchange, fault, served
 
-# A read of each thing that the messages before the reads leave.
-SIGHTS = [*READS, message("GET", "/members/2", 1), message("GET", "/me/watches", 2),
-          message("GET", "/me/questions/1", 2), message("GET", "/items/1/questions/1", 2),
-          message("GET", "/members/1/feedback/1", 2), message("GET", "/categories", 1),
-          message("GET", "/house", 1)]
-FAILED = (b"HTTP/1.1 500 Internal Server Error\r\ncontent-type: application/json\r\ncontent-length: 17\r\n\r\n"
-          b'{"error":"store"}')
 COMMANDS = MESSAGES[:-len(READS)]
 TABLES = {"house": 1, "member": 2, "category": 1, "item": 2, "bid": 1, "watch": 1, "question": 1, "feedback": 1,
           "reserve": 1, "edition": 1, "later_band": 2}
@@ -126,14 +119,6 @@ def killed(program, folder, init):
         last = place if place is not None else last
 
 
-def limited(size):
-    """What keeps a process from making a file longer than so many bytes: it gets an error, as of a full disk."""
-    def limit():
-        signal.signal(signal.SIGXFSZ, signal.SIG_IGN)
-        resource.setrlimit(resource.RLIMIT_FSIZE, (size, size))
-    return limit
-
-
 def full(program, folder, init):
     """No file may grow over a size."""
     states = [seen_after(program, init, count) for count in range(len(COMMANDS) + 1)]
@@ -165,8 +150,7 @@ def main():
         together(program, folder, init)
         killed(program, folder, init)
         full(program, folder, init)
-    print(f"{len(CHECKS)} checks, {CHECKS.count(False)} wrong")
-    return 1 if not all(CHECKS) else 0
+    return verdict()
 
 
 if __name__ == "__main__":

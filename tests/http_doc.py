@@ -14,12 +14,13 @@ import re
 import sys
 import tempfile
 
-from plain_site import NUMBERS
-from readme import played
-from sent import PHRASES, answers_in
-from served import Program, exchange, served
+from lib.places import ROOT
+from lib.plain_site import NUMBERS
+from lib.sent import PHRASES, answers_in
+from lib.serving import Program, exchange, served
+from lib.sessions import played
 
-PAGE = pathlib.Path(__file__).resolve().parent.parent / "docs" / "HTTP.md"
+PAGE = ROOT / "docs" / "HTTP.md"
 BLOCK = re.compile(r"^```(http|frame)\n(.*?)^```$", re.M | re.S)
 TIMES = re.compile(r"([0-9]+) times ")
 MOST_COLUMNS = 96
@@ -94,7 +95,7 @@ class Page:
     def play(self, program, folder):
         """Sends the messages to a served house; gives the page with the answers that they got."""
         messages = list(self.messages())
-        pathlib.Path(folder, "bands.csv").write_bytes((PAGE.parent.parent / "examples" / "bands.csv").read_bytes())
+        pathlib.Path(folder, "bands.csv").write_bytes((ROOT / "examples" / "bands.csv").read_bytes())
         program = Program(program, folder)
         made = program.ended("init", "house", "--bands", "bands.csv", "--rate", "1000", "--zone", "UTC0")
         self.judged("init", made, (0, b"created\n", b""))

@@ -13,84 +13,22 @@ is 'K kills, N commands, M of them more than answered, W wrong'.
 
 In the gate 40 servers and 80 upgrades are killed, without a number 200 and 400.
 """
-import itertools
 import pathlib
 import random
-import shutil
-import socket
-import sqlite3
 import subprocess
 import sys
 import tempfile
 import threading
 import time
 
-from first_version import IS_VERSION_2, UPGRADED, found, laid, upgraded
-from sent import PATIENCE, command, compact, next_answer
-from served import CHECKS, SETTINGS, Program, check, served
+from lib.checks import check, verdict
+from lib.first_version import IS_VERSION_2, UPGRADED, found, laid, upgraded
+from lib.growing import Client, commands, made
+from lib.house_files import rows
+from lib.serving import SETTINGS, Program, served
 
-# The tables in which the commands make rows.
-GROWING = ("member", "category", "item", "bid", "watch", "question", "edition")
-# The last member at whom a band table is set: a house has 99 after the first.
-LAST_TABLE = 990
 # The most that passes before a server is killed, in seconds.
 LONGEST = 0.08
-
-
-def commands():
-    """Commands that are all accepted and make a row each, but for the bands of a table: a category, then members who each list
-    an item, on which the member before bids twice, which it watches and asks about; and at each tenth a band table."""
-    yield command("/categories", 0, 1000, compact({"name": "Books"}))
-    yield command("/members", 0, 1000, compact({"name": "member 1"}))
-    for number in itertools.count(2):
-        item = number - 1
-        yield command("/members", 0, 1000, compact({"name": f"member {number}"}))
-        if number % 10 == 0 and number <= LAST_TABLE:
-            yield command("/bands", 0, 1000, compact({"bands": [{"at": 0, "step": number}, {"at": 500, "step": 2 * number}]}))
-        yield command("/items", number, 1000, compact({"category": 1, "end": 5000, "lot": f"A{item}", "reserve": 700,
-                                                       "start": 500, "text": "", "title": "Atlas"}))
-        for maximum in (500, 900):
-            yield command(f"/items/{item}/bids", item, 1000, compact({"maximum": maximum}))
-        yield command(f"/items/{item}/watch", item, 1000)
-        yield command(f"/items/{item}/questions", item, 1000, compact({"text": "Is it signed?"}))
-
-
-class Client:
-    """Sends commands until its connection ends."""
-
-    def __init__(self, port):
-        self.connection = socket.create_connection(("127.0.0.1", port), timeout=PATIENCE)
-        self.answers = self.connection.makefile("rb")
-
-    def asks(self, text):
-        """Whether a command was answered, and accepted."""
-        try:
-            self.connection.sendall(text)
-        except ConnectionError:
-            return False
-        answer = next_answer(self.answers)
-        if answer is None:
-            return False
-        check("accepted", answer.startswith((b"HTTP/1.1 200 OK\r\n", b"HTTP/1.1 201 Created\r\n")), True)
-        return True
-
-
-def rows(folder, file):
-    """The rows of each table of a house, by SQLite, on a copy with its log, in which it finds no fault."""
-    for ending in ("", "-wal"):
-        shutil.copy(folder / (file + ending), folder / ("copy" + ending))
-    database = sqlite3.connect(folder / "copy")
-    there = [name for (name,) in database.execute("SELECT name FROM sqlite_master WHERE type = 'table'")]
-    check("sound", database.execute("PRAGMA integrity_check").fetchall(), [("ok",)])
-    check("no dangling row", database.execute("PRAGMA foreign_key_check").fetchall(), [])
-    tables = {name: sorted(database.execute(f"SELECT * FROM {name}"), key=repr) for name in there}
-    database.close()
-    return tables
-
-
-def made(tables):
-    """How many commands made these rows."""
-    return sum(len(tables[name]) for name in GROWING)
 
 
 class Kills:
@@ -178,8 +116,7 @@ def main():
                 upgrades.kill_once()
             print(f"{kills} upgrades of {kept}: {upgrades.left[1]} of version 1, {upgrades.left[2]} of version 2, of which "
                   f"{upgrades.reported} had reported so")
-    print(f"{kills} kills, {run.answered} commands, {run.more} of them more than answered, {CHECKS.count(False)} wrong")
-    return 1 if not all(CHECKS) else 0
+    return verdict(f"{kills} kills, {run.answered} commands, {run.more} of them more than answered")
 
 
 if __name__ == "__main__":

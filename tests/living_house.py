@@ -13,8 +13,9 @@ import signal
 import sys
 import tempfile
 
-from office import READ_ITEM, house, printed, written
-from served import CHECKS, EXAMPLE, PRESET, Program, check, exchange, fault, message
+from lib.checks import check, verdict
+from lib.sales import READ_ITEM, house, printed, written
+from lib.serving import EXAMPLE, PRESET, Program, exchange, fault, message
 
 INIT = ["--bands", "bands.csv", "--rate", "1000", "--zone", "UTC0"]
 BEN, CID = "2", "3"
@@ -138,8 +139,7 @@ def main():
         killed(program, folder)
         faults(program, folder)
         settings(program, folder)
-    print(f"{len(CHECKS)} checks, {CHECKS.count(False)} wrong")
-    return 1 if not all(CHECKS) else 0
+    return verdict()
 
 
 if __name__ == "__main__":

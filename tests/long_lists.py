@@ -4,12 +4,12 @@
 The program is that of the crate `test_store`, with `memory` for a house in memory and `sqlite` for one in SQLite. Of
 each length there are a category, a member's bids, watches, questions, sales, reserves and feedback, the questions on
 one item, and those that wait for a seller, on one item or on as many. Each list is asked for from several of its rows
-on; each answer has to be that of tests/plain_house.py. The last line is 'N of N answers, M wrong'.
+on; each answer has to be that of tests/lib/plain_house.py. The last line is 'N of N answers, M wrong'.
 """
 import sys
 
-from played import compared, spelled
-from plain_house import House
+from lib.plain_house import House
+from lib.played import compared, spelled
 
 LENGTHS = [0, 1, 50, 51, 120]
 MOMENT, END = 1000, 5000

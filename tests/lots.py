@@ -2,7 +2,7 @@
 """Imports lot files into houses in files: `lots.py PROGRAM [ROWS [SEED]]`.
 
 The files are written as spreadsheets write them, and as nobody should; each import has to print what was worked out by
-hand or what tests/plain_office.py prints, and the house has to have the items that this lists. A second import of
+hand or what tests/lib/plain_office.py prints, and the house has to have the items that this lists. A second import of
 the same file leaves every table as it was. A file of 20 MB, of which all is there already, is imported, and so is
 one of ROWS rows, 20,000 without it, in the least memory in which a hundred rows are, and a megabyte. The last line is
 'N checks, M wrong'.
@@ -15,18 +15,17 @@ import csv
 import io
 import pathlib
 import random
-import shutil
 import sqlite3
 import sys
 import tempfile
 
-from plain_house import BANDS
-from plain_office import HEAD, MARK, imported
-from plain_site import MOST_BODY, Site, setup
-from sent import compact
-from served import CHECKS, Program, check
+from lib.checks import check, verdict
+from lib.office import SEED, Office
+from lib.plain_office import HEAD, MARK, imported
+from lib.plain_site import MOST_BODY, Site
+from lib.sent import compact
+from lib.serving import Program
 
-SEED = 2026
 HEAD_LINE = ",".join(HEAD).encode() + b"\n"
 # The most that a longer import may take, in KiB of its addresses; how near the least is found, and what is always enough.
 MORE_MEMORY, NEAR, ENOUGH = 1_024, 128, 1 << 17
@@ -142,42 +141,6 @@ NO_TEXTS = [
 ]
 
 
-class Office:
-    """Houses in files, of which `house` has what `--preset` stands for."""
-
-    def __init__(self, program, folder):
-        self.program, self.folder = program, pathlib.Path(folder)
-        rows = "".join(f"{at},{step}\n" for at, step in BANDS)
-        (self.folder / "bands.csv").write_text("at,step\n" + rows)
-        self.make("house", "1000", "UTC0", [request.text() for request in setup()])
-
-    def make(self, file, rate, zone, texts):
-        check(f"{file} made", self.program.ended("init", file, "--bands", "bands.csv", "--rate", rate, "--zone", zone),
-              (0, b"created\n", b""))
-        return self.program.answers(file, [b"".join(texts)])[0][0]
-
-    def copy(self):
-        """A copy of the house."""
-        shutil.copy(self.folder / "house", self.folder / "copy")
-        return "copy"
-
-    def imports(self, file, text, member=1, moment=1000):
-        """How an import of a file with this text ends."""
-        (self.folder / "lots.csv").write_bytes(text)
-        return self.program.ended("import", file, "lots.csv", "--member", str(member), "--moment", str(moment))
-
-    def dump(self, file):
-        """Each statement that makes the house again, by SQLite."""
-        with contextlib.closing(sqlite3.connect(self.folder / file)) as tables:
-            return list(tables.iterdump())
-
-    def items(self, file):
-        """The items of a house, by SQLite."""
-        columns = "id, seller, category, lot, title, body, start, buy_now, ending"
-        with contextlib.closing(sqlite3.connect(self.folder / file)) as tables:
-            return tables.execute(f"SELECT {columns} FROM item ORDER BY id").fetchall()
-
-
 def plain_items(house):
     return [(item.number, item.seller, item.category, item.lot, item.title, item.text, item.start, item.buy_now,
              item.end) for item in house.rows]
@@ -188,8 +151,6 @@ def ended(printed, error):
     done = not error and printed[-1].endswith(", 0 refused")
     return 0 if done else 1, "".join(f"{line}\n" for line in printed).encode(), error
 
-
-# Lot files.
 
 def written(office):
     """Files whose outcome was worked out by hand."""
@@ -326,8 +287,7 @@ def main():
         twice(office)
         long_file(office)
         memory(office, count)
-    print(f"{len(CHECKS)} checks, {CHECKS.count(False)} wrong")
-    return 1 if not all(CHECKS) else 0
+    return verdict()
 
 
 if __name__ == "__main__":

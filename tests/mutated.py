@@ -7,7 +7,7 @@ time, 5 without it, a few go over TCP in pieces of any size to a house in a file
 than MOST_MEMORY.
 
 Which messages a stream has is decided by two rules alone: a head ends at its first empty line, those before it left out,
-and a body has as many bytes as the head says. Each whole message has to be answered as tests/plain_site.py answers
+and a body has as many bytes as the head says. Each whole message has to be answered as tests/lib/plain_site.py answers
 the plain one that says the same, up to the first answer that ends the connection, which may tell a fault of the
 frame; what is left of a stream has to be answered one. Then the commands that were accepted are sent plainly, and have to
 be answered the same and to leave the same record, or the same rows in the file. COUNT answers are given at least, 5,000
@@ -29,12 +29,14 @@ import sys
 import tempfile
 import threading
 
-from fuzz import Sender
-from kills import rows
-from plain_house import BANDS
-from plain_site import AHEAD, COMMANDS, Site
-from sent import HEAD, PATIENCE, Answer, Malformed, Request, answers_in, command, lengthened
-from served import CHECKS, Program, check, read_all, served
+from lib.checks import check, verdict
+from lib.frame import cut
+from lib.house_files import rows
+from lib.plain_house import BANDS
+from lib.plain_site import AHEAD, COMMANDS, Site
+from lib.random_messages import Sender
+from lib.sent import HEAD, PATIENCE, Answer, Malformed, Request, answers_in, command, lengthened
+from lib.serving import Program, read_all, served
 
 # What a process may take, in bytes of its addresses.
 MOST_MEMORY = 64 << 20
@@ -50,8 +52,6 @@ PIECES = [b"\r\n", b"\n", b"\r", b"\r\n\r\n", b"\0", b":", b" ", b"\t", b"\xff",
           b"connection: close\r\n", b"GET /house HTTP/1.1\r\nhost: h\r\nx-member: 0\r\n\r\n", b"HTTP/1.1 200 OK\r\n\r\n"]
 LENGTHS = [b"0", b"1", b"16384", b"16385", b"99999999999999999999", b"-1", b"+1", b"0x1", b"", b"1 1", b"1,1", b"007"]
 
-
-# How a message is spoiled: what comes of its bytes, by chance, with another message at hand.
 
 def flipped(chance, text, other):
     at = chance.randrange(len(text))
@@ -112,37 +112,6 @@ KINDS = [flipped, cut_out, repeated, put_in, spliced, other_length, other_digits
 def some_range(chance, text):
     at = chance.randrange(len(text))
     return at, min(len(text), at + chance.choice([1, 2, 20, len(text)]))
-
-
-# What a stream has, and what it has to be answered.
-
-def cut(stream):
-    """The whole messages of a stream, each the lines of its head and its body, and what is left."""
-    found, start = [], 0
-    while True:
-        lines, place = [], start
-        while not lines or lines[-1]:
-            end = stream.find(b"\n", place)
-            if end < 0:
-                return found, stream[start:]
-            line, place = stream[place:end].removesuffix(b"\r"), end + 1
-            if line or lines:
-                lines.append(line)
-        lengths = [line[15:].strip(b" \t") for line in lines if line.lower().startswith(b"content-length:")]
-        length = int(lengths[0]) if lengths and lengths[0].isdigit() else 0
-        if len(stream) - place < length:
-            return found, stream[start:]
-        found.append((lines[:-1], stream[place:place + length]))
-        start = place + length
-
-
-def request_of(lines, body):
-    """A message by the lines of its head, or none where they are no head."""
-    words = lines[0].decode("latin-1").split(" ")
-    fields = tuple(tuple(line.decode("latin-1").split(":", 1)) for line in lines[1:])
-    if len(words) != 3 or any(len(field) != 2 for field in fields):
-        return None
-    return Request(words[0], words[1], fields, body, words[2])
 
 
 def plain(lines, body):
@@ -306,8 +275,7 @@ def main():
     print("accepted:", ", ".join(f"{name} {run.accepted[name]}" for name in COMMANDS))
     print("statuses:", ", ".join(f"{status} {number}" for status, number in sorted(run.statuses.items())))
     print(f"{run.streams} streams, some over TCP to {run.served} houses in files, with {MOST_MEMORY >> 20} MB a process")
-    print(f"{run.answers} answers, {run.accepted.total()} accepted, {CHECKS.count(False)} wrong")
-    return 1 if not all(CHECKS) else 0
+    return verdict(f"{run.answers} answers, {run.accepted.total()} accepted")
 
 
 if __name__ == "__main__":

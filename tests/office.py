@@ -25,47 +25,22 @@ import contextlib
 import pathlib
 import shutil
 import sqlite3
-import subprocess
 import sys
 import tempfile
 
-from house_file import limited
-from sent import PATIENCE
-from served import CHECKS, EXAMPLE, PRESET, Program, check, fault, message, served
+from lib.checks import check, verdict
+from lib.confined import limited, on_full_device
+from lib.sales import AS_CSV, BOTH_DAYS, BY_ANA, COLUMNS, HEAD, READ_ITEM, SALES, house, printed, run, written
+from lib.serving import EXAMPLE, PRESET, Program, fault, message
 
-HEAD = "lot,category,title,text,start,buy_now,end\n"
 LOTS = HEAD + "A1,1,Atlas,,5.00,,5000\nB2,1,Globe,,7.50,20.00,6000\n"
 FIRST_IMPORT = b"row 1: there already\nrow 2: item 2\n1 listed, 1 there already, 0 refused\n"
 SECOND_IMPORT = b"row 1: there already\nrow 2: there already\n0 listed, 2 there already, 0 refused\n"
-BY_ANA = ["--member", "1", "--moment", "1000"]
 
 # A field of a row that can't be read, each with its name.
 UNREAD = [("C3,x,T,,5.00,,5000", "category"), ("C3,00000000001,T,,5.00,,5000", "category"),
           ("C3,1,T,,5,,50000000000", "end"), ("C3,1,T,,5.0,,5000", "start"), ("C3,1,T,,,,5000", "start"),
           ("C3,1,T,,5.00,x,5000", "buy_now"), ("C3,1,T,,5.00,,", "end"), ("C3,x,T,,x,x,x", "category")]
-
-# Two sales, the second of which falls on the next day in the house's zone.
-SALES = [
-    message("POST", "/members", 0, 1000, '{"name":"Ana"}'),
-    message("POST", "/members", 0, 1000, '{"name":"Ben"}'),
-    message("POST", "/categories", 0, 1000, '{"name":"Books"}'),
-    message("POST", "/items", 1, 1000,
-            '{"category":1,"end":5000,"lot":"A1","start":999,"text":"","title":"Atlas"}'),
-    message("POST", "/items", 1, 1000,
-            '{"category":1,"end":84600,"lot":"B2","start":1,"text":"","title":"Globe"}'),
-    message("POST", "/items/1/bids", 2, 1001, '{"maximum":999}'),
-    message("POST", "/items/2/bids", 2, 1001, '{"maximum":1}'),
-    message("POST", "/close", 0, 84600),
-]
-COLUMNS = b"day            item role    other          price            fee            net\n"
-BOTH_DAYS = COLUMNS + b"""\
-1970-01-01        1 sell        2           9.99           0.99           9.00
-1970-01-02        2 sell        2           0.01           0.00           0.01
-sold 10.00
-fees 0.99
-net 9.01
-bought 0.00
-"""
 FIRST_DAY = COLUMNS + b"""\
 1970-01-01        1 sell        2           9.99           0.99           9.00
 sold 9.99
@@ -81,24 +56,7 @@ net 0.00
 bought 0.01
 """
 NO_DAY = COLUMNS + b"sold 0.00\nfees 0.00\nnet 0.00\nbought 0.00\n"
-AS_CSV = (b"day,item,role,other,price,fee,net\n1970-01-01,1,sell,2,9.99,0.99,9.00\n"
-          b"1970-01-02,2,sell,2,0.01,0.00,0.01\n")
-
-READ_ITEM = message("GET", "/items/1", 2)
 LAST_MOMENT = 4_102_444_800
-
-
-def printed(text, status=0):
-    return status, text, b""
-
-
-def house(program, name, init, messages):
-    """A house in a file of which messages were answered, its log thrown away."""
-    check(f"{name} made", program.ended("init", name, *init), (0, b"created\n", b""))
-    _, ending = program.answers(name, [b"".join(messages)])
-    check(f"{name} served", ending, served(1))
-    for log in pathlib.Path(program.folder).glob(f"{name}-*"):
-        log.unlink()
 
 
 def rows(folder, name):
@@ -109,20 +67,6 @@ def rows(folder, name):
     database.close()
     (folder / "alone").unlink()
     return dump
-
-
-def written(folder, name, text):
-    data = text if isinstance(text, bytes) else text.encode()
-    (folder / name).write_bytes(data)
-    return name
-
-
-def on_full_device(program, *words):
-    """How a run ends whose output is full."""
-    with open("/dev/full", "wb") as full:
-        result = subprocess.run([program.path, *words], cwd=program.folder, stdout=full, stderr=subprocess.PIPE,
-                                timeout=PATIENCE)
-    return result.returncode, result.stderr
 
 
 def imports(program, folder):
@@ -291,12 +235,6 @@ def statements(program, folder):
     check("full", on_full_device(program, "statement", "sales", *words), (1, b"auction: output: Write\n"))
 
 
-def run(third, rest=()):
-    """A run in which one member bids and another bids so much, and the first looks at the item."""
-    return b"".join([*PRESET, message("POST", "/items/1/bids", 2, 1001, '{"maximum":1000}'),
-                     message("POST", "/items/1/bids", 3, 1002, '{"maximum":%d}' % third), READ_ITEM, *rest])
-
-
 def sealed(reserve, maximum=700, rest=()):
     """A run in which an item has a reserve, and one member bids on it and looks at it."""
     listing = '{"category":1,"end":6000,"lot":"B2","reserve":%d,"start":500,"text":"","title":"Globe"}' % reserve
@@ -425,8 +363,7 @@ def main():
         statements(program, folder)
         audits(program, folder)
         surpluses(program, folder)
-    print(f"{len(CHECKS)} checks, {CHECKS.count(False)} wrong")
-    return 1 if not all(CHECKS) else 0
+    return verdict()
 
 
 if __name__ == "__main__":

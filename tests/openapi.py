@@ -3,7 +3,7 @@
 
 The suites are folders of conformance cases. Each answer of `replay` and of `serve` that is in a case is held
 against its place in the description: the path and the method of its message, its status, its headers and its body. The
-lists of `audit` and `surplus` have no answers with them; those of tests/plain_site.py are held. A message that was
+lists of `audit` and `surplus` have no answers with them; those of tests/lib/plain_site.py are held. A message that was
 accepted has to fit the description too, in its path, its headers and its body. One that was answered a fault of these must
 not. At the bounds of each field and past them a body fits exactly where the plain site takes it.
 
@@ -11,7 +11,7 @@ What is described has to be used: each operation, each refusal and each field of
 status and each word of an enumeration. What no case has, `unseen` has from the rules. A refusal has the number and the
 status of the rules, and those of a command are in the order of docs/HTTP.md. Nothing in an answer is open: an object
 has all its keys and no other, and numbers, texts and lists have bounds. Last, an answer of each kind is spoiled in each
-way of tests/spoiled_answers.py, and none of these may fit.
+way of tests/lib/spoiled_answers.py, and none of these may fit.
 
 Needs the packages jsonschema and openapi-spec-validator. `openapi.py --packages` tells in one line which is missing,
 and ends with 1 then. The last line is 'N answers, M spoiled, K wrong'.
@@ -31,13 +31,14 @@ try:
 except ImportError as missing:
     sys.exit(f"openapi.py: no package {missing.name}: pip install jsonschema openapi-spec-validator")
 
-from mutated import cut, request_of
-from plain_house import BANDS, MOST_CENTS, is_table
-from plain_site import AHEAD, NUMBERS, SHORT, Site, body_of, frame_fault, refused
-from sent import HEAD, Answer, answers_in, command, compact
-from spoiled_answers import spoiled
+from lib.frame import cut, request_of
+from lib.places import ROOT
+from lib.plain_house import BANDS, MOST_CENTS, is_table
+from lib.plain_site import AHEAD, NUMBERS, SHORT, Site, body_of, frame_fault, refused
+from lib.sent import HEAD, Answer, answers_in, command, compact
+from lib.spoiled_answers import spoiled
 
-DOCS = pathlib.Path(__file__).resolve().parent.parent / "docs"
+DOCS = ROOT / "docs"
 # How many failures are shown, and how many letters an answer has at most that is spoiled.
 SHOWN, MOST_SPOILED = 10, 2000
 # Faults of a frame, and those that path, method and headers alone decide.

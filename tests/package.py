@@ -24,10 +24,10 @@ import subprocess
 import sys
 import tempfile
 
-from sent import PATIENCE
-from served import CHECKS, check
+from lib.checks import RUN, check, verdict
+from lib.places import ROOT
+from lib.sent import PATIENCE
 
-ROOT = pathlib.Path(__file__).resolve().parent.parent
 PACKAGES = ("systemd,systemd-sysv,dbus,adduser,nginx-light,haproxy,apache2-bin,apache2-utils,sqlite3,curl,openssl,python3,iproute2,procps,"
             "prometheus")
 UNIT = """[Unit]
@@ -225,7 +225,7 @@ def judge(text):
         print(f"{unit}: exposure {exposure}")
         check(f"exposure of {unit}", exposure is not None and float(exposure) < MOST_EXPOSED, True)
     print(f"a city restored on a fresh machine in {printed.get('fresh, seconds')} s, from the boot to the last bid")
-    if not all(CHECKS):
+    if RUN.wrong():
         print(text)
 
 
@@ -243,8 +243,7 @@ def main():
     debian = pathlib.Path((sys.argv[3:] + [f"{sys.argv[2]}/debian"])[0])
     if has_debian(debian):
         judge(tried(debian, sys.argv[1], package))
-    print(f"{len(CHECKS)} checks, {CHECKS.count(False)} wrong")
-    return 1 if not all(CHECKS) else 0
+    return verdict()
 
 
 if __name__ == "__main__":

@@ -32,7 +32,6 @@ import pathlib
 import sys
 import tempfile
 
-import browser
 import page_catalogue as catalogue
 import page_german as german
 import page_notices as notices
@@ -41,12 +40,13 @@ import page_play as play
 import page_sealed as sealed
 import page_truth as truth
 import page_words as words
-from bad_files import NOBODY
-from gateway_run import folder_of_nobody, missing_packages
+from lib import browser
+from lib.checks import check, verdict
+from lib.confined import NOBODY
+from lib.gateway_run import folder_of_nobody, missing_packages
+from lib.screen_reader import ENGLISH, Reader
 from page_house import (BEN, EVIL, EVIL_CATEGORY, EVIL_NAME, EVIL_TEXTS, EVIL_TITLES, MANY, MANY_BIDS, OPEN, PAST, furnished,
                         with_many)
-from screen_reader import ENGLISH, Reader
-from served import CHECKS, check
 
 WIDTHS = (360, 390, 1280)
 POLICY = ("default-src 'none'; script-src 'self'; style-src 'self'; connect-src 'self'; img-src 'self'; form-action 'self'; "
@@ -282,8 +282,7 @@ def main():
         true_at_once(program, folder)
     with folder_of_nobody() as folder:
         in_german(program, folder, pictures)
-    print(f"{len(CHECKS)} checks, {CHECKS.count(False)} wrong")
-    return 1 if not all(CHECKS) else 0
+    return verdict()
 
 
 if __name__ == "__main__":

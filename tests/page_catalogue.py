@@ -10,12 +10,13 @@ import sys
 import tempfile
 import threading
 
-from bad_files import as_nobody
+from lib.checks import check
+from lib.confined import as_nobody
+from lib.places import ROOT
 from page_house import MANY
 from page_truth import ASKED
-from served import check
 
-JOB = pathlib.Path(__file__).resolve().parent.parent / "examples" / "gateway" / "catalogue"
+JOB = ROOT / "examples" / "gateway" / "catalogue"
 PART = 200
 
 

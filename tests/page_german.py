@@ -2,15 +2,15 @@
 left that somebody could read.
 """
 import json
-import pathlib
 import re
 
 import page_notices as notices
+from lib.checks import check
+from lib.places import ROOT
+from lib.screen_reader import ENTER, Reader
 from page_truth import Listings, go
-from screen_reader import ENTER, Reader
-from served import check
 
-PAGE = pathlib.Path(__file__).resolve().parent.parent / "examples" / "gateway" / "page"
+PAGE = ROOT / "examples" / "gateway" / "page"
 FORM = {"login": "Anmeldename", "password": "Passwort", "button": "Anmelden", "pages": "Seiten"}
 CITY = {"currency": "Taler", "fetch": "In der alten Münze.", "language": "de", "pay": "An die Stadtkasse.",
         "terms": "Ein Gebot bindet.", "write": "haus@stadt.example"}

@@ -6,14 +6,15 @@ Three lots and one member have names and texts that would do harm if they were r
 import contextlib
 import json
 import os
-import pathlib
 import sqlite3
 import subprocess
 import time
 
-from bad_files import as_nobody
-from gateway_run import Gateway, running
-from served import Program, check, message
+from lib.checks import check
+from lib.confined import as_nobody
+from lib.gateway_run import Gateway, running
+from lib.places import ROOT
+from lib.serving import Program, message
 
 ZONE = "CET-1CEST,M3.5.0,M10.5.0/3"
 NAMES = ["Ana", "Ben", "Cid"]
@@ -142,7 +143,7 @@ def with_many(now):
 
 def write_passwords(house):
     """Lets the members sign in whom the house knows, as account.sh does, by hashes that take less time."""
-    tables = pathlib.Path(__file__).resolve().parent.parent / "examples" / "gateway" / "accounts.sql"
+    tables = ROOT / "examples" / "gateway" / "accounts.sql"
     lines = []
     with contextlib.closing(sqlite3.connect(house / "accounts")) as accounts:
         accounts.executescript(tables.read_text())

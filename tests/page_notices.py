@@ -13,10 +13,11 @@ import sys
 import tempfile
 
 import page_sealed as sealed
+from lib.checks import check
+from lib.places import ROOT
 from page_truth import go
-from served import check
 
-JOB = pathlib.Path(__file__).resolve().parent.parent / "examples" / "gateway" / "notices" / "notices.py"
+JOB = ROOT / "examples" / "gateway" / "notices" / "notices.py"
 KEEPS = """#!/bin/sh
 cat > "$(dirname "$0")/mails/$(date +%s%N).$$"
 """

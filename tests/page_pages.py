@@ -7,10 +7,10 @@ import pathlib
 import tempfile
 import time
 
+from lib.checks import check
+from lib.screen_reader import Reader
 from page_play import YEAR, allow_saving, money, saved
 from page_truth import go
-from screen_reader import Reader
-from served import check
 
 ALWAYS = "1970-01-01/2100-12-31"
 CITY = {"currency": "Thaler", "fetch": "At the old mint, on Fridays.", "pay": "To the town's purse.", "terms": "A bid binds.",

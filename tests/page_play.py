@@ -9,11 +9,12 @@ import re
 import signal
 import time
 
-from bad_files import as_nobody
+from lib.checks import check
+from lib.confined import as_nobody
+from lib.screen_reader import ENTER, ESCAPE
+from lib.sent import compact
+from lib.serving import Program
 from page_house import EVIL_NAME, GLOBE, OPEN, PAST, ZONE, in_zone
-from screen_reader import ENTER, ESCAPE
-from sent import compact
-from served import Program, check
 
 TITLE = "Atlas of the northern sea, 1782"
 TEXT = "Forty engraved maps, coloured by hand, in half leather.\nSpine rubbed. Map 13 has a tear at the fold."

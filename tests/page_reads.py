@@ -10,11 +10,11 @@ import shutil
 import sys
 import time
 
-import browser
-from gateway_run import folder_of_nobody
+from lib import browser
+from lib.gateway_run import folder_of_nobody
+from lib.screen_reader import Reader
 from page_house import OPEN, PAST, furnished
 from page_truth import Listings
-from screen_reader import Reader
 
 PAUSE = 5
 # The words after the program, where they are not given: no other page, 20 windows, 60 seconds.

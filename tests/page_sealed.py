@@ -4,8 +4,8 @@ Each sealed amount has digits of its own, so they are found wherever they are wr
 """
 import gzip
 
+from lib.checks import check
 from page_house import ANA, CID
-from served import check
 
 # What is sealed for good, in cents, by whom: maxima that lead, and a reserve that nobody reaches.
 SEALED = {739_157: CID, 868_417: CID, 947_613: ANA}

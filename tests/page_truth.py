@@ -5,12 +5,11 @@ command that the house has taken, and lets a minute pass in six seconds.
 """
 import csv
 import io
-import json
 import time
 
+from lib.checks import check
+from lib.screen_reader import USABLE, Reader
 from page_house import HOUR, MAPS, PAST
-from screen_reader import USABLE, Reader
-from served import check
 
 # Before the page's own scripts: reads that fail, one that isn't answered, a command whose answer is lost, and long pauses that
 # are a tenth as long.

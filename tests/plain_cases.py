@@ -13,15 +13,14 @@ import pathlib
 import re
 import sys
 
-import plain_office
-from days import day_of
-from mutated import cut, request_of
-from plain_house import BANDS
-from plain_site import AHEAD, Site
-from plain_site import day_of as day_number
-from raised import Raise, covered_bid
-from sent import Answer, answers_in
-from twins import Run, apart, caller
+from lib import plain_office
+from lib.days import day_of
+from lib.frame import cut, request_of
+from lib.plain_house import BANDS
+from lib.plain_site import AHEAD, Site, day_of as day_number
+from lib.raises import Raise, covered_bid
+from lib.sent import Answer, answers_in
+from lib.twin_lists import Run, apart, caller
 
 TOKEN = re.compile(r"[!#$%&'*+.^_`|~0-9A-Za-z-]+", re.ASCII)
 NO_HEAD = Answer(400, {"error": "head"}, "", True).text()

@@ -6,34 +6,15 @@ stdin there; `plain_pages.py stored` writes it. crates/test_site/src/page_script
 ours is asked: the rules are those of plain_house.py, the pages plain_site.py's. The last line is 'N lines, M wrong'.
 """
 import itertools
-import pathlib
 import sys
 
-from plain_site import Site
-from sent import command, compact, read
-from transcript import is_printed, lines, played, section
+from lib.page_script import requests
+from lib.places import ROOT
+from lib.plain_site import Site
+from lib.sent import compact
+from lib.transcript import is_printed, lines, played, section
 
-CRATE = pathlib.Path(__file__).resolve().parent.parent / "crates" / "test_site"
-
-
-def ordered(line):
-    member, moment, target, *body = line.split(" ", 3)
-    return command(target, member, moment, "".join(body).encode())
-
-
-def requests(word, rest):
-    """The messages of a line."""
-    if word == "post":
-        return [ordered(rest)]
-    if word == "each":
-        count, _, line = rest.partition(" ")
-        return [ordered(line.replace("#", str(number))) for number in range(1, int(count) + 1)]
-    if word == "get":
-        member, target = rest.split(" ")
-        return [read(target, member)]
-    if word not in ("", "--"):
-        raise ValueError(word)
-    return []
+CRATE = ROOT / "crates" / "test_site"
 
 
 def shown(script):

@@ -19,10 +19,11 @@ finish each sector of 512 bytes that it begins; no power was cut, and no device 
 import socket
 import sys
 
-from file_calls import COMMANDS, NONE, Disk, Versions, prepared
-from first_version import UPGRADED
-from kills import Client
-from served import CHECKS, check, served
+from lib.checks import check, verdict
+from lib.file_calls import COMMANDS, NONE, Disk, Versions, prepared
+from lib.first_version import UPGRADED
+from lib.growing import Client
+from lib.serving import served
 
 
 class Cuts:
@@ -101,9 +102,8 @@ def main():
         cuts.run()
         for kept in ("house", "stopped"):
             UpgradeCuts(calls, every, kept).run()
-    print(f"{cuts.count} calls, {cuts.cuts} cuts, {len(calls.found)} pairs of files, {cuts.more} of them with one command more "
-          f"than answered, {CHECKS.count(False)} wrong")
-    return 1 if not all(CHECKS) else 0
+    return verdict(f"{cuts.count} calls, {cuts.cuts} cuts, {len(calls.found)} pairs of files, {cuts.more} of them with one command "
+                   "more than answered")
 
 
 if __name__ == "__main__":

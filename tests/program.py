@@ -13,7 +13,7 @@ import subprocess
 import sys
 import tempfile
 
-from sent import PATIENCE
+from lib.sent import PATIENCE
 
 READ = b"GET /items/1 HTTP/1.1\r\nhost: h\r\nx-member: 2\r\n\r\n"
 REPLAY = ["replay", "--preset"]

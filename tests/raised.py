@@ -4,7 +4,7 @@
 A raise is a place in a list, a maximum for the bid there, and another member. It is covered where the bid there was
 accepted, is the last accepted one of its bidder on its item, and in the end has the lead, with a step over the second
 maximum and the reserve, where there are such, at or below its own; where the new maximum is greater, and at most the
-limit; and where the other isn't the bidder. All of this is found by the plain site of tests/plain_site.py alone. Where
+limit; and where the other isn't the bidder. All of this is found by the plain site of tests/lib/plain_site.py alone. Where
 it holds, the list with that bid raised has to be a twin of the list for the other, by the plain site; `surplus` has to
 print `same, N replies`; and two replays have to give the other N replies which are the same, byte for byte, in answers
 which are those of the plain site, so that none is 503 or 500. Where it doesn't, `surplus` has to print `not covered`.
@@ -17,86 +17,14 @@ import dataclasses
 import sys
 import tempfile
 
-from plain_house import BANDS, MOST_CENTS, over
-from plain_site import COMMANDS, ROUTES, body_of
-from sent import command, compact, read
-from twins import SEED, Lists, Run, are_lists, caller
+from lib.plain_house import BANDS, MOST_CENTS
+from lib.raises import (BIDS, MOST_MEMBER, MOST_PLACE, Raise, bids_in, covered_bid, is_over_reserve, is_over_second, last_bids,
+                        leads, reserve, second)
+from lib.sent import command, compact, read
+from lib.twin_lists import SEED, Lists, Run, are_lists, caller
 
 WIDE = [(0, 1), (1_000, 400), (20_000, 30_000)]
-MOST_MEMBER, MOST_PLACE = 100_000, 1_000_000
 MORE = [1, 1, 7, 500, 100_000]
-BIDS = ROUTES[COMMANDS["bid"]][0]
-
-
-@dataclasses.dataclass
-class Bid:
-    """An accepted bid, with its place in a list."""
-    place: int
-    member: int
-    item: int
-    maximum: int
-    moment: int
-
-
-@dataclasses.dataclass
-class Raise:
-    place: int
-    maximum: int
-    other: int
-
-    def fits(self):
-        """Whether the program's words can say it."""
-        return 1 <= self.place <= MOST_PLACE and 0 <= self.maximum <= MOST_CENTS and 1 <= self.other <= MOST_MEMBER
-
-
-def bids_in(run):
-    """The accepted bids of a list, in order."""
-    for place, (request, answer) in enumerate(zip(run.requests, run.answers), 1):
-        target = BIDS.fullmatch(request.target)
-        if target and answer.status == 201:
-            yield Bid(place, caller(request), int(target[1]), body_of(request.body)["maximum"],
-                      int(request.values("x-moment")[0]))
-
-
-def last_bids(run):
-    """The last accepted bid of each member on each item."""
-    return {(bid.member, bid.item): bid for bid in bids_in(run)}.values()
-
-
-def second(run, bid):
-    """The greatest maximum of the others on a bid's item, or none."""
-    others = [placed.maximum for placed in bids_in(run) if placed.item == bid.item and placed.member != bid.member]
-    return max(others, default=None)
-
-
-def is_over_second(run, bid):
-    """Whether a bid's maximum is at least a step over the second, if there is one."""
-    most = second(run, bid)
-    house = run.site.house
-    return most is None or over(most, house.table(house.found(bid.item))) <= bid.maximum
-
-
-def reserve(run, bid):
-    """The reserve of a bid's item, or none."""
-    return run.site.house.found(bid.item).reserve
-
-
-def is_over_reserve(run, bid):
-    """Whether a bid's maximum is at least the reserve, if there is one."""
-    return reserve(run, bid) is None or reserve(run, bid) <= bid.maximum
-
-
-def leads(run, bid):
-    house = run.site.house
-    return house.leader(house.found(bid.item)) == bid.member
-
-
-def covered_bid(run, raising):
-    """The bid that is raised where this is covered, or none."""
-    bid = next((bid for bid in last_bids(run) if bid.place == raising.place), None)
-    is_covered = bid is not None and leads(run, bid) and is_over_second(run, bid) and is_over_reserve(run, bid) \
-        and bid.maximum < raising.maximum <= MOST_CENTS and raising.other != bid.member
-    return bid if is_covered else None
 
 
 def raised_list(run, bid, maximum):

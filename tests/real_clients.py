@@ -12,8 +12,9 @@ import subprocess
 import sys
 import tempfile
 
-from sent import PATIENCE
-from served import CHECKS, PRESET, Program, check, exchange, served
+from lib.checks import check, verdict
+from lib.sent import PATIENCE
+from lib.serving import PRESET, Program, exchange, served
 
 BEN, CID = (["-H", f"x-member: {member}", "-H", "x-moment: 1002"] for member in (2, 3))
 
@@ -87,8 +88,7 @@ def main():
             ask_by_curl(server.port)
             ask_by_python(server.port)
         check("ended", server.ending, served(CONNECTIONS))
-    print(f"{len(CHECKS)} checks, {CHECKS.count(False)} wrong")
-    return 1 if not all(CHECKS) else 0
+    return verdict()
 
 
 if __name__ == "__main__":

@@ -9,7 +9,7 @@ compiler, `cc`. The last line is 'N runs, M wrong'.
 import pathlib
 import sys
 
-from refusal import built_library, ended, refused_runs, run, report
+from lib.refusal import built_library, ended, refused_runs, report, run
 
 SCRIPT = r"""
 section bands

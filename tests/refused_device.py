@@ -11,7 +11,7 @@ import pathlib
 import re
 import sys
 
-from refusal import built_library, ended, refused_runs, run, report
+from lib.refusal import built_library, ended, refused_runs, report, run
 
 SCRIPT = """\
 section devices

@@ -13,7 +13,7 @@ import re
 import sys
 import tempfile
 
-from refusal import built_library, ended, refused_runs, run
+from lib.refusal import built_library, ended, refused_runs, run
 
 REFUSED = (b"HTTP/1.1 503 Service Unavailable\r\ncontent-type: application/json\r\n"
            b'content-length: 18\r\n\r\n{"error":"memory"}')

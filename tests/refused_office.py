@@ -16,10 +16,11 @@ import sqlite3
 import sys
 import tempfile
 
-from first_version import KEPT, found, upgraded
-from office import AS_CSV, BOTH_DAYS, BY_ANA, HEAD, SALES, house, run as audited
-from refusal import allocations, built_library, ended, in_turn, run, report
-from served import EXAMPLE, PRESET, Program
+from lib.checks import check
+from lib.first_version import KEPT, found, upgraded
+from lib.refusal import allocations, built_library, ended, in_turn, report, run
+from lib.sales import AS_CSV, BOTH_DAYS, BY_ANA, HEAD, SALES, house, run as audited
+from lib.serving import EXAMPLE, PRESET, Program
 
 # What stands for the path of the house in the words of a run.
 HOUSE = "HOUSE"

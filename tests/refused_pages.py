@@ -9,7 +9,7 @@ as ever, where the memory was not needed. It needs a C compiler, `cc`. The last 
 import pathlib
 import sys
 
-from refusal import built_library, ended, refused_runs, run, report
+from lib.refusal import built_library, ended, refused_runs, report, run
 
 # Each page, and the record.
 SCRIPT = """\

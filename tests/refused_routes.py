@@ -1,7 +1,7 @@
 #!/usr/bin/env python3
 """Refuses allocations of runs over every route, one in so many: `refused_routes.py PROGRAM [REPLAY [SERVE [INIT]]]`.
 
-The messages are those of tests/routes.py: each command accepted, each page read, each refusal and fault answered. With
+The messages are those of tests/lib/routes.py: each command accepted, each page read, each refusal and fault answered. With
 a refusal each has to be answered 503, or as the plain site answers it in the list without the messages that were
 answered 503; and the house is that list's. In memory the record, which follows, tells so; of a house in a file, which
 is served over one connection, each page and its rows, which have to be sound. Or the run ends with `auction: memory`,
@@ -20,12 +20,13 @@ import sqlite3
 import sys
 import tempfile
 
-from plain_house import BANDS
-from plain_site import Site, setup
-from refusal import allocations, built_library, ended, in_turn, refused_runs, run, report
-from routes import lacking, messages, reads
-from sent import Malformed, answers_in
-from served import Program, exchange, served
+from lib.checks import check
+from lib.plain_house import BANDS
+from lib.plain_site import Site, setup
+from lib.refusal import allocations, built_library, ended, in_turn, refused_runs, report, run
+from lib.routes import lacking, messages, reads
+from lib.sent import Malformed, answers_in
+from lib.serving import Program, exchange, served
 
 MESSAGES = messages()
 SIGHTS = list(reads())

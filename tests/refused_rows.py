@@ -14,9 +14,9 @@ import collections
 import pathlib
 import sys
 
-from plain_site import Site
-from refusal import built_library, ended, refused_runs, report
-from worked import bids, block, is_new, steps
+from lib.plain_site import Site
+from lib.refusal import built_library, ended, refused_runs, report
+from lib.worked import bids, block, is_new, steps
 
 LIST = next(bids())
 REFUSED = (b"HTTP/1.1 503 Service Unavailable\r\ncontent-type: application/json\r\n"

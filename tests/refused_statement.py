@@ -9,8 +9,8 @@ there was no memory, and has written nothing. It needs a C compiler, `cc`. The l
 import pathlib
 import sys
 
-from refusal import built_library, ended, refused_runs, run, report
-from statement import statement
+from lib.refusal import built_library, ended, refused_runs, report, run
+from lib.statement import statement
 
 REFUSED = (1, b"", b"bench_settle: out of memory\n")
 

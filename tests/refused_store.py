@@ -15,8 +15,8 @@ import shutil
 import sys
 import tempfile
 
-from refusal import allocations, built_library, in_turn, run, report
-from refused_house import SCRIPT
+from lib.house_lines import SCRIPT
+from lib.refusal import allocations, built_library, in_turn, report, run
 
 COMMANDS = [line for line in SCRIPT if not line.startswith("?") and line not in ("record", "fill")]
 QUESTIONS = [line for line in SCRIPT if line.startswith("?")]

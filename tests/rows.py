@@ -5,9 +5,9 @@ The program is that of the crate `test_store`. It plays each list over a house i
 by message and as one list, and all four have to tell the same: the answers that are expected, whether the house is
 new before and after them, and the record.
 
-First the section `runs` of the stored run has to be the one of tests/worked.py. Then come the cases of `replay` in the folder CASES, if there
+First the section `runs` of the stored run has to be the one of tests/lib/worked.py. Then come the cases of `replay` in the folder CASES, if there
 is one, with the answers that it has, and lists of at least COUNT random messages, 4,000 without it, some of them
-broken frames in mid-list, with the answers of tests/plain_site.py. `rows.py stored` writes that section. The last line
+broken frames in mid-list, with the answers of tests/lib/plain_site.py. `rows.py stored` writes that section. The last line
 is 'N lists, M messages, K wrong'.
 
 Seen: the 485 cases of `replay` that begin, and 60 random lists by the seed 2026: 18,278 messages in four forms each,
@@ -22,13 +22,14 @@ import re
 import subprocess
 import sys
 
-from fuzz import END, HEAD, SEED, Sender, played
-from plain_site import AHEAD, Site, setup
-from sent import PATIENCE, Answer, answers_in, value_of
-from transcript import section
-from worked import FORMS, block, stored
+from lib.places import ROOT
+from lib.plain_site import AHEAD, Site, setup
+from lib.random_messages import END, HEAD, SEED, Sender, played
+from lib.sent import PATIENCE, Answer, answers_in, value_of
+from lib.transcript import section
+from lib.worked import FORMS, block, stored
 
-STORED = pathlib.Path(__file__).resolve().parent.parent / "crates/test_store"
+STORED = ROOT / "crates/test_store"
 SAME = b"".join(f"{form}: the same\n".encode() for form in FORMS)
 LONGEST = 120
 # Faults of a frame, after which no message of a stream is looked for.

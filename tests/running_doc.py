@@ -19,12 +19,14 @@ import subprocess
 import sys
 import tempfile
 
-from bad_files import SMALL_LOG, as_nobody
-from readme import played
-from sent import PATIENCE
-from served import CHECKS, PRESET, Program, check, exchange, fault, message, served
+from lib.checks import check, verdict
+from lib.confined import as_nobody
+from lib.house_files import SMALL_LOG
+from lib.places import ROOT
+from lib.sent import PATIENCE
+from lib.serving import PRESET, Program, exchange, fault, message, served
+from lib.sessions import played
 
-ROOT = pathlib.Path(__file__).resolve().parent.parent
 PAGE = (ROOT / "docs" / "RUNNING.md").read_text()
 BEFORE = re.compile(r"^<!-- after: (.*) -->\n```text\n", re.M)
 INIT = ["--bands", "bands.csv", "--rate", "1000", "--zone", "UTC0"]
@@ -170,8 +172,7 @@ def main():
         untold(program, folder)
         spoiled(program, folder)
         signals(program, folder)
-    print(f"{len(CHECKS)} checks, {CHECKS.count(False)} wrong")
-    return 1 if not all(CHECKS) else 0
+    return verdict()
 
 
 if __name__ == "__main__":

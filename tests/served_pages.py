@@ -11,13 +11,15 @@ import pathlib
 import sys
 import tempfile
 
-from plain_pages import requests
-from sent import answers_in
-from served import CHECKS, Program, check, served
-from transcript import pairs, section
+from lib.checks import check, verdict
+from lib.page_script import requests
+from lib.places import ROOT
+from lib.sent import answers_in
+from lib.serving import Program, served
+from lib.transcript import pairs, section
 
-CRATE = pathlib.Path(__file__).resolve().parent.parent / "crates" / "test_site"
-BANDS = CRATE.parent.parent / "examples" / "bands.csv"
+CRATE = ROOT / "crates" / "test_site"
+BANDS = ROOT / "examples" / "bands.csv"
 
 
 @dataclasses.dataclass
@@ -73,8 +75,7 @@ def main():
         program = Program(str(pathlib.Path(sys.argv[1]).resolve()), folder)
         for number, house in enumerate(houses(), 1):
             compare(program, number, house)
-    print(f"{len(CHECKS)} checks, {CHECKS.count(False)} wrong")
-    return 1 if not all(CHECKS) else 0
+    return verdict()
 
 
 if __name__ == "__main__":

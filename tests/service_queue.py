@@ -23,11 +23,13 @@ import tempfile
 import threading
 import time
 
-from house_file import limited
-from sent import PATIENCE, next_answer
-from served import CHECKS, SETTINGS, Program, check, exchange, held_port, message
+from lib.checks import check, verdict
+from lib.confined import limited
+from lib.places import ROOT
+from lib.sent import PATIENCE, next_answer
+from lib.serving import SETTINGS, Program, exchange, held_port, message
 
-QUEUE = pathlib.Path(__file__).resolve().parent.parent / "examples" / "gateway" / "queue.cfg"
+QUEUE = ROOT / "examples" / "gateway" / "queue.cfg"
 HAPROXY = shutil.which("haproxy", path=f"{os.environ['PATH']}:/usr/sbin")
 # What the unit of the queue sets. Nobody listens on the port of the sign-in.
 SETTING = {"SOCKETS": ".", "SOCKET_MODE": "600", "MESSAGES": "5000", "SIGN_IN_PORT": "9"}
@@ -213,8 +215,7 @@ def main():
         apart(program, folder, port, -3)
         apart(program, folder, port, 3)
         failing(program, folder, port)
-    print(f"{len(CHECKS)} checks, {CHECKS.count(False)} wrong")
-    return 1 if not all(CHECKS) else 0
+    return verdict()
 
 
 if __name__ == "__main__":

@@ -16,8 +16,9 @@ import tempfile
 import threading
 import time
 
-from sent import PATIENCE
-from served import CHECKS, MESSAGES, Program, check, exchange, message, served
+from lib.checks import RUN, check, verdict
+from lib.sent import PATIENCE
+from lib.serving import MESSAGES, Program, exchange, message, served
 
 # For how long a connection may be still, how long one of these may hold up the others, and how long one that has had its
 # last answer, with some seconds for the rest; in seconds.
@@ -88,8 +89,8 @@ def main():
             thread.start()
         for thread in stalls:
             thread.join()
-    print(f"{len(CHECKS)} checks, {CHECKS.count(False)} wrong")
-    return 1 if len(CHECKS) != 4 * len(WAYS) or not all(CHECKS) else 0
+    status = verdict()
+    return status if len(RUN.found) == 4 * len(WAYS) else 1
 
 
 if __name__ == "__main__":

@@ -5,59 +5,9 @@ The sales are those that crates/bench_settle/src/sales.rt makes. The civil day o
 library's, by localtime(3) under the environment variable TZ, and the CSV is written by Python's csv.
 The file crates/bench_settle/stdout is `python3 tests/statement.py 240`.
 """
-import csv
-import io
-import os
 import sys
-import time
 
-MEMBER = 1
-RATE = 1250
-NAMES = ["day", "item", "role", "other", "price", "fee", "net"]
-COLUMNS = "{:<10} {:>8} {:<4} {:>8} {:>14} {:>14} {:>14}\n"
-
-os.environ["TZ"] = "CET-1CEST,M3.5.0,M10.5.0/3"
-time.tzset()
-
-
-def lines(count):
-    """The member's sales, by day and item: each twentieth item sold, and those between bought."""
-    found = []
-    for item in range(10, count + 1, 10):
-        moment = 1_735_689_600 + item * 7_654_321 % 31_449_600
-        day = time.strftime("%Y-%m-%d", time.localtime(moment))
-        price = 1 + item * 12_347 % 99_991
-        sold = item % 20 == 0
-        fee = price * RATE // 10_000 if sold else 0
-        other = 2 + item % 50_000
-        found.append((day, item, "sell" if sold else "buy", other, price, fee, price - fee))
-    return sorted(found)
-
-
-def amount(cents):
-    return f"{cents // 100}.{cents % 100:02}"
-
-
-def records(found):
-    return [NAMES] + [[*line[:4], *map(amount, line[4:])] for line in found]
-
-
-def totals(found):
-    sold = [line for line in found if line[2] == "sell"]
-    bought = [line for line in found if line[2] == "buy"]
-    sums = {"sold": sum(line[4] for line in sold), "fees": sum(line[5] for line in sold),
-            "net": sum(line[6] for line in sold), "bought": sum(line[4] for line in bought)}
-    return "".join(f"{name} {amount(cents)}\n" for name, cents in sums.items())
-
-
-def statement(count):
-    """The statement as text and then as CSV."""
-    found = lines(count)
-    text = "".join(COLUMNS.format(*record) for record in records(found)) + totals(found)
-    table = io.StringIO()
-    csv.writer(table, lineterminator="\n").writerows(records(found))
-    return text + table.getvalue()
-
+from lib.statement import statement
 
 if __name__ == "__main__":
     sys.stdout.write(statement(int(sys.argv[1])))

@@ -16,12 +16,12 @@ import collections
 import socket
 import sys
 
-from file_calls import COMMANDS, NONE, Disk, Versions, prepared
-from first_version import UPGRADED
-from house_file import FAILED
-from kills import Client
-from sent import next_answer
-from served import CHECKS, MESSAGES, STORE_FAILED, check, exchange, fault, served
+from lib.checks import check, verdict
+from lib.file_calls import COMMANDS, NONE, Disk, Versions, prepared
+from lib.first_version import UPGRADED
+from lib.growing import Client
+from lib.sent import next_answer
+from lib.serving import FAILED, MESSAGES, STORE_FAILED, exchange, fault, served
 
 READ = MESSAGES[-1]
 LATER = MESSAGES[0].replace(b"Ana", b"Eve")
@@ -132,8 +132,7 @@ def main():
             stops.upgrade(kept)
     for name, found in stops.found.items():
         print(f"{name}: {found['before']} before, {found['after']} after")
-    print(f"{stops.stops} stops, {CHECKS.count(False)} wrong")
-    return 1 if not all(CHECKS) else 0
+    return verdict(f"{stops.stops} stops")
 
 
 if __name__ == "__main__":

@@ -25,10 +25,12 @@ import subprocess
 import sys
 import tempfile
 
-from sent import PATIENCE
-from transcript import pairs, section
+from lib.checks import check
+from lib.places import ROOT
+from lib.sent import PATIENCE
+from lib.transcript import pairs, section
 
-CRATE = pathlib.Path(__file__).resolve().parent.parent / "crates" / "test_store"
+CRATE = ROOT / "crates" / "test_store"
 # A question that any house answers once it is open, and its answer by the script.
 CLOCK, MOMENT = "? clock", "7001"
 # By the script's commands. Items are open (0), sold (1), unsold (2) or settled (3).

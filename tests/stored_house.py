@@ -9,10 +9,11 @@ import pathlib
 import subprocess
 import sys
 
-from sent import PATIENCE
-from transcript import lines, section
+from lib.places import ROOT
+from lib.sent import PATIENCE
+from lib.transcript import lines, section
 
-CRATE = pathlib.Path(__file__).resolve().parent.parent / "crates" / "test_store"
+CRATE = ROOT / "crates" / "test_store"
 
 
 def main():

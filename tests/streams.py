@@ -18,7 +18,7 @@ import subprocess
 import sys
 import tempfile
 
-from sent import PATIENCE
+from lib.sent import PATIENCE
 
 HERE = pathlib.Path(__file__).resolve().parent
 

@@ -19,10 +19,11 @@ import sys
 import tempfile
 import time
 
-from replica import Machine, run, waited_for
-from served import CHECKS, SETTINGS, check
+from lib.checks import RUN, check, verdict
+from lib.machines import Machine, run, waited_for
+from lib.places import ROOT
+from lib.serving import SETTINGS
 
-ROOT = pathlib.Path(__file__).resolve().parent.parent
 QUEUE = ROOT / "examples" / "gateway" / "queue.cfg"
 SCRIPTS = [str(ROOT / "examples" / name)
            for name in ("replica/answers.sh", "replica/give_up.sh", "replica/take_over.sh", "service/units.sh")]
@@ -222,11 +223,10 @@ def main():
         try:
             play(program, folder)
         finally:
-            if not all(CHECKS) or sys.exc_info()[0]:
+            if RUN.wrong() or sys.exc_info()[0]:
                 for log in folder.glob("*/log"):
                     print(log.read_text())
-    print(f"{len(CHECKS)} checks, {CHECKS.count(False)} wrong")
-    return 1 if not all(CHECKS) else 0
+    return verdict()
 
 
 if __name__ == "__main__":

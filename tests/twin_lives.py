@@ -24,12 +24,12 @@ import sys
 import tempfile
 import time
 
-from fuzz import sealed_changes, sights
-from plain_house import BANDS
-from plain_site import Site, closes
-from sent import PATIENCE, answers_in, next_answer, read
-from served import Program, served
-from twins import SEED, Lists, Run, are_lists, caller
+from lib.plain_house import BANDS
+from lib.plain_site import Site, closes
+from lib.random_messages import sealed_changes, sights
+from lib.sent import PATIENCE, answers_in, next_answer, read
+from lib.serving import Program, served
+from lib.twin_lists import SEED, Lists, Run, are_lists, caller
 
 # The most servers that end before a list does, and how long a message is in flight at most, in seconds.
 MOST_ENDS, LONGEST_FLIGHT = 3, 0.0006

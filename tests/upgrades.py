@@ -1,7 +1,7 @@
 #!/usr/bin/env python3
 """Upgrades houses of version 1: `upgrades.py PROGRAM`.
 
-The houses are those that tests/version-1 keeps, which a program of version 1 has made: one that is alone in its file,
+The houses are those that tests/lib/version-1 keeps, which a program of version 1 has made: one that is alone in its file,
 and one whose log belongs to it. What other commands on a file tell of them is that they are damaged, and they stay as
 they are. SQLite reads each before and after its upgrade: the rows are those of the rules in Python, and stay, but that
 the row of the house has version 2; the tables that are new are empty, the texts of the schema are those of a new house, in their order, and SQLite keeps the
@@ -17,20 +17,19 @@ of it is lost; where the output is full it is upgraded. The last line is 'N chec
 """
 import contextlib
 import pathlib
-import shutil
 import sqlite3
 import sys
 import tempfile
 
-from bad_files import commands as words_on, is_small_log
-from first_version import IS_VERSION_2, LATER, TABLES, UPGRADED, by_key, found, laid, plain_rows, upgraded
-from house_file import limited
-from office import on_full_device
-from plain_house import BANDS
-from routes import commands, sealed
-from sent import answers_in, read
-from served import CHECKS, Program, check, fault, served
-from spoiled_house import MESSAGES, SPOILED, Houses, answering
+from lib.checks import check, verdict
+from lib.confined import limited, on_full_device
+from lib.first_version import IS_VERSION_2, LATER, TABLES, UPGRADED, by_key, found, laid, plain_rows, upgraded
+from lib.house_files import commands as words_on, is_small_log
+from lib.plain_house import BANDS
+from lib.routes import commands, sealed
+from lib.sent import answers_in
+from lib.serving import Program, fault, served
+from lib.spoiled_rows import MESSAGES, SPOILED, Houses, answering
 
 STORE, DAMAGED = fault("file: Store"), fault("file: Damaged")
 INIT = ["--bands", "bands.csv", "--rate", "1000", "--zone", "UTC0"]
@@ -230,8 +229,7 @@ def main():
         upgrades.full()
         count = spoiled(upgrades.program, folder)
     print(f"{len(NO_HOUSES)} that are no house, {len(SPOILED)} with a spoiled row, {count} answers of these")
-    print(f"{len(CHECKS)} checks, {CHECKS.count(False)} wrong")
-    return 1 if not all(CHECKS) else 0
+    return verdict()
 
 
 if __name__ == "__main__":

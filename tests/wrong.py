@@ -13,7 +13,8 @@ import sys
 import tempfile
 import time
 
-ROOT = pathlib.Path(__file__).resolve().parent.parent
+from lib.places import ROOT
+
 
 
 def try_bodies(names):

@@ -4,8 +4,8 @@ Which numbers there are is known by the rules, not by the description of the int
 """
 import dataclasses
 
-from plain_house import LAST_MOMENT, MOST_CENTS
-from plain_site import LISTED
+from lib.plain_house import LAST_MOMENT, MOST_CENTS
+from lib.plain_site import LISTED
 
 # Keys of an item of which its other keys decide whether they are null.
 NULLED = {"closed", "floor", "leader"}

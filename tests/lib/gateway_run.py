@@ -16,11 +16,11 @@ import tempfile
 import time
 import urllib.parse
 
-from bad_files import NOBODY, as_nobody
-from sent import PATIENCE
-from served import held_port
+from lib.confined import NOBODY, as_nobody
+from lib.places import ROOT
+from lib.sent import PATIENCE
+from lib.serving import held_port
 
-ROOT = pathlib.Path(__file__).resolve().parent.parent
 # Commands that the gateway needs, with the Debian packages that have them.
 NEEDED = {"nginx": "nginx-light", "haproxy": "haproxy", "apache2": "apache2-bin", "htpasswd": "apache2-utils",
           "sqlite3": "sqlite3", "openssl": "openssl", "curl": "curl", "ip": "iproute2", "setsid": "util-linux",

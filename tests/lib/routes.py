@@ -5,9 +5,9 @@ reserve or sets a band table: these are in `sealed`, which a house of version 1 
 """
 import dataclasses
 
-from plain_house import BANDS
-from plain_site import COMMANDS, NUMBERS, READS, Site
-from sent import command, compact, read
+from lib.plain_house import BANDS
+from lib.plain_site import COMMANDS, NUMBERS, READS, Site
+from lib.sent import command, compact, read
 
 LAST_MOMENT = 4_102_444_800
 

@@ -9,15 +9,14 @@ import pathlib
 import subprocess
 import tempfile
 
-import house_file
-from first_version import IS_VERSION_2, UPGRADED, found, laid, upgraded
-from house_file import SIGHTS
-from kills import rows
-from refusal import HERE
-from served import SETTINGS, Program, check, exchange, fault, message, served
+from lib.checks import check
+from lib.first_version import IS_VERSION_2, UPGRADED, found, laid, upgraded
+from lib.house_files import rows
+from lib.places import LIB
+from lib.serving import MESSAGES, READS, SETTINGS, SIGHTS, Program, exchange, fault, message, served
 
 # All thirteen commands, none of them refused; the close closes three items.
-COMMANDS = [text for text in house_file.COMMANDS if b'"maximum":400' not in text]
+COMMANDS = [text for text in MESSAGES[:-len(READS)] if b'"maximum":400' not in text]
 CLOSE = next(place for place, text in enumerate(COMMANDS) if text.startswith(b"POST /close "))
 COMMANDS[CLOSE:CLOSE] = [
     message("POST", "/items", 1, 1005,
@@ -178,5 +177,5 @@ def prepared(path):
     """The program of a path in a folder that goes again."""
     with tempfile.TemporaryDirectory() as folder:
         library = f"{folder}/calls.so"
-        subprocess.run(["cc", "-shared", "-fPIC", "-O1", "-o", library, str(HERE / "file_calls.c"), "-ldl"], check=True)
+        subprocess.run(["cc", "-shared", "-fPIC", "-O1", "-o", library, str(LIB / "file_calls.c"), "-ldl"], check=True)
         yield Calls(str(pathlib.Path(path).resolve()), folder, library)

@@ -1,15 +1,15 @@
 """Lists of messages with what each has to be answered, written by hand from the rules of the house and its formats.
 
 Where a body is given it is the one that the rules give; the head, and each body that is left out, is the one of
-tests/plain_site.py. `stored()` is the section `runs` of the script of crates/test_store and the transcript that it has
+tests/lib/plain_site.py. `stored()` is the section `runs` of the script of crates/test_store and the transcript that it has
 to be.
 """
 import dataclasses
 
-from plain_site import READS, Site, setup
-from routes import answered, asked, bid, listed, rated
-from sent import Answer, Request, command, compact, lengthened, read
-from transcript import MARK
+from lib.plain_site import READS, Site, setup
+from lib.routes import answered, asked, bid, listed, rated
+from lib.sent import Answer, Request, command, compact, lengthened, read
+from lib.transcript import MARK
 
 ATLAS = ('{"buy_now":null,"category":1,"closed":%s,"count":%d,"edition":1,"end":5000,"floor":%s,"item":1,"leader":%s,'
          '"lot":"A1","met":null,"price":%d,"seller":1,"start":500,"state":"%s","text":"","title":"Atlas"}')

@@ -5,10 +5,10 @@ import os
 import re
 import time
 
-from days import day_of
-from plain_site import MOST_BODY
-from sent import compact
-from statement import COLUMNS, amount, records, totals
+from lib.days import day_of
+from lib.plain_site import MOST_BODY
+from lib.sent import compact
+from lib.statement import COLUMNS, amount, records, totals
 
 HEAD = ["lot", "category", "title", "text", "start", "buy_now", "end"]
 NUMBER = re.compile(r"[0-9]{1,10}", re.ASCII)

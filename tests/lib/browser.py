@@ -9,8 +9,8 @@ import time
 import urllib.error
 import urllib.request
 
-from sent import PATIENCE
-from served import held_port
+from lib.sent import PATIENCE
+from lib.serving import held_port
 
 WORDS = ["--headless=new", "--disable-gpu", "--no-first-run", "--disable-dev-shm-usage"]
 

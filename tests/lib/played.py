@@ -2,7 +2,7 @@
 import pathlib
 import subprocess
 
-from sent import PATIENCE
+from lib.sent import PATIENCE
 
 
 def spelled(word):

@@ -2,14 +2,11 @@
 import concurrent.futures
 import contextlib
 import os
-import pathlib
 import subprocess
 import tempfile
 
-from sent import PATIENCE
-
-HERE = pathlib.Path(__file__).resolve().parent
-
+from lib.places import LIB
+from lib.sent import PATIENCE
 
 def run(command, given=b"", **environment):
     return subprocess.run(command, input=given, capture_output=True,
@@ -22,7 +19,7 @@ def built_library():
     with tempfile.TemporaryDirectory() as folder:
         library = f"{folder}/refuse.so"
         subprocess.run(["cc", "-shared", "-fPIC", "-O1", "-o", library,
-                        str(HERE / "refuse_allocation.c"), "-ldl"], check=True)
+                        str(LIB / "refuse_allocation.c"), "-ldl"], check=True)
         yield library
 
 

@@ -7,8 +7,8 @@ import datetime
 import json
 import re
 
-from plain_house import BANDS, LAST_MOMENT, House
-from sent import Answer, command, compact
+from lib.plain_house import BANDS, LAST_MOMENT, House
+from lib.sent import Answer, command, compact
 
 MOST_HEAD, MOST_FIELDS, MOST_BODY, MOST_DEPTH = 8192, 64, 16_384, 127
 LISTED = 50

@@ -5,11 +5,11 @@ draws it, or reached by the keyboard.
 """
 import contextlib
 import json
-import pathlib
 import time
 
-from browser import Browser, Refused
-from sent import PATIENCE
+from lib.browser import Browser, Refused
+from lib.places import LIB
+from lib.sent import PATIENCE
 
 TAB, ENTER, ESCAPE = "\ue004", "\ue007", "\ue00c"
 # What a person may use. Each needs a name.
@@ -20,7 +20,7 @@ USABLE = {"button", "link", "textbox", "searchbox", "combobox", "Date", "InputTi
 ENGLISH = {"login": "Name for signing in", "password": "Password", "button": "Sign in", "pages": "Pages"}
 
 SCHEMES = ("light", "dark")
-LOOKS = (pathlib.Path(__file__).resolve().parent / "page_looks.js").read_text()
+LOOKS = (LIB / "page_looks.js").read_text()
 
 
 class Node:
