@@ -137,161 +137,161 @@ demo:
 		| sed 's/}HTTP/}\n\nHTTP/; \$$ s/\$$/\n/'"
 
 test:
-	python3 tests/giving_up.py --texts
-	python3 tests/progress.py rt ci
+	python3 tests/kit/giving_up.py --texts
+	python3 tests/kit/run.py rt ci
 
 auction:
-	python3 tests/build_program.py auction
+	python3 tests/kit/build_program.py auction
 
 session:
-	python3 tests/readme.py bin/auction
+	python3 tests/documents/readme.py bin/auction
 
 program:
-	python3 tests/program.py crates/auction/out/auction
-	python3 tests/streams.py crates/auction/out/auction
-	python3 tests/served.py crates/auction/out/auction
-	python3 tests/at_once.py crates/auction/out/auction
-	python3 tests/served_pages.py crates/auction/out/auction
-	python3 tests/office.py crates/auction/out/auction
-	python3 tests/living_house.py crates/auction/out/auction
+	python3 tests/program/program.py crates/auction/out/auction
+	python3 tests/program/streams.py crates/auction/out/auction
+	python3 tests/program/served.py crates/auction/out/auction
+	python3 tests/program/at_once.py crates/auction/out/auction
+	python3 tests/program/served_pages.py crates/auction/out/auction
+	python3 tests/office/office.py crates/auction/out/auction
+	python3 tests/office/living_house.py crates/auction/out/auction
 	if command -v curl > /dev/null; then \
-		python3 tests/real_clients.py crates/auction/out/auction && \
-		python3 tests/readme.py crates/auction/out/auction; \
+		python3 tests/program/real_clients.py crates/auction/out/auction && \
+		python3 tests/documents/readme.py crates/auction/out/auction; \
 	fi
 
 cases:
-	set -f; python3 tests/plain_cases.py $(addprefix $(CASES)/,$(SUITES))
+	set -f; python3 tests/program/plain_cases.py $(addprefix $(CASES)/,$(SUITES))
 	set -f; for suite in $(SUITES); do \
 		python3 $(CASES)/compare.py --program crates/auction/out/auction --only "$${suite#*:}" $(CASES)/$${suite%%:*} || exit 1; \
 	done
 
 rows:
-	python3 tests/rows.py crates/test_store/out/test_store $(CASES)/editions
+	python3 tests/program/rows.py crates/test_store/out/test_store $(CASES)/editions
 
 fuzz:
-	python3 tests/fuzz.py crates/auction/out/auction $(MESSAGES) $(SEED)
-	python3 tests/plain_pages.py
+	python3 tests/program/fuzz.py crates/auction/out/auction $(MESSAGES) $(SEED)
+	python3 tests/program/plain_pages.py
 
 mutated:
-	python3 tests/mutated.py crates/auction/out/auction $(MUTATED) $(SEED)
+	python3 tests/program/mutated.py crates/auction/out/auction $(MUTATED) $(SEED)
 
 twins:
-	python3 tests/twins.py crates/auction/out/auction $(PAIRS) $(PAIRS) $(SEED)
-	python3 tests/raised.py crates/auction/out/auction $(PAIRS) $(SEED)
-	python3 tests/twin_lives.py crates/auction/out/auction $(PAIRS) $(SEED)
+	python3 tests/program/twins.py crates/auction/out/auction $(PAIRS) $(PAIRS) $(SEED)
+	python3 tests/program/raised.py crates/auction/out/auction $(PAIRS) $(SEED)
+	python3 tests/program/twin_lives.py crates/auction/out/auction $(PAIRS) $(SEED)
 
 memory:
-	python3 tests/refused_memory.py crates/auction/out/auction
-	python3 tests/refused_routes.py crates/auction/out/auction 1 40 10
-	python3 tests/refused_office.py crates/auction/out/auction 400 100 100 40
-	python3 tests/refused_statement.py crates/bench_settle/out/bench_settle
-	python3 tests/refused_asks.py crates/test_messages/out/test_messages
-	python3 tests/refused_inbox.py crates/bench_wire/out/bench_wire
-	python3 tests/refused_house.py crates/test_store/out/test_store 1 memory
-	python3 tests/refused_house.py crates/test_store/out/test_store 4 sqlite
-	python3 tests/refused_pages.py crates/test_site/out/test_site
-	python3 tests/refused_store.py crates/test_store/out/test_store 4 1
-	python3 tests/refused_rows.py crates/test_store/out/test_store 1
-	python3 tests/refused_device.py crates/test_values/out/test_values
-	python3 tests/refused_bands.py crates/test_values/out/test_values
+	python3 tests/memory/refused_memory.py crates/auction/out/auction
+	python3 tests/memory/refused_routes.py crates/auction/out/auction 1 40 10
+	python3 tests/memory/refused_office.py crates/auction/out/auction 400 100 100 40
+	python3 tests/memory/refused_statement.py crates/bench_settle/out/bench_settle
+	python3 tests/memory/refused_asks.py crates/test_messages/out/test_messages
+	python3 tests/memory/refused_inbox.py crates/bench_wire/out/bench_wire
+	python3 tests/memory/refused_house.py crates/test_store/out/test_store 1 memory
+	python3 tests/memory/refused_house.py crates/test_store/out/test_store 4 sqlite
+	python3 tests/memory/refused_pages.py crates/test_site/out/test_site
+	python3 tests/memory/refused_store.py crates/test_store/out/test_store 4 1
+	python3 tests/memory/refused_rows.py crates/test_store/out/test_store 1
+	python3 tests/memory/refused_device.py crates/test_values/out/test_values
+	python3 tests/memory/refused_bands.py crates/test_values/out/test_values
 
 allocations:
-	python3 tests/refused_rows.py crates/test_store/out/test_store 1
-	python3 tests/refused_store.py crates/test_store/out/test_store 1 1
-	python3 tests/refused_house.py crates/test_store/out/test_store 1 sqlite
-	python3 tests/refused_routes.py crates/auction/out/auction 1 1 1
-	python3 tests/refused_office.py crates/auction/out/auction 1 1 1 1
+	python3 tests/memory/refused_rows.py crates/test_store/out/test_store 1
+	python3 tests/memory/refused_store.py crates/test_store/out/test_store 1 1
+	python3 tests/memory/refused_house.py crates/test_store/out/test_store 1 sqlite
+	python3 tests/memory/refused_routes.py crates/auction/out/auction 1 1 1
+	python3 tests/memory/refused_office.py crates/auction/out/auction 1 1 1 1
 
 statement:
-	python3 tests/compared_statements.py crates/bench_settle/out/bench_settle
+	python3 tests/office/compared_statements.py crates/bench_settle/out/bench_settle
 
 random:
-	python3 tests/random_house.py crates/test_store/out/test_store memory
-	python3 tests/long_lists.py crates/test_store/out/test_store memory
-	python3 tests/random_house.py crates/test_store/out/test_store sqlite
-	python3 tests/long_lists.py crates/test_store/out/test_store sqlite
-	python3 tests/stored_house.py crates/test_store/out/test_store
+	python3 tests/program/random_house.py crates/test_store/out/test_store memory
+	python3 tests/program/long_lists.py crates/test_store/out/test_store memory
+	python3 tests/program/random_house.py crates/test_store/out/test_store sqlite
+	python3 tests/program/long_lists.py crates/test_store/out/test_store sqlite
+	python3 tests/program/stored_house.py crates/test_store/out/test_store
 
 file:
-	python3 tests/store_file.py crates/test_store/out/test_store
-	python3 tests/house_file.py crates/auction/out/auction
-	python3 tests/spoiled_house.py crates/auction/out/auction
-	python3 tests/bad_files.py crates/auction/out/auction
-	python3 tests/upgrades.py crates/auction/out/auction
+	python3 tests/files/store_file.py crates/test_store/out/test_store
+	python3 tests/files/house_file.py crates/auction/out/auction
+	python3 tests/files/spoiled_house.py crates/auction/out/auction
+	python3 tests/files/bad_files.py crates/auction/out/auction
+	python3 tests/files/upgrades.py crates/auction/out/auction
 
 office:
-	python3 tests/lots.py crates/auction/out/auction $(ROWS) $(SEED)
-	python3 tests/accounts.py crates/auction/out/auction
+	python3 tests/office/lots.py crates/auction/out/auction $(ROWS) $(SEED)
+	python3 tests/office/accounts.py crates/auction/out/auction
 
 kills:
-	python3 tests/kills.py crates/auction/out/auction $(KILLS) $(SEED)
+	python3 tests/files/kills.py crates/auction/out/auction $(KILLS) $(SEED)
 
 stops:
-	python3 tests/stopped_calls.py crates/auction/out/auction $(EVERY)
+	python3 tests/files/stopped_calls.py crates/auction/out/auction $(EVERY)
 
 cuts:
-	python3 tests/power_cuts.py crates/auction/out/auction $(EVERY)
+	python3 tests/files/power_cuts.py crates/auction/out/auction $(EVERY)
 
 counts:
-	python3 tests/statement_counts.py crates/auction/out/auction
+	python3 tests/files/statement_counts.py crates/auction/out/auction
 
 stalls:
-	python3 tests/stalls.py crates/auction/out/auction
+	python3 tests/program/stalls.py crates/auction/out/auction
 
 axioms:
-	python3 tests/axioms.py auction
+	python3 tests/kit/axioms.py auction
 
 documents:
-	python3 tests/figures.py
-	python3 tests/documents.py crates/auction/out/auction
-	python3 tests/http_doc.py crates/auction/out/auction
-	python3 tests/running_doc.py crates/auction/out/auction
+	python3 tests/documents/figures.py
+	python3 tests/documents/documents.py crates/auction/out/auction
+	python3 tests/documents/http_doc.py crates/auction/out/auction
+	python3 tests/documents/running_doc.py crates/auction/out/auction
 
 openapi:
-	python3 tests/openapi.py $(addprefix $(CASES)/,$(DESCRIBED))
+	python3 tests/documents/openapi.py $(addprefix $(CASES)/,$(DESCRIBED))
 
 wrong:
-	python3 tests/wrong.py $(CRATES)
+	python3 tests/kit/wrong.py $(CRATES)
 
 giving:
-	python3 tests/giving_up.py $(BODIES)
+	python3 tests/kit/giving_up.py $(BODIES)
 
 gateway:
 	@echo "Debian's packages: $(GATEWAY_PACKAGES)"
-	python3 tests/gateway.py crates/auction/out/auction $(PERIOD) $(RESTARTS)
+	python3 tests/web/gateway.py crates/auction/out/auction $(PERIOD) $(RESTARTS)
 
 load:
 	@echo "Debian's packages: $(LOAD_PACKAGES)"
-	python3 tests/gateway_load.py crates/auction/out/auction $(PAGES)
+	python3 tests/web/gateway_load.py crates/auction/out/auction $(PAGES)
 
 page:
 	@echo "Debian's packages: $(PAGE_PACKAGES)"
-	if command -v node > /dev/null; then node --test tests/page_modules.mjs tests/page_language.mjs; fi
-	if command -v tsc > /dev/null; then tsc -p tests/page_types.json; fi
-	python3 tests/page.py crates/auction/out/auction $(PICTURES)
+	if command -v node > /dev/null; then node --test tests/web/page_modules.mjs tests/web/page_language.mjs; fi
+	if command -v tsc > /dev/null; then tsc -p tests/web/page_types.json; fi
+	python3 tests/web/page.py crates/auction/out/auction $(PICTURES)
 
 backup:
 	@echo "Debian's packages: $(BACKUP_PACKAGES)"
-	python3 tests/backup.py crates/auction/out/auction $(COPIES)
+	python3 tests/files/backup.py crates/auction/out/auction $(COPIES)
 
 service:
 	@echo "Debian's packages: $(SERVICE_PACKAGES)"
-	python3 tests/alerts.py
-	python3 tests/service_queue.py crates/auction/out/auction
+	python3 tests/web/alerts.py
+	python3 tests/web/service_queue.py crates/auction/out/auction
 
 replica:
 	@echo "Debian's packages: $(REPLICA_PACKAGES)"
-	if command -v glusterd > /dev/null; then python3 tests/replica.py crates/auction/out/auction; fi
-	if command -v keepalived > /dev/null; then python3 tests/take_over_name.py crates/auction/out/auction; fi
+	if command -v glusterd > /dev/null; then python3 tests/files/replica.py crates/auction/out/auction; fi
+	if command -v keepalived > /dev/null; then python3 tests/files/take_over_name.py crates/auction/out/auction; fi
 
 disks:
 	@echo "Debian's packages: $(DISK_PACKAGES)"
-	python3 tests/failed_disk.py crates/auction/out/auction
+	python3 tests/files/failed_disk.py crates/auction/out/auction
 
 deb:
 	@echo "Debian's packages: $(DEB_PACKAGES)"
 	mkdir -p out
-	python3 tests/package.py crates/auction/out/auction out $(DEBIAN)
+	python3 tests/web/package.py crates/auction/out/auction out $(DEBIAN)
 
 packages:
 	apt-get install -y --no-install-recommends $(PAGE_PACKAGES) wrk $(BACKUP_PACKAGES) $(SERVICE_PACKAGES) \

@@ -4,7 +4,7 @@
 `make test` leaves in out/rt-ci.times the processor minutes by crate and step, and the minutes on the clock. Where that run proved
 everything, this keeps the whole as the run NAME of figures.json, with the processor minutes of the proofs and builds that `make
 auction` does. With --log, the file into which `make test` printed, it also keeps after how many minutes the program was proved.
-Copy out/rt-ci.times to tests/rt-ci.times too: `make test` and `make auction` say by it how far they are.
+Copy out/rt-ci.times to tests/kit/rt-ci.times too: `make test` and `make auction` say by it how far they are.
 """
 import argparse
 import pathlib

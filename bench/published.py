@@ -3,7 +3,7 @@
 They are kept by run. A run has the script that measured it, the commit, the machine, and, where files were written, how many commits
 of a row a second Python's `sqlite3` made on the same disk. Its figures stand by part, each with what was measured, the unit, ours,
 and another's beside it. A page names the figure that it shows by a comment, `<!-- figure: RUN: WHAT, UNIT -->`, and
-`tests/figures.py` compares the two.
+`tests/documents/figures.py` compares the two.
 """
 import json
 import os

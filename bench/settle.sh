@@ -5,5 +5,5 @@
 set -e
 program=crates/bench_settle/out/bench_settle
 (cd crates/bench_settle && rt run -- 240 > /dev/null)
-test "$($program 1000000 | cksum)" = "$(python3 tests/statement.py 1000000 | cksum)"
+test "$($program 1000000 | cksum)" = "$(python3 tests/office/print_statement.py 1000000 | cksum)"
 python3 bench/lines.py $program

@@ -2,7 +2,7 @@
 
 `table.py PROGRAM` builds the house in plain Rust, `bench/plain/house`, and runs `replay.py`, `pages.py` and `serve.py`, which say what
 they measure and what they need. The run takes the place of the last in `bench/figures.json`, where the pages' figures come from, and
-`bench/TABLE.md` shows all of it. Where another page still shows the run before, `tests/figures.py` says so.
+`bench/TABLE.md` shows all of it. Where another page still shows the run before, `tests/documents/figures.py` says so.
 """
 import os
 import pathlib

@@ -1,1 +1,1 @@
-"""What the scripts of the other folders import: each of these has a link to this one."""
+"""What the scripts of the other folders import: each of these finds it by its lib.py."""

@@ -68,7 +68,7 @@ class Machine:
 
     def bids(self, acked, seconds):
         """A client on this machine that bids for some seconds."""
-        return subprocess.Popen(["nsenter", "-t", self.process, "-n", sys.executable, ROOT / "tests" / "replica_bids.py",
+        return subprocess.Popen(["nsenter", "-t", self.process, "-n", sys.executable, ROOT / "tests" / "files" / "replica_bids.py",
                                  str(PORT), acked, str(seconds), str(ITEMS)], stdout=subprocess.PIPE, text=True)
 
     def kill(self):

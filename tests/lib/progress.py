@@ -11,7 +11,7 @@ from lib.crates import crates_of
 from lib.places import ROOT
 from lib.times import STEPS, Times, file_of, minutes_of_children, start_command, status_of
 
-EARLIER = ROOT / "tests" / "rt-ci.times"
+EARLIER = ROOT / "tests" / "kit" / "rt-ci.times"
 QUIET_SECONDS = 60
 TAIL = 40
 # The steps that are done once a crate is said to be proved, and once its tests are; and those of its wrong bodies.

@@ -2,8 +2,8 @@
 //!
 //! The stored run is a test of what no clause says: that calls succeed, that the table of routes
 //! can be made, and that the clauses mean what RFC 9110 and RFC 9112 say, what real clients send
-//! (`tests/clients` has how those were captured), and what the house's routes, fields and faults
-//! are said to be. `stdin` has the script, `stdout` its transcript, in which what has to be
+//! (`tests/program/clients` has how those were captured), and what the house's routes, fields and
+//! faults are said to be. `stdin` has the script, `stdout` its transcript, in which what has to be
 //! answered comes after each line, written by hand. Read `script` first, which says what a line may
 //! be, after the mark of `transcript`.
 #![tactic(auto)]

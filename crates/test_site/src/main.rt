@@ -5,9 +5,9 @@
 //! pages mean what the formats say, and that a fault is reported where a device failed and nowhere
 //! else. `stdin` has the script, `stdout` its transcript. It has sections, each of which begins
 //! with its line, `> section pages` or `> section streams`. In that of pages each page comes after
-//! its line, made by `tests/plain_pages.py`, which knows the rules and the formats alone; in that
-//! of streams is what has to be reported, written by hand. Read `page_script` and `stream_script`
-//! first, which say what a line may be, after the mark of `transcript`.
+//! its line, made by `tests/program/plain_pages.py`, which knows the rules and the formats alone; in
+//! that of streams is what has to be reported, written by hand. Read `page_script` and
+//! `stream_script` first, which say what a line may be, after the mark of `transcript`.
 #![tactic(auto)]
 
 mod bodies;
