@@ -29,6 +29,10 @@ DEBIAN ?= out/debian
 PICTURES ?=
 PAGES ?= 1000
 
+# What shellcheck reads.
+SCRIPTS = .ci/run examples/service/alarm $(addprefix examples/package/,completion.bash postinst postrm prerm) \
+	$(wildcard bench/*.sh examples/*/*.sh examples/*/*/*.sh tests/*/*.sh tests/*/*/*.sh)
+
 # Debian's packages of these five: nginx to util-linux are needed, the others are left out where they aren't there. The page
 # needs chromium-driver too, and its modules and types are tested where nodejs and node-typescript are there.
 GATEWAY_PACKAGES = nginx-light haproxy apache2-bin apache2-utils sqlite3 openssl curl iproute2 procps python3 util-linux nftables \
@@ -53,7 +57,8 @@ help:
 	@echo
 	@echo "The gate"
 	@echo "  make test      proves everything, runs the crates' tests and the wrong bodies in must-fail/ (rt ci), and says how far"
-	@echo "                 it is and when it should end; out/ has all lines, and the minutes by crate and step"
+	@echo "                 it is and when it should end; out/ has all lines, and the minutes by crate and step; first it has"
+	@echo "                 shellcheck read the shell scripts, where that is there"
 	@echo "  make wrong     tries the wrong bodies that make test leaves out, of the crates CRATES=\"a b\" or of all"
 	@echo "  make giving    puts in bodies that give up, those named in BODIES=\"a b\", and looks whether the tests find them"
 	@echo "  make axioms    lists what the proof of the program assumes, as the prover tells it: each function of C, and the libraries"
@@ -137,6 +142,7 @@ demo:
 		| sed 's/}HTTP/}\n\nHTTP/; \$$ s/\$$/\n/'"
 
 test:
+	if command -v shellcheck > /dev/null; then shellcheck -x -P SCRIPTDIR $(SCRIPTS); fi
 	python3 tests/kit/giving_up.py --texts
 	python3 tests/kit/run.py rt ci
 

@@ -41,6 +41,7 @@ if [ "$(id -u)" = 0 ]; then
     apart="unshare --user --map-user=1"
 fi
 keep serve_queue &
+# shellcheck disable=SC2086 # It is a command with its words, or nothing.
 keep $apart apache2 -D FOREGROUND -f "$PWD/sign_in.conf" &
 [ "${CLOSE:-60}" = 0 ] || close_due "${CLOSE:-60}" &
 [ "${CATALOGUE:-60}" = 0 ] || sh "$SCRIPTS/catalogue/each_minute.sh" "$PWD" "${CATALOGUE:-60}" &

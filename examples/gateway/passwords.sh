@@ -1,3 +1,4 @@
+# shellcheck shell=sh
 # What account.sh and change_password.sh do with passwords, in the folder of a house. Both read this file.
 
 # Does statements of SQL, of which the words in them are known to have no quotes, and prints rows.

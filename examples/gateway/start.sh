@@ -66,6 +66,7 @@ is_running() {
 # Serves the house of a host, in a network of its own where the machine lets a user make one.
 serve_house() {
     rm -f "houses/$1/run/"*.sock
+    # shellcheck disable=SC2086 # It is a command with its words, or nothing.
     (cd "houses/$1" && exec setsid flock -F run/lock $own_network sh "$here/house.sh" "$program" "$(cat port)" "$count") \
         > "logs/$1.log" 2>&1 &
     echo $! > "houses/$1/run/house.pid"

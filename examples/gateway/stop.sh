@@ -55,6 +55,7 @@ end_house() {
 do_without=leave_out
 if [ $# = 0 ]; then
     do_without=end_nginx
+    # shellcheck disable=SC2046 # A host name has no blanks.
     set -- $(ls houses 2> /dev/null)
 fi
 for host in "$@"; do

@@ -3,39 +3,40 @@
 # The version is the program's, where VERSION is not another. SOURCE_DATE_EPOCH is the time of all files, so that a build can
 # be repeated.
 set -eu
-here=$(cd "$(dirname "$0")" && pwd)
-program=$1 folder=$2
+program=$(realpath "$1") folder=$(realpath -m "$2")
+cd "$(dirname "$0")/.."
 version=${VERSION:-$("$program" --version)}
 version=${version#auction }
 architecture=$(dpkg --print-architecture)
-date=${SOURCE_DATE_EPOCH:-$(git -C "$here" log -1 --format=%ct)}
+date=${SOURCE_DATE_EPOCH:-$(git log -1 --format=%ct)}
 export SOURCE_DATE_EPOCH="$date"
 root=$(mktemp -d)
 trap 'rm -rf "$root"' EXIT
 umask 022
 chmod 755 "$root"
 
-# Puts files of the examples into a folder of the package.
+# Puts files into a folder of the package, and of folders nothing.
 put() {
     place=$root/$1
     shift
     mkdir -p "$place"
     for file in "$@"; do
-        case $(head -c 2 "$here/../$file" | tr -d '\0') in
+        [ ! -d "$file" ] || continue
+        case $(head -c 2 "$file" | tr -d '\0') in
             '#!') mode=755 ;;
             *) mode=644 ;;
         esac
-        install -m "$mode" "$here/../$file" "$place/"
+        install -m "$mode" "$file" "$place/"
     done
 }
 
 # The gateway: what start.sh uses, but for the scripts that are for trials alone. nginx includes its files as auction/NAME.conf.
 put_gateway() {
-    (cd "$here/.." && find gateway/page -type d) | while read -r folder; do
-        put "usr/share/auction/${folder#gateway/}" $(cd "$here/.." && find "$folder" -maxdepth 1 -type f)
+    find gateway/page -type d | while read -r page; do
+        put "usr/share/auction/${page#gateway/}" "$page"/*
     done
     for part in catalogue notices; do
-        put "usr/share/auction/$part" $(cd "$here/.." && echo gateway/$part/*.py)
+        put "usr/share/auction/$part" "gateway/$part"/*.py
     done
     for file in api errors form house maps server upstream; do
         put usr/share/auction/nginx "gateway/$file.conf"
@@ -51,48 +52,48 @@ put_gateway() {
 put_documents() {
     documents=$root/usr/share/doc/auction
     put usr/share/doc/auction package/copyright ../README.md ../CHANGELOG.md ../CONTRIBUTING.md ../crates.txt
-    put usr/share/doc/auction/docs $(cd "$here/.." && echo ../docs/*.md ../docs/*.png ../docs/openapi.yaml)
+    put usr/share/doc/auction/docs ../docs/*.md ../docs/*.png ../docs/openapi.yaml
     put usr/share/doc/auction/bench ../bench/README.md ../bench/TABLE.md ../bench/figures.json
     # Sources aren't in the package, so no link leads to one.
     sed -i 's,\[\([^]]*\)\](\(\.\./\)*crates/[^)]*),\1,g' "$documents"/docs/*.md
     for part in service backup gateway replica; do
-        put "usr/share/doc/auction/examples/$part" $(cd "$here/.." && echo "$part"/*.md)
+        put "usr/share/doc/auction/examples/$part" "$part"/*.md
     done
     put usr/share/doc/auction/examples/gateway/catalogue gateway/catalogue/README.md
     put usr/share/doc/auction/examples service/prometheus.yml replica/keepalived.conf
-    install -m 644 "$here/../gateway/connections.nft" "$documents/examples/gateway/"
+    install -m 644 gateway/connections.nft "$documents/examples/gateway/"
     put usr/share/auction bands.csv
     printf 'auction (%s) unstable; urgency=medium\n\n  * Packaged.\n\n -- %s  %s\n' "$version" \
-        "$(sed -n 's/^Maintainer: //p' "$here/control")" "$(date -u -R -d "@$date")" |
+        "$(sed -n 's/^Maintainer: //p' package/control)" "$(date -u -R -d "@$date")" |
         gzip -9n > "$documents/changelog.gz"
     mkdir -p "$root/usr/share/man/man1"
-    gzip -9n < "$here/../../docs/auction.1" > "$root/usr/share/man/man1/auction.1.gz"
+    gzip -9n < ../docs/auction.1 > "$root/usr/share/man/man1/auction.1.gz"
 }
 
 put_completion() {
-    install -D -m 644 "$here/completion.bash" "$root/usr/share/bash-completion/completions/auction"
+    install -D -m 644 package/completion.bash "$root/usr/share/bash-completion/completions/auction"
 }
 
 put_control() {
     mkdir "$root/DEBIAN"
     for script in postinst prerm postrm; do
-        install -m 755 "$here/$script" "$root/DEBIAN/"
+        install -m 755 "package/$script" "$root/DEBIAN/"
     done
     (cd "$root" && find etc -type f | sed 's,^,/,' | sort > DEBIAN/conffiles)
     (cd "$root" && find usr lib -type f -print0 | LC_ALL=C sort -z | xargs -0 md5sum > DEBIAN/md5sums)
     sed -e "s/VERSION/$version/" -e "s/ARCHITECTURE/$architecture/" \
-        -e "s/SIZE/$(du -k -s "$root" | cut -f 1)/" "$here/control" > "$root/DEBIAN/control"
+        -e "s/SIZE/$(du -k -s "$root" | cut -f 1)/" package/control > "$root/DEBIAN/control"
 }
 
 install -D -m 755 "$program" "$root/usr/bin/auction"
 "${STRIP:-strip}" --strip-unneeded --remove-section=.comment --remove-section=.note "$root/usr/bin/auction"
-put lib/systemd/system $(cd "$here/.." && echo service/*.service service/*.timer)
+put lib/systemd/system service/*.service service/*.timer
 put etc/default package/auction
 put etc/auction service/alarm
-put usr/share/auction/nginx $(cd "$here/.." && echo service/nginx/*)
+put usr/share/auction/nginx service/nginx/*
 put usr/share/auction backup/copy_house.py backup/restore_house.py backup/copy_city.py backup/restore_city.sh \
     backup/rescue_house.sh backup/snapshot_house.sh
-put usr/share/auction $(cd "$here/.." && echo replica/*.sh)
+put usr/share/auction replica/*.sh
 put usr/share/auction service/setup.sh service/make_city.sh service/units.sh service/watch.sh service/alerts.yml
 put_gateway
 put_documents

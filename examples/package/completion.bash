@@ -19,15 +19,15 @@ _auction() {
     local commands="init serve replay import statement bands upgrade audit surplus help"
     local word=${COMP_WORDS[COMP_CWORD]} before=${COMP_WORDS[COMP_CWORD - 1]} command=${COMP_WORDS[1]}
     if [ "$COMP_CWORD" = 1 ] || [ "$command" = help ]; then
-        COMPREPLY=($(compgen -W "$commands $(_auction_options) --help" -- "$word"))
+        mapfile -t COMPREPLY < <(compgen -W "$commands $(_auction_options) --help" -- "$word")
     elif [[ $word == -* ]]; then
-        COMPREPLY=($(compgen -W "$(_auction_options "$command") --help" -- "$word"))
+        mapfile -t COMPREPLY < <(compgen -W "$(_auction_options "$command") --help" -- "$word")
     elif [[ $before == --* && $before != --bands && $before != --house && $before != --csv && $before != --preset \
         && $before != --record ]]; then
         COMPREPLY=()
     else
         compopt -o filenames
-        COMPREPLY=($(compgen -f -- "$word"))
+        mapfile -t COMPREPLY < <(compgen -f -- "$word")
     fi
 }
 

@@ -29,7 +29,8 @@ set_option() {
 city=$1 folder=$2
 shift 2
 join "$2" "$3"
-gluster --mode=script volume create "$city" replica 3 ${ARBITER:+arbiter 1} "$1:$folder" "$2:$folder" "$3:$folder" ${FORCE:-}
+gluster --mode=script volume create "$city" replica 3 ${ARBITER:+arbiter 1} "$1:$folder" "$2:$folder" "$3:$folder" \
+    ${FORCE:+"$FORCE"}
 # Two of three have to agree on each write. One that is left alone refuses to write, so there are never two houses.
 set_option cluster.quorum-type auto
 set_option cluster.server-quorum-type server

@@ -41,5 +41,6 @@ city=$1 host=$2
 install -d -o auction -g auction -m 700 "/var/lib/auction/$city"
 [ -e "/var/lib/auction/$city/house" ] || make_house
 sh "$share/make_city.sh" "$city" "$host"
+# shellcheck disable=SC2046 # A unit's name has no blanks.
 start $(units_of "$city")
 echo "https://$host: let the first in by sh $share/account.sh adopt /etc/auction/$city house 0"

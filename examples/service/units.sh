@@ -1,3 +1,4 @@
+# shellcheck shell=sh
 # setup.sh and the scripts of the package read this file.
 
 # The units that serve a city.

@@ -13,8 +13,10 @@ asked() {
 
 # When the newest copy was begun.
 newest_copy() {
-    name=$(ls "/var/backups/auction/$city" 2> /dev/null | grep '^[0-9]' | tail -1)
-    [ -z "$name" ] || date -d "$name" +%s
+    for copy in "/var/backups/auction/$city"/[0-9]*; do
+        newest=$copy
+    done
+    [ ! -e "$newest" ] || date -d "${newest##*/}" +%s
 }
 
 connections() {

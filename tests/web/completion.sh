@@ -1,3 +1,4 @@
+#!/bin/bash
 # completion.sh WORD...: prints what bash would complete the last of these words to, by examples/package/completion.bash. Run by
 # package.py in bash.
 . "$(dirname "$0")/../../examples/package/completion.bash"

@@ -1,3 +1,4 @@
+# shellcheck shell=sh
 # What plain_debian.sh and fresh_debian.sh ask by, who include it in a folder that has CITY.tokens, by which members ask.
 
 say() {

@@ -3,7 +3,7 @@
 # that plain_debian.sh took, and the members' tokens: it restores the city as examples/backup/README.md says. Prints lines of
 # a name and what was printed, of which package.py knows what they have to be.
 set -u
-cd /trial
+cd /trial || exit
 export DEBIAN_FRONTEND=noninteractive
 . ./asking.sh
 

@@ -1,9 +1,10 @@
 #!/bin/sh
+# shellcheck disable=SC2016 # wait_until does its word later, when it looks.
 # Runs as root in a plain Debian that has booted with systemd, and in which /trial has two packages: it installs the older
 # one, sets up two cities as examples/service/README.md says, runs them, installs the newer one over it, and removes it.
 # Prints lines of a name and what was printed, of which package.py knows what they have to be.
 set -u
-cd /trial
+cd /trial || exit
 export DEBIAN_FRONTEND=noninteractive
 
 . ./asking.sh
@@ -276,7 +277,10 @@ close_ahead() {
 }
 
 newest() {
-    ls -d "/var/backups/auction/$1"/2* | tail -1
+    for copy in "/var/backups/auction/$1"/2*; do
+        newest=$copy
+    done
+    echo "$newest"
 }
 
 clock_ahead() {

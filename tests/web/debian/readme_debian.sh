@@ -6,5 +6,5 @@ useradd --create-home --shell /bin/sh visitor
 cp -r /trial/repository/. /home/visitor/
 chown -R visitor: /home/visitor
 cp /trial/gateway_readme.py /home/visitor/
-cd /home/visitor
+cd /home/visitor || exit
 exec runuser -u visitor -- python3 gateway_readme.py
